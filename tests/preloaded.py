@@ -21,7 +21,8 @@ SOURCES = sorted((TOP / 'tests' / 'preload').glob('*.c'))
 
 # ---- the switches: each gives variables of the environment, and those of two can stand together
 
-BEFORE, HALFWAY, MACHINE = range(3)  # how a program is stopped at a call
+BEFORE, HALFWAY, MACHINE, TORN = range(4)  # how a program is stopped at a call
+FIRST, ANY = 10, 100  # with so many sectors of each block, or any of them by a number, written
 
 
 def clock(moments):

@@ -1,7 +1,7 @@
-"""Every command in README.md and docs/: each block of a page is typed here, in folders of the
-test's own, or is typed or compared by the test that is named for it, or it is left out for a
-reason. A block that no test knows fails. What systemd starts and signals is started and signalled
-by the unit's line; what needs root is done without."""
+"""Every command in README.md, what stands beside it, docs/ and examples/: each block of a page is
+typed here, in folders of the test's own, or is typed or compared by the test that is named for it,
+or it is left out for a reason. A block that no test knows fails. What systemd starts and signals is
+started and signalled by the unit's line; what needs root is done without."""
 # needs: curl sqlite3 python3
 # builds: dispatch_room
 import contextlib
@@ -20,6 +20,7 @@ from room import (FLEET, PLAN, PROGRAM, TOP, TestCase, ask, call, dump, fleet_of
                   message, run, sql)
 from test_errors import on_terminal
 from test_journal import chain
+from test_renew import DAYS, MONDAY, play
 
 sys.path.append(str(TOP / 'examples' / 'three'))
 import digest  # noqa: E402
@@ -28,6 +29,7 @@ UNIT = TOP / 'examples' / 'dispatch_room.service'
 ADDRESS = '127.0.0.1:8080'
 QUEUE = message('deskone1', 'GET /queue')
 CALLS = 'SELECT count(*) FROM calls'
+CALL = {'class': 2, 'needs': [1, 0, 0], 'note': '', 'place': 'TQ300800'}
 
 # Pages of which a test reads every block.
 WHOLE = {'TUTORIAL.md': 'tutorial', 'HTTP.md': 'http', 'JUDGING.md': 'judging'}
@@ -66,10 +68,11 @@ TYPED = {
         'dispatch_room board 127.0.0.1:8080 deskone1',
         '$ journalctl --unit=dispatch-room --output=cat',
         'sudo systemctl kill --signal=STOP dispatch-room',
+        'dispatch_room times room.db 1 2026-03-23 --and room.2026-04-01.db',
         'sqlite3 room.db ".backup /backup/room.db"',
         '(umask 077; sqlite3 room.db "PRAGMA page_size = 512; VACUUM INTO \'/backup/room.db\'")',
         'dispatch_room serve room.db 127.0.0.1:8080 --journal room.list',
-        'cp room.db copy.db && : >room.list', '$ dispatch_room check room.db'],
+        'dispatch_room restore room.db copy.db && : >room.list', '$ dispatch_room check room.db'],
     'FILES.md': [
         'what,number,a,b,c,d', 'callsign,division,kind,place,token',
         'incident,opened,activation', '-- Which vehicle is where, and sent to what?',
@@ -101,7 +104,7 @@ esac''',
 
 
 def pages():
-    return [TOP / 'README.md', *sorted((TOP / 'docs').glob('*.md'))]
+    return [*sorted(TOP.glob('*.md')), *sorted((TOP / 'docs').glob('*.md'))]
 
 
 def first_line(block):
@@ -139,36 +142,103 @@ class Known(TestCase):
             self.check(f'{test} is there', (TOP / 'tests' / f'test_{test}.py').exists(), True)
 
 
-# The pages beside the examples and the measurements, with the tests that try what they describe.
-# (What is measured takes hours, wants a machine with nothing beside it, and is tried by nobody.)
-BESIDE = {'examples/1992': ['1992'], 'examples/desks': ['desks', 'five_desks'],
-          'examples/haproxy': ['haproxy'], 'examples/metrics': ['metrics', 'unit'],
-          'examples/three': ['three', 'three_etcd'], 'examples/wall': ['wall', 'wall_front'],
-          'bench': [], 'bench/three': []}
+# The blocks of the pages beside the examples, by their first lines: the test that does what they
+# say, and a word of it, or of what it imports, by which it does so. A block without one is left out
+# for a reason.
+BESIDE = {
+    'examples/1992': {
+        'examples/1992/play.py FOLDER': ('1992', 'play.py'),
+        'examples/1992/play.py FOLDER --set lost=0.02 --set screen=40': ('1992', '--set'),
+        'cp FOLDER/before.db copy.db': ('1992', "'before.db'"),
+        'examples/1992/play.py FOLDER --rates 1 --days 10 --set calls=25000 --set vehicles=3000 '
+        '--set send=1 --set ring=3': (None, 'it takes an hour and a half')},
+    'examples/backup': {
+        'sudo systemctl stop dispatch-room': ('backup', "'begin'"),
+        'sudo cp dispatch-room-backup.service dispatch-room-backup.timer /etc/systemd/system/':
+            ('backup', '.timer'),
+        '2026-03-30.033000: replayed 2731, digest 6b1f4e0c..': ('backup', 'replayed'),
+        'dispatch_room replay room.db <copies/NEXT.list': ('backup', "'replay'")},
+    'examples/desks': {
+        'examples/desks/desks.py 127.0.0.1:8080 --plan examples/plan.csv --places '
+        'examples/desks/places.csv': ('desks', "'desks.py'"),
+        'sudo apt install nginx-light openssl': ('desks', "'certificates.sh'"),
+        'openssl pkcs12 -export -in desk1.pem -out desk1.p12': (None, 'it asks for a password')},
+    'examples/haproxy': {
+        'sudo apt install haproxy openssl': ('haproxy', "'certificates.sh'"),
+        "curl --cacert authority.crt --cert desk1.pem --header 'X-Terminal: deskone1' "
+        'https://room.example:8443/queue': ('haproxy', "'authority.crt'")},
+    'examples/metrics': {
+        'journalctl --follow --lines=0 --output=cat --unit=dispatch-room | '
+        'examples/metrics/metrics.py --room 127.0.0.1:8080': ('metrics', "'--room'"),
+        'sudo cp examples/metrics/dispatch_room_metrics.service /etc/systemd/system/':
+            ('unit', 'OF_METRICS'),
+        '$ sudo cat /etc/dispatch-room/desks': ('metrics', "'--desks'"),
+        'scrape_configs:': ('metrics', 'scrape_configs')},
+    'examples/three': {
+        'sudo apt install etcd-server && sudo systemctl disable --now etcd     etcd, but not '
+        "Debian's single member of it": ('three', 'three.begin'),
+        'prepare.py prepared 192.0.2.1 192.0.2.2 192.0.2.3': ('three_network', "'prepare.py'"),
+        'sudo apt install etcd-server && sudo systemctl disable --now etcd':
+            ('three_network', "'*.service'"),
+        '. /etc/dispatch-room-three/companion.env': ('three_network', "'user'"),
+        'companion.py begin room.db /var/lib/dispatch-room-three/room $REACH':
+            ('three_network', "'begin'"),
+        'companion.py enrol fleet.csv $REACH': ('three_rooms', "'enrol'")},
+    'examples/wall': {
+        'examples/wall/wall.py 127.0.0.1:8080 examples/plan.csv deskone1 desktwo2':
+            ('wall', "'wall.py'"),
+        'sudo examples/haproxy/certificates.sh /etc/haproxy/dispatch-room room.example screen1':
+            ('wall_front', "'certificates.sh'")},
+}
+# What is measured takes hours, wants a machine with nothing beside it, and is tried by nobody.
+MEASURED = ['bench', 'bench/three']
+
+
+def with_imports(test):
+    """The text of a test, with those of what it imports of this folder, and these import."""
+    texts, left = {}, [f'test_{test}']
+    while left:
+        file = TOP / 'tests' / f'{left.pop()}.py'
+        if file.exists() and file.stem not in texts:
+            texts[file.stem] = file.read_text()
+            left += re.findall(r'^(?:from|import) (\w+)', texts[file.stem], re.M)
+    return '\n'.join(texts.values())
 
 
 class Beside(TestCase):
-    """The pages beside examples and measurements: what their commands run is there, and takes the
-    words that it is given."""
+    """The pages beside examples and measurements: each block is known to a test, and what its
+    commands run is there, and takes the words that it is given."""
+
+    def setUp(self):
+        super().setUp()
+        found = [it for folder in ('examples', 'bench') for it in (TOP / folder).rglob('README.md')]
+        self.pages = {str(it.parent.relative_to(TOP)): it for it in found}
+
+    def test_blocks(self):
+        self.check('pages', sorted(self.pages), sorted([*BESIDE, *MEASURED]))
+        for name, known in BESIDE.items():
+            firsts = [it.text.partition('\n')[0].removesuffix(' \\')
+                      for it in blocks(self.pages[name].read_text())]
+            shown = [it if it in known else re.sub(r'(?<=\S) {3,}\S.*$', '', it) for it in firsts]
+            self.check(f'{name}: its blocks', sorted(shown), sorted(known))
+
+    def test_tests(self):
+        for name, known in BESIDE.items():
+            for first, (test, word) in known.items():
+                if test:
+                    self.check(f'{name}: {first}: {word}', word in with_imports(test), True)
 
     def test_commands(self):
-        found = [it for folder in ('examples', 'bench') for it in (TOP / folder).rglob('README.md')]
-        self.check('pages', sorted(str(it.parent.relative_to(TOP)) for it in found),
-                   sorted(BESIDE))
-        for page in found:
+        for name, page in self.pages.items():
             text = '\n'.join(it.text for it in blocks(page.read_text()))
             for place, words in re.findall(r'\b((?:examples|bench)/[\w./]+|\w+\.py)\b(.*)', text):
                 own = TOP / place if '/' in place else page.with_name(place)
-                self.check(f'{page.parent.name}: {place} is there', own.exists(), True)
+                self.check(f'{name}: {place} is there', own.exists(), True)
                 sources = ''.join(it.read_text() for it in own.parent.glob('*')
                                   if it.suffix in ('.py', '') and it.is_file())
                 words = re.split(r' {3,}|\\|<|\|', words)[0]
                 for option in re.findall(r'--[a-z][\w-]*|(?<=^ )[a-z]+$|(?<=^ )[a-z]+(?= )', words):
                     self.check(f'{place} takes {option}', option in sources, True)
-
-    def test_tests(self):
-        for test in {it for tests in BESIDE.values() for it in tests}:
-            self.check(test, (TOP / 'tests' / f'test_{test}.py').exists(), True)
 
 
 class Typing(TestCase):
@@ -302,6 +372,29 @@ class Operating(Typing):
         self.check('the copy', run('times', copy, 1, '2026-01-01')[0], 0)
         self.check('its calls', sql(copy, CALLS), '1\n')
 
+    def typed_of(self, words):
+        """Types the block that has these words."""
+        [block] = [it for it in blocks((TOP / 'docs' / self.PAGE).read_text()) if words in it.text]
+        return self.type(block.text)
+
+    def test_restore(self):
+        with self.served():
+            ask(self.port, call(1))
+            self.type('\n'.join(self.commands('sudo systemctl kill --signal=STOP dispatch-room')))
+            ask(self.port, call(2))
+            self.typed_of('dispatch_room restore /backup/room.db')
+            self.check('it is served', self.asked(QUEUE), [200])
+        self.check('the calls before the copy', sql(self.unit_room, CALLS), '1\n')
+        old = self.unit_room.with_name('room.db.old')
+        self.check('what was there', [run('check', old)[0], sql(old, CALLS)], [0, '2\n'])
+
+    def test_another_plan(self):
+        with self.served():
+            (self.place / 'plan.csv').write_text(
+                PLAN.read_text() + 'area,3,400000,100000,449999,199999\ndesk,3,deskthree3,,,\n')
+            self.check('printed', self.typed_of('dispatch_room replan'), 'replanned\n')
+            self.check('desk 3', self.asked(message('deskthree3', 'GET /queue')), [200])
+
     def test_copies(self):
         """Each by itself, of a room that has a log, as after a kill."""
         with self.served():
@@ -325,7 +418,7 @@ class Operating(Typing):
 
     def test_journal(self):
         [serve] = self.commands('dispatch_room serve room.db 127.0.0.1:8080 --journal room.list')
-        begin, *others = self.commands('cp room.db copy.db && : >room.list')
+        begin, *others = self.commands('dispatch_room restore room.db copy.db && : >room.list')
         self.made()
         self.type(begin)
         first = (self.place / 'copy.db').read_bytes()
@@ -362,6 +455,23 @@ class Operating(Typing):
             self.check('it is served', self.asked(call(1), QUEUE), [200, 200])
             old = self.unit_room.with_name(f'room.{time.strftime("%Y-%m-%d")}.db')
             self.check('the archive', [run('check', old)[0], sql(old, CALLS)], [0, '1\n'])
+
+    def test_archive(self):
+        """A day of an archive, by the line and by the script that the page names."""
+        self.made()
+        play(self.room, [(MONDAY, 'takerone', 'POST /call', CALL | {'serial': 1}),
+                         (MONDAY, 'deskone1', 'POST /incidents/1/close', None),
+                         (MONDAY + 4 * DAYS, 'takerone', 'POST /call', CALL | {'serial': 2})])
+        archive = self.place / 'room.2026-04-01.db'
+        for end in ('', '-wal'):
+            os.rename(f'{self.room}{end}', f'{archive}{end}')
+        self.assertEqual(run('renew', archive, self.room, '--since', '2026-03-25')[0], 0)
+        wanted = f'incident,opened,activation\n1,{MONDAY},\n'
+        [words] = self.commands('dispatch_room times room.db 1 2026-03-23 --and room.2026-04-01.db')
+        self.check(words, self.type(words), wanted)
+        text = (TOP / 'docs' / self.PAGE).read_text()
+        script = re.search(r'`(examples/weekly/times.sh [^`]*)`', text)[1]
+        self.check(script, self.type(f'{TOP}/{script}'), wanted)
 
     def test_what_is_explained(self):
         """As on a terminal. The fleet has its mistake in line 9."""

@@ -11,11 +11,13 @@ import re
 from room import TOP, TestCase
 
 # How many words a document has at most, as `wc -w` counts them.
-MOST = {'README': 900, 'CONTRIBUTING': 250, 'SECURITY': 350, 'CHANGELOG': 450, 'TUTORIAL': 800,
-        'OPERATING': 2500, 'RULES': 2300, 'HTTP': 2700, 'FILES': 3000, 'ARCHITECTURE': 1500,
-        'DECISIONS': 3500, 'JUDGING': 700, 'SCALE': 600, 'WORKING': 600}
+MOST = {'README': 900, 'CONTRIBUTING': 250, 'SECURITY': 350, 'CHANGELOG': 540, 'TUTORIAL': 800,
+        'OPERATING': 2800, 'RULES': 2300, 'HTTP': 2750, 'FILES': 3100, 'ARCHITECTURE': 1200,
+        'DECISIONS': 2500, 'JUDGING': 650, 'PROOFS': 2500, 'SCALE': 600, 'WORKING': 600}
+# README.md and docs/ together; and the long form of the measurements.
 TOGETHER = 20000
-# What a tool writes has as many as it has.
+MOST_OF_BENCH = 4500
+# What a tool writes: it may list crates, and has no figures.
 WRITTEN = ['PROOFS']
 
 # A figure that a document cites, as [157 us](../bench/figures.csv#call).
@@ -90,14 +92,16 @@ def value_of(rows, name):
 class Words(TestCase):
     def test_words(self):
         many = {name: len(text.split()) for name, text in pages().items()}
-        self.check('documents', sorted(many), sorted([*MOST, *WRITTEN]))
+        self.check('documents', sorted(many), sorted(MOST))
         for name, most in MOST.items():
             if name in many:
                 with self.subTest(name):
                     self.assertLessEqual(many[name], most)
-        together = sum(many[name] for name in many if name not in WRITTEN)
+        found = [TOP / 'README.md', *(TOP / 'docs').glob('*.md')]
         with self.subTest('together'):
-            self.assertLessEqual(together, TOGETHER)
+            self.assertLessEqual(sum(many[it.stem] for it in found), TOGETHER)
+        with self.subTest('bench/README.md'):
+            self.assertLessEqual(len(LONG_FORM[0].read_text().split()), MOST_OF_BENCH)
 
 
 class Architecture(TestCase):

@@ -1,5 +1,6 @@
 """What tools/tables.py writes is what is committed: what a file's schema is tested for, and what the
-statements on each table say."""
+statements on each table say. And no line of a definition or a proof is wider than tools/layout.py
+leaves it."""
 # needs: python3
 import filecmp
 import pathlib
@@ -38,3 +39,8 @@ class Generated(TestCase):
         says = [it.relative_to(COMMITTED) for it in files_in(COMMITTED) if MARK in it.read_bytes()]
         others = [str(it) for it in says if not (self.written / it).exists()]
         self.assertEqual(others, [])
+
+    def test_lines_are_laid_out(self):
+        done = subprocess.run([sys.executable, TOP / 'tools' / 'layout.py', '--check'],
+                              capture_output=True, text=True)
+        self.assertEqual((done.returncode, done.stdout), (0, ''))

@@ -8,6 +8,7 @@ import io
 import os
 import re
 import shutil
+import socket
 import stat
 import subprocess
 import sys
@@ -282,6 +283,181 @@ class GoneOnWith(JournalTestCase):
                    self.list)
         self.check('it is refused', told, (6, '', 'journal\n'))
         self.check('it stays', self.list.read_bytes(), bytes(text))
+
+
+class Renewed(JournalTestCase):
+    """A new part begins where the list was renamed, removed or truncated while it is served."""
+
+    def setUp(self):
+        super().setUp()
+        self.before = self.copy()
+        self.port = free_port()
+        words = ['serve', self.room, f'127.0.0.1:{self.port}', '--journal', self.list]
+        self.process = subprocess.Popen([PROGRAM, *words], stdout=subprocess.PIPE,
+                                        stderr=subprocess.PIPE)
+        self.addCleanup(self.process.communicate)
+        self.addCleanup(self.process.kill)
+        self.check('it serves', self.process.stdout.readline(), b'serving\n')
+
+    def asked(self, *messages):
+        """The statuses of the answers to some messages on one connection."""
+        stream = io.BytesIO(talk(self.port, *messages))
+        return [status for _, status, _ in iter(lambda: read_dated(stream), None)]
+
+    def begun(self, *beside):
+        """Waits until a new part has begun, and other files are there."""
+        for _ in range(300):
+            time.sleep(0.1)
+            if all(it.exists() for it in (self.list, *beside)):
+                if b'\nroom 2 ' in self.list.read_bytes():
+                    return
+        self.fail('no new part has begun')
+
+    def stopped(self):
+        """Stops the program; what else it printed, and what it reported."""
+        self.process.kill()
+        out, err = self.process.communicate()
+        return out.decode(), err.decode()
+
+    def replayed(self, *parts):
+        """Replays parts one after another: they lead to the room."""
+        room = shutil.copy(self.before, self.folder / 'again.db')
+        for part in parts:
+            status, _, err = replay(room, part)
+            self.check('it is replayed', (status, err), (0, ''))
+        self.check('its digest', run('digest', room), run('digest', self.room))
+        self.check('the room', dump(room), dump(self.room))
+
+    def test_renamed(self):
+        old = self.folder / 'room.list.1'
+        with socket.create_connection(('127.0.0.1', self.port), timeout=30) as stays:
+            answers = stays.makefile('rb')
+            stays.sendall(call(1))
+            self.check('the call', read_dated(answers)[1], 200)
+            self.list.rename(old)
+            self.begun()
+            stays.sendall(DUTY)
+            self.check('on the same connection', read_dated(answers)[1], 200)
+        self.check('on another', self.asked(QUEUE), [200])
+        self.check('it is reported', self.stopped(),
+                   ('', 'journal: the list was moved, a new one begins\n'))
+        first, second = old.read_bytes(), self.list.read_bytes()
+        self.check('the old one', verify(old)[1].splitlines()[-1], 'ended')
+        self.check('its entries', [it[0] for it in entries(first)], ['room', 'message', 'answer'])
+        self.check('those of the new one', [it[0] for it in entries(second)],
+                   ['room', 'message', 'answer', 'message', 'answer'])
+        self.replayed(first, second)
+
+    def test_rotated(self):
+        """As a rotation by night moves it, which makes the next file itself, beside desks that ask
+        without a pause: each message is in one part, none is in two, and nobody is closed."""
+        olds, sent = [self.folder / f'room.list.{it}' for it in (1, 2, 3)], 0
+        with socket.create_connection(('127.0.0.1', self.port), timeout=30) as stays:
+            answers = stays.makefile('rb')
+            for old in olds:
+                self.list.rename(old)
+                os.close(os.open(self.list, os.O_CREAT | os.O_WRONLY, 0o600))  # if none is there
+                until = time.monotonic() + 30
+                while b'\nroom 2 ' not in self.list.read_bytes() and time.monotonic() < until:
+                    sent += 1
+                    stays.sendall(call(sent))
+                    self.check('a call', read_dated(answers)[1], 200)
+        self.stopped()
+        parts = [it.read_bytes() for it in (*olds, self.list)]
+        found = [it for part in parts for it in entries(part) if it[0] == 'message']
+        self.check('each once', [it[2] for it in found], [call(it + 1) for it in range(sent)])
+        self.check('some', sent > 0, True)
+        for old in olds:
+            self.check('an old one', verify(old)[1].splitlines()[-1], 'ended')
+        self.check('a head for each', [entries(part)[0][0] for part in parts], ['room'] * 4)
+        self.replayed(*parts)
+
+    def test_removed(self):
+        self.check('the call', self.asked(call(1)), [200])
+        first = self.list.read_bytes()
+        self.list.unlink()
+        self.begun()
+        self.check('the next', self.asked(call(2)), [200])
+        self.stopped()
+        self.replayed(first, self.list.read_bytes())
+
+    def test_truncated(self):
+        asides = [self.list.with_name(f'room.list.truncated.{it}') for it in (1, 2)]
+        self.check('the call', self.asked(call(1)), [200])
+        first = self.list.read_bytes()
+        os.truncate(self.list, 10)
+        self.begun(asides[0])
+        self.check('the next', self.asked(call(2)), [200])
+        second = self.list.read_bytes()
+        # (within the head, so that it is shorter than at the last look, whenever that was)
+        os.truncate(self.list, 100)
+        self.begun(asides[1])
+        self.check('it is reported', self.stopped(),
+                   ('', 2 * 'journal: the list was truncated, a new one begins\n'))
+        self.check('what was left', [it.read_bytes() for it in asides], [first[:10], second[:100]])
+        self.replayed(first, second, self.list.read_bytes())
+
+    def test_emptied(self):
+        """As a rotation by night copies it and makes it empty, and nothing is set aside."""
+        self.check('the call', self.asked(call(1)), [200])
+        first = self.list.read_bytes()
+        os.truncate(self.list, 0)
+        self.begun()
+        self.check('the next', self.asked(call(2)), [200])
+        self.check('it is reported', self.stopped(),
+                   ('', 'journal: the list was truncated, a new one begins\n'))
+        self.check('files', sorted(it.name for it in self.folder.glob('room.list*')),
+                   ['room.list'])
+        self.replayed(first, self.list.read_bytes())
+
+    def test_nowhere(self):
+        """Where no new list can be made, nothing more is served, and no message is lost."""
+        self.check('the call', self.asked(call(1)), [200])
+        folder = self.folder / 'moved'
+        folder.mkdir()
+        old = self.list.rename(folder / 'room.list')
+        self.list.mkdir()
+        self.process.wait(timeout=60)
+        self.check('it ended', self.process.returncode, 6)
+        self.check('the old one', verify(old)[1].splitlines()[-1], 'ended')
+        self.replayed(old.read_bytes())
+
+    def test_not(self):
+        """A service with a number of connections keeps its list, whatever its name is."""
+        self.stopped()
+        with serving(self.room, 2, *PATIENT, '--journal', str(self.list)) as (port, process):
+            talk(port, call(1))
+            old = self.list.rename(self.folder / 'room.list.1')
+            talk(port, QUEUE)
+            process.wait(timeout=60)
+        self.check('its messages', sum(it[0] == 'message' for it in entries(old.read_bytes())), 2)
+        self.check('no other', self.list.exists(), False)
+
+
+class OfChanges(JournalTestCase):
+    """A list without questions leads to the same room."""
+
+    def test_changes(self):
+        before = self.copy()
+        head = message('deskone1', 'HEAD /queue')
+        found, _ = self.serve([call(1), QUEUE, DUTY], [QUEUE, MOBILISE, REPORT, QUEUE], [head],
+                              words=('--journal-of', 'changes'))
+        kept = self.entries()
+        self.check('what is kept', [it[2] for it in kept if it[0] == 'message'],
+                   [call(1), DUTY, MOBILISE, REPORT])
+        statuses = [str(status) for _, status, _ in found]
+        self.check('their statuses', [it[1] for it in kept if it[0] == 'answer'],
+                   [statuses[nth] for nth in (0, 2, 4, 5)])
+        self.check('it is replayed', replay(before, self.list.read_bytes()),
+                   (0, b'replayed 4\n', ''))
+        self.check('the room', dump(before), dump(self.room))
+
+    def test_all(self):
+        """All are kept where that is asked for, as where nothing is."""
+        for words in [(), ('--journal-of', 'all')]:
+            self.list.unlink(missing_ok=True)
+            self.serve([QUEUE], words=words)
+            self.check(str(words), [it[0] for it in self.entries()], ['room', 'message', 'answer'])
 
 
 class Replayed(JournalTestCase):

@@ -13,6 +13,7 @@ import urllib.error
 import urllib.request
 
 from browser import OPENER
+from documents import blocks
 from room import PATIENT, PROGRAM, TOP, TestCase, ask, call, free_port, made, message
 
 METRICS = TOP / 'examples' / 'metrics' / 'metrics.py'
@@ -269,6 +270,17 @@ class Rules(TestCase):
         table = METRICS.with_name('README.md').read_text()
         for name in set(re.findall(r'dispatch_room_\w+', text)):
             self.check(f'{name} is in the table', f'| `{name}` |' in table, True)
+
+    def test_configuration(self):
+        """What the page says to write into Prometheus' own file, beside the rules."""
+        page = blocks(METRICS.with_name('README.md').read_text())
+        [shown] = [it.text for it in page if it.text.startswith('scrape_configs:')]
+        (self.folder / 'rules.yml').write_text(RULES.read_text())
+        for what, text, wanted in [('as shown', shown, 0),
+                                   ('with a name that is none', shown.replace('job_', 'jab_'), 1)]:
+            file = self.folder / 'prometheus.yml'
+            file.write_text(text)
+            self.check(what, promtool('check', 'config', file)[0], wanted)
 
     def test_played(self):
         """(What Prometheus reads of a test of rules is YAML, of which JSON is a part.)"""

@@ -101,7 +101,7 @@ BUTTONS = ['position', 'mobile', 'scene', 'leave', 'hospital', 'return', 'home']
 
 def refusals():
     """The number, the name and the status of each refusal, by the definition."""
-    text = specs('room_types/specs/Refusals.antt')
+    text = specs('room_types/specs/RefusalStatuses.antt')
     found = re.findall(r'^told .* = (not_found|conflict|with_status (\d+)) (\d+) \(codes "(\w+)"\)',
                        text, re.M)
     fixed = {'not_found': '404', 'conflict': '409'}

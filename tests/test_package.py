@@ -22,9 +22,10 @@ PAGE = 'usr/share/man/man1/dispatch_room.1.gz'
 COMPLETION = 'usr/share/bash-completion/completions/dispatch_room'
 OF_DEBIAN = [f'{DOCUMENTS}/{it}' for it in ('copyright', 'changelog.gz', 'changelog.Debian.gz')]
 EXAMPLES = TOP / 'examples'
-SCRIPTS = ['1992/play.py', 'day.sh', 'desks/desks.py', 'haproxy/certificates.sh',
-           'metrics/metrics.py', 'month/month.sh', 'three/companion.py', 'three/prepare.py',
-           'three/three.py', 'wall/wall.py']
+SCRIPTS = ['1992/play.py', 'backup/backup.py', 'day.sh', 'desks/desks.py',
+           'haproxy/certificates.sh', 'metrics/metrics.py', 'month/month.sh', 'three/companion.py',
+           'three/prepare.py', 'three/three.py', 'wall/wall.py', 'weekly/renew.sh',
+           'weekly/times.sh']
 
 # What a day in the room calls beside the program.
 TOOLS = ['bash', 'curl', 'date', 'dirname', 'sleep']

@@ -27,7 +27,8 @@ USAGE_MISTAKES = [
     ['serve', 'a', '127.0.0.1:9', '--idle', '0'], ['serve', 'a', '127.0.0.1:9', '--idle', '60001'],
     ['serve', 'a', '127.0.0.1:9', '--keep', '0'], ['serve', 'a', '127.0.0.1:9', '--keep', '3601'],
     ['serve', 'a', '127.0.0.1:9', '--journal'],
-    ['serve', 'a', '127.0.0.1:9', '--journal', 'b', '--journal-sync', 'never'], ['replay'],
+    ['serve', 'a', '127.0.0.1:9', '--journal', 'b', '--journal-sync', 'never'],
+    ['serve', 'a', '127.0.0.1:9', '--journal', 'b', '--journal-of', 'questions'], ['replay'],
     ['replay', 'a', 'b'], ['replay', 'a', '--until', '4102444800'], ['replay', 'a', '--until', '-1'],
     ['verify'], ['verify', 'a', 'b'], ['verify', 'a', '--until', '1'],
 ]
@@ -51,8 +52,8 @@ class Usage(TestCase):
         self.assertEqual([status, 'Usage:' in out, err], [0, True, ''])
 
     def test_help_of_commands(self):
-        for name in ['init', 'import', 'terminals', 'migrate', 'check', 'serve', 'replay', 'verify',
-                     'renew', 'board', 'times']:
+        for name in ['init', 'import', 'terminals', 'replan', 'migrate', 'check', 'serve', 'replay',
+                     'verify', 'renew', 'board', 'times']:
             status, out, err = run(name, '--help')
             self.check(f'help of {name}',
                        [status, f'Example: dispatch_room {name}' in out, err], [0, True, ''])

@@ -1,16 +1,21 @@
-"""The list of what is proved: what tools/proofs.py writes is what is committed, it has each crate
-and each law, and what is said of each; and what stands above it is short."""
+"""The list of what is proved: what tools/proofs.py writes is what is committed, it has the crates
+in their order and each law, with what is said of it; and what stands above it is short."""
 # needs: python3
 import re
 import subprocess
 import sys
+from itertools import zip_longest
 
 from room import TOP, TestCase
 
 LIST = TOP / 'docs' / 'PROOFS.md'
 # The line of a law or a function: its name, the place, and what is said of it.
 ROW = re.compile(r'^- (?:\w+::)?\[(\w+)\]\(\.\./(\S+)#L(\d+)\)[^:]*: (.*)$', re.M)
-MOST_WORDS = 250  # above the list
+NAMED = re.compile(r'^(?:(?:\w+::)?\[\w+\]\(\.\./\S+\)(?:, |$))+$')
+MOST_WORDS = 240  # above the list
+# Crates that nobody calls, and that have no laws.
+LEFT_OUT = ['room_types_keyed', 'room_model_examples', 'dispatch_room',
+            'dispatch_room_dry_run_main']
 
 
 def unfilled(text):
@@ -30,11 +35,18 @@ class Proofs(TestCase):
     def test_is_written(self):
         written = self.folder / 'PROOFS.md'
         subprocess.run([sys.executable, TOP / 'tools' / 'proofs.py', written], check=True)
-        self.assertEqual(written.read_text(), LIST.read_text())
+        lines = zip_longest(*(it.read_text().splitlines() for it in (LIST, written)))
+        self.assertEqual([it for it in lines if it[0] != it[1]][:5], [])
 
     def test_crates(self):
-        wanted = re.findall(r'^(\w+):', (TOP / 'crates.txt').read_text(), re.M)
-        self.check('headings', re.findall(r'^## (.*)$', LIST.read_text(), re.M), wanted)
+        """The crates stand in their order, all but those that nobody calls and that have no laws;
+        what is named of each is links."""
+        sections = dict(re.findall(r'^## (\w+)\n\n((?:\S.*\n)+)', LIST.read_text(), re.M))
+        every = re.findall(r'^(\w+):', (TOP / 'crates.txt').read_text(), re.M)
+        self.check('crates', list(sections), [it for it in every if it not in LEFT_OUT])
+        for name, text in sections.items():
+            with self.subTest(name):
+                self.assertRegex(' '.join(text.split()), NAMED)
 
     def test_rows(self):
         rows = ROW.findall(unfilled(LIST.read_text()))
@@ -42,7 +54,7 @@ class Proofs(TestCase):
         listed = {(name, place) for name, place, _, _ in rows}
         self.check('laws that are not listed', set(laws()) - listed, set())
         for name, _, _, says in rows:
-            self.assertRegex(says, r'^[A-Z`].*\.$', f'what is said of {name} is no sentence')
+            self.assertRegex(says, r'^[A-Z`][^;]*[^.:;]\.$', f'of {name} is said no sentence')
 
     def test_head(self):
         head = LIST.read_text().partition('\n## ')[0]

@@ -8,6 +8,7 @@ import contextlib
 import datetime
 import io
 import json
+import pathlib
 import random
 import re
 import resource
@@ -16,7 +17,9 @@ import sqlite3
 import subprocess
 import sys
 
-from room import FLEET, PLAN, PROGRAM, TOP, TestCase, ask, call, made, message, run, serving, sql
+from room import (FLEET, PATIENT, PLAN, PROGRAM, TOP, TestCase, ask, call, made, message, run,
+                  serving, sql)
+from test_backup import plain
 
 sys.path.insert(0, str(TOP / 'examples' / 'three'))
 import digest  # noqa: E402
@@ -350,6 +353,53 @@ class GoesOn(RenewTestCase):
         told = play(new, again)
         self.check('a new call', [it['serial'] for it in tables_of(new)['calls']], [1, 2])
         self.check('a late report', json.loads(told[1][1])['outcome'], 'late')
+
+
+# ---- lists
+
+
+class Lists(RenewTestCase):
+    """A list ends with its room, and that of the new room begins with the new room's head."""
+
+    def serve(self, room, name, *sent):
+        words = *PATIENT, '--journal', str(self.folder / name)
+        with serving(room, 1, *words) as (port, process):
+            answers = ask(port, *sent)
+            process.wait(timeout=60)
+        self.check(f'{name}: answers', [it for it, _ in answers], [200] * len(sent))
+        return (self.folder / name).read_bytes()
+
+    def copy(self, room, name):
+        return pathlib.Path(shutil.copy(room, self.folder / name))
+
+    def replayed(self, room, text):
+        done = subprocess.run([PROGRAM, 'replay', room], input=text, capture_output=True,
+                              timeout=60)
+        return done.returncode, done.stdout.decode(), done.stderr.decode()
+
+    def test_lists(self):
+        old, new = made(self.folder / 'old.db'), self.folder / 'new.db'
+        past = 1_700_000_000
+        play(old, [(past, *Sender(1).call_of(1)),
+                   (past + 1, 'deskone1', 'POST /incidents/1/close', None),
+                   (past + 1, 'desktwo2', 'POST /incidents/1/close', None)])
+        first = self.copy(old, 'first.db')
+        before = self.serve(old, 'old.list', call(2, 'TQ300800'), call(3, 'TQ350850'))
+        since = datetime.datetime.now(datetime.timezone.utc) - datetime.timedelta(days=4)
+        self.check('renew', run('renew', old, new, '--since', f'{since:%Y-%m-%d}'),
+                   (0, 'renewed: incidents 2, calls 2, turns 0, reports 0\n', ''))
+        begun = self.copy(new, 'begun.db')
+        after = self.serve(new, 'new.list', call(4, 'TQ360860'), call(2, 'TQ300800'))
+        self.check('the head', plain(after)[0], digest.head_of(begun).encode())
+        for name in ('old.list', 'new.list'):
+            self.check(f'{name}: it is whole', run('verify', self.folder / name)[0::2], (0, ''))
+        self.check('the new list over the old room, as it was',
+                   self.replayed(self.copy(old, 'last.db'), after),
+                   (1, '', 'refused: another room at record 1\n'))
+        self.check('the old list', self.replayed(first, before), (0, 'replayed 2\n', ''))
+        self.check('leads to the old room', tables_of(first), tables_of(old))
+        self.check('the new list', self.replayed(begun, after), (0, 'replayed 2\n', ''))
+        self.check('leads to the new room', tables_of(begun), tables_of(new))
 
 
 # ---- what is refused

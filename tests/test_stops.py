@@ -1,18 +1,33 @@
 """Stops from outside: the program ends at each call in turn that changes a file, before it, in the
-middle of what it writes, or with the machine, which loses what was not synced. The next program
-finds the room from before or the room from after what was stopped, and the one from after where it
-had answered; and what was stopped then ends well."""
+middle of what it writes, or with the machine, which loses what was not synced, or some sectors of
+it where the disk was writing blocks of several: every other one, all behind the first few of each
+block of 4 KiB, or any. The next program finds the room from before or the room from after what was
+stopped, and the one from after where it had answered; and what was stopped then ends well. What a
+room is renewed from stays as it was, to the byte."""
 # needs: python3 gcc libc6-dev sqlite3
 # builds: dispatch_room
 import time
 
 from first_version import DAY, old_room
-from preloaded import BEFORE, HALFWAY, MACHINE, NEVER_STOPPED, PreloadedTestCase, sampled, stop
-from room import PLAN, ask, call, drop_indexes, fleet_of, made, message, rows_of, run, serving
+from preloaded import (ANY, BEFORE, EVERY, FIRST, HALFWAY, MACHINE, NEVER_STOPPED, TORN,
+                       PreloadedTestCase, sampled, stop)
+from room import (PLAN, ask, call, drop_indexes, fleet_of, made, message, rows_of, run, serving,
+                  sql)
 
 STOPPED = 9
 HOW = {'stopped at': BEFORE, 'stopped in the middle of': HALFWAY,
-       'stopped with the machine at': MACHINE}
+       'stopped with the machine at': MACHINE, 'stopped with blocks torn at': TORN}
+SECTORS = 8  # of a block
+
+
+def ways(at):
+    """The ways to stop at a call of this number, by their names: blocks are torn behind each number
+    of sectors, and by eight choices of them, or where calls are sampled by one of all these."""
+    firsts = range(1, SECTORS) if EVERY else [at // 2 % (SECTORS - 1) + 1][at % 2:]
+    choices = range(8 * at, 8 * at + 8) if EVERY else [at][:at % 2]
+    torn = {f'stopped with blocks torn behind {it} sectors at': FIRST + it for it in firsts}
+    return HOW | torn | {f'stopped with sectors torn by {it} at': ANY + it for it in choices}
+
 
 # ---- deeds: each takes the program, the library's switches and a file, and gives the answer, or
 # None where there was none
@@ -48,6 +63,7 @@ REPORT = message('crewofa1', 'POST /report',
 LEND = message('deskone1', 'POST /vehicles/A1/lend', f'{{"to":2,"until":{UNTIL - 600}}}')
 ACCEPT = message('desktwo2', 'POST /vehicles/A1/accept')
 RECALL = message('deskone1', 'POST /vehicles/A1/recall')
+CLOSE = message('deskone1', 'POST /incidents/1/close')
 MERGE = message('deskone1', 'POST /incidents/2/merge', '{"into":1}')
 
 
@@ -58,7 +74,7 @@ class Stops(PreloadedTestCase):
         total = self.program.total()
         self.check('files are changed', total > 0, True)
         for at in sampled(total):
-            for words, how in HOW.items():
+            for words, how in ways(at).items():
                 yield stop(at, how), f'{words} {at}', how
 
     def room(self, *messages):
@@ -99,7 +115,7 @@ class Stops(PreloadedTestCase):
                 self.assertIn(now, [before, *between, after])
             with self.subTest(f'{what}, {name}: its answer'):
                 self.assertIn((answered, now), [(answer, after), (None, now)])
-            if how != MACHINE:
+            if how in (BEFORE, HALFWAY):
                 met.append(now)
             if now != after or room:
                 deed(self.program, NEVER_STOPPED, file)
@@ -145,6 +161,38 @@ class Stops(PreloadedTestCase):
 
     def test_recall(self):
         self.stop_everywhere('a recall', self.room(DUTY, LEND, ACCEPT), request(RECALL))
+
+    def test_renewal(self):
+        """Stops a renewal: the old room stays, and beside it is none, or the whole new one."""
+        room = self.room(call(1), CLOSE, call(2, 'TQ400900'))
+        sql(room, 'UPDATE calls SET moment = 1700000000 WHERE serial = 1;'
+                  'UPDATE incidents SET opened = 1700000000 WHERE number = 1')
+        before = room.read_bytes()
+
+        def renew(switches, old):
+            status, out, err = self.program.run(switches, 'renew', old, old.with_name('new.db'),
+                                                '--since', '2024-01-01')
+            return (out, err) if status != STOPPED else None
+
+        old = self.fresh(room)
+        answer = renew(NEVER_STOPPED, old)
+        self.check('a renewal', answer,
+                   (b'renewed: incidents 1, calls 1, turns 0, reports 0\n', b''))
+        wanted, met = self.found(old.with_name('new.db')), set()
+        for switches, name, _ in self.each():
+            old = self.fresh(room)
+            new = old.with_name('new.db')
+            answered = renew(switches, old)
+            self.check(f'a renewal, {name}: the old file', old.read_bytes(), before)
+            self.check(f'a renewal, {name}: the old room', run('check', old)[0], 0)
+            now = self.found(new)
+            met.add(now)
+            with self.subTest(f'a renewal, {name}: the new room'):
+                self.assertIn((answered, now), [(answer, wanted), (None, wanted), (None, None)])
+            if now is None:
+                self.check(f'a renewal, {name} and done again', renew(NEVER_STOPPED, old), answer)
+                self.check(f'a renewal, {name}: the new room then', self.found(new), wanted)
+        self.check('none, and a whole one', met, {None, wanted})
 
     def test_opening(self):
         """Stops the opening of a room without indexes: all rows are found, and the indexes made

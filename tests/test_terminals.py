@@ -1,11 +1,19 @@
-"""The terminals of a room from outside: who has one, a new token, one that is taken away; what the
-command sqlite3 reads of all tables before and after, and who is answered by which token."""
+"""The terminals of a room from outside: who has one, a new token, one that is taken away, and those
+that a file gives; what the command sqlite3 reads of all tables before and after, and who is answered
+by which token."""
 # needs: python3 sqlite3
 # builds: dispatch_room
+import itertools
 import json
 import re
 
 from room import (FLEET, PLAN, TestCase, ask, dump, made, message, run, serving, sql)
+
+PLAN_HEAD = 'what,number,a,b,c,d'
+ZONE = 'zone,0,"GMT0BST,M3.5.0/1,M10.5.0",,,'
+WEST = 'area,1,500000,100000,549999,199999'
+THIRD = 'area,3,400000,100000,449999,199999'
+FLEET_HEAD = 'callsign,division,kind,place,token'
 
 A1 = 'A1,1,1,TQ303804,crewofa1'
 B1 = 'B1,2,1,TQ600800,crewofb1'
@@ -134,6 +142,103 @@ class Changing(TestCase):
                          [200, none, none, 200])
 
 
+class Setting(TestCase):
+    def set(self, room, *lines):
+        """Sets the terminals of a file with these lines; what the command gives."""
+        file = self.folder / 'new.csv'
+        file.write_text('\n'.join(lines) + '\n')
+        return run('terminals', room, '--from', file)
+
+    def test_plan(self):
+        """The desks and positions of a plan have its tokens only; one has two, one as before, one is
+        new, and desk 2, which it doesn't name, has what it had, as the crews have."""
+        room = made(self.folder / 'room.db', A1, B1)
+        rest = others(room)
+        self.assertEqual(self.set(room, PLAN_HEAD, ZONE, WEST, 'desk,1,newdesk1,,,',
+                                  'desk,1,newdesk2,,,', 'position,1,takerone,,,',
+                                  'position,99,takers99,,,'), (0, 'set: terminals 4\n', ''))
+        self.assertEqual(rows(room), sorted([
+            ('newdesk1', '0', '1', ''), ('newdesk2', '0', '1', ''), ('desktwo2', '0', '2', ''),
+            ('takerone', '1', '1', ''), ('takers99', '1', '99', ''),
+            ('crewofa1', '2', '0', 'A1'), ('crewofb1', '2', '0', 'B1')]))
+        self.assertEqual(others(room), rest)
+        self.assertEqual(run('check', room)[0], 0)
+        self.assertEqual(answered(room, ('newdesk2', '/queue'), ('deskone1', '/queue'),
+                                  ('desktwo2', '/queue'), ('crewofb1', '/order')),
+                         [200, (403, 38), 200, 200])
+
+    def test_fleet(self):
+        """The crews of a fleet have its tokens only; of a row, all but callsign and token are not
+        looked at, and a crew that it doesn't name has what it had."""
+        room = made(self.folder / 'room.db', A1, B1)
+        rest = others(room)
+        self.assertEqual(self.set(room, FLEET_HEAD, 'A1,2,3,TQ600800,othera11'),
+                         (0, 'set: terminals 1\n', ''))
+        self.assertEqual(named(room, 'crew:A1'), ['othera11'])
+        self.assertEqual(named(room, 'crew:B1'), ['crewofb1'])
+        self.assertEqual(len(rows(room)), 5)
+        self.assertEqual(others(room), rest)
+        self.assertEqual(run('check', room)[0], 0)
+        self.assertEqual(answered(room, ('othera11', '/order'), ('crewofa1', '/order')),
+                         [200, (403, 38)])
+
+    def test_swap(self):
+        """Two that a file names may have each other's tokens."""
+        room = made(self.folder / 'room.db', A1, B1)
+        self.assertEqual(self.set(room, FLEET_HEAD, 'A1,1,1,TQ303804,crewofb1',
+                                  'B1,2,1,TQ600800,crewofa1')[0], 0)
+        self.assertEqual(named(room, 'crew:A1') + named(room, 'crew:B1'), ['crewofb1', 'crewofa1'])
+
+    def test_again(self):
+        """The files that made a room change nothing, and no terminal that it got since comes back."""
+        room = made(self.folder / 'room.db', A1, B1)
+        before = sorted(dump(room).splitlines())
+        self.check('plan', run('terminals', room, '--from', PLAN), (0, 'set: terminals 3\n', ''))
+        self.check('fleet', self.set(room, FLEET_HEAD, A1, B1), (0, 'set: terminals 2\n', ''))
+        self.check('none', self.set(room, FLEET_HEAD), (0, 'set: terminals 0\n', ''))
+        self.check('all', sorted(dump(room).splitlines()), before)
+
+    def test_refused(self):
+        """Where a row is refused nothing is changed, and the first one is explained."""
+        room = made(self.folder / 'room.db', A1, B1)
+        before = dump(room)
+        good = 'A1,1,1,TQ303804,othera11'
+        for what, lines, said, told in [
+                ('no vehicle', [FLEET_HEAD, good, 'Z9,1,1,TQ303804,crewofz9'],
+                 'crew Z9: no vehicle has the callsign', 'input'),
+                ("another's token", [FLEET_HEAD, good, 'B1,2,1,TQ600800,deskone1'],
+                 "crew B1: its token is another terminal's", 'input'),
+                ('one token twice', [FLEET_HEAD, good, 'B1,2,1,TQ600800,othera11'],
+                 "crew B1: its token is another terminal's", 'input'),
+                ('two tokens', [FLEET_HEAD, good, 'A1,1,1,TQ303804,othera12'],
+                 'crew A1: a row before gives it another token', 'input'),
+                ('no division', [PLAN_HEAD, ZONE, WEST, THIRD, 'desk,1,newdesk1,,,',
+                                 'desk,3,deskthree,,,'],
+                 'desk 3: its division is not in the plan', 'division'),
+                ("a crew's token", [PLAN_HEAD, ZONE, WEST, 'position,7,crewofa1,,,'],
+                 "position 7: its token is another terminal's", 'input')]:
+            self.check(what, self.set(room, *lines), (1, '', f'refused: {told}\n'))
+            self.check(f'{what}, explained',
+                       run('terminals', room, '--from', self.folder / 'new.csv', '--explain'),
+                       (1, '', f'{said}\nrefused: {told}\n'))
+            self.check(f'{what}, unchanged', dump(room), before)
+
+    def test_no_file(self):
+        """What is neither a plan nor a fleet is refused before the room is opened."""
+        room = made(self.folder / 'room.db', A1)
+        before = dump(room)
+        for what, lines, told in [
+                ('a bad row', [FLEET_HEAD, 'A1,1,1,TQ303804,short'], 'refused: input\n'),
+                ('a short row', [FLEET_HEAD, 'A1,1'], 'refused: input\n'),
+                ('another header', ['name,token', 'A1,othera11'], 'refused: input\n'),
+                ('a bad plan', [PLAN_HEAD, ZONE, WEST, 'desk,9,deskofnone,,,'],
+                 'refused: plan row 3\n')]:
+            self.check(what, self.set(room, *lines), (1, '', told))
+        self.check('none', run('terminals', room, '--from', self.folder / 'none.csv'),
+                   (1, '', 'refused: input\n'))
+        self.assertEqual(dump(room), before)
+
+
 class Refusing(TestCase):
     def test_refused(self):
         room = made(self.folder / 'room.db', A1)
@@ -160,15 +265,18 @@ class Refusing(TestCase):
             for option in ['--new', '--revoke']:
                 status, out, err = run('terminals', self.folder / 'room.db', option, who)
                 self.check(f'{option} {who!r}', [status, out, 'error: ' in err], [2, '', True])
-        status, _, err = run('terminals', 'a', '--new', 'desk:1', '--revoke', 'desk:1')
-        self.assertEqual([status, 'cannot be used with' in err], [2, True])
+        options = {'--new': 'desk:1', '--revoke': 'desk:1', '--from': 'plan.csv'}
+        for one, other in itertools.combinations(options, 2):
+            status, _, err = run('terminals', 'a', one, options[one], other, options[other])
+            told = re.search(f"'{one} <[A-Z]+>' cannot be used with '{other} <[A-Z]+>'", err)
+            self.check(f'{one} {other}', [status, bool(told)], [2, True])
 
     def test_served(self):
         room = made(self.folder / 'room.db', A1)
         before = rows(room)
         with serving(room, 1) as (_, process):
             told = f'{room} is in use by process {process.pid}\nstorage\n'
-            for words in [[], ['--new', 'crew:A1'], ['--revoke', 'desk:1']]:
+            for words in [[], ['--new', 'crew:A1'], ['--revoke', 'desk:1'], ['--from', PLAN]]:
                 self.check(f'served {words}', run('terminals', room, *words), (3, '', 'storage\n'))
                 self.check(f'served {words}, explained',
                            run('terminals', room, *words, '--explain'), (3, '', told))

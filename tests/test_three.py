@@ -77,8 +77,9 @@ class Forgetful(threading.Thread):
 
 
 class Forgotten(ThreeTestCase):
-    def test_answers_of_etcd_that_are_lost(self):
-        """What was done and not reported is not done again."""
+    def forget(self, machines, pause):
+        """Has terminals ask some of the machines while answers of etcd are lost. What was done and
+        not reported is not done again."""
         before = [Forgetful(self.machines.reach(it), random.Random(it))
                   for it in self.machines.machines]
         for number, it in enumerate(before, 1):
@@ -88,6 +89,14 @@ class Forgotten(ThreeTestCase):
         witness = self.witness()
         asking = asked_while(lambda: self.machines.until(
             lambda: min(it.forgotten for it in before) > LOST, 'answers are lost'),
-            self.addresses(), PAUSE, self.chance)
+            self.addresses()[:machines], pause, self.chance)
         self.check('all were answered', sum(it.unanswered for it in asking), 0)
         self.end(asking, witness)
+
+    def test_answers_of_etcd_that_are_lost(self):
+        self.forget(3, PAUSE)
+
+    def test_entries_on_their_way_together(self):
+        """A machine that is the only one to put has two entries on their way, one behind the
+        other."""
+        self.forget(1, 0)

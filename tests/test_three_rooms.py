@@ -40,6 +40,7 @@ class Rooms(ThreeTestCase):
                                         for it in self.machines.machines), f'copies of {record}')
 
     def until_stopped(self, text):
+        """Waits until each machine says so: which two it names depends on who has reported first."""
         for it in self.machines.machines:
             self.machines.until(lambda: text in self.machines.health(it).get('refuses', ''),
                                 f'machine {it} is stopped')
@@ -82,7 +83,7 @@ class Rooms(ThreeTestCase):
         self.copied(10)
         self.flip(next((self.machines.machines[2].folder / 'room' / 'work').glob('run.*/room.db')))
         self.check('ten more', self.calls(10), [200] * 10)
-        self.until_stopped('the rooms differ at record 20: machine 1 has room ')
+        self.until_stopped('the rooms differ at record 20: ')
         status, told = self.machines.companion_does(1, 'go-on')
         self.check('they do not go on so', (status, 'the rooms differ at record 20' in told),
                    (1, True))
@@ -107,7 +108,7 @@ class Rooms(ThreeTestCase):
         self.machines.programs[3] = other
         self.machines.start_all()
         self.check('ten calls', self.calls(10), [200] * 10)
-        self.until_stopped('the rooms differ at record 10: machine 1 has room ')
+        self.until_stopped('the rooms differ at record 10: ')
         del self.machines.programs[3]
         self.machines.kill('companion', 3)
         self.machines.start('companion', 3)

@@ -83,6 +83,33 @@ def talk(address, sent):
         return it.makefile('rb').read()
 
 
+def five_by_one(address):
+    """What is answered to one request after another on one connection."""
+    with contextlib.closing(http.client.HTTPConnection(*address, timeout=PATIENCE)) as connection:
+        told = []
+        for _ in range(5):
+            connection.request('GET', '/points', headers={'X-Terminal': DESK})
+            with connection.getresponse() as answer:
+                told.append((answer.status, answer.read(), answer.headers['Connection']))
+        return told
+
+
+def by_curl(address):
+    done = subprocess.run(['curl', '-s', '-H', f'X-Terminal: {DESK}', '-w', '%{num_connects}',
+                           *[f'http://127.0.0.1:{address[1]}/points'] * 3],
+                          capture_output=True, text=True, timeout=PATIENCE)
+    return done.stdout
+
+
+def unless_silent(asks):
+    """What is answered, asked again where a busy machine gives no answer."""
+    until = time.monotonic() + PATIENCE
+    while (found := asks()) and re.search('NoAnswer|HTTP/1.1 503', repr(found)):
+        assert time.monotonic() < until, f'no answer: {found}'
+        time.sleep(0.2)
+    return found
+
+
 class Undisturbed(ThreeTestCase):
     def test_sent_twice(self):
         """What examples/three/README.md says of what is sent again to another machine."""
@@ -134,17 +161,18 @@ class Undisturbed(ThreeTestCase):
     def test_refusals(self):
         """What is refused before it comes to the list is refused as the room does."""
         self.machines.start_all()
-        plain, address = self.folder / 'plain.db', self.addresses()[0]
+        plain = self.folder / 'plain.db'
         shutil.copy(self.first, plain)
         refused = [sent for number, _, _, _, sent in REFUSALS if number >= 30]
         with serving(plain, len(refused + OTHERS)) as (port, _):
             for sent in refused + OTHERS:
                 wanted = exchange(('127.0.0.1', port), sent, PATIENCE)
-                self.check(f'{sent[:80]}', exchange(address, sent, PATIENCE)[1:], wanted[1:])
+                self.check(f'{sent[:80]}', self.answered(1, sent)[1:], wanted[1:])
         sent = b'\r\nGET /queue HTTP/1.0\r\nx-terminal:deskof01\r\n\r\n'
         self.check('HTTP/1.0', self.answered(1, sent)[1:], (200, '{"queue":[]}'))
-        told = talk(address, message('deskof01', 'HEAD /queue').replace(
-            b'Host: room', b'Host: room\r\nConnection: close'))
+        head = message('deskof01', 'HEAD /queue').replace(b'room', b'room\r\nConnection: close')
+        address = self.addresses()[0]
+        told = unless_silent(lambda: talk(address, head))
         self.check('HEAD', (told[:15], told[-4:]), (b'HTTP/1.1 200 OK', b'\r\n\r\n'))
         self.check('one that does not come whole is let go', talk(address, sent[:-1]), b'')
 
@@ -154,27 +182,21 @@ class Connections(ThreeTestCase):
         """A connection is kept for the next request, and many may be sent at once."""
         self.machines.start_all()
         address = self.addresses()[0]
-        connection = http.client.HTTPConnection(*address, timeout=PATIENCE)
-        told = []
-        for _ in range(5):
-            connection.request('GET', '/points', headers={'X-Terminal': DESK})
-            with connection.getresponse() as answer:
-                told.append((answer.status, answer.read(), answer.headers['Connection']))
-        connection.close()
-        self.check('five by one', told, [(200, b'{"points":[]}', None)] * 5)
-        told = ask(address[1], *[message(DESK, 'GET /points')] * 20)
-        self.check('twenty at once', told, [(200, '{"points":[]}')] * 20)
+        self.check('five by one', unless_silent(lambda: five_by_one(address)),
+                   [(200, b'{"points":[]}', None)] * 5)
+        sent = [message(DESK, 'GET /points')] * 20
+        self.check('twenty at once', unless_silent(lambda: ask(address[1], *sent)),
+                   [(200, '{"points":[]}')] * 20)
         last = message(DESK, 'GET /points').replace(b'room', b'room\r\nConnection: close')
-        told = talk(address, last + last)
+        told = unless_silent(lambda: talk(address, last + last))
         self.check('none behind the last', told.count(b'HTTP/1.1 200 OK'), 1)
         self.check('which says so', told.count(b'\r\nConnection: close\r\n'), 1)
-        told = talk(address, message(DESK, 'GET /points') + b'\0\0\r\n\r\n' * 3)
+        sent = message(DESK, 'GET /points') + b'\0\0\r\n\r\n' * 3
+        told = unless_silent(lambda: talk(address, sent))
         self.check('what can not be read ends it', (told.count(b'200 OK'), told.count(b'"BadMess')),
                    (1, 1))
-        done = subprocess.run(['curl', '-s', '-H', f'X-Terminal: {DESK}', '-w', '%{num_connects}',
-                               *[f'http://127.0.0.1:{address[1]}/points'] * 3],
-                              capture_output=True, text=True, timeout=30)
-        self.check('curl keeps it', done.stdout, '{"points":[]}1{"points":[]}0{"points":[]}0')
+        self.check('curl keeps it', unless_silent(lambda: by_curl(address)),
+                   '{"points":[]}1{"points":[]}0{"points":[]}0')
 
     def test_board(self):
         """The board shows of three machines what it shows of one."""

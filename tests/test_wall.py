@@ -288,6 +288,7 @@ class Played(TestCase):
         BROWSER.size(1280, 720)
         BROWSER.open(address)
         until(pictures, 20)
+        BROWSER.press('Space', '0')  # no turning, and the first page
         BROWSER.run('window.kept = document.querySelector(".vehicle")')
         refresh(1)
         self.check('nodes are kept', BROWSER.run('return kept.isConnected'), True)

@@ -13,9 +13,8 @@ from proof_files.callers import is_called
 from proof_files.contracts import TOP, crates
 
 HEAD = TOP / 'tools' / 'proof_files' / 'head.md'
-MOST = 2  # functions that are listed of a crate
-LEAST = 90  # words that are said of one that is listed beside another
-FEW = 6  # clauses that are named
+MOST = 2  # functions that are named of a crate
+LEAST = 90  # words that are said of one that is named beside another
 NUMERALS = {1: 'one', 2: 'two', 3: 'three'}
 WIDTH = 120
 
@@ -25,7 +24,7 @@ def paragraph(text, indent=''):
                          break_on_hyphens=False)
 
 
-def listed(crate):
+def chosen(crate):
     """The functions of a crate that others call, those of which the most is said: one at least."""
     called = [it for it in crate.functions if it.is_public and it not in crate.laws
               and it.name != 'new' and it.weight and is_called(crate, it)]
@@ -37,62 +36,38 @@ def link(name, file, line):
     return f'[{name}](../{file.relative_to(TOP)}#L{line})'
 
 
-def row(function, told):
-    """A line of a list: a function with a link to it, and what is told of it."""
+def place(function):
+    """A link to a function, behind the type to which it belongs."""
     owner = f'{function.owner}::' if function.owner else ''
-    place = link(function.name, function.file, function.line)
-    return paragraph(f'- {owner}{place}{told}', '  ')
+    return owner + link(function.name, function.file, function.line)
 
 
 def law(function):
-    return row(function, f': {function.says}')
+    return paragraph(f'- {place(function)}: {function.states}', '  ')
 
 
-def listing(function):
-    """A function that is no law, with the names of its clauses, or their number where they are
-    many."""
-    names = [f'`{it}`' for it in function.clauses if it]
-    told = f'{len(names)} clauses' if len(names) > FEW else ', '.join(names)
-    return row(function, (f' ({told})' if told else '') + f': {function.says}')
-
-
-def counted(number, name):
-    return f'{number} {name}{"" if number == 1 else "s"}'
-
-
-def counts(crate):
-    """How many functions that are no laws and how many edits a crate has, with a link to these."""
-    own = len(crate.functions) - len(crate.laws)
-    if own:
-        yield counted(own, 'function')
-    if crate.edits:
-        yield f'[{counted(len(crate.edits), "edit")}](../edits/{crate.name})'
-
-
-def named(crate, functions):
+def records(crate, functions):
     """A link to each record of the crate that these functions name."""
     words = {it for function in functions for it in re.findall(r'\w+', function.contract)}
     return [link(*it) for it in crate.records if it[0] in words]
 
 
 def section(crate):
-    """What the list says of a crate."""
-    told, laws, functions = ', '.join(counts(crate)), crate.laws, listed(crate)
-    yield f'## {crate.name}'
-    yield paragraph(f'{crate.says} ({told})' if told else crate.says)
-    for name, rows in [('Laws', map(law, laws)), ('Functions', map(listing, functions))]:
-        if lines := '\n'.join(rows):
-            yield f'{name}:\n\n{lines}'
-    if records := named(crate, laws + functions):
-        yield paragraph(f'Records: {", ".join(records)}.')
+    """What the list has of a crate, if it has anything."""
+    laws, functions = crate.laws, chosen(crate)
+    if laws or functions:
+        yield f'## {crate.name}'
+    if named := [*map(place, functions), *records(crate, laws + functions)]:
+        yield paragraph(', '.join(named))
+    if laws:
+        yield '\n'.join(map(law, laws))
 
 
 def head():
     """What stands above the list."""
     every = crates().values()
     return HEAD.read_text().rstrip().format(
-        most=NUMERALS[MOST], edits=sum(len(it.edits) for it in every),
-        gate=sum(len(it.gate_edits) for it in every))
+        most=NUMERALS[MOST], edits=sum(len(it.edits) for it in every))
 
 
 def document():
@@ -101,5 +76,5 @@ def document():
 
 
 if __name__ == '__main__':
-    place = pathlib.Path(sys.argv[1]) if len(sys.argv) > 1 else TOP / 'docs' / 'PROOFS.md'
-    place.write_text(document())
+    to = pathlib.Path(sys.argv[1]) if len(sys.argv) > 1 else TOP / 'docs' / 'PROOFS.md'
+    to.write_text(document())

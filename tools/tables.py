@@ -9,6 +9,7 @@ import pathlib
 import sys
 
 import kit
+from layout import laid_out
 from table_files.forms import forms
 from table_files.homes import imports
 from table_files.kept import kept
@@ -25,7 +26,7 @@ LAWS = 'What the statements on the table {} say, and what they make of a room.'
 def proofs(about, parts):
     """A file of proofs: what it is about, what it imports, and its parts."""
     body = ''.join(parts)
-    return f'-- {about} {WRITTEN}\n{imports(body)}{body}'
+    return laid_out(f'-- {about} {WRITTEN}\n{imports(body)}{body}')
 
 
 def files():

@@ -6,7 +6,7 @@ import re
 import sqlite3
 
 TOP = pathlib.Path(__file__).resolve().parent.parent.parent
-SCHEMA = TOP / 'crates/room_tables_schema/src/texts.rt'
+SCHEMA = TOP / 'crates/room_tables_schema/src/schema_sql.rt'
 PLAN = TOP / 'examples/plan.csv'
 ROLES = {'desk': 0, 'position': 1}
 CREW = 2

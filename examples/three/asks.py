@@ -15,6 +15,7 @@ class Ask:
     until: float  # its deadline, by a clock that goes on while the machine sleeps
     reply: Reply
     is_sent: bool = False  # it was on its way to the list once, so it may be kept
+    is_flying: bool = False  # it is on its way now
 
 
 def no_answer(is_kept: str) -> bytes:

@@ -12,6 +12,7 @@ the room answers its record. It is not proved; the room that plays is.
   companion.py user                                  has etcd take nothing without its user"""
 import argparse
 import asyncio
+import functools
 import hashlib
 import os
 import secrets
@@ -26,8 +27,9 @@ from copies import Copy
 from entries import MOST_FLEET, Place, Record, first_entry
 from etcd import Member, Unreached
 from health import Health
+from keeping import ETCD_WITHIN, TRY_EVERY, Keeping
 from kept_list import HEAD, STOPPED, KeptList, Lost, delete, head_of, put, span
-from machine import ETCD_WITHIN, TRY_EVERY, Machine, Settings
+from machine import Machine, Settings
 from played_room import Changed, Ended
 from playing import Playing
 from said import say
@@ -196,12 +198,14 @@ async def run(given: argparse.Namespace, copy: Copy, place: Place) -> None:
     settings = Settings(given.machine, given.of, given.listen, given.deadline, given.trust_clock,
                         given.log, given.history, given.away_after)
     how = Playing(given.program, given.folder, given.work, given.copy_every)
-    machine = Machine(settings, how, words.reach_of(given), copy, place)
-    upkeep = Upkeep(machine)
+    machine, reach = Machine(settings, how, copy, place), words.reach_of(given)
+    keeping, upkeep = Keeping(machine, reach), Upkeep(machine, reach)
     Health(machine, upkeep)
     for it in signal.SIGTERM, signal.SIGINT:
         asyncio.get_running_loop().add_signal_handler(it, machine.stop)
-    await machine.serve(upkeep.run)
+    writing = [functools.partial(keeping.keep_asks, it) for it in keeping.writing]
+    await machine.serve(keeping.catch_up, keeping.hear, keeping.watch_over, keeping.follow,
+                        keeping.answer_questions, *writing, upkeep.run)
 
 
 def serve(given: argparse.Namespace) -> None:

@@ -4,16 +4,23 @@ import dataclasses
 import functools
 import hashlib
 import re
+import typing
 
 from clocks import LAST_MOMENT
 
 MOST_RECORDS = 400  # of one entry; etcd takes one and a half megabytes
 MOST_FLEET = 1 << 18  # bytes of a fleet's file
-# A message as companions write it: no other is given to a room.
-WRITTEN = re.compile(rb'[A-Z]{1,16} /[A-Za-z0-9/-]{0,127} HTTP/1\.1\r\nHost: room\r\n'
-                     rb'X-Terminal: [A-Za-z0-9]{8,32}\r\nContent-Length: (\d{1,4})\r\n\r\n')
+LAST_READ = 4  # entries that are known again, as the last one is heard, found and read
+# The head of a message as companions write it: no other is given to a room.
+WRITTEN_HEAD = (rb'[A-Z]{1,16} /[A-Za-z0-9/-]{0,127} HTTP/1\.1\r\nHost: room\r\n'
+                rb'X-Terminal: [A-Za-z0-9]{8,32}\r\nContent-Length: (\d{1,4})\r\n\r\n')
+WRITTEN = re.compile(WRITTEN_HEAD)
 TOKENS = re.compile(rb'([A-Za-z0-9]{8,32}) ([A-Za-z0-9]{8,32})')
 NAME = re.compile(r'[0-9a-z-]{1,64}')
+NUMBER = rb'(0|[1-9][0-9]{0,11})'
+HEAD = re.compile(rb'entry 2 (\S+) %b %b %b\n' % (NUMBER, NUMBER, NUMBER))
+RECORD = re.compile(rb'([a-z]{1,16}) ([0-9a-z-]{1,64}) %b\n' % NUMBER)
+MESSAGE = re.compile(rb'message ([0-9a-z-]{1,64}) %b\n(?:%b)' % (NUMBER, WRITTEN_HEAD))
 
 
 class NoEntry(Exception):
@@ -32,8 +39,7 @@ class Place:
         return f'{self.number} {self.digest}'.encode()
 
 
-@dataclasses.dataclass(frozen=True, slots=True)
-class Record:
+class Record(typing.NamedTuple):
     """What every room plays: a terminal's message, or a fleet to enrol, or a token to change; and
     by whom it was put there."""
     name: str
@@ -68,6 +74,13 @@ class Entry:
     def first(self) -> int:
         return self.number - len(self.records) + 1
 
+    @property
+    def machine(self) -> int:
+        """The machine that put it, by which the name of a terminal's record begins; 0 where none
+        did."""
+        machine = self.records[0].name.partition('-')[0] if self.records else ''
+        return int(machine) if machine.isdecimal() else 0
+
     @functools.cached_property
     def text(self) -> bytes:
         head = f'entry 2 {self.before} {self.number} {self.moment} {len(self.records)}\n'
@@ -95,28 +108,51 @@ def entry_behind(place: Place, moment: int, records: list[Record]) -> Entry:
                  tuple(records))
 
 
+def message_at(text: bytes, at: int) -> tuple[Record, int] | None:
+    """The record of a message at a place of a text, and the place behind it; nothing where none is
+    there. It is what record_at finds too, for less, as nearly all are messages."""
+    found = MESSAGE.match(text, at)
+    if found:
+        behind = found.end() + int(found[3])
+        begin = text.index(b'\n', at) + 1
+        if behind == begin + int(found[2]) and text[behind:behind + 1] == b'\n':
+            return Record(found[1].decode(), text[begin:behind]), behind + 1
+    return None
+
+
+def record_at(text: bytes, at: int) -> tuple[Record, int]:
+    """The record at a place of a text, and the place behind it."""
+    head = RECORD.match(text, at)
+    if not head:
+        raise NoEntry('it has another form')
+    behind = head.end() + int(head[3])
+    record = Record(head[2].decode(), text[head.end():behind], head[1].decode())
+    if text[behind:behind + 1] != b'\n' or not record.is_whole():
+        raise NoEntry('it has no whole records')
+    return record, behind + 1
+
+
 def records_of(text: bytes, at: int, count: int) -> list[Record]:
+    """Whole records, so many, behind a place of a text, which end it."""
     found = []
     for _ in range(count):
-        end = text.index(b'\n', at)
-        kind, name, length = text[at:end].decode('ascii').split(' ')
-        at = end + 1 + int(length)
-        found.append(Record(name, text[end + 1:at], kind))
-        at += 1
+        record, at = message_at(text, at) or record_at(text, at)
+        found.append(record)
+    if at != len(text):
+        raise NoEntry('something stands behind it')
     return found
 
 
+@functools.lru_cache(LAST_READ)
 def entry_of(text: bytes) -> Entry:
     """Reads what stands in the list. Whatever isn't an entry, byte for byte, is refused."""
+    head = HEAD.match(text)
+    if not head or int(head[4]) > MOST_RECORDS:
+        raise NoEntry('it has another form')
     try:
-        at = text.index(b'\n')
-        word, version, before, number, moment, count = text[:at].decode('ascii').split(' ')
-        if (word, version) != ('entry', '2') or not 0 <= int(count) <= MOST_RECORDS:
-            raise NoEntry('it has another form')
-        found = Entry(before, int(number), int(moment),
-                      tuple(records_of(text, at + 1, int(count))))
-    except ValueError:
+        found = Entry(head[1].decode('ascii'), int(head[2]), int(head[3]),
+                      tuple(records_of(text, head.end(), int(head[4]))))
+    except UnicodeDecodeError:
         raise NoEntry('it has another form') from None
-    if found.text != text or not all(it.is_whole() for it in found.records):
-        raise NoEntry('it has no whole records')
+    found.__dict__['text'] = text  # as it would be written
     return found

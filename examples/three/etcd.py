@@ -108,7 +108,7 @@ class Member:
                 content = answer.read()
         except (OSError, http.client.HTTPException) as told:
             self.connection.close()
-            raise Unreached(f'etcd: {told or type(told).__name__}') from None
+            raise Unreached(f'etcd: {str(told) or type(told).__name__}') from None
         if answer.status != 200:
             raise fault_of(answer.status, content)
         return content

@@ -97,6 +97,54 @@ def linked(known: Place, rows: list[tuple[str, bytes]]) -> tuple[list[Entry], li
     return entries, foreign
 
 
+# ---- what is asked of etcd, and what its answers say
+
+TXN = '/v3/kv/txn'
+
+
+def transaction(holds: list[dict], then: list[dict], otherwise: list[dict] = ()) -> dict:
+    return {'compare': holds, 'success': then, 'failure': list(otherwise)}
+
+
+def looks(known: Place, is_serializable: bool) -> list[dict]:
+    how = {'serializable': is_serializable}
+    return [get(span(HEAD), **how), get(span(STOPPED), **how),
+            get(span(key_of(known.number + 1), AFTER_LIST), limit=MOST_READ, **how)]
+
+
+def reading(known: Place, is_latest: bool) -> dict:
+    """Entries behind a place: those that the member has, or those that any has."""
+    return transaction([], looks(known, not is_latest))
+
+
+def keeping(known: Place, entry: Entry) -> dict:
+    """Has an entry put behind the place that is known, where that is the list's end. Where that is
+    asked again after Unreached, for the same place, at most one of both is done."""
+    holds = [is_value(HEAD, known.text()), is_none(span(STOPPED))]
+    return transaction(holds, [put(key_of(entry.number), entry.text),
+                               put(HEAD, entry.place.text())])
+
+
+def kept(entry: Entry, answer: dict) -> Found | None:
+    """What there is once an entry was put, nothing where it was not."""
+    if not answer.get('succeeded'):
+        return None
+    return Found([entry], True, [], '', int(answer['header']['revision']))
+
+
+def seen(known: Place, answer: dict) -> Found | None:
+    """What looks gave, of one moment; nothing where the list does not end where its entries do."""
+    heads, stops, rows = (it['response_range'] for it in answer['responses'])
+    stopped = ''.join(value.decode(errors='replace') for _, value in pairs(stops))
+    entries, foreign = linked(known, pairs(rows))
+    last = entries[-1].place if entries else known
+    head = head_of(pairs(heads)[0][1]) if heads.get('kvs') else None
+    is_all = head is not None and head.text() == last.text()
+    if not is_all and not (rows.get('more') and (head is None or head.number > last.number)):
+        return None
+    return Found(entries, is_all, foreign, stopped, int(answer['header']['revision']))
+
+
 class KeptList:
     """The list, by one connection to a member of etcd, which is used by one thread at a time."""
 
@@ -105,32 +153,22 @@ class KeptList:
 
     def change(self, holds: list[dict], then: list[dict], otherwise: list[dict] = ()) -> dict:
         """A transaction of etcd."""
-        asked = {'compare': holds, 'success': then, 'failure': list(otherwise)}
-        return self.member.ask('/v3/kv/txn', asked)
+        return self.member.ask(TXN, transaction(holds, then, otherwise))
 
     # ---- reading
 
-    def looks(self, known: Place, is_serializable: bool) -> list[dict]:
-        how = {'serializable': is_serializable}
-        return [get(span(HEAD), **how), get(span(STOPPED), **how),
-                get(span(key_of(known.number + 1), AFTER_LIST), limit=MOST_READ, **how)]
-
-    def found(self, known: Place, told: dict, is_latest: bool = True) -> Found:
-        """What looks gave, of one moment. A place that is known and not in the list is shown, where
-        most members were asked: one that was away may have less."""
-        heads, stops, rows = (it['response_range'] for it in told['responses'])
-        stopped = ''.join(value.decode(errors='replace') for _, value in pairs(stops))
-        entries, foreign = linked(known, pairs(rows))
-        last = entries[-1].place if entries else known
-        found = Found(entries, False, foreign, stopped, int(told['header']['revision']))
-        head = head_of(pairs(heads)[0][1]) if heads.get('kvs') else None
-        if head and head.text() == last.text():
-            return dataclasses.replace(found, is_all=True)
-        if rows.get('more') and (head is None or head.number > last.number):
+    def found(self, known: Place, answer: dict, is_latest: bool = True) -> Found:
+        """What looks gave. A place that is known and not in the list is shown, where most members
+        were asked: one that was away may have less."""
+        found = seen(known, answer)
+        if found:
             return found
+        heads, stops, rows = (it['response_range'] for it in answer['responses'])
+        entries, foreign = linked(known, pairs(rows))
         if is_latest:
-            self.explain(known, last, heads)
-        return dataclasses.replace(found, entries=[])
+            self.explain(known, entries[-1].place if entries else known, heads)
+        stopped = ''.join(value.decode(errors='replace') for _, value in pairs(stops))
+        return Found([], False, foreign, stopped, int(answer['header']['revision']))
 
     def explain(self, known: Place, last: Place, heads: dict) -> None:
         """Why the list doesn't end where its entries do. Where its head is foreign, nothing was put
@@ -150,9 +188,7 @@ class KeptList:
         self.change([is_of(HEAD, revision)], [put(HEAD, last.text())])
 
     def read(self, known: Place, is_latest: bool = False) -> Found:
-        """Entries behind a place: those that the member has, or those that any has."""
-        told = self.change([], self.looks(known, not is_latest))
-        return self.found(known, told, is_latest)
+        return self.found(known, self.member.ask(TXN, reading(known, is_latest)), is_latest)
 
     def entry(self, number: int) -> Entry | None:
         """The entry that ends with a record, where there is one."""
@@ -166,8 +202,8 @@ class KeptList:
 
     def ends(self) -> tuple[int, int]:
         """The numbers of the first entry and of the head."""
-        told = self.change([], [get(span(HEAD)), get(under(LIST), limit=1, keys_only=True)])
-        heads, first = (pairs(it['response_range']) for it in told['responses'])
+        answer = self.change([], [get(span(HEAD)), get(under(LIST), limit=1, keys_only=True)])
+        heads, first = (pairs(it['response_range']) for it in answer['responses'])
         head = head_of(heads[0][1]) if heads else None
         number = first[0][0].removeprefix(LIST) if first else ''
         return int(number) if number.isdigit() else 0, head.number if head else 0
@@ -175,16 +211,10 @@ class KeptList:
     # ---- writing
 
     def keep(self, known: Place, moment: int, records: list) -> Found:
-        """Puts an entry behind the place that is known, where that is the list's end; gives what
-        stands there now. Where that is asked again after Unreached, for the same place, at most
-        one of both is done."""
+        """Puts an entry behind the place that is known; gives what stands there now."""
         entry = entry_behind(known, moment, records)
-        holds = [is_value(HEAD, known.text()), is_none(span(STOPPED))]
-        told = self.change(holds, [put(key_of(entry.number), entry.text),
-                                   put(HEAD, entry.place.text())], self.looks(known, False))
-        if told.get('succeeded'):
-            return Found([entry], True, [], '', int(told['header']['revision']))
-        return self.found(known, told)
+        return (kept(entry, self.member.ask(TXN, keeping(known, entry)))
+                or self.read(known, True))
 
     def begin(self, first: Entry) -> Entry | None:
         """Makes the first entry where there is no list; gives the one that is there."""
@@ -194,8 +224,8 @@ class KeptList:
 
     def drop_before(self, number: int) -> int:
         """Deletes the entries before the one that ends with this record; gives the revision."""
-        told = self.change([], [delete(span(key_of(0), key_of(number)))])
-        return int(told['header']['revision'])
+        answer = self.change([], [delete(span(key_of(0), key_of(number)))])
+        return int(answer['header']['revision'])
 
     def values(self, prefix: str) -> collections.abc.Iterator[tuple[str, bytes, int]]:
         """What stands under a prefix: the rest of each key, its value and its revision."""

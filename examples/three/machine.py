@@ -2,7 +2,6 @@
 and the room that plays it."""
 import asyncio
 import collections.abc
-import contextlib
 import dataclasses
 import secrets
 
@@ -10,23 +9,22 @@ import clocks
 from asks import Ask, no_answer, numbered
 from clocks import OtherClocks, passed
 from copies import Copy
-from entries import MOST_RECORDS, Place, Record
-from etcd import Member, Reach, Unreached
-from kept_list import Found, KeptList
+from entries import Entry, Place, Record
+from kept_list import Found
 from messages import Request
 from playing import Player, Playing, Tail
 from said import say
 from terminals import Connections, Reply
+from turns import Turns
 
-ETCD_WITHIN = 1.0  # seconds that the member may be silent for, after which it is asked again
-READ_EVERY = 0.1  # seconds between two readings of a list that does not grow
 AGREES_WITHIN = 5.0  # seconds without a put of this machine, of which there is one each second
 GONE_AFTER = 1.5  # seconds of silence of the member or the room, until none is asked to wait
-TRY_EVERY = 0.2  # seconds until what failed is tried again
 MOST_BEHIND = 2000  # records that the room may be behind by while more are kept
 MOST_WAITING = 1000  # requests
 BEATS_EVERY = 0.1  # seconds between two looks at the clock
 HELD = 1.0  # seconds: a look that comes so late shows that this process was held
+
+Doing = collections.abc.Callable[[], collections.abc.Awaitable]
 
 
 @dataclasses.dataclass(frozen=True)
@@ -45,20 +43,20 @@ class Settings:
 class Machine:
     """One machine: its asks, the list as far as it is known, and the room that plays it."""
 
-    def __init__(self, settings: Settings, how: Playing, reach: Reach, copy: Copy, place: Place):
+    def __init__(self, settings: Settings, how: Playing, copy: Copy, place: Place):
         self.settings = settings
-        self.writing, self.reading, self.questioning, self.tending = (
-            KeptList(Member(reach, ETCD_WITHIN)) for _ in range(4))
         self.tail = Tail(copy, place)
         self.player = Player(how, self.tail)
         self.player.give, self.player.lose = self.give, self.lose_questions
+        self.player.is_awaited = lambda entry: entry.machine == settings.machine
         self.clocks = OtherClocks()
         self.connections = Connections(self.take)
-        self.run, self.asked = secrets.token_hex(8), 0
+        self.turns = Turns(settings.machine, settings.of)
+        self.run, self.asked = f'{settings.machine}-{secrets.token_hex(8)}', 0
         self.unkept: dict[str, Ask] = {}
         self.unanswered: dict[str, Ask] = {}
         self.questions: list[Ask] = []
-        self.to_keep, self.to_ask = asyncio.Event(), asyncio.Event()
+        self.to_keep, self.to_ask, self.learned = (asyncio.Event() for _ in range(3))
         self.stopping = asyncio.Event()
         self.reached = self.agreed = self.moved = self.beaten = passed()
         self.held = float('-inf')
@@ -74,7 +72,7 @@ class Machine:
         return self.stopping.is_set()
 
     def stop(self) -> None:
-        for it in self.stopping, self.to_keep, self.to_ask, self.player.changed:
+        for it in self.stopping, self.to_keep, self.to_ask, self.learned, self.player.changed:
             it.set()
         self.player.is_stopping = True
 
@@ -187,127 +185,41 @@ class Machine:
         for key in set(found.foreign) - self.foreign:
             say(f'{key!r} is no record, and is left out')
             self.foreign.add(key)
-        for entry in found.entries:
-            if entry.number > self.tail.place.number:
+        self.add(found.entries)
+
+    def add(self, entries: list[Entry]) -> None:
+        """Adds entries that stand behind what is known, as far as they do."""
+        for entry in entries:
+            if entry.follows(self.tail.place):
                 self.tail.add(entry)
-                for record in entry.records:
+                self.turns.note(entry.machine)
+                for record in entry.records if self.unkept else ():
                     self.unkept.pop(record.name, None)
+                self.learned.set()
                 self.player.changed.set()
-
-    async def keep_asks(self) -> None:
-        """Has asks kept, all that wait by one put. Those that were on their way without an answer
-        go to the same place again until it is known what stands there, so none is kept twice."""
-        while not self.is_stopping:
-            self.to_keep.clear()
-            if not self.unkept or not self.is_near():
-                with contextlib.suppress(TimeoutError):
-                    async with asyncio.timeout(READ_EVERY):
-                        await self.to_keep.wait()
-                continue
-            now = passed()
-            asks = [it for it in self.unkept.values() if now < it.until][:MOST_RECORDS]
-            if not asks or self.why_not():
-                await asyncio.sleep(BEATS_EVERY)  # those that are past their deadline go
-                continue
-            try:
-                await self.keep(asks)
-            except Unreached as told:
-                say(told)
-                await asyncio.sleep(TRY_EVERY)
-
-    async def keep(self, asks: list[Ask]) -> None:
-        """Tries to have asks kept, at the end of the list as it is known."""
-        moment = min(clocks.moment(), clocks.LAST_MOMENT)
-        if self.wrong_clock(moment):
-            return  # it was set since it was looked at
-        records = [Record(it.name, it.request.message) for it in asks]
-        for it in asks:
-            it.is_sent = True
-        place = self.tail.place
-        self.learn(await asyncio.to_thread(self.writing.keep, place, moment, records))
-
-    async def answer_questions(self) -> None:
-        """Has questions answered, which change nothing and take no place in the list: they are
-        asked of the room once it has played what the list had after they came, by the word of most
-        members."""
-        while not self.is_stopping:
-            await self.to_ask.wait()
-            self.to_ask.clear()
-            asks, self.questions = self.questions, []
-            is_all = not asks
-            while not (is_all or self.is_stopping):
-                try:
-                    is_all = await self.read_on(self.questioning)
-                except Unreached as told:
-                    say(told)
-                    await asyncio.sleep(TRY_EVERY)
-            for ask in asks:
-                self.player.ask(self.tail.place.number, ask.request.message, self.taking(ask))
-
-    def taking(self, ask: Ask) -> collections.abc.Callable[[int, bytes], None]:
-        def take(number: int, answer: bytes) -> None:
-            if ask.name in self.unanswered:
-                self.answer(ask, numbered(answer, number))
-        return take
-
-    async def read_on(self, of: KeptList) -> bool:
-        """Learns what the list has by the word of most members; whether that is all."""
-        found = await asyncio.to_thread(of.read, self.tail.place, True)
-        self.learn(found)
-        return found.is_all
-
-    async def follow(self) -> None:
-        """Learns of what other machines have had kept. (Asking is all there is to it: a member that
-        tells by itself, and hangs, looks like a list that does not grow.)"""
-        while not self.is_stopping:
-            try:
-                found = await asyncio.to_thread(self.reading.read, self.tail.place)
-                self.learn(found)
-                if not (found.is_all or found.entries):
-                    await self.read_on(self.reading)  # the member is behind, or the list went back
-            except Unreached as told:
-                say(told)
-                await asyncio.sleep(TRY_EVERY)
-                continue
-            if found.is_all or not found.entries:
-                await asyncio.sleep(READ_EVERY)
-
-    async def catch_up(self) -> None:
-        """Plays what the list had, by the word of most members, as this was last asked."""
-        is_all = False
-        while not (is_all or self.is_stopping):
-            try:
-                is_all = await self.read_on(self.questioning)
-            except Unreached as told:
-                say(told)
-                await asyncio.sleep(TRY_EVERY)
-                continue
-            last = self.tail.place.number
-            while not (self.is_stopping or self.player.is_open and self.player.played >= last):
-                await asyncio.sleep(BEATS_EVERY / 2)
 
     # ---- serving
 
-    async def serve(self, *more: collections.abc.Callable) -> None:
+    async def serve(self, catch_up: Doing, hear: Doing, *more: Doing) -> None:
         """Serves terminals until it is stopped."""
         async with asyncio.TaskGroup() as group:
-            sweeping = group.create_task(self.connections.sweep())
-            for it in self.player.play, self.follow, self.keep_asks, self.answer_questions, *more:
+            endless = [group.create_task(it()) for it in (self.connections.sweep, hear)]
+            for it in self.player.play, self.beat, *more:
                 group.create_task(it())
-            group.create_task(self.beat())
-            await self.listen()
-            sweeping.cancel()
+            await self.listen(catch_up)
+            for it in endless:
+                it.cancel()
 
-    async def listen(self) -> None:
+    async def listen(self, catch_up: Doing) -> None:
         """Takes connections: of who asks how it is at once, and of terminals once the room has all
         that the list has."""
-        server = await self.connections.listen(*self.settings.listen)
-        await self.catch_up()
+        self.connections.listen(*self.settings.listen)
+        await catch_up()
         if not self.is_stopping:
             self.is_serving = True
             print('serving', flush=True)
             await self.stopping.wait()
-        server.close()
+        self.connections.listen_no_more()
         for ask in list(self.unanswered.values()):
             self.give_up(ask)
         await self.connections.end()

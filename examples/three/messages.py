@@ -1,13 +1,15 @@
 """A terminal's request: read whole, refused where it is no whole message of the room's sizes by the
 room's own names and numbers, and written anew, so that every record is a message that the room can
 read."""
-import dataclasses
 import email.utils
+import functools
 import http
 import json
 import re
+import typing
 
 LONGEST_HEAD, LONGEST_BODY, MOST_FIELDS = 8192, 1024, 32
+MOST_HEADS = 1024  # that are known again, the last ones
 METHOD = re.compile(r'[A-Z]{1,16}')
 # Paths are compared byte by byte, so what has other characters, or is longer, is none.
 PATH = re.compile(r'/[A-Za-z0-9/-]{0,127}')
@@ -36,8 +38,7 @@ class Refused(Exception):
         self.is_last = is_last
 
 
-@dataclasses.dataclass(frozen=True, slots=True)
-class Request:
+class Request(typing.NamedTuple):
     """What a terminal asks: the message that the room is handed, what it says for the log, and
     whether the terminal's connection ends with its answer."""
     message: bytes
@@ -94,6 +95,42 @@ def is_last(version: str, fields: dict[str, list[str]]) -> bool:
     return version == 'HTTP/1.0' or 'close' in (it.strip() for it in words)
 
 
+class Head(typing.NamedTuple):
+    """What a request's head says: whose it is, what follows it, what of it the room is handed, and
+    by which refusal the room isn't asked."""
+    token: str
+    method: str
+    path: str
+    is_last: bool
+    length: int
+    written: bytes
+    refusal: tuple[int, int, str] | None
+
+
+@functools.lru_cache(MOST_HEADS)
+def head_of(text: bytes) -> Head:
+    """Reads a head. Terminals send the same ones again and again."""
+    first, *lines = text.decode('latin-1').split('\r\n')
+    method, path, version = (first.split(' ') + ['', '', ''])[:3]
+    fields = fields_of(lines)
+    if first.count(' ') != 2 or version not in ('HTTP/1.0', 'HTTP/1.1') or not path:
+        raise bad_message()
+    if not METHOD.fullmatch(method) or version == 'HTTP/1.1' and len(fields.get('host', [])) != 1:
+        raise bad_message()
+    length, ends = length_of_body(version, fields), is_last(version, fields)
+    tokens, written, refusal = fields.get('x-terminal', []), b'', None
+    if method == 'GET' and path in OWN:
+        tokens = ['']
+    elif not PATH.fullmatch(path):
+        refusal = 404, 36, 'NoPath'
+    elif len(tokens) != 1 or not TOKEN.fullmatch(tokens[0]):
+        refusal = 403, 38, 'NoTerminal'
+    else:
+        written = (f'{method} {path} HTTP/1.1\r\nHost: room\r\nX-Terminal: {tokens[0]}\r\n'
+                   f'Content-Length: {length}\r\n\r\n').encode()
+    return Head('' if refusal else tokens[0], method, path, ends, length, written, refusal)
+
+
 def next_request(read: bytes) -> tuple[Request | Refused, int] | None:
     """The next request at the front of what was read, and how many bytes it has, with empty lines
     before it; nothing where it is not whole."""
@@ -103,26 +140,11 @@ def next_request(read: bytes) -> tuple[Request | Refused, int] | None:
         if len(read) > LONGEST_HEAD:
             raise Refused(431, 31, 'HeadTooLong')
         return None
-    first, *lines = read[begin:end].decode('latin-1').split('\r\n')
-    method, path, version = (first.split(' ') + ['', '', ''])[:3]
-    fields = fields_of(lines)
-    if first.count(' ') != 2 or version not in ('HTTP/1.0', 'HTTP/1.1') or not path:
-        raise bad_message()
-    if not METHOD.fullmatch(method) or version == 'HTTP/1.1' and len(fields.get('host', [])) != 1:
-        raise bad_message()
-    length = length_of_body(version, fields)
-    behind = end + 4 + length
+    head = head_of(read[begin:end])
+    body, behind = end + 4, end + 4 + head.length
     if len(read) < behind:
         return None
-    ends = is_last(version, fields)
-    if method == 'GET' and path in OWN:
-        return Request(b'', '', method, path, ends), behind
-    tokens = fields.get('x-terminal', [])
-    if not PATH.fullmatch(path):
-        return Refused(404, 36, 'NoPath', ends), behind
-    if len(tokens) != 1 or not TOKEN.fullmatch(tokens[0]):
-        return Refused(403, 38, 'NoTerminal', ends), behind
-    head = (f'{method} {path} HTTP/1.1\r\nHost: room\r\nX-Terminal: {tokens[0]}\r\n'
-            f'Content-Length: {length}\r\n\r\n')
-    message = head.encode() + read[end + 4:behind]
-    return Request(message, tokens[0], method, path, ends), behind
+    if head.refusal:
+        return Refused(*head.refusal, head.is_last), behind
+    message = head.written and head.written + read[body:behind]
+    return Request(message, head.token, head.method, head.path, head.is_last), behind

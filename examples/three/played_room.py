@@ -4,6 +4,7 @@ import asyncio
 import collections
 import collections.abc
 import contextlib
+import os
 import pathlib
 import shutil
 import signal
@@ -12,7 +13,9 @@ import subprocess
 import sys
 import tempfile
 import time
+import typing
 
+from answers import LATER, SOON, Answers
 from copies import Copy
 from entries import Record
 
@@ -21,9 +24,8 @@ OPENS_WITHIN = 120.0  # seconds until the first answer: opening reads the whole 
 ANSWERS_WITHIN = 10.0  # seconds until any other is
 ENDS_WITHIN = 30.0  # seconds that the program may take to put its log into its file
 DROPS_WITHIN = 0.5  # seconds that one of no more use may take to end by itself
-READ = 1 << 18  # bytes that are read at once
 
-Taking = collections.abc.Callable[[bytes], None]
+TakeAll = collections.abc.Callable[[list[tuple[typing.Any, bytes]]], None]
 
 
 class Ended(Exception):
@@ -58,16 +60,16 @@ class PlayedRoom:
     must not meet the files of the next. What it leaves is only used after it has ended well, or
     while it has nothing to do, so its folder may be in memory."""
 
-    def __init__(self, program: str, copy: Copy, work: pathlib.Path):
-        self.program, self.copy = program, copy
+    def __init__(self, program: str, copy: Copy, work: pathlib.Path, take_all: TakeAll):
+        self.program, self.copy, self.take_all = program, copy, take_all
         self.folder = pathlib.Path(tempfile.mkdtemp(prefix='run.', dir=work))
         self.file = self.folder / 'room.db'
         self.process: asyncio.subprocess.Process | None = None
-        self.reading: asyncio.Task | None = None
-        self.waiting: collections.deque[Taking] = collections.deque()
+        self.answers: Answers | None = None
+        self.waiting: collections.deque = collections.deque()  # what is not answered yet
+        self.awaited = 0  # of these the last that somebody waits for, counted from 1
         self.heard = time.monotonic()
         self.within = OPENS_WITHIN
-        self.has_ended = False
 
     async def start(self) -> None:
         """Starts the program over the copy, or where it was ended well over what it left."""
@@ -77,53 +79,46 @@ class PlayedRoom:
         digest = await asyncio.to_thread(digest_of, self.file)
         if is_copy and digest != self.copy.room:
             raise Changed(f'{self.copy.file} is not what it was')
-        pipe = asyncio.subprocess.PIPE
-        self.process = await asyncio.create_subprocess_exec(
-            self.program, 'replay', self.file, '--answers', stdin=pipe, stdout=pipe,
-            start_new_session=True)
+        source, sink = os.pipe()
+        self.answers = Answers(source, self.take)
+        try:
+            self.process = await asyncio.create_subprocess_exec(
+                self.program, 'replay', self.file, '--answers', stdin=asyncio.subprocess.PIPE,
+                stdout=sink, start_new_session=True)
+        finally:
+            os.close(sink)
         self.process.stdin.write(f'room 2 {digest}\n'.encode())
         self.within, self.heard = OPENS_WITHIN, time.monotonic()
-        self.reading = asyncio.create_task(self.read())
 
-    def send(self, moment: int, *messages: tuple[bytes, Taking]) -> None:
-        """Hands the room messages. Their answers are taken in turn, or never where the room ends
-        before."""
+    def send(self, moment: int, asked: collections.abc.Sequence, is_awaited: bool) -> None:
+        """Hands the room what has a message, and whether somebody waits for the answers. They are
+        taken in turn, or never where the room ends before."""
         if not self.waiting:
             self.heard = time.monotonic()
-        self.waiting.extend(take for _, take in messages)
-        self.process.stdin.write(b''.join(b'message %d %d\n%b\n' % (moment, len(it), it)
-                                          for it, _ in messages))
+        self.waiting.extend(asked)
+        if is_awaited:
+            self.awaited = len(self.waiting)
+        self.process.stdin.write(b''.join(
+            b'message %d %d\n%b\n' % (moment, len(it.content), it.content) for it in asked))
+        if is_awaited:
+            self.answers.read_at_once()
+        elif not self.awaited:
+            self.answers.read_in(LATER)
 
-    async def read(self) -> None:
-        """Takes the answers as they come, until the program ends."""
-        left = b''
-        try:
-            while read := await self.process.stdout.read(READ):
-                left = self.take_whole(left + read)
-                self.heard, self.within = time.monotonic(), ANSWERS_WITHIN
-        except (OSError, ValueError, IndexError):
-            self.process.kill()  # what it gave is no answer
-        finally:
-            self.has_ended = True
-
-    def take_whole(self, read: bytes) -> bytes:
-        """Takes the answers that are whole; gives the rest."""
-        at = 0
-        while (end := read.find(b'\n', at)) >= 0:
-            word, _, length = read[at:end].split(b' ')
-            behind = end + 1 + int(length)
-            if word != b'answer':
-                raise ValueError
-            if len(read) <= behind:
-                break
-            self.waiting.popleft()(read[end + 1:behind])
-            at = behind + 1
-        return read[at:]
+    def take(self, answers: list[bytes]) -> None:
+        """Takes the next answers."""
+        if len(answers) > len(self.waiting):
+            raise ValueError
+        self.heard, self.within = time.monotonic(), ANSWERS_WITHIN
+        self.awaited = max(self.awaited - len(answers), 0)
+        self.take_all([(self.waiting.popleft(), it) for it in answers])
+        if answers and self.waiting:
+            self.answers.read_in(SOON if self.awaited else LATER)
 
     def look(self) -> None:
         """Says whether the program is there. (What it is given by a clock that stands still while
         the machine sleeps, as it does itself.)"""
-        if self.has_ended:
+        if self.answers.ended.done():
             raise Ended('the room ended')
         if self.waiting and time.monotonic() - self.heard > self.within:
             raise Ended('the room is silent')
@@ -134,12 +129,11 @@ class PlayedRoom:
         try:
             async with asyncio.timeout(ENDS_WITHIN):
                 status = await self.process.wait()
-                await self.reading
+                await self.answers.ended
         except TimeoutError:
             raise Ended('the room does not end') from None
         if status or self.waiting:
             raise Ended(f'the room ended with status {status}')
-        self.has_ended = False
 
     async def drop(self) -> None:
         """Ends the program if it runs, however it is, and drops its files."""
@@ -151,7 +145,8 @@ class PlayedRoom:
             except TimeoutError:
                 self.process.send_signal(signal.SIGKILL)
                 await self.process.wait()
-            await asyncio.wait([self.reading])
+        if self.answers:
+            self.answers.close()
         shutil.rmtree(self.folder, ignore_errors=True)
 
     # ---- what the program does only while no room is played

@@ -4,10 +4,10 @@ import asyncio
 import collections
 import collections.abc
 import dataclasses
-import functools
 import hashlib
 import itertools
 import pathlib
+import typing
 
 import copies
 from clocks import LAST_MOMENT, moment
@@ -18,9 +18,15 @@ from said import say
 
 MOST_HANDED = 300  # messages that the room may have and not have answered
 TRY_EVERY = 0.2  # seconds until what failed is tried again
-LOOKS_EVERY = 0.2  # seconds between two looks whether the room is there
 NOBODY = (b'GET /queue HTTP/1.1\r\nHost: room\r\nX-Terminal: 00000000\r\n'
           b'Content-Length: 0\r\n\r\n')
+
+
+class Question(typing.NamedTuple):
+    """What a terminal asks the room: its answer is taken with the number of the last record that
+    the room has played, or never where the room ends before."""
+    content: bytes
+    take: collections.abc.Callable[[int, bytes], None]
 
 
 @dataclasses.dataclass(frozen=True)
@@ -60,20 +66,21 @@ class Player:
         self.changed = asyncio.Event()
         self.is_stopping = self.wants_copy = self.is_open = False
         self.copying: asyncio.Task | None = None
-        # What the machine takes: the answer of a record, that the room ended with all questions
-        # that it had, a copy, what became of a record that is no message, and a file that no
-        # program has open.
+        # Whether terminals of this machine wait for an entry. And what the machine takes: the
+        # answer of a record, that the room ended with all questions that it had, a copy, what
+        # became of a record that is no message, and a file that no program has open.
+        self.is_awaited: collections.abc.Callable[[Entry], bool] = lambda _: False
         self.give: collections.abc.Callable[[Record, int, bytes], None] = lambda *_: None
         self.lose: collections.abc.Callable[[], None] = lambda: None
         self.tell: collections.abc.Callable[[Copy], None] = lambda *_: None
         self.note: collections.abc.Callable[[int, bytes], None] = lambda *_: None
         self.look_at: collections.abc.Callable[[pathlib.Path], None] = lambda _: None
 
-    def ask(self, after: int, message: bytes, take: collections.abc.Callable) -> None:
-        """Asks the room once it has played so many records; what it answers is taken with the
-        number of the last that it has played, or lost where it ends before."""
-        self.questions.append((after, message, take))
-        self.changed.set()
+    def ask(self, after: int, questions: list[Question]) -> None:
+        """Asks the room once it has played so many records."""
+        if questions:
+            self.questions.append((after, questions))
+            self.changed.set()
 
     async def play(self) -> None:
         while not self.is_stopping:
@@ -87,7 +94,7 @@ class Player:
         copy = self.tail.copy
         self.played = self.sent = copy.number
         self.answers = bytes.fromhex(copy.answers)
-        room = PlayedRoom(self.how.program, copy, self.how.work)
+        room = PlayedRoom(self.how.program, copy, self.how.work, self.take_all)
         try:
             await self.start(room)
             while not self.is_stopping:
@@ -105,9 +112,9 @@ class Player:
         self.is_open = False
         await asyncio.to_thread(self.look_at, room.file if room.file.exists() else room.copy.file)
         await room.start()
-        room.send(self.moment(), (NOBODY, self.note_open))
+        room.send(self.moment(), [Question(NOBODY, self.note_open)], True)
 
-    def note_open(self, _: bytes) -> None:
+    def note_open(self, *_: object) -> None:
         self.is_open = True
         self.changed.set()
 
@@ -116,8 +123,7 @@ class Player:
         room.look()
         entry = self.tail.entries.get(self.sent + 1)
         if self.questions and self.questions[0][0] <= self.sent:
-            _, message, take = self.questions.popleft()
-            room.send(self.moment(), (message, functools.partial(take, self.sent)))
+            room.send(self.moment(), self.questions.popleft()[1], True)
         elif self.wants_copy and not room.waiting and self.played > self.tail.copy.number:
             await self.copy(room, self.place_played())
         elif entry and len(room.waiting) < MOST_HANDED:
@@ -125,27 +131,18 @@ class Player:
             if self.is_time_to_copy(entry):
                 await self.copy(room, entry.place)
         else:
-            await self.wait()
+            self.changed.clear()
+            await self.changed.wait()
 
     def moment(self) -> int:
         """That of a question: it is not before any record's."""
         return min(max(self.tail.place.moment, moment()), LAST_MOMENT)
 
-    async def wait(self) -> None:
-        """Waits until there may be more to do, or it is time to look at the room."""
-        self.changed.clear()
-        try:
-            async with asyncio.timeout(LOOKS_EVERY):
-                await self.changed.wait()
-        except TimeoutError:
-            pass
-
     async def hand(self, room: PlayedRoom, entry: Entry) -> None:
         """Hands the room an entry's records."""
         for is_message, records in itertools.groupby(entry.records, Record.is_message):
             if is_message:
-                room.send(entry.moment, *((it.content, functools.partial(self.take, it))
-                                          for it in records))
+                room.send(entry.moment, list(records), self.is_awaited(entry))
             else:
                 for it in records:
                     await self.perform(room, it)
@@ -156,15 +153,19 @@ class Player:
         await self.quiet(room)
         await room.end()
         told = await asyncio.to_thread(room.perform, record)
-        self.take(record, told)
+        self.take_all([(record, told)])
         await asyncio.to_thread(self.note, self.played, told)
         await self.start(room)
 
-    def take(self, record: Record, answer: bytes) -> None:
-        """Takes the answer of the next record."""
-        self.played += 1
-        self.answers = hashlib.sha256(self.answers + answer).digest()
-        self.give(record, self.played, answer)
+    def take_all(self, answered: list[tuple[Record | Question, bytes]]) -> None:
+        """Takes answers of the room, in its order."""
+        for asked, answer in answered:
+            if isinstance(asked, Question):
+                asked.take(self.played, answer)
+            else:
+                self.played += 1
+                self.answers = hashlib.sha256(self.answers + answer).digest()
+                self.give(asked, self.played, answer)
         if self.played == self.sent:
             self.changed.set()
 

@@ -8,7 +8,8 @@ import time
 import clocks
 from clocks import passed
 from copies import Copy
-from etcd import Member, Unreached
+from etcd import Member, Reach, Unreached
+from keeping import ETCD_WITHIN
 from kept_list import ROOM, STOPPED, KeptList, delete, is_none, put, span
 from machine import Machine
 from said import say
@@ -69,8 +70,8 @@ def numbers_of(kept: KeptList, prefix: str) -> dict[int, int]:
 class Upkeep:
     """The upkeep of one machine."""
 
-    def __init__(self, machine: Machine):
-        self.machine, self.kept = machine, machine.tending
+    def __init__(self, machine: Machine, reach: Reach):
+        self.machine, self.kept = machine, KeptList(Member(reach, ETCD_WITHIN))
         self.me = machine.settings.machine
         self.others = [it for it in range(1, machine.settings.of + 1) if it != self.me]
         self.words: dict[int, dict] = {}  # what the other machines last reported

@@ -16,7 +16,11 @@
 //   STOPS=NUMBER HOW         Counts the calls that change a file, and ends the program at that of
 //                            this number: before it, where HOW is 0, or with half of what it
 //                            writes, where it is 1. Where it is 2 the machine stops too, so that
-//                            what was not synced is lost.
+//                            what was not synced is lost. Where it is 3 the machine stops as the
+//                            disk writes that: blocks are torn, and of each two sectors of 512 bytes
+//                            that were written one is new, the other as it was. Where it is 11 to
+//                            17, of each block of 4 KiB the first 1 to 7 sectors are new, and where
+//                            it is 100 or more, any of them, by that number.
 //
 // Which calls these count, and how many they were, is told by these.
 //
@@ -43,7 +47,7 @@
 #pragma GCC visibility push(hidden)
 
 // Where a stop lets its call come to.
-enum how { BEFORE, HALFWAY, MACHINE };
+enum how { BEFORE, HALFWAY, MACHINE, TORN, FIRST = 10, ANY = 100 };
 
 // What the switches say.
 struct switches {

@@ -113,21 +113,23 @@ def roles(path):
 def bodies():
     """The members of the body of each path that takes one, and their types."""
     text = crate('room_http_requests/src/bodies.rt')
-    arms = re.findall(r'Target::(\w+)(?:\(.*?\))? => (\w+)\(', function(text, 'ask_with_body'))
-    return {path: {} if name == 'no_fields' else members(function(text, name))
-            for path, name in arms}
+    table = function(text, 'ask_with_body')
+    arms = re.findall(r'^( +)Target::(\w+)(?:\(.*?\))? => (.*?)(?=^\1(?:Target|_))', table, re.M | re.S)
+    return {path: members(text, arm) for _, path, arm in arms}
 
 
-def members(text):
-    """The members that a function reads, and the types of what it makes of them."""
-    found = re.findall(r'(\w+)(?::| =) \w+\(fields, "(\w+)"\)', text)
-    made = re.search(r'Some\((?:Ask::)?(\w+)(?: \{|\((.*)\)\))', text)
-    if made[2] is None:
-        types = fields(made[1])
-    else:
-        held = variants('room_types/src/asks.rt', 'Ask')[made[1]]
-        types = dict(zip(made[2].split(', '), held, strict=True))
-    return {name: types[variable] for variable, name in found}
+def members(text, arm):
+    """The members that an arm of the table reads, and the types of what it makes of them: itself,
+    or by a function of the file that makes a form."""
+    form = re.search(r'\((\w+)\(fields\)\?\)', arm)
+    if form:
+        made = function(text, form[1])
+        types = fields(re.search(r'Some\((\w+) \{', made)[1])
+        return {name: types[it] for it, name in re.findall(r'(\w+): [^"\n]*"(\w+)"\)', made)}
+    ask, said = re.search(r'Some\(Ask::(\w+)\((.*)\)\)', arm).groups()
+    names = re.findall(r'\(fields, "(\w+)"\)', arm)
+    held = variants('room_types/src/asks.rt', 'Ask')[ask]
+    return dict(zip(names, held[len(held) - len(names):], strict=True))
 
 
 # ---- refusals
@@ -135,7 +137,7 @@ def members(text):
 
 def refusals():
     """Of each refusal its number, its status and what it means."""
-    text = crate('room_types/src/refusals.rt')
+    text = crate('room_types/src/refusal_statuses.rt')
     means = re.findall(r'((?: +/// .*\n)+)    (\w+)(?:\(.*\))?,', block(text, 'pub enum Refusal'))
     means = {name: ' '.join(re.findall('/// (.*)', lines)) for lines, name in means}
     found = re.findall(r'Refusal::\w+(?:\(_\))? => \((\d+), (\d+), "(\w+)"\)', text)

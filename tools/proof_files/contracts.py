@@ -8,13 +8,19 @@ import re
 TOP = pathlib.Path(__file__).resolve().parent.parent.parent
 
 FUNCTION = re.compile(r'( *)(pub(?:\(crate\))? )?(?:const )?fn (\w+)')
-CLAUSE = re.compile(r'^ *ensures(?: (\w+))? \{', re.M)
-APART = '//! Only the prover needs this to be a crate of its own.'
+CLAUSE = re.compile(r'^ *ensures(?: \w+)? \{', re.M)
 
 
 def sentence(text):
     """The first sentence of a comment."""
     return re.match(r'.*?\.(?= |$)|.*', text)[0]
+
+
+def statement(text):
+    """The first sentence of a comment, without what a colon or a semicolon adds to it. (A colon
+    after an opening adds the statement itself.)"""
+    found = re.match(r'(?:(?:However|In|Whatever) [^:;]*: )?.*?(?=[:;] |\.?$)', sentence(text))
+    return f'{found[0]}.'
 
 
 def comment(lines, at):
@@ -38,14 +44,9 @@ class Function:
         self.contract, self.is_law = contract(lines, at, found[1])
 
     @property
-    def clauses(self):
-        """The name of each clause that is ensured, none where it has no name."""
-        return CLAUSE.findall(self.contract)
-
-    @property
-    def says(self):
-        """The first sentence of its comment."""
-        return sentence(' '.join(itertools.takewhile(bool, self.comment)))
+    def states(self):
+        """What its comment states first."""
+        return statement(' '.join(itertools.takewhile(bool, self.comment)))
 
     @property
     def weight(self):
@@ -82,15 +83,6 @@ class Crate:
     def __init__(self, name):
         self.name, self.folder = name, TOP / 'crates' / name
         self.sources = {it: it.read_text() for it in sorted((self.folder / 'src').glob('*.rt'))}
-
-    @property
-    def says(self):
-        """The first sentence of what the crate says of itself."""
-        root = self.sources.get(self.folder / 'src/lib.rt') or self.sources[
-            self.folder / 'src/main.rt']
-        lines = root.removeprefix(APART).lstrip().split('\n')
-        end = next(at for at, it in enumerate(lines) if not it.startswith('//! '))
-        return sentence(' '.join(it.removeprefix('//! ') for it in lines[:end]))
 
     @functools.cached_property
     def functions(self):

@@ -4,10 +4,9 @@ import re
 
 from .rows import CHANGED, TABLES
 
-LAWS = 'Rattle.room_tables_laws'
 ROWS = 'Rattle.room_tables_rows'
 TYPES = 'Rattle.room_types.specs'
-SCHEMA = 'Rattle.room_tables_schema.specs'
+SCHEMA = 'Rattle.room_tables_schema'
 
 # The names that no table brings.
 OF_ALL = {
@@ -25,17 +24,17 @@ OF_ALL = {
     'Rattle.sqlite.specs.Effect': 'Database',
     'Rattle.sqlite.specs.Listing': 'understood',
     'Rattle.sqlite.specs.State': 'State Executes',
-    f'{LAWS}.specs.Outcomes': 'Inside Only',
-    f'{LAWS}.specs.Statements':
+    f'{SCHEMA}.specs.Outcomes': 'Inside Only',
+    f'{SCHEMA}.specs.Statements':
         'Selects StandsAlone Inserts Upserts Overwrites Deletes Stores Covers equals '
         'equals_by_value at_least below row_values row_update rowid_values rowid_update',
-    f'{LAWS}.specs.TypedRows': 'number',
-    f'{LAWS}.proofs.ColumnValues': 'AreKept cast-Int cast-Null cast-number_or_null',
-    f'{LAWS}.proofs.Comparisons':
+    f'{SCHEMA}.specs.TypedRows': 'number',
+    f'{SCHEMA}.proofs.ColumnValues': 'AreKept cast-Int cast-Null cast-number_or_null',
+    f'{SCHEMA}.proofs.Comparisons':
         'and_then and_last equal-by_value equal-numbers tie-numbers tie-texts tie_of_one '
         'tie_of_two conflict_of_one conflict_of_two is_eq-then compare_by',
-    f'{LAWS}.proofs.Standing': 'holds_still holds_none',
-    f'{LAWS}.proofs.StoredRows': 'stores_row covers_row stores_rowid',
+    f'{SCHEMA}.proofs.Standing': 'holds_still holds_none',
+    f'{SCHEMA}.proofs.StoredRows': 'stores_row covers_row stores_rowid',
     'Rattle.room_place.specs.declared.plans.Area': 'Area',
     'Rattle.room_types_keyed.specs.Keyed': 'put_row row_at',
     f'{TYPES}.Codes': 'outcome_number state_number is_active',
@@ -46,12 +45,12 @@ OF_ALL = {
     f'{TYPES}.declared.fleet.Terminal': 'Terminal',
     'Rattle.room_model.specs.Room': 'Room',
     'Rattle.room_model.specs.Enrol': 'token_cmp terminal_key',
-    f'{SCHEMA}.Definitions': 'IsBlank',
-    f'{SCHEMA}.Schema': 'room_schema',
+    f'{SCHEMA}.specs.Definitions': 'IsBlank',
+    f'{SCHEMA}.specs.Schema': 'room_schema',
     f'{ROWS}.specs.ColumnValues': 'truth outcome_code',
     f'{ROWS}.specs.KeyColumns': 'number_cells text_cells pair_cells numbered_cells',
-    f'{ROWS}.specs.MetaColumns': 'meta_key',
-    f'{ROWS}.specs.AreaColumns': 'area_key',
+    f'{ROWS}.specs.MetaSql': 'meta_key',
+    f'{ROWS}.specs.AreaSql': 'area_key',
     f'{ROWS}.specs.Stands': 'Configuration Stands StandsFor numbered empty_room',
     f'{ROWS}.specs.Tables':
         'IsHeld SelectsChosen InsertsRow PutsRow IsTable IsDropped IsOverwritten',
@@ -75,11 +74,11 @@ def statements(table):
 
 def homes_of(table):
     """The modules of what a table brings, each with its names."""
-    yield f'{ROWS}.specs.declared.{table.row}_columns.TheConstants', ' '.join(statements(table))
-    yield f'{ROWS}.specs.{table.row.capitalize()}Columns', f'{table.row}_row'
+    yield f'{ROWS}.specs.declared.{table.row}_sql.TheConstants', ' '.join(statements(table))
+    yield f'{ROWS}.specs.{table.row.capitalize()}Sql', f'{table.row}_row'
     yield f'{ROWS}.proofs.RowLaws', f'{table.row}_faithful'
     yield f'{ROWS}.proofs.Kept', f'with_{table.name}'
-    yield f'{SCHEMA}.Schema', f'{table.name}_table'
+    yield f'{SCHEMA}.specs.Schema', f'{table.name}_table'
     if table in CHANGED:
         yield f'{TYPES}.Keys', f'{table.row}_key'
         yield f'{TYPES}.declared.changes.Change.TheVariants', f'Put{table.type} Drop{table.type}'

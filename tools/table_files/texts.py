@@ -5,7 +5,7 @@ import re
 
 import kit
 
-TEXTS = kit.TOP / 'crates' / 'room_tables_schema' / 'src' / 'texts.rt'
+TEXTS = kit.TOP / 'crates' / 'room_tables_schema' / 'src' / 'schema_sql.rt'
 
 
 @dataclasses.dataclass(frozen=True)

@@ -27,7 +27,8 @@ announced None values text value one same read =
       is = λ n h. let e : text ≡ h.0 = same ∙ same_Some value h.0 (one ∙ h.1) in
           let p : is_numeral h.0 ≡ false = rw (← e) read in absurd (cc (p, h.2));
     }
-announced (Some n) values text value one same read = record { is = (value, sym one, rw same at read.0, rw same at read.1) }
+announced (Some n) values text value one same read =
+    record { is = (value, sym one, rw same at read.0, rw same at read.1) }
 
 -- the seconds of a date are those of its text
 secs_are_one : (text : List ℕ) (a b : HttpDate) → IsDateText text a → IsDateText text b
@@ -50,7 +51,8 @@ date_of None n secs text date shown is same made =
       is = λ m h. let e = secs_are_one text date h.0 shown h.1 in made
           (omega arith, omega (arith, same, is, e, h.2, h.3));
     }
-date_of (Some m) n secs text date shown is same made = record { is = (date, shown, sym is ∙ sym same ∙ sym made.1, omega (arith, made.0.1, made.1)) }
+date_of (Some m) n secs text date shown is same made =
+    record { is = (date, shown, sym is ∙ sym same ∙ sym made.1, omega (arith, made.0.1, made.1)) }
 
 pub none_dated : (values : List (List ℕ)) → None ≡ only_value values → IsRead (IsDated values) None
 none_dated values none = record { is = λ n h. none-some h.0 (none ∙ h.1) }

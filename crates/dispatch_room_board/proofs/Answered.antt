@@ -1,5 +1,7 @@
 -- Lemmas on answers: what stands at the front of what was heard, and what an answer gives.
-use Rattle.std.proofs.Common.{◌≡◌, ◌<◌, ◌≤◌, ◌∙◌, refl, sym, ap, ℕ, List, [], ◌++◌, length, map, take, drop, take-append-drop, Option, None, Some, arith, inl, inr, length-append, length-drop, length-take, ◌-◌}
+use Rattle.std.proofs.Common.{◌≡◌, ◌<◌, ◌≤◌, ◌∙◌, refl, sym, ap, ℕ, List, [], ◌++◌, length, map, take, drop}
+use Rattle.std.proofs.Common.{take-append-drop, Option, None, Some, arith, inl, inr, length-append, length-drop}
+use Rattle.std.proofs.Common.{length-take, ◌-◌}
 use Rattle.std.specs.Prelude.{◌≢◌, codes, Err, Ok, Result, MatchResult, ok_or, unwrap_or}
 use Rattle.std.specs.Option.{option_zip}
 use Rattle.std.specs.List.{IsSplitAt}
@@ -115,7 +117,8 @@ given_or_not {T} gives m d r o is ok json found = rw is (either o m.moment refl 
         (IsNoAnswer (IsDatedAnswer gives m) m)
     either None moment same found =
         (record { is = λ x h. found.is x.0 (rw (same_json _ d h.0.0 json h.0.2) h.0.3) }, record { is = λ t h. h.1 ok })
-    either (Some it) None same found = (record { is = λ x h. none-some x.1 (same ∙ h.1) }, record { is = λ t h. h.1 ok })
+    either (Some it) None same found =
+        (record { is = λ x h. none-some x.1 (same ∙ h.1) }, record { is = λ t h. h.1 ok })
     either (Some it) (Some moment) same found = ((d, ok, json, found.is), sym same)
 
 -- any other refuses as it says

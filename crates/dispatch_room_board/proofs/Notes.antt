@@ -1,9 +1,10 @@
 -- Lemmas on the notes below rows.
-use Rattle.std.proofs.Common.{◌≡◌, ◌<◌, ◌≤◌, ℕ, ◌+◌, List, [], ◌∷◌, ◌++◌, length, map, take, drop, get_or, Bool, refl, sym, append_assoc, length-append, length-take, arith}
+use Rattle.std.proofs.Common.{◌≡◌, ◌<◌, ◌≤◌, ℕ, ◌+◌, List, [], ◌∷◌, ◌++◌, length, map, take, drop, get_or, Bool, refl}
+use Rattle.std.proofs.Common.{sym, append_assoc, length-append, length-take, arith}
 use Rattle.std.specs.Prelude.{codes}
 use Rattle.std.proofs.lemmas.List.{append-nil, length-map, map_more}
-use Rattle.dispatch_room_board.specs.declared.pages.Page.{Page}
-use Rattle.dispatch_room_board.specs.declared.pages.TheConstants.{NOTED, WIDEST}
+use Rattle.dispatch_room_board.specs.declared.board_pages.Page.{Page}
+use Rattle.dispatch_room_board.specs.declared.board_pages.TheConstants.{NOTED, WIDEST}
 use Rattle.dispatch_room_board.specs.Pages.{Adds, note_line, note_lines, noted, visible}
 use Rattle.dispatch_room_board.specs.BoardTables.{with_note}
 use Rattle.dispatch_room_board.proofs.Shown.{adds_more}
@@ -12,12 +13,18 @@ use Rattle.dispatch_room_board.proofs.Shown.{adds_more}
 pub visible_more : (a b c xs : List ℕ) (i y : ℕ) → i < length xs → y ≡ visible (get_or xs i 0)
     → b ≡ a ++ map visible (take i xs) → c ≡ b ++ y ∷ [] → c ≡ a ++ map visible (take (i + 1) xs)
 visible_more a b c xs i y below is before push =
-    rw (map_more visible xs i 0 below, push, before, is) (append_assoc a (map visible (take i xs)) (visible (get_or xs i 0) ∷ []))
+    rw (map_more visible xs i 0 below, push, before, is)
+    (append_assoc a (map visible (take i xs)) (visible (get_or xs i 0) ∷ []))
 
 -- no line of a note is wider than a line
 pub noted_fits : (note : List ℕ) → length (noted note) ≤ WIDEST
 noted_fits note =
-    omega (arith, length-append (codes "         ") (map visible (take NOTED note)), length-map (take NOTED note) visible, length-take NOTED note)
+    omega (
+      arith,
+      length-append (codes "         ") (map visible (take NOTED note)),
+      length-map (take NOTED note) visible,
+      length-take NOTED note,
+    )
 
 -- a note in its lines, seen as other bytes
 pub note_in_lines : (a b c : Page) (note bytes rest : List ℕ) → bytes ≡ note

@@ -32,7 +32,8 @@ read_none Q is read part says = record { is = λ it h. (rw is at read).is (part 
 -- a name is read where the text is one
 pub read_name : (d : Data) (text : List ℕ) (r : Option Name) → Some text ≡ as_str d
     → IsRead (IsNameOf text) r → IsRead (IsName d) r
-read_name d text None is read = record { is = λ name h. let e = same_Some text h.0 (is ∙ h.1) in read.is name (rw e h.2) }
+read_name d text None is read =
+    record { is = λ name h. let e = same_Some text h.0 (is ∙ h.1) in read.is name (rw e h.2) }
 read_name d text (Some name) is read = record { is = (text, sym is, read.is) }
 
 -- nothing is reported where there is no number with a name

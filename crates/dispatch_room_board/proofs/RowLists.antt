@@ -1,5 +1,6 @@
 -- Lemmas on lists of rows.
-use Rattle.std.proofs.Common.{◌≡◌, ◌∙◌, arith, sym, ℕ, zero, suc, Option, None, Some, ◌+◌, ◌<◌, List, [], ◌∷◌, ◌++◌, length, take, get_or}
+use Rattle.std.proofs.Common.{◌≡◌, ◌∙◌, arith, sym, ℕ, zero, suc, Option, None, Some, ◌+◌, ◌<◌, List, [], ◌∷◌, ◌++◌}
+use Rattle.std.proofs.Common.{length, take, get_or}
 use Rattle.std.proofs.lemmas.List.{take_more}
 use Rattle.std.proofs.lemmas.Option.{same_Some}
 use Rattle.serde_json.specs.Data.{Data}
@@ -32,7 +33,8 @@ pub not_rows : {T : Type 0} (says : Data → T → Type 0) (vs : List Value) (v 
 not_rows says [] v i below here none rows are = absurd (omega arith)
 not_rows says (w ∷ vs) v i below here none [] are = are
 not_rows says (w ∷ vs) v zero below here none (row ∷ rows) are = none.is row (rw here are.0)
-not_rows says (w ∷ vs) v (suc i) below here none (row ∷ rows) are = not_rows says vs v i (omega arith) here none rows are.1
+not_rows says (w ∷ vs) v (suc i) below here none (row ∷ rows) are =
+    not_rows says vs v i (omega arith) here none rows are.1
 
 -- the rows of its items are read of the list
 pub list_read : {T : Type 0} (says : Data → T → Type 0) (name : List ℕ) (d m : Data)
@@ -45,4 +47,5 @@ list_read says name d m vs None found list read = record {
       let l = same_Some (items_view vs) h.2.0 (list ∙ (rw e h.2.1)) in
       read.is rows (rw l h.2.2);
 }
-list_read says name d m vs (Some rows) found list read = record { is = (m, sym found, (items_view vs, sym list, read.is)) }
+list_read says name d m vs (Some rows) found list read =
+    record { is = (m, sym found, (items_view vs, sym list, read.is)) }

@@ -1,5 +1,6 @@
 -- No row is wider than its columns.
-use Rattle.std.proofs.Common.{◌≡◌, ℕ, ◌+◌, ◌-◌, ◌≤◌, List, [], ◌∷◌, length, take, replicate, length-append, length-take, arith}
+use Rattle.std.proofs.Common.{◌≡◌, ℕ, ◌+◌, ◌-◌, ◌≤◌, List, [], ◌∷◌, length, take, replicate, length-append, length-take}
+use Rattle.std.proofs.Common.{arith}
 use Rattle.std.proofs.lemmas.List.{length-replicate}
 use Rattle.dispatch_room_board.specs.declared.board_columns.Column.{Column}
 use Rattle.dispatch_room_board.specs.declared.board_columns.Column.TheVariants.{Left, Right}
@@ -23,4 +24,9 @@ pub row_fits : (columns : List Column) (texts : List (List ℕ))
 row_fits [] texts = omega arith
 row_fits (column ∷ columns) [] = omega arith
 row_fits (column ∷ columns) (text ∷ texts) =
-    omega (arith, length-append (in_column column text) (row_of columns texts), length-in_column column text, row_fits columns texts)
+    omega (
+      arith,
+      length-append (in_column column text) (row_of columns texts),
+      length-in_column column text,
+      row_fits columns texts,
+    )

@@ -8,7 +8,9 @@ use Rattle.room_types.specs.declared.answers.VehicleLine.{VehicleLine}
 use Rattle.room_types.specs.declared.answers.PointLine.{PointLine}
 use Rattle.room_types.specs.declared.tables.Offer.{Offer}
 use Rattle.room_types.specs.declared.tables.Loan.{Loan}
-use Rattle.dispatch_room_board.specs.Members.{HasMember, IsBool, IsByte, IsCallsign, IsClass, IsCounts, IsDivision, IsKind, IsMoment, IsNeed, IsNeeds, IsNumber, IsOrNull, IsPlace, IsPoint, IsStatus, IsVehicle, IsWhole, IsWord}
+use Rattle.dispatch_room_board.specs.Members.{HasMember, IsBool, IsByte, IsCallsign, IsClass, IsCounts, IsDivision}
+use Rattle.dispatch_room_board.specs.Members.{IsKind, IsMoment, IsNeed, IsNeeds, IsNumber, IsOrNull, IsPlace, IsPoint}
+use Rattle.dispatch_room_board.specs.Members.{IsStatus, IsVehicle, IsWhole, IsWord}
 
 pub record IsEntry (d : Data) (row : Entry) : Type 0 where
   pub rank : HasMember IsByte (codes "rank") d row.rank

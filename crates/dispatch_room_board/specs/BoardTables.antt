@@ -1,5 +1,6 @@
 -- The tables of a board, and what stands in their rows.
-use Rattle.std.specs.Prelude.{◌≡◌, ◌≤◌, ℕ, ◌+◌, ◌-◌, List, [], ◌∷◌, ◌++◌, length, codes, decimal, nat_le, nat_lt, ◌==◌, if◌then◌else◌, Bool, true, false, Option, None, Some}
+use Rattle.std.specs.Prelude.{◌≡◌, ◌≤◌, ℕ, ◌+◌, ◌-◌, List, [], ◌∷◌, ◌++◌, length, codes, decimal, nat_le, nat_lt, ◌==◌}
+use Rattle.std.specs.Prelude.{if◌then◌else◌, Bool, true, false, Option, None, Some}
 use Rattle.room_types.specs.declared.answers.Entry.{Entry}
 use Rattle.room_types.specs.declared.answers.IncidentLine.{IncidentLine}
 use Rattle.room_types.specs.declared.answers.PointLine.{PointLine}
@@ -12,11 +13,12 @@ use Rattle.room_types.specs.declared.tables.Loan.{Loan}
 use Rattle.room_types.specs.declared.tables.Offer.{Offer}
 use Rattle.dispatch_room_board.specs.declared.board_columns.Column.{Column}
 use Rattle.dispatch_room_board.specs.declared.board_columns.Column.TheVariants.{Left, Right}
-use Rattle.dispatch_room_board.specs.declared.pages.Paint.{Paint}
-use Rattle.dispatch_room_board.specs.declared.pages.Paint.TheVariants.{Plain, Title, Alarm}
-use Rattle.dispatch_room_board.specs.declared.pages.TheConstants.{WIDEST}
+use Rattle.dispatch_room_board.specs.declared.board_pages.Paint.{Paint}
+use Rattle.dispatch_room_board.specs.declared.board_pages.Paint.TheVariants.{Plain, Title, Alarm}
+use Rattle.dispatch_room_board.specs.declared.board_pages.TheConstants.{WIDEST}
 use Rattle.dispatch_room_board.specs.declared.board_tables.TableLayout.{TableLayout}
-use Rattle.dispatch_room_board.specs.BoardCells.{counts_text, kind_text, left_text, named_text, place_text, since_text, status_text}
+use Rattle.dispatch_room_board.specs.BoardCells.{counts_text, kind_text, left_text, named_text, place_text, since_text}
+use Rattle.dispatch_room_board.specs.BoardCells.{status_text}
 use Rattle.dispatch_room_board.specs.BoardColumns.{row_of, width_of}
 use Rattle.dispatch_room_board.specs.Pages.{line_of, note_lines, text_line}
 

@@ -1,17 +1,20 @@
 -- What came of an incident: what its history says, and what is shown of it.
-use Rattle.std.specs.Prelude.{ℕ, List, [], ◌∷◌, ◌++◌, codes, decimal, ◌==◌, if◌then◌else◌, Bool, true, false, Option, None, Some}
+use Rattle.std.specs.Prelude.{ℕ, List, [], ◌∷◌, ◌++◌, codes, decimal, ◌==◌, if◌then◌else◌, Bool, true, false, Option}
+use Rattle.std.specs.Prelude.{None, Some}
 use Rattle.serde_json.specs.Data.{Data}
 use Rattle.dispatch_room_board.specs.declared.call_lines.CallLine.{CallLine}
 use Rattle.dispatch_room_board.specs.declared.board_columns.Column.{Column}
 use Rattle.dispatch_room_board.specs.declared.board_columns.Column.TheVariants.{Left, Right}
 use Rattle.dispatch_room_board.specs.declared.history_lines.History.{History}
-use Rattle.dispatch_room_board.specs.declared.pages.Paint.TheVariants.{Plain, Title}
+use Rattle.dispatch_room_board.specs.declared.board_pages.Paint.TheVariants.{Plain, Title}
 use Rattle.dispatch_room_board.specs.declared.subject_lines.Subject.{Subject}
 use Rattle.dispatch_room_board.specs.declared.turn_lines.TurnLine.{TurnLine}
-use Rattle.dispatch_room_board.specs.BoardCells.{after_text, counts_text, named_text, place_text, served_text, since_any_text, since_text}
+use Rattle.dispatch_room_board.specs.BoardCells.{after_text, counts_text, named_text, place_text, served_text}
+use Rattle.dispatch_room_board.specs.BoardCells.{since_any_text, since_text}
 use Rattle.dispatch_room_board.specs.BoardColumns.{row_of}
 use Rattle.dispatch_room_board.specs.AnswerRows.{IsList}
-use Rattle.dispatch_room_board.specs.Members.{HasMember, IsBool, IsByte, IsCallsign, IsClass, IsKind, IsMoment, IsNeeds, IsNote, IsNumber, IsOrNull, IsPlace, IsPosition, IsServed}
+use Rattle.dispatch_room_board.specs.Members.{HasMember, IsBool, IsByte, IsCallsign, IsClass, IsKind, IsMoment, IsNeeds}
+use Rattle.dispatch_room_board.specs.Members.{IsNote, IsNumber, IsOrNull, IsPlace, IsPosition, IsServed}
 use Rattle.dispatch_room_board.specs.Pages.{line_of, spaced_line, text_line}
 use Rattle.dispatch_room_board.specs.BoardTables.{Table, table_lines}
 

@@ -1,9 +1,10 @@
 -- Lines, and the page that they make.
-use Rattle.std.specs.Prelude.{◌≡◌, ℕ, List, [], ◌∷◌, ◌++◌, ◌&&◌, if◌then◌else◌, take, drop, map, nat_le, codes, Bool, true, false}
-use Rattle.dispatch_room_board.specs.declared.pages.Paint.{Paint}
-use Rattle.dispatch_room_board.specs.declared.pages.Paint.TheVariants.{Plain, Title, Alarm}
-use Rattle.dispatch_room_board.specs.declared.pages.Page.{Page}
-use Rattle.dispatch_room_board.specs.declared.pages.TheConstants.{NOTED, WIDEST}
+use Rattle.std.specs.Prelude.{◌≡◌, ℕ, List, [], ◌∷◌, ◌++◌, ◌&&◌, if◌then◌else◌, take, drop, map, nat_le, codes, Bool}
+use Rattle.std.specs.Prelude.{true, false}
+use Rattle.dispatch_room_board.specs.declared.board_pages.Paint.{Paint}
+use Rattle.dispatch_room_board.specs.declared.board_pages.Paint.TheVariants.{Plain, Title, Alarm}
+use Rattle.dispatch_room_board.specs.declared.board_pages.Page.{Page}
+use Rattle.dispatch_room_board.specs.declared.board_pages.TheConstants.{NOTED, WIDEST}
 
 -- what is sent to a terminal before a line: nothing without colour
 abbrev pub opening_of : Bool → Paint → List ℕ

@@ -6,7 +6,7 @@ ghost use Rattle.dispatch_room_board.specs.AnswerRows.{AreRows, IsList};
 
 use crate::answer_contents::Given;
 use crate::board_tables::Tabled;
-use crate::members::FromJson;
+use crate::json_members::FromJson;
 use room_types::answers::Listed;
 use serde_json::Value;
 use std::alloc::{AllocError, Global};

@@ -6,7 +6,7 @@ ghost use Rattle.room_types.specs.Texts.{is_token_letter};
 ghost use Rattle.dispatch_room_board.specs.Members.{IsRead};
 ghost use Rattle.dispatch_room_board.specs.BoardErrors.{IsName, IsNameOf, IsTold, told};
 
-use crate::members::{FromJson, member};
+use crate::json_members::{FromJson, member};
 use room_types::text::Text;
 use serde_json::Value;
 use std::alloc::{AllocError, Global};

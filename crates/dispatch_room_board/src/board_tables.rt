@@ -2,11 +2,11 @@
 ghost use Rattle.std.specs.Prelude.{◌≡◌, ◌++◌, OnOk, codes, decimal};
 ghost use Rattle.dispatch_room_board.specs.Pages.{Adds, spaced_line};
 ghost use Rattle.dispatch_room_board.specs.BoardTables.{IsLayout, Table, alarm_of, row_line, table_lines};
-ghost use Rattle.dispatch_room_board.specs.declared.pages.Paint.TheVariants.{Title};
+ghost use Rattle.dispatch_room_board.specs.declared.board_pages.Paint.TheVariants.{Title};
 
 use crate::board_columns::Column;
-use crate::members::FromJson;
-use crate::pages::{Page, Paint};
+use crate::board_pages::{Page, Paint};
+use crate::json_members::FromJson;
 use room_types::answers::Listed;
 use room_types::numbers::Moment;
 use std::alloc::{AllocError, Global};

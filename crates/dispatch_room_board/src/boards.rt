@@ -3,7 +3,7 @@ ghost use Rattle.std.specs.Prelude.{◌≡◌, ℕ, Bool, IfOk, List, OnOk};
 ghost use Rattle.dispatch_room_board.specs.Boards.{IsBoard, IsEmpty, reached_with};
 
 use crate::board_errors::BoardError;
-use crate::pages::Page;
+use crate::board_pages::Page;
 use crate::renderer::Renderer;
 use room_types::answers::{Entry, IncidentLine, PointLine, VehicleLine};
 use room_types::tables::{Loan, Offer};

@@ -3,14 +3,14 @@ ghost use Rattle.std.specs.Prelude.{OnOk};
 ghost use Rattle.dispatch_room_board.specs.BoardColumns.{row_of};
 ghost use Rattle.dispatch_room_board.specs.Histories.{IsCallLine, call_table};
 ghost use Rattle.dispatch_room_board.specs.Pages.{Adds, line_of};
-ghost use Rattle.dispatch_room_board.specs.declared.pages.Paint.TheVariants.{Plain};
+ghost use Rattle.dispatch_room_board.specs.declared.board_pages.Paint.TheVariants.{Plain};
 
 use crate::board_cells::{BoardCell, since};
 use crate::board_columns::Column;
 use crate::board_columns::Column::{Left, Right};
+use crate::board_pages::{Page, Paint};
 use crate::board_tables::{TableLayout, Tabled};
-use crate::members::{FromJson, member};
-use crate::pages::{Page, Paint};
+use crate::json_members::{FromJson, member};
 use room_place::places::Place;
 use room_types::needs::Needs;
 use room_types::note::Note;

@@ -5,10 +5,10 @@ ghost use Rattle.dispatch_room_board.specs.Pages.{Adds};
 
 use crate::answer_contents::Given;
 use crate::answer_rows::rows_in;
+use crate::board_pages::Page;
 use crate::board_tables::put_rows;
 use crate::call_lines::CallLine;
-use crate::members::FromJson;
-use crate::pages::Page;
+use crate::json_members::FromJson;
 use crate::subject_lines::{Subject, put_subject};
 use crate::turn_lines::TurnLine;
 use room_types::answers::Listed;

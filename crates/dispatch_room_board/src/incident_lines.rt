@@ -6,9 +6,9 @@ ghost use Rattle.dispatch_room_board.specs.BoardTables.{incident_table, lacks, s
 use crate::board_cells::{BoardCell, since};
 use crate::board_columns::Column;
 use crate::board_columns::Column::{Left, Right};
+use crate::board_pages::Page;
 use crate::board_tables::{TableLayout, Tabled, alarm};
-use crate::members::{FromJson, member};
-use crate::pages::Page;
+use crate::json_members::{FromJson, member};
 use room_types::answers::IncidentLine;
 use room_types::needs::Counts;
 use room_types::numbers::{Moment, Need};

@@ -5,9 +5,9 @@ ghost use Rattle.dispatch_room_board.specs.BoardTables.{loan_table, offer_table}
 use crate::board_cells::{BoardCell, left, since};
 use crate::board_columns::Column;
 use crate::board_columns::Column::{Left, Right};
+use crate::board_pages::{Page, Paint};
 use crate::board_tables::{TableLayout, Tabled, alarm};
-use crate::members::{FromJson, member};
-use crate::pages::{Page, Paint};
+use crate::json_members::{FromJson, member};
 use room_types::numbers::Moment;
 use room_types::tables::{Loan, Offer};
 use serde_json::Value;

@@ -6,11 +6,11 @@ ghost use Rattle.dispatch_room_board.specs.Members.{IsRead};
 
 use crate::answer_contents::{Found, Given, found_in};
 use crate::board_errors::{BoardError, told};
+use crate::board_pages::{Page, Paint};
 use crate::board_tables::{Tabled, put_rows};
 use crate::boards::{Board, Reached};
 use crate::heard_answers::first_message;
 use crate::history_lines::{History, put_history};
-use crate::pages::{Page, Paint};
 use httpdate::HttpDate;
 use room_types::answers::{Listed, Proposal};
 use room_types::numbers::Moment;

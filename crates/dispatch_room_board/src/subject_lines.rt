@@ -4,14 +4,14 @@ ghost use Rattle.dispatch_room_board.specs.BoardCells.{text_of};
 ghost use Rattle.dispatch_room_board.specs.Histories.{IsSubject, state_text, subject_columns, subject_lines, subject_texts, subject_title};
 ghost use Rattle.dispatch_room_board.specs.BoardColumns.{row_of};
 ghost use Rattle.dispatch_room_board.specs.Pages.{Adds, line_of};
-ghost use Rattle.dispatch_room_board.specs.declared.pages.Paint.TheVariants.{Plain};
+ghost use Rattle.dispatch_room_board.specs.declared.board_pages.Paint.TheVariants.{Plain};
 
 use crate::board_cells::{BoardCell, since, since_any};
 use crate::board_columns::Column;
 use crate::board_columns::Column::{Left, Right};
+use crate::board_pages::{Page, Paint};
 use crate::cell_texts::text_of;
-use crate::members::{FromJson, member};
-use crate::pages::{Page, Paint};
+use crate::json_members::{FromJson, member};
 use room_place::places::Place;
 use room_types::answers::Served;
 use room_types::needs::Needs;

@@ -6,9 +6,9 @@ ghost use Rattle.dispatch_room_board.specs.Histories.{IsTurnLine, ended_by, turn
 use crate::board_cells::{BoardCell, after, since};
 use crate::board_columns::Column;
 use crate::board_columns::Column::{Left, Right};
+use crate::board_pages::{Page, Paint};
 use crate::board_tables::{TableLayout, Tabled};
-use crate::members::{FromJson, member};
-use crate::pages::{Page, Paint};
+use crate::json_members::{FromJson, member};
 use room_types::callsign::Callsign;
 use room_types::codes::Kind;
 use room_types::numbers::{Moment, Number};

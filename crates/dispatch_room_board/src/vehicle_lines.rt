@@ -7,9 +7,9 @@ ghost use Rattle.dispatch_room_board.specs.BoardTables.{is_overdue, sent_text, s
 use crate::board_cells::{BoardCell, kind, left, status};
 use crate::board_columns::Column;
 use crate::board_columns::Column::{Left, Right};
+use crate::board_pages::Page;
 use crate::board_tables::{TableLayout, Tabled, alarm};
-use crate::members::{FromJson, member};
-use crate::pages::Page;
+use crate::json_members::{FromJson, member};
 use room_types::answers::VehicleLine;
 use room_types::numbers::Moment;
 use serde_json::Value;

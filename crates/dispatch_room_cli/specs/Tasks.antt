@@ -3,7 +3,9 @@ use Rattle.std.specs.Prelude.{⊤, ℕ, List, Option, None, Some}
 use Rattle.dispatch_room_cli.specs.Addresses.{IsLoopback}
 use Rattle.dispatch_room_cli.specs.declared.tasks.Service.{Service}
 use Rattle.dispatch_room_cli.specs.declared.tasks.Task.{Task}
-use Rattle.dispatch_room_cli.specs.declared.tasks.Task.TheVariants.{Board, Check, Import, Init, Migrate, Renew, Replay, Serve, Terminals, Times, Verify}
+use Rattle.dispatch_room_cli.specs.declared.tasks.Task.TheVariants.{Board, Check, Digest, Import, Init, JoinedTimes}
+use Rattle.dispatch_room_cli.specs.declared.tasks.Task.TheVariants.{Migrate, Renew, Replan, Replay, Restore, Serve}
+use Rattle.dispatch_room_cli.specs.declared.tasks.Task.TheVariants.{SetTerminals, Terminals, Times, Verify}
 
 -- the path of the room's file, where the task has one
 abbrev pub file_of : Task → Option (List ℕ)
@@ -11,11 +13,16 @@ file_of (Init file plan) = Some file.now
 file_of (Import file fleet) = Some file.now
 file_of (Migrate file) = Some file.now
 file_of (Check file) = Some file.now
+file_of (Digest file) = Some file.now
+file_of (Restore copy file) = Some file.now
 file_of (Serve file service) = Some file.now
 file_of (Replay file replay) = Some file.now
 file_of (Renew file new since) = Some file.now
 file_of (Times file division day) = Some file.now
+file_of (JoinedTimes file older division day) = Some file.now
 file_of (Terminals file wanted) = Some file.now
+file_of (SetTerminals file csv) = Some file.now
+file_of (Replan file plan) = Some file.now
 file_of (Board look) = None
 file_of (Verify list) = None
 

@@ -5,6 +5,7 @@ ghost use Rattle.dispatch_room_cli.specs.Tasks.{IsServedHere};
 
 use crate::addresses::{AddressFault, fault_in, loopback};
 use crate::builder::program;
+use crate::database_names::is_of_database;
 use crate::tasks::{Color, Journal, Look, Replay, Service, Task, Terminals};
 use crate::who::who_of;
 use clap::error::ErrorKind;
@@ -41,16 +42,26 @@ enum Mistake<'a> {
         option: &'a str,
         who: &'a str,
     },
-    /// A terminal is to be given and one to be taken away.
-    TwoChanges,
+    /// Two options each change terminals.
+    TwoChanges {
+        one: &'a str,
+        other: &'a str,
+    },
+    /// A journal would have the name of a file that the room's database uses.
+    OfDatabase {
+        list: &'a str,
+        file: &'a str,
+    },
 }
 
 impl<'a> Mistake<'a> {
     fn kind(self) -> ErrorKind {
         match self {
             Mistake::NoCommand => ErrorKind::MissingSubcommand,
-            Mistake::NotLoopback { .. } | Mistake::Nobody { .. } => ErrorKind::ValueValidation,
-            Mistake::TwoChanges => ErrorKind::ArgumentConflict,
+            Mistake::NotLoopback { .. } | Mistake::Nobody { .. } | Mistake::OfDatabase { .. } => {
+                ErrorKind::ValueValidation
+            }
+            Mistake::TwoChanges { .. } => ErrorKind::ArgumentConflict,
         }
     }
 }
@@ -70,8 +81,13 @@ impl<'a> fmt::Display for Mistake<'a> {
                 "invalid value '{who}' for '--{option} <WHO>': it is desk:1 to desk:9, \
                  position:1 to position:99, or crew: and a callsign"
             ),
-            Mistake::TwoChanges => {
-                f.write_str("the argument '--new <WHO>' cannot be used with '--revoke <WHO>'")
+            Mistake::OfDatabase { list, file } => write!(
+                f,
+                "invalid value '{list}' for '--journal <LIST>': the database of {file} uses a file \
+                 of this name"
+            ),
+            Mistake::TwoChanges { one, other } => {
+                write!(f, "the argument '{one}' cannot be used with '{other}'")
             }
         }
     }
@@ -125,6 +141,10 @@ fn task_of<'a>(matches: &ArgMatches<'a>) -> Result<Task<'a>, Mistake<'a>>
     match name {
         "board" => board_of(given),
         "renew" => renew_of(given),
+        "restore" => Ok(Task::Restore {
+            copy: text(given, "COPY")?,
+            file: text(given, "FILE")?,
+        }),
         "verify" => Ok(Task::Verify {
             list: text(given, "LIST")?,
         }),
@@ -145,33 +165,63 @@ fn task_over<'a>(file: &'a str, name: &str, given: &ArgMatches<'a>) -> Result<Ta
             file,
             fleet: text(given, "FLEET")?,
         }),
+        "replan" => Ok(Task::Replan {
+            file,
+            plan: text(given, "PLAN")?,
+        }),
         "migrate" => Ok(Task::Migrate { file }),
         "check" => Ok(Task::Check { file }),
+        "digest" => Ok(Task::Digest { file }),
         "serve" => serve_of(file, given),
         "replay" => Ok(Task::Replay {
             file,
             replay: replay_of(given),
         }),
-        "times" => Ok(Task::Times {
-            file,
-            division: division_of(given)?,
-            day: text(given, "DAY")?,
-        }),
-        "terminals" => Ok(Task::Terminals {
-            file,
-            wanted: terminals_of(given)?,
-        }),
+        "times" => times_of(file, given),
+        "terminals" => terminals_of(file, given),
         _ => Err(Mistake::NoCommand),
     }
 }
 
-fn terminals_of<'a>(given: &ArgMatches<'a>) -> Result<Terminals, Mistake<'a>> {
-    match (named(given, "new")?, named(given, "revoke")?) {
-        (None, None) => Ok(Terminals::List),
-        (Some(who), None) => Ok(Terminals::New(who)),
-        (None, Some(who)) => Ok(Terminals::Revoke(who)),
-        (Some(_), Some(_)) => Err(Mistake::TwoChanges),
+fn times_of<'a>(file: &'a str, given: &ArgMatches<'a>) -> Result<Task<'a>, Mistake<'a>>
+    ensures { IfOk result IsServedHere }
+{
+    let division = division_of(given)?;
+    let day = text(given, "DAY")?;
+    match given.get_str("and") {
+        None => Ok(Task::Times {
+            file,
+            division,
+            day,
+        }),
+        Some(older) => Ok(Task::JoinedTimes {
+            file,
+            older,
+            division,
+            day,
+        }),
     }
+}
+
+fn terminals_of<'a>(file: &'a str, given: &ArgMatches<'a>) -> Result<Task<'a>, Mistake<'a>>
+    ensures { IfOk result IsServedHere }
+{
+    let new = named(given, "new")?;
+    let revoked = named(given, "revoke")?;
+    let wanted = match (new, revoked, given.get_str("from")) {
+        (None, None, None) => Terminals::List,
+        (Some(who), None, None) => Terminals::New(who),
+        (None, Some(who), None) => Terminals::Revoke(who),
+        (None, None, Some(csv)) => return Ok(Task::SetTerminals { file, csv }),
+        (Some(_), Some(_), _) => return Err(conflict("--new <WHO>", "--revoke <WHO>")),
+        (Some(_), None, Some(_)) => return Err(conflict("--new <WHO>", "--from <CSV>")),
+        (None, Some(_), Some(_)) => return Err(conflict("--revoke <WHO>", "--from <CSV>")),
+    };
+    Ok(Task::Terminals { file, wanted })
+}
+
+fn conflict<'a>(one: &'a str, other: &'a str) -> Mistake<'a> {
+    Mistake::TwoChanges { one, other }
 }
 
 // Whom the word behind an option names, where the option is given.
@@ -203,16 +253,26 @@ fn serve_of<'a>(file: &'a str, given: &ArgMatches<'a>) -> Result<Task<'a>, Mista
         patience: number(given, "patience")?,
         history: given.get_flag("history"),
         log: given.get_flag("log"),
-        journal: journal_of(given),
+        journal: journal_of(file, given)?,
     };
     Ok(Task::Serve { file, service })
 }
 
-fn journal_of<'a>(given: &ArgMatches<'a>) -> Option<Journal<'a>> {
-    Some(Journal {
-        list: given.get_str("journal")?,
-        is_synced: given.get_str("journal-sync")? == "always",
-    })
+fn journal_of<'a>(
+    file: &'a str,
+    given: &ArgMatches<'a>,
+) -> Result<Option<Journal<'a>>, Mistake<'a>> {
+    let Some(list) = given.get_str("journal") else {
+        return Ok(None);
+    };
+    if is_of_database(file, list) {
+        return Err(Mistake::OfDatabase { list, file });
+    }
+    Ok(Some(Journal {
+        list,
+        is_synced: text(given, "journal-sync")? == "always",
+        keeps_questions: text(given, "journal-of")? == "all",
+    }))
 }
 
 fn replay_of(given: &ArgMatches<'_>) -> Replay {
@@ -220,6 +280,8 @@ fn replay_of(given: &ArgMatches<'_>) -> Replay {
         until: given.get_one::<u32>("until").and_then(Moment::new),
         answers: given.get_flag("answers"),
         history: given.get_flag("history"),
+        open: given.get_flag("open"),
+        digest: given.get_flag("digest"),
     }
 }
 

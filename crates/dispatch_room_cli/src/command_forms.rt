@@ -107,6 +107,33 @@ const CHECK: CommandForm = CommandForm {
     words: &[FILE, EXPLAIN],
 };
 
+const DIGEST: CommandForm = CommandForm {
+    name: "digest",
+    about: "Prints the digest of a room: SHA-256 of all its rows",
+    end: "A list of the room begins with it. Two rooms have one digest only where all rows are the \
+         same.\n\n\
+         Example: dispatch_room digest copy.db",
+    words: &[FILE, EXPLAIN],
+};
+
+const RESTORE: CommandForm = CommandForm {
+    name: "restore",
+    about: "Puts a copy of a room in the place of a file, and reports how much it has",
+    end: "The copy stays, with its log in it. The file that was there goes to FILE.old, with its \
+         log: neither may be served meanwhile. A stop leaves the copy's room there, or no file; \
+         then do it again.\n\n\
+         Example: dispatch_room restore /backup/room.db room.db",
+    words: &[
+        Word {
+            name: "COPY",
+            kind: TEXT,
+            help: "The file of the copy",
+        },
+        FILE,
+        EXPLAIN,
+    ],
+};
+
 const SERVE: CommandForm = CommandForm {
     name: "serve",
     about: "Serves a room over HTTP",
@@ -176,6 +203,15 @@ const SERVE: CommandForm = CommandForm {
                  status",
         },
         Word {
+            name: "journal-of",
+            kind: WordKind::Named {
+                value: "WHICH",
+                parser: ValueParser::Names(&["all", "changes"]),
+                default: &["all"],
+            },
+            help: "Which messages the journal keeps: all, or no questions, which change nothing",
+        },
+        Word {
             name: "journal-sync",
             kind: WordKind::Named {
                 value: "WHEN",
@@ -193,7 +229,7 @@ const REPLAY: CommandForm = CommandForm {
     name: "replay",
     about: "Does to a room what a journal says, from standard input, at its moments",
     end: "The room has to be as it was where the journal begins. Each answer's status has to be \
-         the recorded one; where it is another, or the list is none, the record is told.\n\n\
+         the recorded one; where it is another, or the list is none, the record is reported.\n\n\
          Example: dispatch_room replay copy.db --until $(date -d '03:15' +%s) <room.list",
     words: &[
         FILE,
@@ -216,6 +252,17 @@ const REPLAY: CommandForm = CommandForm {
             name: "history",
             kind: WordKind::Flag,
             help: "The room was served with --history",
+        },
+        Word {
+            name: "open",
+            kind: WordKind::Flag,
+            help: "The journal is still written: where it ends within a record, leave that out and \
+                 say so",
+        },
+        Word {
+            name: "digest",
+            kind: WordKind::Flag,
+            help: "At the end print the room's digest too, as `digest` does",
         },
         EXPLAIN,
     ],
@@ -316,7 +363,7 @@ const TIMES: CommandForm = CommandForm {
     name: "times",
     about: "Writes the activation times of a division's day as CSV",
     end: "Where it says `refused: file`, `check` says what is wrong.\n\n\
-         Example: dispatch_room times room.db 1 2026-03-29",
+         Example: dispatch_room times room.db 1 2026-03-29 --and old.db",
     words: &[
         FILE,
         Word {
@@ -331,13 +378,24 @@ const TIMES: CommandForm = CommandForm {
             kind: TEXT,
             help: "The day, as YYYY-MM-DD, from 1970 to 2099",
         },
+        Word {
+            name: "and",
+            kind: WordKind::Named {
+                value: "OLD",
+                parser: ValueParser::String,
+                default: &[],
+            },
+            help: "The room of which FILE was made: its incidents count too, where FILE has none of \
+                 their numbers; neither file is written",
+        },
         EXPLAIN,
     ],
 };
 
 const TERMINALS: CommandForm = CommandForm {
     name: "terminals",
-    about: "Lists who has a terminal, or gives one a new token, or takes it away",
+    about: "Lists who has a terminal, or gives one a new token, or takes it away, or sets all that \
+            a file names",
     end: "WHO is desk:1, position:3 or crew:A1. No token is listed; a new one is printed once. \
          The room must not be served. A change is in no journal.\n\n\
          Example: dispatch_room terminals room.db --new crew:A1",
@@ -361,11 +419,40 @@ const TERMINALS: CommandForm = CommandForm {
             },
             help: "Know no token of this one any more",
         },
+        Word {
+            name: "from",
+            kind: WordKind::Named {
+                value: "CSV",
+                parser: ValueParser::String,
+                default: &[],
+            },
+            help: "Give the desks and positions of this plan, or the crews of this fleet, the \
+                 tokens that it has, and know no other of them any more; all others stay",
+        },
+        EXPLAIN,
+    ],
+};
+
+const REPLAN: CommandForm = CommandForm {
+    name: "replan",
+    about: "Gives a room another plan: its zone, its areas, and the tokens that it has",
+    end: "The plan has an area of each division that the room has, and may have more. Desks and \
+         positions that it does not name keep their tokens. The room must not be served. The \
+         change is in no journal.\n\n\
+         Example: dispatch_room replan room.db plan.csv",
+    words: &[
+        FILE,
+        Word {
+            name: "PLAN",
+            kind: TEXT,
+            help: "The plan as CSV: zone, areas, and the terminals of desks and positions",
+        },
         EXPLAIN,
     ],
 };
 
 /// All commands, as help lists them.
-pub const FORMS: [CommandForm; 11] = [
-    INIT, IMPORT, TERMINALS, MIGRATE, CHECK, SERVE, REPLAY, VERIFY, RENEW, BOARD, TIMES,
+pub const FORMS: [CommandForm; 14] = [
+    INIT, IMPORT, TERMINALS, REPLAN, MIGRATE, CHECK, DIGEST, RESTORE, SERVE, REPLAY, VERIFY, RENEW,
+    BOARD, TIMES,
 ];

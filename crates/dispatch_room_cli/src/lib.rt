@@ -5,5 +5,6 @@ mod addresses;
 pub mod argument_parser;
 mod builder;
 mod command_forms;
+mod database_names;
 pub mod tasks;
 mod who;

@@ -40,6 +40,20 @@ pub enum Task<'a> {
     Check {
         file: &'a str,
     },
+    /// A room gets the plan of a file.
+    Replan {
+        file: &'a str,
+        plan: &'a str,
+    },
+    /// The digest of a room is printed.
+    Digest {
+        file: &'a str,
+    },
+    /// A copy of a room is put in the place of a file.
+    Restore {
+        copy: &'a str,
+        file: &'a str,
+    },
     /// A new room is made of a room, since a day.
     Renew {
         file: &'a str,
@@ -56,10 +70,23 @@ pub enum Task<'a> {
         division: DivisionNumber,
         day: &'a str,
     },
+    /// The report of a division's day over two rooms is written, of which the first was made of the
+    /// older one.
+    JoinedTimes {
+        file: &'a str,
+        older: &'a str,
+        division: DivisionNumber,
+        day: &'a str,
+    },
     /// The terminals of a room are listed, or those of one changed.
     Terminals {
         file: &'a str,
         wanted: Terminals,
+    },
+    /// All that a plan's or a fleet's file names get the tokens that it gives them.
+    SetTerminals {
+        file: &'a str,
+        csv: &'a str,
     },
 }
 
@@ -78,11 +105,15 @@ impl<'a> Task<'a> {
             | Task::Import { file, .. }
             | Task::Migrate { file }
             | Task::Check { file }
+            | Task::Digest { file }
+            | Task::Restore { file, .. }
             | Task::Serve { file, .. }
             | Task::Replay { file, .. }
-            | Task::Times { file, .. }
             | Task::Terminals { file, .. }
+            | Task::SetTerminals { file, .. }
+            | Task::Replan { file, .. }
             | Task::Renew { file, .. } => Some(file),
+            Task::Times { file, .. } | Task::JoinedTimes { file, .. } => Some(file),
             Task::Board { .. } | Task::Verify { .. } => None,
         }
     }
@@ -117,6 +148,8 @@ pub struct Journal<'a> {
     pub list: &'a str,
     /// Whether each record is on the disk before the room acts on it, or when the system writes it.
     pub is_synced: bool,
+    /// Whether questions are kept too, which change nothing.
+    pub keeps_questions: bool,
 }
 
 /// How much of a journal is replayed, and what is reported of it.
@@ -128,6 +161,10 @@ pub struct Replay {
     pub answers: bool,
     /// Whether the paths of history were served.
     pub history: bool,
+    /// Whether the list may end within a record, as one that is still written.
+    pub open: bool,
+    /// Whether the digest of the room is printed that it came to.
+    pub digest: bool,
 }
 
 /// What is done to the terminals of a room.

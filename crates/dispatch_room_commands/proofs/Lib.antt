@@ -1,3 +1,4 @@
 pub mod ListeningLemmas
+pub mod PartLemmas
 pub mod ServiceLemmas
 pub mod WorkLemmas

@@ -4,8 +4,8 @@ use Rattle.std.proofs.lemmas.Result.{IfErr-weaker}
 use Rattle.dispatch_room_exit.specs.declared.exit_status.Done.{Done}
 use Rattle.dispatch_room_exit.specs.declared.exit_status.Failure.{Failure}
 use Rattle.dispatch_room_cli.specs.declared.tasks.Service.{Service}
-use Rattle.dispatch_room_commands.specs.DoneTasks.{FailsBy, FailsServe, IsServe, IsServedBy, is_endless}
-use Rattle.dispatch_room_commands.specs.RoomTasks.{terms_of}
+use Rattle.dispatch_room_commands.specs.DoneTasks.{FailsBy, FailsServe, IsServe, IsServedBy}
+use Rattle.dispatch_room_commands.specs.RoomTasks.{is_endless, terms_of}
 
 module _ (before after : Option (List ℕ)) (result : Result Done Failure) (service : Service)
     (endless has_journal : Bool) (is : is_endless service ≡ endless)

@@ -6,10 +6,12 @@ pub both : {T E : Type 0} (r : Result T E) (P Q : T → Type 0) → IfOk r P →
 both (Ok x) P Q first second = (first, second)
 both (Err e) P Q first second = tt
 
-pub either_way : {T E : Type 0} (r : Result T E) (P : T → Type 0) (Q : E → Type 0) → IfOk r P → IfErr r Q → MatchResult r P Q
+pub either_way : {T E : Type 0} (r : Result T E) (P : T → Type 0) (Q : E → Type 0) → IfOk r P → IfErr r Q
+    → MatchResult r P Q
 either_way (Ok x) P Q good bad = good
 either_way (Err e) P Q good bad = bad
 
-pub handed_on : {T E : Type 0} {P : E → Type 0} (r : Result T E) (Q : E → Type 0) → IsErrAnd r P → ((e : E) → P e → Q e) → IfErr r Q
+pub handed_on : {T E : Type 0} {P : E → Type 0} (r : Result T E) (Q : E → Type 0) → IsErrAnd r P → ((e : E) → P e → Q e)
+    → IfErr r Q
 handed_on (Ok x) Q is by = tt
 handed_on (Err e) Q is by = by e is

@@ -11,7 +11,8 @@ use Rattle.dispatch_room_exit.specs.ExitStatus.{refused}
 use Rattle.dispatch_room_exit.specs.declared.exit_status.Done.{Done}
 use Rattle.dispatch_room_exit.specs.declared.exit_status.Done.TheVariants.{InPart, Whole}
 use Rattle.dispatch_room_exit.specs.declared.exit_status.Failure.{Failure}
-use Rattle.dispatch_room_exit.specs.declared.exit_status.Failure.TheVariants.{Differs, Memory, Network, OtherRoom, Record}
+use Rattle.dispatch_room_exit.specs.declared.exit_status.Failure.TheVariants.{Differs, Memory, Network, OtherRoom}
+use Rattle.dispatch_room_exit.specs.declared.exit_status.Failure.TheVariants.{Record}
 use Rattle.dispatch_room_journal.specs.declared.replay_faults.ReplayFault.{ReplayFault}
 use Rattle.dispatch_room_journal.specs.declared.replay_faults.ReplayFault.TheVariants as replay
 use Rattle.dispatch_room_journal.specs.declared.replay_faults.Stopped.{Stopped}

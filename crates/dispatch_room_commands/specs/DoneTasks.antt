@@ -1,9 +1,11 @@
 -- What a task of the command line comes to, where it is done.
 use Rattle.std.specs.Global.{Global}
 use Rattle.std.specs.Io.KnownBytes.{Appends}
-use Rattle.std.specs.Prelude.{Bool, Err, List, MatchResult, Ok, Option, Result, Some, Vec, codes, false, is_some, true, ℕ, ◌++◌, ◌≡◌, ◌⊎◌, None, ◌==◌}
+use Rattle.std.specs.Prelude.{Bool, Err, List, MatchResult, Ok, Option, Result, Some, Vec, codes, decimal, false}
+use Rattle.std.specs.Prelude.{is_some, length, true, ℕ, ◌++◌, ◌≡◌, ◌⊎◌, None}
 use Rattle.clap.specs.Words.{kind_of}
 use Rattle.clap.specs.declared.error.Error.{Error}
+use Rattle.dispatch_room_disk.specs.DiskFaults.{IsFileFault}
 use Rattle.dispatch_room_disk.specs.RoomFiles.{IsDoneInFile, IsUndoneInFile}
 use Rattle.dispatch_room_exit.specs.ExitStatus.{status_after}
 use Rattle.dispatch_room_exit.specs.declared.exit_status.Done.{Done}
@@ -15,6 +17,7 @@ use Rattle.dispatch_room_csv.specs.declared.plan_file.PlanFile.{PlanFile}
 use Rattle.room_types.specs.Texts.{Token}
 use Rattle.room_types.specs.declared.asks.Who.{Who}
 use Rattle.room_types.specs.declared.asks.Who.TheVariants.{Crew, Desk, Position}
+use Rattle.room_types.specs.declared.fleet.Terminal.{Terminal}
 use Rattle.dispatch_room_tasks.specs.declared.renewal.Successor.{Successor}
 use Rattle.dispatch_room_serving.specs.Callers.{Opening}
 use Rattle.dispatch_room_serving.specs.declared.served_room.Terms.{Terms}
@@ -24,11 +27,18 @@ use Rattle.dispatch_room_cli.specs.declared.tasks.Service.{Service}
 use Rattle.dispatch_room_cli.specs.declared.tasks.Task.{Task}
 use Rattle.dispatch_room_cli.specs.declared.tasks.Terminals.{Terminals as Wanted}
 use Rattle.dispatch_room_cli.specs.declared.tasks.Terminals.TheVariants as wanted
-use Rattle.dispatch_room_cli.specs.declared.tasks.Task.TheVariants.{Board, Check, Import, Init, Migrate, Renew, Replay, Serve, Terminals, Times, Verify}
+use Rattle.dispatch_room_cli.specs.declared.tasks.Task.TheVariants.{Board, Check, Digest, Import, Init, JoinedTimes}
+use Rattle.dispatch_room_cli.specs.declared.tasks.Task.TheVariants.{Migrate, Renew, Replan, Replay, Restore, Serve}
+use Rattle.dispatch_room_cli.specs.declared.tasks.Task.TheVariants.{SetTerminals, Terminals, Times, Verify}
+use Rattle.dispatch_room_tasks.specs.declared.division_days.DivisionDay.{DivisionDay}
 use Rattle.dispatch_room_commands.specs.CommandEnds.{IsPrinted, IsWordsStatus}
-use Rattle.dispatch_room_commands.specs.RoomTasks.{Begins, BeginsNone, Creates, CreatesNone, Enrols, EnrolsNone, Examines, ExaminesNone, HoldsNoRoom, LeavesNothing, LeavesRows, Lists, Moves, MovesNone, OpensNone, Reissues, Replays, Reports, Serves, terms_of}
-use Rattle.dispatch_room_chain.specs.ListTallies.{IsVerified}
-use Rattle.dispatch_room_chain.specs.declared.list_tallies.Tally.{Tally}
+use Rattle.dispatch_room_commands.specs.RoomTasks.{Begins, BeginsNone, Creates, CreatesNone, Digests, Enrols}
+use Rattle.dispatch_room_commands.specs.RoomTasks.{EnrolsNone, Examines, ExaminesNone, FindsDay, FindsNoDay}
+use Rattle.dispatch_room_commands.specs.RoomTasks.{HoldsNoRoom, LeavesNothing, LeavesRows, Lists, Moves, MovesNone}
+use Rattle.dispatch_room_commands.specs.RoomTasks.{OpensNone, Reissues, Replans, Replays, Reports, ReportsBoth}
+use Rattle.dispatch_room_commands.specs.RoomTasks.{ReportsNone, Serves, ServesNone, Sets, is_endless, terms_of}
+use Rattle.dispatch_room_journal.specs.ListTallies.{IsVerified}
+use Rattle.dispatch_room_journal.specs.declared.list_tallies.Tally.{Tally}
 use Rattle.dispatch_room_commands.specs.Verified.{IsUnverified, tally_text}
 use Rattle.dispatch_room_commands.specs.declared.listeners.TcpAddress.{TcpAddress}
 use Rattle.dispatch_room_commands.specs.declared.serve.Served.{Served}
@@ -40,15 +50,21 @@ is_a_crew (Desk d) = false
 is_a_crew (Position p) = false
 is_a_crew (Crew c) = true
 
--- a service that goes on until it is stopped
-abbrev pub is_endless : Service → Bool
-is_endless service = service.connections == 18446744073709551615
-
 -- by what the output held before, what it holds after, and how much is done
 module _ (before after : Option (List ℕ)) (done : Done) where
   -- a room was created by some plan
   abbrev pub IsInit : Type 0
   IsInit = (plan : PlanFile) × IsDoneInFile (Creates plan) before after done
+
+  -- a room got some plan, and then that was reported
+  pub record IsReplanned (plan : PlanFile) : Type 0 where
+    pub between : Option (List ℕ)
+    pub is : IsDoneInFile (Replans plan) before between tt
+    pub text : Appends between after (codes "replanned\n")
+    pub whole : done ≡ Whole
+
+  abbrev pub IsReplan : Type 0
+  IsReplan = (plan : PlanFile) × IsReplanned plan
 
   -- the rows of some fleet were enrolled
   abbrev pub IsImport : Type 0
@@ -65,11 +81,31 @@ module _ (before after : Option (List ℕ)) (done : Done) where
   abbrev pub IsCheck : Type 0
   IsCheck = IsDoneInFile Examines before after done
 
+  -- the digest of a room was printed
+  abbrev pub IsDigest : Type 0
+  IsDigest = IsDoneInFile Digests before after done
+
+  -- a copy was looked at that is a well-formed room, and was put in the file's place
+  abbrev pub IsRestore : Type 0
+  IsRestore = IsCheck
+
   -- a division's day was reported, and then the report was written
   pub record IsTimes (division : ℕ) (day : List ℕ) : Type 0 where
     pub between : Option (List ℕ)
     pub report : Vec ℕ Global
     pub is : IsDoneInFile (Reports division day) before between report
+    pub text : Appends between after report.items
+    pub whole : done ≡ Whole
+
+  -- a division's day was found in one room, and reported with the incidents of another, and then
+  -- the report was written
+  pub record IsJoinedTimes (division : ℕ) (day : List ℕ) : Type 0 where
+    pub found : Option (List ℕ)
+    pub newer : DivisionDay
+    pub finds : IsDoneInFile (FindsDay division day) before found newer
+    pub between : Option (List ℕ)
+    pub report : Vec ℕ Global
+    pub joins : IsDoneInFile (ReportsBoth newer) found between report
     pub text : Appends between after report.items
     pub whole : done ≡ Whole
 
@@ -103,13 +139,16 @@ module _ (before after : Option (List ℕ)) (done : Done) where
     pub made : IsDoneInFile (Begins left) between after done
 
   -- a list was looked through, and what it holds was printed
-  pub record IsVerify : Type 0 where
+  pub record IsVerifyOf (list : Option (List ℕ)) : Type 0 where
     pub tally : Tally
     pub has_ended : Bool
-    pub list : Option (List ℕ)
     pub is : (text : List ℕ) → list ≡ Some text → IsVerified text tally
     pub text : Appends before after (tally_text tally has_ended)
     pub whole : done ≡ Whole
+
+  -- the list of some file: what a file of the system holds no contract can say
+  abbrev pub IsVerify : Type 0
+  IsVerify = (list : Option (List ℕ)) × IsVerifyOf list
 
   -- the board of a desk was shown
   abbrev pub IsBoardOf : Look → Type 0
@@ -124,6 +163,18 @@ module _ (before after : Option (List ℕ)) (done : Done) where
     pub told : Appends between after text
     pub whole : done ≡ Whole
 
+  -- all that a list names were given its terminals, and then it was printed how many these are
+  pub record IsSet (listed : List Terminal) : Type 0 where
+    pub between : Option (List ℕ)
+    pub is : IsDoneInFile (Sets listed) before between tt
+    pub told : Appends between after
+        (codes "set: terminals " ++ (decimal (length listed) ++ codes "\n"))
+    pub whole : done ≡ Whole
+
+  -- all that some list names were given its terminals
+  abbrev pub IsSetting : Type 0
+  IsSetting = (listed : List Terminal) × IsSet listed
+
   -- Terminals were listed; or one got a new token, which was printed; or it has no terminal that
   -- anybody knows: no token, or where a vehicle's crew has to have one, one that is not printed.
   abbrev pub IsTerminals : Wanted → Type 0
@@ -137,15 +188,20 @@ module _ (before after : Option (List ℕ)) (done : Done) where
   abbrev pub IsTask : Task → Type 0
   IsTask (Init file plan) = IsInit
   IsTask (Import file fleet) = IsImport
+  IsTask (Replan file plan) = IsReplan
   IsTask (Migrate file) = IsMigrate
   IsTask (Check file) = IsCheck
+  IsTask (Digest file) = IsDigest
+  IsTask (Restore copy file) = IsRestore
   IsTask (Serve file service) = IsServe service
   IsTask (Replay file how) = IsReplay how
   IsTask (Verify list) = IsVerify
   IsTask (Board look) = IsBoardOf look
   IsTask (Renew file new since) = IsRenew since.now
   IsTask (Times file division day) = IsTimes division day.now
+  IsTask (JoinedTimes file older division day) = IsJoinedTimes division day.now
   IsTask (Terminals file wanted) = IsTerminals wanted
+  IsTask (SetTerminals file csv) = IsSetting
 
 -- by what the output held before, what it holds after, and why the task fails
 module _ (before after : Option (List ℕ)) (fault : Failure) where
@@ -154,6 +210,16 @@ module _ (before after : Option (List ℕ)) (fault : Failure) where
   abbrev pub FailsInit : Type 0
   FailsInit = (after ≡ before)
       ⊎ ((plan : PlanFile) × IsUndoneInFile (Creates plan) (CreatesNone plan) before after fault)
+
+  -- this became of a room's file that did not get a plan; or it got it, and the output failed
+  abbrev pub FailsReplanBy : PlanFile → Type 0
+  FailsReplanBy plan = IsUndoneInFile (Replans plan) HoldsNoRoom before after fault
+      ⊎ ((fault ≡ failure.Network)
+      × ((between : Option (List ℕ)) × IsDoneInFile (Replans plan) before between tt))
+
+  -- no room got a plan: there is none, and nothing is said; or by some plan it failed
+  abbrev pub FailsReplan : Type 0
+  FailsReplan = (after ≡ before) ⊎ ((plan : PlanFile) × FailsReplanBy plan)
 
   -- no fleet was enrolled whole: there is none, and nothing is said; or this became of the file, by
   -- some rows
@@ -171,11 +237,31 @@ module _ (before after : Option (List ℕ)) (fault : Failure) where
   abbrev pub FailsCheck : Type 0
   FailsCheck = IsUndoneInFile Examines ExaminesNone before after fault
 
+  -- no digest was printed, and this became of the room's file
+  abbrev pub FailsDigest : Type 0
+  FailsDigest = IsUndoneInFile Digests OpensNone before after fault
+
+  -- the copy is no room, or can't be read; or it is one, and the file could not be put in place
+  abbrev pub FailsRestore : Type 0
+  FailsRestore = FailsCheck ⊎ (((fault ≡ failure.File) ⊎ IsFileFault fault)
+      × ((done : Done) × IsDoneInFile Examines before after done))
+
   -- no day was reported; or one was, and the output failed
   abbrev pub FailsTimes : ℕ → List ℕ → Type 0
   FailsTimes division day = IsUndoneInFile (Reports division day) OpensNone before after fault
       ⊎ ((fault ≡ failure.Network) × ((between : Option (List ℕ)) × (report : Vec ℕ Global)
       × IsDoneInFile (Reports division day) before between report))
+
+  -- no day was found; or one was, and there was no report of both rooms; or there was one, and the
+  -- output failed
+  abbrev pub FailsJoinedTimes : ℕ → List ℕ → Type 0
+  FailsJoinedTimes division day =
+      IsUndoneInFile (FindsDay division day) (FindsNoDay division day) before after fault
+      ⊎ ((found : Option (List ℕ)) × (newer : DivisionDay)
+      × IsDoneInFile (FindsDay division day) before found newer
+      × (IsUndoneInFile (ReportsBoth newer) ReportsNone found after fault
+      ⊎ ((fault ≡ failure.Network) × ((between : Option (List ℕ)) × (report : Vec ℕ Global)
+      × IsDoneInFile (ReportsBoth newer) found between report))))
 
   -- this became of the file of the room that was to be served to those who call where something
   -- listens
@@ -183,7 +269,8 @@ module _ (before after : Option (List ℕ)) (fault : Failure) where
       → (L → Option (List (Option (List ℕ)))) → Bool → Terms → Type 0
   FailsAt {L} heard told has_journal terms =
       (listener : L)
-      × IsUndoneInFile (Serves heard told has_journal terms listener) OpensNone before after fault
+      × IsUndoneInFile (Serves heard told has_journal terms listener)
+      (ServesNone heard told has_journal terms listener) before after fault
 
   abbrev pub FailsBy : Bool → Bool → Terms → Type 0
   FailsBy true has_journal terms = FailsAt {L = TcpDoor} (λ _. None) (λ _. None) has_journal terms
@@ -227,6 +314,16 @@ module _ (before after : Option (List ℕ)) (fault : Failure) where
       ⊎ ((fault ≡ failure.Network)
       × ((between : Option (List ℕ)) × IsDoneInFile (Reissues who token) before between tt))))
 
+  -- this became of the room's file where a list was not set; or it was, and the output failed
+  abbrev pub FailsSettingBy : List Terminal → Type 0
+  FailsSettingBy listed = IsUndoneInFile (Sets listed) HoldsNoRoom before after fault
+      ⊎ ((fault ≡ failure.Network)
+      × ((between : Option (List ℕ)) × IsDoneInFile (Sets listed) before between tt))
+
+  -- no terminals were set: no file gives any, and nothing is said; or by some list it failed
+  abbrev pub FailsSetting : Type 0
+  FailsSetting = (after ≡ before) ⊎ ((listed : List Terminal) × FailsSettingBy listed)
+
   -- terminals were not listed, or not changed
   abbrev pub FailsTerminals : Wanted → Type 0
   FailsTerminals wanted.List = IsUndoneInFile Lists HoldsNoRoom before after fault
@@ -237,15 +334,20 @@ module _ (before after : Option (List ℕ)) (fault : Failure) where
   abbrev pub FailsTask : Task → Type 0
   FailsTask (Init file plan) = FailsInit
   FailsTask (Import file fleet) = FailsImport
+  FailsTask (Replan file plan) = FailsReplan
   FailsTask (Migrate file) = FailsMigrate
   FailsTask (Check file) = FailsCheck
+  FailsTask (Digest file) = FailsDigest
+  FailsTask (Restore copy file) = FailsRestore
   FailsTask (Serve file service) = FailsServe service
   FailsTask (Replay file how) = FailsReplay how
   FailsTask (Verify list) = FailsVerify
   FailsTask (Board look) = FailsBoard
   FailsTask (Renew file new since) = FailsRenew since.now
   FailsTask (Times file division day) = FailsTimes division day.now
+  FailsTask (JoinedTimes file older division day) = FailsJoinedTimes division day.now
   FailsTask (Terminals file wanted) = FailsTerminals wanted
+  FailsTask (SetTerminals file csv) = FailsSetting
 
 -- The exit status of what the words of a command line ask for. Of a task it is by how much was
 -- done, or by why it was not, and what the output holds is by that; of other words it is by what

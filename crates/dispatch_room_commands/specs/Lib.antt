@@ -4,6 +4,14 @@ pub mod CommandEnds
 pub mod Listeners
 -- what is printed of a list
 pub mod Verified
+-- the digest of a room that is printed
+pub mod RoomDigests
+-- what a replay ends with
+pub mod ReplayEnds
+-- the terminals that a fleet's file gives
+pub mod TerminalFiles
+-- a room that is served in parts
+pub mod ServedParts
 -- what each command does in a database
 pub mod RoomTasks
 -- what a task comes to

@@ -1,7 +1,8 @@
 -- What each command does in the database of a room's file, over any storage.
 use Rattle.std.specs.Global.{Global}
 use Rattle.std.specs.Io.KnownBytes.{Appends}
-use Rattle.std.specs.Prelude.{Bool, Err, IfOk, List, None, Ok, OnOk, Option, Result, Some, Vec, codes, decimal, false, true, ℕ, ◌++◌, ◌≡◌, ◌⊎◌}
+use Rattle.std.specs.Prelude.{Bool, Err, IfOk, List, None, Ok, OnOk, Option, Result, Some, Vec, codes, decimal, false}
+use Rattle.std.specs.Prelude.{is_some, true, ℕ, ◌&&◌, ◌++◌, ◌==◌, ◌≡◌, ◌⊎◌}
 use Rattle.sqlite.specs.Held.{Held, state}
 use Rattle.sqlite.specs.State.{HasCleanDisk}
 use Rattle.sqlite_trees.specs.declared.store.Store.{Ghosts}
@@ -23,7 +24,6 @@ use Rattle.dispatch_room_exit.specs.declared.exit_status.Failure.{Failure}
 use Rattle.dispatch_room_exit.specs.declared.exit_status.Failure.TheVariants.{Memory, Network}
 use Rattle.dispatch_room_csv.specs.declared.fleet_file.FleetLine.{FleetLine}
 use Rattle.dispatch_room_csv.specs.declared.plan_file.PlanFile.{PlanFile}
-use Rattle.dispatch_room_journal.specs.JournalRecords.{answer_text, message_text, room_text}
 use Rattle.dispatch_room_tasks.specs.OpenedRoom.{HoldsNone, IsUnopened, OpensRoom}
 use Rattle.dispatch_room_journal.specs.AnswerFrames.{AnswersEach}
 use Rattle.dispatch_room_journal.specs.Replays.{DigitsOf, digits_of}
@@ -34,15 +34,21 @@ use Rattle.dispatch_room_cli.specs.declared.tasks.Journal.{Journal}
 use Rattle.dispatch_room_cli.specs.declared.tasks.Replay.{Replay as How}
 use Rattle.dispatch_room_cli.specs.declared.tasks.Service.{Service}
 use Rattle.dispatch_room_commands.specs.CommandEnds.{failure_of}
+use Rattle.dispatch_room_commands.specs.ReplayEnds.{Concludes}
+use Rattle.dispatch_room_commands.specs.RoomDigests.{HasDigest}
+use Rattle.dispatch_room_commands.specs.ServedParts.{Interval, OpensNoPart, ServesParts}
 use Rattle.dispatch_room_commands.specs.declared.serve.Served.{Served}
 use Rattle.dispatch_room_serving.specs.Callers.{Opening}
-use Rattle.dispatch_room_serving.specs.ServedRoom.{ServesRoom}
 use Rattle.dispatch_room_serving.specs.declared.served_room.Terms.{Terms}
 use Rattle.dispatch_room_tasks.specs.Examination as checked
 use Rattle.dispatch_room_tasks.specs.Creation as created
 use Rattle.dispatch_room_tasks.specs.TimesReport.{HasReported}
+use Rattle.dispatch_room_tasks.specs.JoinedReports.{IsDayIn, JoinsDay, JoinsNone, LacksDay}
+use Rattle.dispatch_room_tasks.specs.declared.division_days.DivisionDay.{DivisionDay}
 use Rattle.dispatch_room_tasks.specs.ListedTerminals.{HasListed}
 use Rattle.dispatch_room_tasks.specs.ChangedTerminals.{HasChanged}
+use Rattle.dispatch_room_tasks.specs.ReplacedTerminals.{HasReplaced}
+use Rattle.dispatch_room_tasks.specs.ReplannedRoom.{HasReplanned}
 use Rattle.dispatch_room_tasks.specs.Enrolment as imported
 use Rattle.dispatch_room_tasks.specs.Migration.{IsMigrated, IsUnmoved}
 use Rattle.dispatch_room_tasks.specs.Renewal.{ExplainsUnmade, IsBegun, IsLeftBy, LeavesNone}
@@ -109,10 +115,35 @@ Examines = λ S g old new before after done.
 abbrev pub ExaminesNone : Refusing
 ExaminesNone = λ S g conn fault. ⊥
 
+-- the digest of the room is printed, and the room stays as it is
+abbrev pub Digests : Saying Done
+Digests = λ S g old new before after done. HasDigest g old new before after done
+
 -- a division's day is reported, and nothing is written yet; the room stays as it is
 abbrev pub Reports : ℕ → List ℕ → Saying (Vec ℕ Global)
 Reports division day = λ S g old new before after done.
     (HasCleanDisk (state g new) → HasReported g old new division day done) × (after ≡ before)
+
+-- a division's day is found in a room, and nothing is written
+abbrev pub FindsDay : ℕ → List ℕ → Saying DivisionDay
+FindsDay division day = λ S g old new before after done.
+    (HasCleanDisk (state g new) → IfOk done (IsDayIn (state g old).now.trees division day))
+    × WritesNothing (state g old) (state g new) × (after ≡ before)
+
+-- or there is none, for this
+abbrev pub FindsNoDay : ℕ → List ℕ → Refusing
+FindsNoDay division day = λ S g conn. LacksDay g conn division day
+
+-- that day is reported with an older room's incidents, and nothing is written yet
+abbrev pub ReportsBoth : DivisionDay → Saying (Vec ℕ Global)
+ReportsBoth newer = λ S g old new before after done.
+    (HasCleanDisk (state g new)
+    → IfOk done (λ report. JoinsDay (state g old).now.trees newer report.items))
+    × WritesNothing (state g old) (state g new) × (after ≡ before)
+
+-- or it is not, for this
+abbrev pub ReportsNone : Refusing
+ReportsNone = λ S g conn. JoinsNone g conn
 
 -- who has a terminal is listed, and the room stays as it is
 abbrev pub Lists : Saying Done
@@ -123,22 +154,52 @@ abbrev pub Reissues : Who → Option Token → Saying (Unit {0})
 Reissues who token = λ S g old new before after done.
     HasChanged g old new who token done × (after ≡ before)
 
+-- all that a list names have the terminals that it gives them, and no others, and nothing is
+-- written yet
+abbrev pub Sets : List Terminal → Saying (Unit {0})
+Sets listed = λ S g old new before after done.
+    HasReplaced g old new listed done × (after ≡ before)
+
+-- the room has the plan of a file, and its terminals, and nothing is written yet
+abbrev pub Replans : PlanFile → Saying (Unit {0})
+Replans plan = λ S g old new before after done.
+    HasReplanned g old new plan done × (after ≡ before)
+
 -- or the file holds no room, for this
 abbrev pub HoldsNoRoom : Refusing
 HoldsNoRoom = λ S g conn. HoldsNone g conn
 
--- what is served of a room, by its service
+-- a service that goes on until it is stopped
+abbrev pub is_endless : Service → Bool
+is_endless service = service.connections == 18446744073709551615
+
+-- What is served of a room, by its service. A part may end before all calls came where the service
+-- goes on until it is stopped, and keeps a journal.
 abbrev pub terms_of : Service → Terms
-terms_of service = record { connections = service.connections; history = service.history }
+terms_of service = record {
+  connections = service.connections;
+  history = service.history;
+  renews = is_endless service && is_some service.journal;
+}
 
 -- how serving ended
 abbrev pub ended : {L : Type 0} → Result (Served L) Failure → Result Done Failure
 ended (Ok served) = Ok served.done
 ended (Err fault) = Err fault
 
+-- where a service begins, by what listens for its calls
+abbrev pub begins_at : {S L : Type 0} → (L → Option (List (Option Opening)))
+    → (L → Option (List (Option (List ℕ)))) → L → Held S → Option (List ℕ) → Interval S
+begins_at heard told listener conn given = record {
+  conn = conn;
+  heard = heard listener;
+  told = told listener;
+  given = given;
+}
+
 -- The room was served to so many calls, and a journal kept of it or none. What is known of the
 -- calls is what they are to what listened for them, before and after (`heard`, `told`), where that
--- is given back. What is known of the moments and of the journal's file is said by who gives them.
+-- is given back. What is known of the moments is said by who gives them.
 pub record IsServed {S L : Type 0} (heard : L → Option (List (Option Opening)))
     (told : L → Option (List (Option (List ℕ)))) (g : Ghosts S) (old new : Held S)
     (has_journal : Bool) (terms : Terms) (listener : L) (served : Result (Served L) Failure) : Type 0
@@ -149,31 +210,30 @@ pub record IsServed {S L : Type 0} (heard : L → Option (List (Option Opening))
         × (tells ≡ told served.listener))
     pub given : Option (List ℕ)
     pub gives : Option (List ℕ)
-    pub kept : Option (List ℕ)
-    pub keeps : Option (List ℕ)
-    pub fails : Bool
-    pub is : ServesRoom g has_journal room_text message_text answer_text terms.history old
-        (λ store. record {
-          heard = heard listener;
-          told = told listener;
-          stage = record { given = given; kept = kept; has_failed = false; store = store };
-        })
-        (λ store. record {
-          heard = hears;
-          told = tells;
-          stage = record { given = gives; kept = keeps; has_failed = fails; store = store };
-        })
-        terms.connections (ended served, new)
+    pub is : ServesParts g has_journal terms (begins_at heard told listener old given)
+        (record { conn = new; heard = hears; told = tells; given = gives }) (ended served)
 
 abbrev pub Serves : {L : Type 0} → (L → Option (List (Option Opening)))
     → (L → Option (List (Option (List ℕ)))) → Bool → Terms → L → Saying (Served L)
 Serves heard told has_journal terms listener = λ S g old new before after served.
     IsServed heard told g old new has_journal terms listener served
 
+-- or no room is opened for one of its parts
+abbrev pub ServesNone : {L : Type 0} → (L → Option (List (Option Opening)))
+    → (L → Option (List (Option (List ℕ)))) → Bool → Terms → L → Refusing
+ServesNone heard told has_journal terms listener = λ S g conn fault.
+    (given : Option (List ℕ))
+    × OpensNoPart g has_journal terms (begins_at heard told listener conn given) fault
+
 -- whether each message lasts before the room acts on it: where a journal is asked for that is so
 abbrev pub is_synced_by : Option Journal → Bool
 is_synced_by None = false
 is_synced_by (Some journal) = journal.is_synced
+
+-- whether questions are kept in it: where a journal is asked for that is so
+abbrev pub keeps_questions_by : Option Journal → Bool
+keeps_questions_by None = true
+keeps_questions_by (Some journal) = journal.keeps_questions
 
 -- what is reported of a replay: how many records it took, or why it stopped
 abbrev pub IsTold : Result Replayed Stopped → Option (List ℕ) → Option (List ℕ)
@@ -210,7 +270,8 @@ module _ (step : Step) (setting : Setting) (digits : DigitsOf) (trusted : Type 0
     pub ends : EndsAs result done
 
 -- A list was replayed to the room, or its messages answered, as it was asked. What is written of
--- the answers is said by who writes them.
+-- the answers is said by who writes them. Then the replay ended, with the digest of the room where
+-- no answers were asked for.
 pub record HasReplayed {S : Type 0} (g : Ghosts S) (old new : Held S) (how : How)
     (before after : Option (List ℕ)) (done : Result Done Failure) : Type 0 where
   pub first : Store S
@@ -220,13 +281,18 @@ pub record HasReplayed {S : Type 0} (g : Ghosts S) (old new : Held S) (how : How
   pub is_set : IsSetting first.plan.zone how.history setting
   pub list : Option (List ℕ)
   pub read_failed : Bool
+  pub came : Result Done Failure
+  pub between : Option (List ℕ)
   pub replayed : how.answers ≡ false → IsReplayed machine setting
       (digits_of digest_of first.plan.zone) (HasCleanDisk (state g last.conn)) (IsRoom g first)
-      (IsRoom g last) list before after read_failed done how.until
+      (IsRoom g last) list before between read_failed came how.until
   pub answered : how.answers ≡ true → (holds : Option (List ℕ)) × AreAnswered machine setting
       (digits_of digest_of first.plan.zone) (HasCleanDisk (state g last.conn)) (IsRoom g first)
-      (IsRoom g last) list before holds read_failed done
-  pub closed : new ≡ last.conn
+      (IsRoom g last) list before holds read_failed came
+  pub ended : Store S
+  pub has_ended : Bool
+  pub ends : Concludes g last ended how came has_ended between after done
+  pub closed : new ≡ ended.conn
 
 abbrev pub Replays : How → Saying Done
 Replays how = λ S g old new before after done. HasReplayed g old new how before after done

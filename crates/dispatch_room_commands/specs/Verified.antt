@@ -1,7 +1,8 @@
 -- What is printed of a list that was looked through.
-use Rattle.std.specs.Prelude.{◌≡◌, ◌⊎◌, ℕ, List, [], ◌∷◌, ◌++◌, codes, decimal, Bool, true, false, if◌then◌else◌, Option, Some, None}
-use Rattle.dispatch_room_chain.specs.declared.list_tallies.Span.{Span}
-use Rattle.dispatch_room_chain.specs.declared.list_tallies.Tally.{Tally}
+use Rattle.std.specs.Prelude.{◌≡◌, ◌⊎◌, ℕ, List, [], ◌∷◌, ◌++◌, codes, decimal, Bool, true, false, if◌then◌else◌}
+use Rattle.std.specs.Prelude.{Option, Some, None}
+use Rattle.dispatch_room_journal.specs.declared.list_tallies.Span.{Span}
+use Rattle.dispatch_room_journal.specs.declared.list_tallies.Tally.{Tally}
 use Rattle.dispatch_room_exit.specs.declared.exit_status.Failure.{Failure}
 use Rattle.dispatch_room_exit.specs.declared.exit_status.Failure.TheVariants.{Input, Memory, Network, Record}
 

@@ -9,15 +9,19 @@ ghost use Rattle.dispatch_room_cli.specs.declared.tasks.Task.{Task as Asked};
 
 use crate::board::board;
 use crate::check::check;
+use crate::digest::digest;
 use crate::files::is_open_to_others;
 use crate::import::import;
 use crate::init::init;
+use crate::joined_times::joined_times;
 use crate::migrate::migrate;
 use crate::renew::renew;
+use crate::replan::replan;
 use crate::replay::replay;
+use crate::restore::restore;
 use crate::serve::serve_file;
 use crate::task_causes::explain;
-use crate::terminals::terminals;
+use crate::terminals::{set_terminals, terminals};
 use crate::times::times;
 use crate::verify::verify_list;
 use clap::Error;
@@ -37,7 +41,7 @@ pub trait Asks<'a> {
     // What they may be read as.
     ghost reads: { Self → Result Asked Mistake → Type 0 };
 
-    /// What they ask for: a task, or help. Else they have a mistake, or memory is wanting.
+    /// What they ask for: a task, or help. Else they have a mistake, or memory was refused.
     fn read(self, alloc: Global) -> Result<Task<'a>, Error>
         ensures { reads self result };
 
@@ -133,8 +137,11 @@ fn perform<O: Write, E: Write>(
     match *task {
         Task::Init { file, plan } => init(rt, explainer, alloc, file, plan, out),
         Task::Import { file, fleet } => import(rt, explainer, alloc, file, fleet, out),
+        Task::Replan { file, plan } => replan(rt, explainer, alloc, file, plan, out),
         Task::Migrate { file } => migrate(rt, explainer, alloc, file, out),
         Task::Check { file } => check(rt, explainer, alloc, file, out),
+        Task::Digest { file } => digest(rt, explainer, alloc, file, out),
+        Task::Restore { copy, file } => restore(rt, explainer, alloc, copy, file, out),
         Task::Serve { file, service } => serve_file(rt, explainer, alloc, file, service, out, err),
         Task::Replay {
             file,
@@ -148,7 +155,14 @@ fn perform<O: Write, E: Write>(
             division,
             day,
         } => times(rt, explainer, alloc, file, division, day, out),
+        Task::JoinedTimes {
+            file,
+            older,
+            division,
+            day,
+        } => joined_times(rt, explainer, alloc, (file, older), division, day, out),
         Task::Terminals { file, wanted } => terminals(rt, explainer, alloc, file, wanted, out),
+        Task::SetTerminals { file, csv } => set_terminals(rt, explainer, alloc, file, csv, out),
     }
 }
 

@@ -36,8 +36,8 @@ pub fn init<O: Write>(
     in_file(rt, explainer, alloc, RoomFile::New(file), creation, out)
 }
 
-// The plan that a file gives, or it is explained why it gives none.
-fn plan_in(sheet: Sheet<'_>) -> Result<PlanFile, Failure> {
+/// The plan that a file gives, or it is explained why it gives none.
+pub fn plan_in(sheet: Sheet<'_>) -> Result<PlanFile, Failure> {
     match read_plan(sheet.alloc, sheet.text) {
         Ok(plan) => Ok(plan),
         Err(fault) => {

@@ -53,6 +53,10 @@ pub trait Listener: Drop {
         ensures told { told self.new ≡ told self.old }
         ensures fault { IfErr result (λ fault. fault ≡ Network) };
 
+    /// Whether it listens.
+    fn is_listening(&self) -> bool
+        ensures { result ≡ is_listening self.now };
+
     /// The sides of the next connection: none where it came to nothing.
     fn accept(&mut self) -> Option<(Self::Reader, Self::Writer)>
         ensures heard { Grows (heard self.old) (heard self.new) (option_map (λ sides. record {
@@ -138,6 +142,10 @@ impl<'a> Listener for TcpAddress<'a> {
             }
             Err(fault) => Err(fault),
         }
+    }
+
+    fn is_listening(&self) -> bool {
+        self.listener.is_some()
     }
 
     fn accept(&mut self) -> Option<(Self::Reader, Self::Writer)> {

@@ -5,11 +5,12 @@ ghost use Rattle.dispatch_room_commands.specs.DoneTasks.{FailsReplay, IsReplay};
 ghost use Rattle.dispatch_room_commands.specs.RoomTasks.{AreAnswered, IsReplayed, IsTold, OpensNone, Replays};
 ghost use Rattle.dispatch_room_journal.specs.Replays.{digits_of};
 
-use dispatch_room_chain::unchained::Unchained;
+use crate::replay_ends::{Noted, conclude};
 use dispatch_room_cli::tasks::Replay;
 use dispatch_room_disk::room_files::{RoomFile, RoomTask, in_file};
 use dispatch_room_exit::exit_status::{Done, Failure, refused};
 use dispatch_room_exit::explainer::Explainer;
+use dispatch_room_journal::chain_source::Unchained;
 use dispatch_room_journal::replay_faults::{ReplayFault, Stopped};
 use dispatch_room_journal::replayed_journal::{self, Replayed};
 use dispatch_room_journal::streamed_messages::answer_each;
@@ -23,8 +24,9 @@ use sqlite::{Alter, Connection};
 use std::alloc::Global;
 use std::io::Write;
 
-/// Does to the room of a file what a list from standard input says, and says how many records that
-/// were; or writes the answer to each record, as soon as it is given.
+/// Does to the room of a file what a list from standard input says, and prints how many messages
+/// that were, and the room's digest where it is wanted; or writes the answer to each message, as
+/// soon as it is given.
 pub fn replay<O: Write, E: Write>(
     rt: &HostRuntime,
     explainer: Explainer<'_>,
@@ -70,8 +72,11 @@ impl<'a, E: Write> RoomTask for Replaying<'a, E> {
             zone,
             history: replay.history,
         };
-        let mut list = Unchained::new(Wire::new(rt.stdin()));
-        let done = replay_in(alloc, &mut list, &mut room, &setting, replay, out, err);
+        let mut has_ended = false;
+        let mut list = Unchained::new(Noted::new(Wire::new(rt.stdin()), &mut has_ended));
+        let came = replay_in(alloc, &mut list, &mut room, &setting, replay, out, err);
+        drop(list);
+        let done = conclude(&mut room, replay, came, has_ended, out, err);
         Ok((done, room.close()))
     }
 }

@@ -1,13 +1,13 @@
 //! `serve`: a room is served over TCP, to so many connections one after another, or to all who
-//! call, until it is stopped.
-ghost use Rattle.std.specs.Prelude.{◌≡◌, ◌⊎◌, ℕ, List, Bool, Option, false, true, is_some, IfErr, IfOk, IfSome};
+//! call, until it is stopped. Then it may be served in parts, each with a list of its own.
+ghost use Rattle.std.specs.Prelude.{◌≡◌, ◌⊎◌, ◌*◌, ℕ, List, Bool, Option, false, true, is_some, IfErr, IfOk, IfSome};
+ghost use Rattle.std.specs.Duration.{as_nanos};
 ghost use Rattle.dispatch_room_exit.specs.declared.exit_status.Failure.TheVariants as failure;
-ghost use Rattle.dispatch_room_journal.specs.JournalRecords.{answer_text, message_text, room_text};
 ghost use Rattle.dispatch_room_tasks.specs.OpenedRoom.{IsUnopened};
 ghost use Rattle.dispatch_room_serving.specs.Journals.{failed_by};
-ghost use Rattle.dispatch_room_serving.specs.ServedRoom.{ServesRoom};
-ghost use Rattle.dispatch_room_commands.specs.DoneTasks.{FailsAt, FailsBy, FailsServe, IsServe, IsServedAt, IsServedBy, is_endless};
-ghost use Rattle.dispatch_room_commands.specs.RoomTasks.{OpensNone, Serves, ended, is_synced_by, terms_of};
+ghost use Rattle.dispatch_room_commands.specs.DoneTasks.{FailsAt, FailsBy, FailsServe, IsServe, IsServedAt, IsServedBy};
+ghost use Rattle.dispatch_room_commands.specs.RoomTasks.{Serves, ServesNone, begins_at, ended, is_endless, is_synced_by, keeps_questions_by, terms_of};
+ghost use Rattle.dispatch_room_commands.specs.ServedParts.{IsPart, OpensNoPart, ServesParts};
 
 use crate::listeners::{Listener, TcpAddress};
 use crate::tcp_callers::Heard;
@@ -19,6 +19,7 @@ use dispatch_room_exit::explainer::Explainer;
 use dispatch_room_serving::callers::Callers;
 use dispatch_room_serving::journal_files::{JournalFile, OpenedList, SystemFile, open_journal};
 use dispatch_room_serving::journals::Journal;
+use dispatch_room_serving::list_places::{Finding, ListPlace, standing};
 use dispatch_room_serving::log_observers::LogAndJournal;
 use dispatch_room_serving::logs::Log;
 use dispatch_room_serving::served_room::{Terms, serve_in};
@@ -54,27 +55,24 @@ pub fn serve_file<O: Write, E: Write>(
         rt,
         explainer,
         service: &service,
-        journal: &journal,
     };
     if is_endless(&service) {
-        serve_at_door(alloc, file, &run, out, err)
+        serve_at_door(alloc, file, &run, journal, out, err)
     } else {
-        serve_at_address(alloc, file, &run, out, err)
+        serve_at_address(alloc, file, &run, journal, out, err)
     }
 }
 
-// How a room is served: the service, the file of its journal where one is kept, and where failures
-// are explained.
+// How a room is served: the service, and where failures are explained.
 #[derive(Clone, Copy)]
 struct ServiceRun<'a> {
     rt: &'a HostRuntime,
     explainer: Explainer<'a>,
     service: &'a Service<'a>,
-    journal: &'a Option<OpenedList>,
 }
 
-// Whether a service goes on until it is stopped. Else a connection counts as soon as it is asked
-// for, whatever becomes of it.
+// Whether a service goes on until it is stopped: without `--connections` there are 2^64 - 1. Else a
+// connection counts as soon as it is asked for, whatever becomes of it.
 fn is_endless(service: &Service<'_>) -> bool
     ensures { result ≡ is_endless service.now }
 {
@@ -86,19 +84,20 @@ fn serve_at_door<O: Write, E: Write>(
     alloc: Global,
     file: &str,
     run: &ServiceRun<'_>,
+    journal: Option<OpenedList>,
     out: &mut O,
     err: &mut E,
 ) -> Result<Done, Failure>
     ensures done { IfOk result (λ done. IsServedBy (O.contents out.old) (O.contents out.new) done
-        true (is_some run.now.journal.now) (terms_of run.now.service.now)) }
+        true (is_some journal) (terms_of run.now.service.now)) }
     ensures undone { IfErr result (λ fault. FailsBy (O.contents out.old) (O.contents out.new) fault
-        true (is_some run.now.journal.now) (terms_of run.now.service.now)) }
+        true (is_some journal) (terms_of run.now.service.now)) }
 {
     let keep = Duration::from_secs(u64::from(run.service.keep));
     let patience = waits_of(run.service).patience;
     let address = run.service.address;
-    let listener = TcpDoor::new(run.rt, run.explainer, alloc, address, keep, patience);
-    serve_at(alloc, file, run, listener, out, err)
+    let listener = TcpDoor::new(run.rt, run.explainer, alloc, file, address, keep, patience);
+    serve_at(alloc, file, run, journal, listener, out, err)
 }
 
 // Serves the room of a file to as many connections as its service says, one after another.
@@ -106,17 +105,18 @@ fn serve_at_address<O: Write, E: Write>(
     alloc: Global,
     file: &str,
     run: &ServiceRun<'_>,
+    journal: Option<OpenedList>,
     out: &mut O,
     err: &mut E,
 ) -> Result<Done, Failure>
     ensures done { IfOk result (λ done. IsServedBy (O.contents out.old) (O.contents out.new) done
-        false (is_some run.now.journal.now) (terms_of run.now.service.now)) }
+        false (is_some journal) (terms_of run.now.service.now)) }
     ensures undone { IfErr result (λ fault. FailsBy (O.contents out.old) (O.contents out.new) fault
-        false (is_some run.now.journal.now) (terms_of run.now.service.now)) }
+        false (is_some journal) (terms_of run.now.service.now)) }
 {
     let address = run.service.address;
     let listener = TcpAddress::new(run.rt, run.explainer, address, waits_of(run.service));
-    serve_at(alloc, file, run, listener, out, err)
+    serve_at(alloc, file, run, journal, listener, out, err)
 }
 
 // Serves the room of a file to those who call where something listens.
@@ -124,16 +124,22 @@ fn serve_at<L: Listener, O: Write, E: Write>(
     alloc: Global,
     file: &str,
     run: &ServiceRun<'_>,
+    journal: Option<OpenedList>,
     listener: L,
     out: &mut O,
     err: &mut E,
 ) -> Result<Done, Failure>
     ensures done { IfOk result (λ done. IsServedAt (O.contents out.old) (O.contents out.new) done
-        L.heard L.told (is_some run.now.journal.now) (terms_of run.now.service.now)) }
+        L.heard L.told (is_some journal) (terms_of run.now.service.now)) }
     ensures undone { IfErr result (λ fault. FailsAt (O.contents out.old) (O.contents out.new) fault
-        L.heard L.told (is_some run.now.journal.now) (terms_of run.now.service.now)) }
+        L.heard L.told (is_some journal) (terms_of run.now.service.now)) }
 {
-    let serving = Serving { run, listener, err };
+    let serving = Serving {
+        run,
+        list: journal,
+        listener,
+        err,
+    };
     match in_file(
         run.rt,
         run.explainer,
@@ -175,6 +181,7 @@ pub struct Served<L> {
 #[derive(Drop)]
 struct Serving<'a, L, E> {
     run: &'a ServiceRun<'a>,
+    list: Option<OpenedList>,
     listener: L,
     err: &'a mut E,
 }
@@ -182,10 +189,11 @@ struct Serving<'a, L, E> {
 impl<'a, L: Listener, E: Write> RoomTask for Serving<'a, L, E> {
     type Done = Served<L>;
 
-    ghost says = { λ work. Serves L.heard L.told (is_some work.run.now.journal.now)
+    ghost says = { λ work. Serves L.heard L.told (is_some work.list)
         (terms_of work.run.now.service.now) work.listener };
 
-    ghost refuses = { λ _. OpensNone };
+    ghost refuses = { λ work. ServesNone L.heard L.told (is_some work.list)
+        (terms_of work.run.now.service.now) work.listener };
 
     fn run<S: Alter + Drop, O: Write>(
         self,
@@ -193,8 +201,13 @@ impl<'a, L: Listener, E: Write> RoomTask for Serving<'a, L, E> {
         conn: Connection<S>,
         out: &mut O,
     ) -> TaskResult<Served<L>, S> {
-        let Serving { run, listener, err } = self;
-        serve_listened(alloc, conn, run, listener, out, err)
+        let Serving {
+            run,
+            list,
+            listener,
+            err,
+        } = self;
+        serve_listened(alloc, conn, run, list, listener, out, err)
     }
 }
 
@@ -203,20 +216,22 @@ fn serve_listened<S: Alter + Drop, L: Listener, O: Write, E: Write>(
     alloc: Global,
     conn: Connection<S>,
     run: &ServiceRun<'_>,
+    list: Option<OpenedList>,
     listener: L,
     out: &mut O,
     err: &mut E,
 ) -> TaskResult<Served<L>, S>
     requires outside { conn.in_transaction ≡ false }
     ensures served { IfOk result (λ worked. Serves L.heard L.told
-        (is_some run.now.journal.now) (terms_of run.now.service.now)
+        (is_some list) (terms_of run.now.service.now)
         listener S S.Store conn worked.1 (O.contents out.old) (O.contents out.new)
         worked.0) }
-    ensures fault { IfErr result (IsUnopened S.Store conn) }
+    ensures fault { IfErr result (ServesNone L.heard L.told (is_some list)
+        (terms_of run.now.service.now) listener S S.Store conn) }
 {
     let mut callers = Heard::new(listener, out);
     let mut clock = MachineClock::new(run.rt);
-    let (done, conn) = serve_room(alloc, conn, run, &mut callers, &mut clock, err)?;
+    let (done, conn) = serve_parts(alloc, conn, run, list, &mut callers, &mut clock, err)?;
     Ok((given_back(done, callers.into_listener()), conn))
 }
 
@@ -231,45 +246,121 @@ fn given_back<L: Drop>(done: Result<Done, Failure>, listener: L) -> Result<Serve
     }
 }
 
-// Serves the room of a database to those who call, so many as the service says, and keeps a journal
-// where there is a file for it.
-fn serve_room<S: Alter + Drop, P: Callers, C: Clock, E: Write>(
+// Serves the room of a database to those who call, in parts where the service says so: as often as
+// one ends well, the next begins in a new list.
+fn serve_parts<S: Alter + Drop, P: Callers, C: Clock, E: Write>(
     alloc: Global,
     conn: Connection<S>,
     run: &ServiceRun<'_>,
+    list: Option<OpenedList>,
     callers: &mut P,
     clock: &mut C,
     err: &mut E,
 ) -> TaskResult<Done, S>
-    requires { conn.in_transaction ≡ false }
-    ensures served { IfOk result (λ worked. (kept : Option (List ℕ)) × (keeps : Option (List ℕ))
-        × (fails : Bool)
-        × ServesRoom S.Store (is_some run.now.journal.now) room_text message_text answer_text
-        run.now.service.now.history conn
-        (λ store. record {
+    requires outside { conn.in_transaction ≡ false }
+    ensures served { IfOk result (λ worked. ServesParts S.Store (is_some list)
+        (terms_of run.now.service.now)
+        (record {
+          conn = conn;
           heard = P.heard callers.old;
           told = P.told callers.old;
-          stage = record {
-            given = C.given clock.old;
-            kept = kept;
-            has_failed = false;
-            store = store;
-          };
+          given = C.given clock.old;
         })
-        (λ store. record {
+        (record {
+          conn = worked.1;
           heard = P.heard callers.new;
           told = P.told callers.new;
-          stage = record {
-            given = C.given clock.new;
-            kept = keeps;
-            has_failed = fails;
-            store = store;
-          };
+          given = C.given clock.new;
         })
-        run.now.service.now.connections worked) }
+        worked.0) }
+    ensures fault { IfErr result (OpensNoPart S.Store (is_some list)
+        (terms_of run.now.service.now)
+        (record {
+          conn = conn;
+          heard = P.heard callers.old;
+          told = P.told callers.old;
+          given = C.given clock.old;
+        })) }
+{
+    let (first, left) = serve_part(alloc, conn, run, &list, callers, clock, err)?;
+    if !terms_of(run.service).renews {
+        return Ok((first, left));
+    }
+    let mut done = first;
+    let mut conn = left;
+    let mut list = list;
+    for _part in 1..u64::MAX {
+        if done.is_err() {
+            return Ok((done, conn));
+        }
+        list = match next_list(alloc, run, list, err) {
+            Ok(next) => next,
+            Err(fault) => return Ok((Err(fault), conn)),
+        };
+        let (next, left) = serve_part(alloc, conn, run, &list, callers, clock, err)?;
+        done = next;
+        conn = left;
+    }
+    Ok((done, conn))
+}
+
+// Lets the list of a part go, and opens that of the next, where there was one.
+fn next_list<E: Write>(
+    alloc: Global,
+    run: &ServiceRun<'_>,
+    list: Option<OpenedList>,
+    err: &mut E,
+) -> Result<Option<OpenedList>, Failure>
+    ensures list { IfOk result (λ next. is_some next ≡ is_some list) }
+    ensures fault { IfErr result (λ fault. (fault ≡ failure.Memory) ⊎ (fault ≡ failure.Journal)) }
+{
+    let Some(last) = list else {
+        return Ok(None);
+    };
+    drop(last);
+    match &run.service.journal {
+        Some(journal) => {
+            let next = open_journal(run.rt, run.explainer, alloc, journal.list, err)?;
+            Ok(Some(next))
+        }
+        None => Err(Failure::Journal),
+    }
+}
+
+// Serves the room of a database to those who call, so many as the service says, or until its list
+// stands there no more, and keeps a journal where there is a list for it. Where that ended well, the
+// list says so.
+fn serve_part<S: Alter + Drop, P: Callers, C: Clock, E: Write>(
+    alloc: Global,
+    conn: Connection<S>,
+    run: &ServiceRun<'_>,
+    list: &Option<OpenedList>,
+    callers: &mut P,
+    clock: &mut C,
+    err: &mut E,
+) -> TaskResult<Done, S>
+    requires outside { conn.in_transaction ≡ false }
+    ensures outside { IfOk result (λ worked. worked.1.in_transaction ≡ false) }
+    ensures served { IfOk result (λ worked. IsPart S.Store (is_some list.now)
+        (terms_of run.now.service.now)
+        (record {
+          conn = conn;
+          heard = P.heard callers.old;
+          told = P.told callers.old;
+          given = C.given clock.old;
+        })
+        (record {
+          conn = worked.1;
+          heard = P.heard callers.new;
+          told = P.told callers.new;
+          given = C.given clock.new;
+        })
+        worked.0) }
     ensures fault { IfErr result (IsUnopened S.Store conn) }
 {
     let service = run.service;
+    let terms = terms_of(service);
+    let mut place = place_of(run, list, terms.renews);
     let log = Log::new(
         alloc,
         run.rt,
@@ -277,7 +368,7 @@ fn serve_room<S: Alter + Drop, P: Callers, C: Clock, E: Write>(
         err,
         service.log,
     );
-    let journal = journal_of(service, run.explainer, run.journal);
+    let journal = journal_of(service, run.explainer, list);
     let mut log_and_journal = LogAndJournal::new(log, journal);
     let (done, conn) = serve_in(
         alloc,
@@ -285,12 +376,49 @@ fn serve_room<S: Alter + Drop, P: Callers, C: Clock, E: Write>(
         callers,
         clock,
         &mut log_and_journal,
-        terms_of(service),
+        terms,
+        &mut place,
     )?;
-    if done.is_ok() {
+    let left = standing(&mut place);
+    if done.is_ok() && left != Finding::Truncated {
         let _ = log_and_journal.end();
     }
+    drop(log_and_journal);
+    if done.is_ok() {
+        leave(alloc, place, left, err);
+    }
     Ok((done, conn))
+}
+
+// The place of the list of a service that may be served in parts, where the system says which file
+// stands there.
+fn place_of<'a>(
+    run: &ServiceRun<'a>,
+    list: &Option<OpenedList>,
+    renews: bool,
+) -> Option<ListPlace<'a>> {
+    match (list, run.service.journal) {
+        (Some(list), Some(journal)) if renews => {
+            ListPlace::new(run.rt, journal.list, &list.file).ok()
+        }
+        _ => None,
+    }
+}
+
+// Reports why a new part begins, where one does. What is left of a list that was truncated is set
+// aside: what was put behind it since goes on from records that are lost.
+fn leave<E: Write>(alloc: Global, place: Option<ListPlace<'_>>, left: Finding, err: &mut E) {
+    let Some(place) = place else {
+        return;
+    };
+    let _ = match left {
+        Finding::There => Ok(()),
+        Finding::Elsewhere => writeln!(err, "journal: the list was moved, a new one begins"),
+        Finding::Truncated if place.set_aside(alloc) => {
+            writeln!(err, "journal: the list was truncated, a new one begins")
+        }
+        Finding::Truncated => writeln!(err, "journal: the list was truncated"),
+    };
 }
 
 // What is served of a room.
@@ -300,6 +428,7 @@ fn terms_of(service: &Service<'_>) -> Terms
     Terms {
         connections: service.connections,
         history: service.history,
+        renews: is_endless(service) && service.journal.is_some(),
     }
 }
 
@@ -312,23 +441,28 @@ fn journal_of<'a>(
     ensures kept { is_some result ≡ is_some list.now }
     ensures synced { IfSome result (λ journal.
         journal.is_synced ≡ is_synced_by service.now.journal) }
+    ensures of { IfSome result (λ journal.
+        journal.keeps_questions ≡ keeps_questions_by service.now.journal) }
     ensures fresh { failed_by result ≡ false }
 {
-    let (path, is_synced) = match service.journal {
-        Some(journal) => (journal.list, journal.is_synced),
-        None => ("", false),
+    let (path, is_synced, keeps_questions) = match service.journal {
+        Some(journal) => (journal.list, journal.is_synced, journal.keeps_questions),
+        None => ("", false, true),
     };
     match list {
         Some(list) => {
-            let file = SystemFile::new(&list.file, explainer, path);
-            Some(Journal::new(JournalFile::new(file, list.end), is_synced))
+            let file = JournalFile::new(SystemFile::new(&list.file, explainer, path), list.end);
+            Some(Journal::new(file, is_synced, keeps_questions))
         }
         None => None,
     }
 }
 
 // How long a connection of a service is waited for.
-fn waits_of(service: &Service<'_>) -> Waits {
+fn waits_of(service: &Service<'_>) -> Waits
+    ensures idle { as_nanos result.idle ≡ service.now.idle * 1_000_000 }
+    ensures patience { as_nanos result.patience ≡ service.now.patience * 1_000_000_000 }
+{
     Waits {
         idle: Duration::from_millis(u64::from(service.idle)),
         patience: Duration::from_secs(u64::from(service.patience)),

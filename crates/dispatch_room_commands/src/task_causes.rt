@@ -15,6 +15,12 @@ pub fn explain(explainer: Explainer<'_>, task: &Task<'_>, done: &Result<Done, Fa
             file,
             division,
             day,
+        }
+        | Task::JoinedTimes {
+            file,
+            division,
+            day,
+            ..
         } => match fault {
             Failure::Division => {
                 let division = division.get();

@@ -1,6 +1,6 @@
 //! Those who call where something listens.
 ghost use Rattle.std.specs.Io.KnownBytes.{Appends};
-ghost use Rattle.std.specs.Prelude.{◌≡◌, ◌∷◌, [], IfErr, OnOk, codes, true};
+ghost use Rattle.std.specs.Prelude.{◌≡◌, ◌∷◌, [], IfErr, MatchBool, OnOk, codes, true};
 ghost use Rattle.dispatch_room_exit.specs.declared.exit_status.Failure.TheVariants.{Network};
 ghost use Rattle.dispatch_room_serving.specs.Callers.{Grows};
 ghost use Rattle.dispatch_room_commands.specs.Listeners.{PartsFrom};
@@ -44,15 +44,21 @@ impl<'a, L: Listener, O: Write> Callers for Heard<'a, L, O> {
 
     ghost told = { λ callers. L.told callers.listener };
 
-    // Beside what all callers ensure: something listens for them, and that is reported.
+    // Beside what all callers ensure: something listens for them, and where nothing did, that is
+    // reported.
     fn begin(&mut self) -> Result<(), Failure>
         ensures heard { L.heard self.new.listener ≡ L.heard self.old.listener }
         ensures told { L.told self.new.listener ≡ L.told self.old.listener }
         ensures fault { IfErr result (λ fault. fault ≡ Network) }
         ensures listens { OnOk result (L.is_listening self.new.listener ≡ true) }
-        ensures said { OnOk result (Appends (O.contents self.old.out.now)
-            (O.contents self.new.out.now) (codes "serving\n")) }
+        ensures said { OnOk result (MatchBool (L.is_listening self.old.listener)
+            (self.new.out.now ≡ self.old.out.now)
+            (Appends (O.contents self.old.out.now) (O.contents self.new.out.now)
+            (codes "serving\n"))) }
     {
+        if self.listener.is_listening() {
+            return Ok(());
+        }
         if let Err(fault) = self.listener.listen() {
             return Err(fault);
         }

@@ -4,6 +4,7 @@ ghost use Rattle.std.specs.Prelude.{◌≡◌, IfErr, None, false, is_some};
 ghost use Rattle.dispatch_room_exit.specs.declared.exit_status.Failure.TheVariants.{Network};
 
 use crate::listeners::{Listener, bound};
+use crate::opened_names::OpenedNames;
 use dispatch_room_exit::exit_status::Failure;
 use dispatch_room_exit::explainer::Explainer;
 use dispatch_room_sockets::doors::Door;
@@ -21,6 +22,9 @@ pub struct TcpDoor<'a> {
     explainer: Explainer<'a>,
     alloc: Global,
     address: SocketAddr,
+    // The file of the room that is served here, and what lay at its names as this began to listen.
+    file: &'a str,
+    names: OpenedNames,
     // How long a connection may be silent.
     keep: Duration,
     // How long a request may take to come, and its answer to be taken.
@@ -29,11 +33,13 @@ pub struct TcpDoor<'a> {
 }
 
 impl<'a> TcpDoor<'a> {
-    /// A door at which nobody waits yet. Where nobody can listen there, it is explained why.
+    /// A door at which nobody waits yet, for the room of a file. Where nobody can listen there, it
+    /// is explained why, and where the file lies no more at its name, that it does not.
     pub fn new(
         rt: &'a HostRuntime,
         explainer: Explainer<'a>,
         alloc: Global,
+        file: &'a str,
         address: SocketAddr,
         keep: Duration,
         patience: Duration,
@@ -46,6 +52,8 @@ impl<'a> TcpDoor<'a> {
             explainer,
             alloc,
             address,
+            file,
+            names: OpenedNames::none(),
             keep,
             patience,
             waiting: None,
@@ -128,6 +136,7 @@ impl<'a> Listener for TcpDoor<'a> {
             Ok(listener) => match self.opened(listener) {
                 Ok(waiting) => {
                     self.waiting = Some(waiting);
+                    self.names = OpenedNames::of(self.rt, self.alloc, self.file);
                     Ok(())
                 }
                 Err(fault) => Err(fault),
@@ -136,7 +145,12 @@ impl<'a> Listener for TcpDoor<'a> {
         }
     }
 
+    fn is_listening(&self) -> bool {
+        self.waiting.is_some()
+    }
+
     fn accept(&mut self) -> Option<(Self::Reader, Self::Writer)> {
+        self.names.look(self.rt, self.explainer);
         next_piece(self.rt, self.waiting.as_mut()?, self.patience)
     }
 

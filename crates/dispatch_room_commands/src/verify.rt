@@ -1,27 +1,28 @@
 //! `verify`: how much a list holds, or at which record it is none.
 ghost use Rattle.std.specs.Prelude.{◌≡◌, ◌⊎◌, ℕ, List, Some, false, IfErr, IfOk, OnErr, OnOk};
 ghost use Rattle.std.specs.Io.KnownBytes.{Appends};
-ghost use Rattle.dispatch_room_chain.specs.ListTallies.{IsVerified};
+ghost use Rattle.dispatch_room_journal.specs.ListTallies.{IsVerified};
+ghost use Rattle.dispatch_room_journal.specs.ReadSteps.{left_in};
 ghost use Rattle.dispatch_room_exit.specs.declared.exit_status.Done.TheVariants.{Whole};
 ghost use Rattle.dispatch_room_exit.specs.declared.exit_status.Failure.TheVariants.{Network};
-ghost use Rattle.dispatch_room_commands.specs.DoneTasks.{FailsVerify, IsVerify};
+ghost use Rattle.dispatch_room_commands.specs.DoneTasks.{FailsVerify, IsVerify, IsVerifyOf};
 ghost use Rattle.dispatch_room_commands.specs.Verified.{IsUnverified, span_text, tally_text};
 
-use dispatch_room_chain::list_tallies::{Flaw, Span, Tally};
-use dispatch_room_chain::unchained::Unchained;
-use dispatch_room_chain::verification::verify;
 use dispatch_room_exit::exit_status::{Done, Failure};
 use dispatch_room_exit::explainer::Explainer;
+use dispatch_room_journal::chain_source::Unchained;
 use dispatch_room_journal::entry_reader::EntryFault;
 use dispatch_room_journal::journal_inbox::JournalInbox;
+use dispatch_room_journal::list_tallies::{Flaw, Span, Tally};
+use dispatch_room_journal::verification::verify;
 use room_http_messages::sources::Source;
 use room_http_messages::standard_wires::Wire;
 use std::alloc::Global;
 use std::fs::File;
 use std::io::{ErrorKind, Write};
 
-/// Prints how many messages a list has, when the first came and the last, and whether the list ended
-/// well; or fails at the record at which it is none.
+/// Prints how many messages a list has, when the first came and the last, and whether the list
+/// ended well; or fails at the record at which it is none.
 pub fn verify_list<O: Write>(
     rt: &HostRuntime,
     explainer: Explainer<'_>,
@@ -57,7 +58,8 @@ fn verify_in<R: Source + Drop, O: Write>(
     out: &mut O,
 ) -> Result<Done, Failure>
     requires { R.has_failed list.reader ≡ false }
-    ensures done { IfOk result (IsVerify (O.contents out.old) (O.contents out.new)) }
+    ensures done { IfOk result (λ done. IsVerifyOf (O.contents out.old) (O.contents out.new) done
+        (left_in list.reel.mode list.reel.vouched list.reel.inbox (R.left list.reader))) }
     ensures undone { IfErr result (FailsVerify (O.contents out.old) (O.contents out.new)) }
 {
     let Ok(mut inbox) = JournalInbox::new(alloc) else {

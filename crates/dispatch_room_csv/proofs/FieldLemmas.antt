@@ -1,5 +1,6 @@
 -- Texts of fields, and the numbers that digits write.
-use Rattle.std.proofs.Common.{Bor, ◌≡◌, ◌<◌, ◌^◌, ℕ, zero, suc, List, [], ◌∷◌, length, map, get_or, bytes_eq, Bool, true, false, not, Some, Result, Ok, Err, refl, sym, ap, ◌∙◌, arith, rules, inl, inr}
+use Rattle.std.proofs.Common.{Bor, ◌≡◌, ◌<◌, ◌^◌, ℕ, zero, suc, List, [], ◌∷◌, length, map, get_or, bytes_eq, Bool}
+use Rattle.std.proofs.Common.{true, false, not, Some, Result, Ok, Err, refl, sym, ap, ◌∙◌, arith, rules, inl, inr}
 use Rattle.std.specs.Result.{result_ok}
 use Rattle.std.specs.Str.Parse.{ParsesUnsigned, digits_value}
 use Rattle.std.proofs.lemmas.Bool.{and_parts, cases_lt, le-ltb, lt-ltb, not_from_true}
@@ -56,9 +57,11 @@ no_other other xs ys test same = (bytes_eq-Decides xs ys).0 (of_not _ (sym test 
 
 pub another : (other : Bool) (xs ys : List ℕ) → other ≡ not (bytes_eq xs ys) → other ≡ true
     → xs ≡ ys → ⊥
-another other xs ys test differ same = cc (test, differ, not_from_true (bytes_eq xs ys) ((bytes_eq-Decides xs ys).1 same))
+another other xs ys test differ same =
+    cc (test, differ, not_from_true (bytes_eq xs ys) ((bytes_eq-Decides xs ys).1 same))
 
 -- a record whose texts are these has these fields
 pub same_fields : (row names : Fields) → length row ≡ length names
     → ((at : ℕ) → at < length names → text_at row at ≡ get_or names at []) → row ≡ names
-same_fields row names long each = ext_get_or [] row names long (λ at within. sym (text_is row at) ∙ each at (omega arith))
+same_fields row names long each =
+    ext_get_or [] row names long (λ at within. sym (text_is row at) ∙ each at (omega arith))

@@ -12,4 +12,8 @@ kind_found n (Some Ambulance) decodes = rw (← decodes.has_it) refl
 kind_found n (Some Car) decodes = rw (← decodes.has_it) refl
 kind_found n (Some Support) decodes = rw (← decodes.has_it) refl
 kind_found n None decodes =
-    rw (ne_eqb 1 n (λ e. cc (decodes.only_one Ambulance e)), ne_eqb 2 n (λ e. cc (decodes.only_one Car e)), ne_eqb 3 n (λ e. cc (decodes.only_one Support e))) refl
+    rw (
+      ne_eqb 1 n (λ e. cc (decodes.only_one Ambulance e)),
+      ne_eqb 2 n (λ e. cc (decodes.only_one Car e)),
+      ne_eqb 3 n (λ e. cc (decodes.only_one Support e)),
+    ) refl

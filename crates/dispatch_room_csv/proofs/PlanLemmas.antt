@@ -1,5 +1,6 @@
 -- What rows that break no rule have in common: one zone, and areas that a plan takes.
-use Rattle.std.proofs.Common.{◌≡◌, ◌<◌, ℕ, suc, List, [], ◌∷◌, ◌++◌, length, map, filter_map, Bool, true, false, not, None, Result, Ok, Err, IfOk, IfErr, refl, ap, arith}
+use Rattle.std.proofs.Common.{◌≡◌, ◌<◌, ℕ, suc, List, [], ◌∷◌, ◌++◌, length, map, filter_map, Bool, true, false, not}
+use Rattle.std.proofs.Common.{None, Result, Ok, Err, IfOk, IfErr, refl, ap, arith}
 use Rattle.std.specs.List.{list_any}
 use Rattle.std.proofs.Math.Seq.{get_or-append_seam, take-append_seam}
 use Rattle.std.proofs.lemmas.Bool.{and_from, and_parts, or_left, or_parts, or_right}
@@ -7,9 +8,11 @@ use Rattle.std.proofs.lemmas.List.{append_assoc, length-append}
 use Rattle.std.proofs.lemmas.List.Folds.{list_any-append}
 use Rattle.room_place.specs.Plans.{are_of_divisions, are_rectangles, has_sound_count, is_zone, plan_fault}
 use Rattle.room_place.specs.declared.plans.Area.{Area}
-use Rattle.dispatch_room_csv.specs.PlanRules.{AreKept, area_count, has_zone_and_areas, is_refused, is_rule, is_zone_line}
+use Rattle.dispatch_room_csv.specs.PlanRules.{AreKept, area_count, has_zone_and_areas, is_refused, is_rule}
+use Rattle.dispatch_room_csv.specs.PlanRules.{is_zone_line}
 use Rattle.dispatch_room_csv.specs.PlanLines.{plan_line_of}
-use Rattle.dispatch_room_csv.specs.PlanFile.{ExplainsLines, ExplainsPlan, IsPlanOf, IsPlanText, area_in, plan_header, rule_in}
+use Rattle.dispatch_room_csv.specs.PlanFile.{ExplainsLines, ExplainsPlan, IsPlanOf, IsPlanText, area_in, plan_header}
+use Rattle.dispatch_room_csv.specs.PlanFile.{rule_in}
 use Rattle.dispatch_room_csv.specs.Records.{Fields, HasRows}
 use Rattle.dispatch_room_csv.specs.declared.plan_lines.PlanLine.{PlanLine}
 use Rattle.dispatch_room_csv.specs.declared.plan_lines.PlanLine.TheVariants as line
@@ -31,7 +34,8 @@ pub all_kept : (all earlier rest : List PlanLine) → all ≡ earlier ++ rest
 all_kept all earlier [] e kept = tt
 all_kept all earlier (l ∷ rest) e kept =
     let within : length earlier < length all = omega (arith, ap length e, length-append earlier (l ∷ rest)) in
-    let here = rw (e, take-append_seam earlier (l ∷ rest), get_or-append_seam earlier l rest line.Bad) at (kept (length earlier) within) in
+    let here = rw (e, take-append_seam earlier (l ∷ rest), get_or-append_seam earlier l rest line.Bad) at
+    (kept (length earlier) within) in
     (rw e here, all_kept all (earlier ++ l ∷ []) rest (rw (append_assoc earlier (l ∷ []) rest) e) kept)
 
 -- the areas are as many as the rows for areas, and all sound
@@ -45,7 +49,8 @@ areas_kept all earlier (line.Area area ∷ rest) kept =
     let others = areas_kept all (earlier ++ line.Area area ∷ []) rest kept.1 in
     (ap suc others.0, and_from _ _ sound.0 others.1, and_from _ _ sound.1 others.2)
 areas_kept all earlier (line.Zone rule ∷ rest) kept = areas_kept all (earlier ++ line.Zone rule ∷ []) rest kept.1
-areas_kept all earlier (line.Terminal terminal ∷ rest) kept = areas_kept all (earlier ++ line.Terminal terminal ∷ []) rest kept.1
+areas_kept all earlier (line.Terminal terminal ∷ rest) kept =
+    areas_kept all (earlier ++ line.Terminal terminal ∷ []) rest kept.1
 areas_kept all earlier (line.BadZone ∷ rest) kept = absurd (cc (kept.0))
 areas_kept all earlier (line.BadArea division ∷ rest) kept = absurd (cc (kept.0))
 areas_kept all earlier (line.Bad ∷ rest) kept = absurd (cc (kept.0))
@@ -66,8 +71,11 @@ no_more_zones all earlier [] kept had = refl
 no_more_zones all earlier (line.Zone rule ∷ rest) kept had =
     let others = or_parts (not (is_rule rule)) (list_any is_zone_line earlier) kept.0 in
     absurd (cc (had, others.1))
-no_more_zones all earlier (line.Area area ∷ rest) kept had = no_more_zones all (earlier ++ line.Area area ∷ []) rest kept.1 (seen_before earlier (line.Area area ∷ []) had)
-no_more_zones all earlier (line.Terminal terminal ∷ rest) kept had = no_more_zones all (earlier ++ line.Terminal terminal ∷ []) rest kept.1 (seen_before earlier (line.Terminal terminal ∷ []) had)
+no_more_zones all earlier (line.Area area ∷ rest) kept had =
+    no_more_zones all (earlier ++ line.Area area ∷ []) rest kept.1 (seen_before earlier (line.Area area ∷ []) had)
+no_more_zones all earlier (line.Terminal terminal ∷ rest) kept had =
+    no_more_zones all (earlier ++ line.Terminal terminal ∷ []) rest kept.1
+    (seen_before earlier (line.Terminal terminal ∷ []) had)
 no_more_zones all earlier (line.BadZone ∷ rest) kept had = absurd (cc (kept.0))
 no_more_zones all earlier (line.BadArea division ∷ rest) kept had = absurd (cc (kept.0))
 no_more_zones all earlier (line.Bad ∷ rest) kept had = absurd (cc (kept.0))
@@ -78,10 +86,12 @@ pub one_zone : (all earlier rest : List PlanLine) → AllKept all earlier rest
     → (rule : List ℕ) × (filter_map rule_in rest ≡ rule ∷ []) × (is_zone rule ≡ true)
 one_zone all earlier [] kept some = absurd (cc (some))
 one_zone all earlier (line.Zone rule ∷ rest) kept some =
-    let others = no_more_zones all (earlier ++ line.Zone rule ∷ []) rest kept.1 (seen_here earlier (line.Zone rule) refl) in
+    let others = no_more_zones all (earlier ++ line.Zone rule ∷ []) rest kept.1
+    (seen_here earlier (line.Zone rule) refl) in
     (rule, ap (λ rules. rule ∷ rules) others, (and_parts _ _ (of_not _ (or_parts _ _ kept.0).0)).0)
 one_zone all earlier (line.Area area ∷ rest) kept some = one_zone all (earlier ++ line.Area area ∷ []) rest kept.1 some
-one_zone all earlier (line.Terminal terminal ∷ rest) kept some = one_zone all (earlier ++ line.Terminal terminal ∷ []) rest kept.1 some
+one_zone all earlier (line.Terminal terminal ∷ rest) kept some =
+    one_zone all (earlier ++ line.Terminal terminal ∷ []) rest kept.1 some
 one_zone all earlier (line.BadZone ∷ rest) kept some = absurd (cc (kept.0))
 one_zone all earlier (line.BadArea division ∷ rest) kept some = absurd (cc (kept.0))
 one_zone all earlier (line.Bad ∷ rest) kept some = absurd (cc (kept.0))

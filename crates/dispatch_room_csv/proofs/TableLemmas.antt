@@ -1,10 +1,12 @@
 -- A text of CSV has one list of records, and what was read of it is the beginning of that list.
-use Rattle.std.proofs.Common.{◌≡◌, ◌<◌, ℕ, List, [], ◌∷◌, ◌++◌, length, get_or, Option, Some, None, IfSome, All, true, refl, sym, ap, ◌∙◌, arith}
+use Rattle.std.proofs.Common.{◌≡◌, ◌<◌, ℕ, List, [], ◌∷◌, ◌++◌, length, get_or, Option, Some, None, IfSome, All, true}
+use Rattle.std.proofs.Common.{refl, sym, ap, ◌∙◌, arith}
 use Rattle.std.proofs.Math.Seq.{get_or-append_seam}
 use Rattle.std.proofs.lemmas.List.{length-append}
 use Rattle.std.proofs.lemmas.List.Elements.{All-push}
 use Rattle.csv.specs.Machine.{Read, next_record}
-use Rattle.csv.specs.Reading.{ExplainsRead, NextIs, Reached, ReadsNext, default_config, pending_of, source_of, strip_bom}
+use Rattle.csv.specs.Reading.{ExplainsRead, NextIs, Reached, ReadsNext, default_config, pending_of, source_of}
+use Rattle.csv.specs.Reading.{strip_bom}
 use Rattle.csv.specs.Records.{AllText}
 use Rattle.csv.specs.declared.error.ErrorKind.{ErrorKind}
 use Rattle.csv.specs.declared.error.ErrorKind.TheVariants as kind
@@ -12,9 +14,10 @@ use Rattle.csv.specs.declared.parser.Config.{Config}
 use Rattle.csv.specs.declared.parser.State.{State}
 use Rattle.csv.specs.declared.parser.State.TheVariants.{StartRecord}
 use Rattle.csv.specs.declared.reader.Reader.{Reader}
-use Rattle.dispatch_room_csv.specs.Records.{AreAlike, ExplainsRecords, ExplainsRows, Fields, HasRows, IsTable, records_fault}
-use Rattle.dispatch_room_csv.specs.declared.records.RecordsFault.{RecordsFault}
-use Rattle.dispatch_room_csv.specs.declared.records.RecordsFault.TheVariants.{Input, Memory}
+use Rattle.dispatch_room_csv.specs.Records.{AreAlike, ExplainsRecords, ExplainsRows, Fields, HasRows, IsTable}
+use Rattle.dispatch_room_csv.specs.Records.{records_fault}
+use Rattle.dispatch_room_csv.specs.declared.csv_records.RecordsFault.{RecordsFault}
+use Rattle.dispatch_room_csv.specs.declared.csv_records.RecordsFault.TheVariants.{Input, Memory}
 
 -- where one more record can be read, it comes next in every list of all records
 pub comes_next : (cfg : Config) (s s2 s3 : State) (xs ys zs : List ℕ) (rows all : List Fields)
@@ -74,7 +77,8 @@ width_next : (rows more : List Fields) (fields : Fields) (width : ℕ)
     → width_of rows ≡ Some width → AreAlike (rows ++ fields ∷ more) → length fields ≡ width
 width_next [] more fields width known alike = absurd (cc (known))
 width_next (first ∷ others) more fields width known alike =
-    let within : length others < length (others ++ fields ∷ more) = omega (arith, length-append others (fields ∷ more)) in
+    let within : length others
+    < length (others ++ fields ∷ more) = omega (arith, length-append others (fields ∷ more)) in
     let same = rw (get_or-append_seam others fields more fields) at (alike (length others) fields within) in
     cc (known, same)
 
@@ -108,7 +112,8 @@ table_next : (text ys : List ℕ) (rows records : List Fields) (s s2 : State)
     → IsTable text records → (more : List Fields) × (records ≡ rows ++ fields ∷ more)
 table_next text ys rows records s s2 after fields reached reads table =
     let next = took_record s s2 ys after fields reads in
-    let found = comes_next default_config StartRecord s table.read.0 (strip_bom text) ys table.read.1 rows records next.0
+    let found = comes_next default_config StartRecord s table.read.0 (strip_bom text) ys table.read.1 rows records
+    next.0
     reached next.1 table.read.2 table.read.3 in
     (found.0, found.1 ∙ ap (λ f. rows ++ f ∷ found.0) (sym next.2))
 
@@ -125,12 +130,14 @@ fault_explained rem a b text ys rows (kind.Serialize e) config source width reac
 fault_explained rem a b text ys rows (kind.Deserialize pos e) config source width reached why = tt
 fault_explained rem a b text ys rows (kind.UnequalLengths pos expected len) config source width reached why =
     λ records table.
-    let next = table_next text ys rows records a.state b.state (pending_of (rem b.rdr) b) why.3 reached (rw (config, source) at why.4) table in
+    let next = table_next text ys rows records a.state b.state (pending_of (rem b.rdr) b) why.3 reached
+    (rw (config, source) at why.4) table in
     let same = width_next rows next.0 why.3 expected (sym width ∙ why.1) (rw next.1 at table.alike) in
     why.2 (sym same ∙ why.5)
 fault_explained rem a b text ys rows (kind.Utf8 pos e) config source width reached why =
     λ records table.
-    let next = table_next text ys rows records a.state b.state (pending_of (rem b.rdr) b) why.1 reached (rw (config, source) at why.2) table in
+    let next = table_next text ys rows records a.state b.state (pending_of (rem b.rdr) b) why.1 reached
+    (rw (config, source) at why.2) table in
     why.3 (text_next rows next.0 why.1 (rw next.1 at table.texts))
 
 -- a text without records has no rows

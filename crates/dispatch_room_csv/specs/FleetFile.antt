@@ -1,5 +1,6 @@
 -- What each row of a fleet's file says, by its fields.
-use Rattle.std.specs.Prelude.{◌≡◌, ℕ, List, [], ◌∷◌, codes, find, map, ◌==◌, if◌then◌else◌, Option, Some, None, option_and_then}
+use Rattle.std.specs.Prelude.{◌≡◌, ℕ, List, [], ◌∷◌, codes, find, map, ◌==◌, if◌then◌else◌, Option, Some, None}
+use Rattle.std.specs.Prelude.{option_and_then}
 use Rattle.std.specs.Result.{result_ok}
 use Rattle.room_place.specs.References.{parse}
 use Rattle.room_types.specs.Codes.{kind_number}
@@ -9,8 +10,8 @@ use Rattle.room_types.specs.declared.codes.Kind.TheVariants.{Ambulance, Car, Sup
 use Rattle.room_types.specs.declared.fleet.FleetRow.{FleetRow}
 use Rattle.dispatch_room_csv.specs.RowFields.{number_of, text_at, token_of, whole_of}
 use Rattle.dispatch_room_csv.specs.Records.{Fields, HasRows}
-use Rattle.dispatch_room_csv.specs.declared.records.RecordsFault.{RecordsFault}
-use Rattle.dispatch_room_csv.specs.declared.records.RecordsFault.TheVariants as records
+use Rattle.dispatch_room_csv.specs.declared.csv_records.RecordsFault.{RecordsFault}
+use Rattle.dispatch_room_csv.specs.declared.csv_records.RecordsFault.TheVariants as records
 use Rattle.dispatch_room_csv.specs.declared.fleet_file.FleetLine.{FleetLine}
 use Rattle.dispatch_room_csv.specs.declared.fleet_file.FleetLine.TheVariants.{Row, Bad}
 use Rattle.dispatch_room_csv.specs.declared.fleet_file.FleetFileFault.{FleetFileFault}

@@ -1,12 +1,13 @@
 -- The plan that the rows of a file make, and why a text is no plan.
-use Rattle.std.specs.Prelude.{◌≡◌, ℕ, zero, suc, List, [], ◌∷◌, codes, length, map, filter_map, true, false, Option, Some, None}
+use Rattle.std.specs.Prelude.{◌≡◌, ℕ, zero, suc, List, [], ◌∷◌, codes, length, map, filter_map, true, false, Option}
+use Rattle.std.specs.Prelude.{Some, None}
 use Rattle.room_place.specs.declared.plans.Area.{Area}
 use Rattle.room_types.specs.declared.fleet.Terminal.{Terminal}
 use Rattle.dispatch_room_csv.specs.PlanLines.{plan_line_of}
 use Rattle.dispatch_room_csv.specs.PlanRules.{AreKept, IsFirstRefused, has_zone_and_areas}
 use Rattle.dispatch_room_csv.specs.Records.{Fields, HasRows}
-use Rattle.dispatch_room_csv.specs.declared.records.RecordsFault.{RecordsFault}
-use Rattle.dispatch_room_csv.specs.declared.records.RecordsFault.TheVariants as records
+use Rattle.dispatch_room_csv.specs.declared.csv_records.RecordsFault.{RecordsFault}
+use Rattle.dispatch_room_csv.specs.declared.csv_records.RecordsFault.TheVariants as records
 use Rattle.dispatch_room_csv.specs.declared.plan_lines.PlanLine.{PlanLine}
 use Rattle.dispatch_room_csv.specs.declared.plan_lines.PlanLine.TheVariants as line
 use Rattle.dispatch_room_csv.specs.declared.plan_file.PlanFile.{PlanFile}

@@ -5,8 +5,8 @@ use Rattle.csv.specs.Records.{AllText}
 use Rattle.csv.specs.declared.error.ErrorKind.{ErrorKind}
 use Rattle.csv.specs.declared.error.ErrorKind.TheVariants as kind
 use Rattle.csv.specs.declared.parser.State.TheVariants.{StartRecord}
-use Rattle.dispatch_room_csv.specs.declared.records.RecordsFault.{RecordsFault}
-use Rattle.dispatch_room_csv.specs.declared.records.RecordsFault.TheVariants.{Input, Memory}
+use Rattle.dispatch_room_csv.specs.declared.csv_records.RecordsFault.{RecordsFault}
+use Rattle.dispatch_room_csv.specs.declared.csv_records.RecordsFault.TheVariants.{Input, Memory}
 
 -- a record: the bytes of its fields
 abbrev pub Fields : Type 0

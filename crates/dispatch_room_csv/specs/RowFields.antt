@@ -1,5 +1,6 @@
 -- The fields of a row, and the numbers that they write.
-use Rattle.std.specs.Prelude.{ℕ, List, [], length, Bool, not, nat_le, nat_lt, ◌^◌, ◌==◌, ◌&&◌, if◌then◌else◌, unwrap_or, Option, Some, None, option_and_then}
+use Rattle.std.specs.Prelude.{ℕ, List, [], length, Bool, not, nat_le, nat_lt, ◌^◌, ◌==◌, ◌&&◌, if◌then◌else◌, unwrap_or}
+use Rattle.std.specs.Prelude.{Option, Some, None, option_and_then}
 use Rattle.std.specs.Char.{is_ascii_digit}
 use Rattle.std.specs.List.{list_all}
 use Rattle.std.specs.Str.Parse.{digits_value}

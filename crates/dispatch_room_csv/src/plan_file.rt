@@ -3,9 +3,9 @@ ghost use Rattle.std.specs.Prelude.{◌≡◌, None, filter_map, IfOk, IfErr};
 ghost use Rattle.room_place.specs.Plans.{plan_fault};
 ghost use Rattle.dispatch_room_csv.specs.PlanFile.{ExplainsLines, ExplainsPlan, IsPlanOf, IsPlanText, area_in, plan_fault_of, rule_in, terminal_in};
 
+use crate::csv_records::{RecordsFault, read_rows};
 use crate::plan_lines::{PlanLine, plan_lines};
 use crate::plan_rules::{first_refused, has_zone_and_areas};
-use crate::records::{RecordsFault, read_rows};
 use dispatch_room_exit::exit_status::Failure;
 use room_place::plans::{Area, Plan, PlanFault};
 use room_types::fleet::Terminal;

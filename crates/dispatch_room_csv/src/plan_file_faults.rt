@@ -1,10 +1,10 @@
 //! What is wrong with the file of a plan, in words.
 
+use crate::csv_records::read_rows;
 use crate::field_faults::{FieldFault, unless, unless_token};
 use crate::plan_file::{HEADER, PlanFileFault};
 use crate::plan_lines::{PlanLine, plan_lines};
 use crate::plan_rules::{area_count, has_area_of, has_zone, is_rule, is_taken};
-use crate::records::read_rows;
 use crate::row_fields::{number, text_at, whole};
 use crate::sheets::Sheet;
 use csv::StringRecord;

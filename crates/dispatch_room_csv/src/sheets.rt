@@ -1,6 +1,6 @@
 //! A text file of rows, whose faults are explained with the lines on which they stand.
 
-use crate::records::has_names;
+use crate::csv_records::has_names;
 use csv::{ReaderBuilder, StringRecord};
 use dispatch_room_exit::explainer::Explainer;
 use std::alloc::Global;

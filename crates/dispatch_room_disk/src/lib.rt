@@ -7,4 +7,5 @@ mod holders;
 mod new_files;
 mod new_logs;
 mod opened_files;
+pub mod restored_files;
 pub mod room_files;

@@ -18,5 +18,6 @@ pub stands_after_all : (old store : Store MemStore) (rows : List FleetRow) (was 
     → IsRoom over_memory store (terminals_after_rows rows room terminals)
     (room_after_rows rows room terminals)
 stands_after_all old store rows was is terminals room done all =
-    subst (λ (some : List FleetRow). IsRoom over_memory store (terminals_after_rows some room terminals) (room_after_rows some room terminals))
+    subst (λ (some : List FleetRow).
+    IsRoom over_memory store (terminals_after_rows some room terminals) (room_after_rows some room terminals))
     (take_all done.count rows (omega (arith, all))) done.stands

@@ -2,13 +2,14 @@
 use Rattle.std.proofs.Common.{◌≡◌, ℕ, List, [], inl, inr}
 use Rattle.std.specs.Prelude.{⊤}
 use Rattle.room_types.specs.declared.fleet.Terminal.{Terminal}
-use Rattle.room_types.specs.declared.refusals.Refusal.{Refusal}
+use Rattle.room_types.specs.declared.refusal_statuses.Refusal.{Refusal}
 use Rattle.room_model.specs.Room.{Room}
 use Rattle.room_http_answers.specs.ReplyMessages.{fixed_bytes}
 use Rattle.room_http.specs.declared.settings.Setting.{Setting}
 use Rattle.room_model.specs.Rooms.{Step}
 use Rattle.room_http.specs.declared.session.ServeEnd.{ServeEnd}
-use Rattle.room_http.specs.declared.session.ServeEnd.TheVariants.{Closed, Cut, ReadFault, WriteFault, ClockFault, Unkept, ReadsSpent, Memory}
+use Rattle.room_http.specs.declared.session.ServeEnd.TheVariants.{Closed, Cut, ReadFault, WriteFault, ClockFault}
+use Rattle.room_http.specs.declared.session.ServeEnd.TheVariants.{Unkept, ReadsSpent, Memory}
 use Rattle.room_http.specs.Arrivals.{Arrival, is_head_only}
 use Rattle.room_http.specs.Session.{Sides, Finish, Answered, HasActed, Unserved, Unwritten, Broken, Untimed, ServeIs}
 use Rattle.dispatch_room_dry_run.specs.Example.{untold}
@@ -35,7 +36,9 @@ module _ (step : Step) (setting : Setting) (old : Sides) (new : Finish) (trusted
   answered outs follows a = record {
     begins = a.begins;
     timed = a.timed;
-    talk = talks outs (λ terminals after tail. stands terminals after × (tail ≡ [])) (λ terminals after tail. untold terminals after × (tail ≡ []))
+    talk =
+        talks outs (λ terminals after tail. stands terminals after × (tail ≡ []))
+        (λ terminals after tail. untold terminals after × (tail ≡ []))
         (λ terminals after tail said. (tt, said.1)) a.talk;
   }
 
@@ -52,7 +55,9 @@ module _ (step : Step) (setting : Setting) (old : Sides) (new : Finish) (trusted
     next = w.next;
     refusal = w.refusal;
     want = some w.refusal w.want;
-    talk = talks outs (λ terminals after tail. wants x terminals after × so_much tail (fixed_bytes w.refusal (is_head_only x.0)))
+    talk =
+        talks outs
+        (λ terminals after tail. wants x terminals after × so_much tail (fixed_bytes w.refusal (is_head_only x.0)))
         (λ terminals after tail. untold terminals after × so_much tail (fixed_bytes w.refusal (is_head_only x.0)))
         (λ terminals after tail said. (tt, said.1)) w.talk;
   }
@@ -62,7 +67,9 @@ module _ (step : Step) (setting : Setting) (old : Sides) (new : Finish) (trusted
   broken outs x b = record {
     begins = b.begins;
     timed = b.timed;
-    talk = talks outs (λ terminals after tail. BreaksOff step setting terminals stands after x tail) (λ terminals after tail. BreaksOff step setting terminals untold after x tail)
+    talk =
+        talks outs (λ terminals after tail. BreaksOff step setting terminals stands after x tail)
+        (λ terminals after tail. BreaksOff step setting terminals untold after x tail)
         (λ terminals after tail said. (said.0, said.1, said.2, tt, said.4)) b.talk;
   }
 
@@ -73,7 +80,9 @@ module _ (step : Step) (setting : Setting) (old : Sides) (new : Finish) (trusted
     begins = u.begins;
     timed = u.timed;
     clock = u.clock;
-    talk = talks outs (λ terminals after tail. stands terminals after × (tail ≡ [])) (λ terminals after tail. untold terminals after × (tail ≡ []))
+    talk =
+        talks outs (λ terminals after tail. stands terminals after × (tail ≡ []))
+        (λ terminals after tail. untold terminals after × (tail ≡ []))
         (λ terminals after tail said. (tt, said.1)) u.talk;
   }
 
@@ -85,7 +94,9 @@ module _ (step : Step) (setting : Setting) (old : Sides) (new : Finish) (trusted
     begins = u.begins;
     next = u.next;
     timed = u.timed;
-    talk = talks outs (λ terminals after tail. says terminals after × (tail ≡ [])) (λ terminals after tail. less terminals after × (tail ≡ []))
+    talk =
+        talks outs (λ terminals after tail. says terminals after × (tail ≡ []))
+        (λ terminals after tail. less terminals after × (tail ≡ []))
         (λ terminals after tail said. (tells terminals after said.0, said.1)) u.talk;
   }
 
@@ -93,9 +104,12 @@ module _ (step : Step) (setting : Setting) (old : Sides) (new : Finish) (trusted
   pub serves : (course : Course) (budget : ℕ) (end : ServeEnd)
       → ServeIs step setting old new trusted stood stands wants failed course budget end
       → ServeIs step setting old new ⊤ asked untold (λ x. untold) ⊤ course budget end
-  serves course budget Closed (inl ended) = inl ((ended.0.0, answered course.outs (λ rest. rest ≡ []) ended.0.1), ended.1)
-  serves course budget Closed (inr (inl closed)) = inr (inl ((closed.0.0, answered course.outs (λ rest. ⊤) closed.0.1), closed.1))
-  serves course budget Closed (inr (inr want)) = inr (inr (want.0, want.1, wanted course.outs want.0 (λ tail fixed. tail ≡ fixed) want.2))
+  serves course budget Closed (inl ended) =
+      inl ((ended.0.0, answered course.outs (λ rest. rest ≡ []) ended.0.1), ended.1)
+  serves course budget Closed (inr (inl closed)) =
+      inr (inl ((closed.0.0, answered course.outs (λ rest. ⊤) closed.0.1), closed.1))
+  serves course budget Closed (inr (inr want)) =
+      inr (inr (want.0, want.1, wanted course.outs want.0 (λ tail fixed. tail ≡ fixed) want.2))
   serves course budget Cut cut = ((cut.0.0, answered course.outs _ cut.0.1), cut.1)
   serves course budget ReadFault fault = ((fault.0.0, answered course.outs (λ rest. ⊤) fault.0.1), fault.1)
   serves course budget WriteFault fault = (
@@ -116,7 +130,8 @@ module _ (step : Step) (setting : Setting) (old : Sides) (new : Finish) (trusted
       elim cut.0.2 [
         | inl u ↦ inl (unwritten course.outs cut.0.0 stands untold (λ terminals room is_so. tt) u)
         | inr u ↦
-            inr (unwritten course.outs cut.0.0 (HasActed step setting old new trusted stood stands cut.0.0) (HasActed step setting old new ⊤ asked untold cut.0.0)
+            inr (unwritten course.outs cut.0.0 (HasActed step setting old new trusted stood stands cut.0.0)
+            (HasActed step setting old new ⊤ asked untold cut.0.0)
             (λ terminals room acted. (acted.0, acted.1, acted.2, tt, acted.4)) u)
       ],
     ),
@@ -124,4 +139,5 @@ module _ (step : Step) (setting : Setting) (old : Sides) (new : Finish) (trusted
   )
   serves course budget ClockFault none = (none.0, (none.1.0, untimed course.outs none.1.0 none.1.1))
   serves course budget ReadsSpent used = ((used.0.0, answered course.outs (λ rest. ⊤) used.0.1), used.1)
-  serves course budget Memory refused = (refused.0, (refused.1.0, answered course.outs (λ rest. ⊤) refused.1.1), refused.2)
+  serves course budget Memory refused =
+      (refused.0, (refused.1.0, answered course.outs (λ rest. ⊤) refused.1.1), refused.2)

@@ -10,7 +10,7 @@ use room_http::session::ServeEnd;
 use room_http_messages::sinks::Sink;
 use room_http_messages::sources::Source;
 use room_http_time::clocks::FixedClock;
-use room_types::refusals::Refusal;
+use room_types::refusal_statuses::Refusal;
 use std::alloc::Global;
 
 /// The moment of all that happens in it.

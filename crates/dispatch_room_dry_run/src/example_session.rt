@@ -12,7 +12,7 @@ use room_http_messages::sinks::Sink;
 use room_http_messages::sources::Source;
 use room_http_time::clocks::Clock;
 use room_http_time::zones::Zone;
-use room_types::refusals::Refusal;
+use room_types::refusal_statuses::Refusal;
 use std::alloc::Global;
 
 /// Serves the example room, made anew in memory, to a reader and a writer, with at most so many

@@ -1,7 +1,7 @@
 //! The example room, made in memory.
 ghost use Rattle.std.specs.Prelude.{◌≡◌, ◌⊎◌, IfOk, IfErr};
 ghost use Rattle.sqlite.specs.Steps.{over_memory};
-ghost use Rattle.room_types.specs.declared.refusals.Refusal.TheVariants as refusal;
+ghost use Rattle.room_types.specs.declared.refusal_statuses.Refusal.TheVariants as refusal;
 ghost use Rattle.room_model.specs.Rooms.{IsWant};
 ghost use Rattle.room_store_writes.specs.NewRoom.{in_order, new_room};
 ghost use Rattle.room_store.specs.StoredRoom.{IsReady, IsRoom};
@@ -11,7 +11,7 @@ ghost use Rattle.dispatch_room_dry_run.specs.Example.{example_plan, example_term
 use crate::example::{fleet, plan, terminals};
 use room_store::store::Store;
 use room_store::store_creation::CreateFault;
-use room_types::refusals::Refusal;
+use room_types::refusal_statuses::Refusal;
 use sqlite::{Connection, MemStore};
 use std::alloc::Global;
 

@@ -1,7 +1,7 @@
 //! The dry run over the standard input and output of a program.
 ghost use Rattle.std.specs.Prelude.{◌≡◌, [], false, replicate, IfOk, Result, Some};
 ghost use Rattle.room_http.specs.declared.session.ServeEnd.{ServeEnd as End};
-ghost use Rattle.room_types.specs.declared.refusals.Refusal.{Refusal as Want};
+ghost use Rattle.room_types.specs.declared.refusal_statuses.Refusal.{Refusal as Want};
 ghost use Rattle.dispatch_room_dry_run.specs.DryRun.{example_moment};
 ghost use Rattle.dispatch_room_dry_run.specs.DryRunEnds.{IsStatus, end_of, ended};
 ghost use Rattle.dispatch_room_dry_run.specs.Example.{IsDryRun};

@@ -1,11 +1,14 @@
 -- How a program ends.
 use Rattle.std.specs.Prelude.{ℕ, Result, Ok, Err}
-use Rattle.room_types.specs.declared.refusals.Refusal.{Refusal}
-use Rattle.room_types.specs.declared.refusals.Refusal.TheVariants as refusal
+use Rattle.room_types.specs.declared.refusal_statuses.Refusal.{Refusal}
+use Rattle.room_types.specs.declared.refusal_statuses.Refusal.TheVariants as refusal
 use Rattle.dispatch_room_exit.specs.declared.exit_status.Done.{Done}
 use Rattle.dispatch_room_exit.specs.declared.exit_status.Done.TheVariants.{Whole, InPart}
 use Rattle.dispatch_room_exit.specs.declared.exit_status.Failure.{Failure}
-use Rattle.dispatch_room_exit.specs.declared.exit_status.Failure.TheVariants.{PlanRow, Input, File, Version, Division, Day, Record, OtherRoom, Differs, Connection, Storage, Network, Memory, Journal}
+use Rattle.dispatch_room_exit.specs.declared.exit_status.Failure.TheVariants.{PlanRow, Input, File, Version, Division}
+use Rattle.dispatch_room_exit.specs.declared.exit_status.Failure.TheVariants.{Day, Record, OtherRoom, Differs}
+use Rattle.dispatch_room_exit.specs.declared.exit_status.Failure.TheVariants.{Connection, Storage, Network, Memory}
+use Rattle.dispatch_room_exit.specs.declared.exit_status.Failure.TheVariants.{Journal}
 
 -- the exit status of a command that was done
 abbrev pub status_done : Done → ℕ

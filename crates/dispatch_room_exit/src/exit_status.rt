@@ -3,7 +3,7 @@ ghost use Rattle.std.specs.Prelude.{◌≡◌};
 ghost use Rattle.dispatch_room_exit.specs.ExitStatus.{refused, status_after};
 ghost use Rattle.dispatch_room_exit.specs.declared.exit_status.Failure.TheVariants.{Memory};
 
-use room_types::refusals::Refusal;
+use room_types::refusal_statuses::Refusal;
 use std::alloc::AllocFailed;
 use std::io::Write;
 use thiserror::Error;
@@ -125,7 +125,7 @@ pub fn refused(refusal: Refusal) -> Failure
     }
 }
 
-/// Tells `err` why the program failed, where it did, and gives its exit status.
+/// Reports to `err` why the program failed, if it did, and gives its exit status.
 pub fn end<E: Write>(done: Result<Done, Failure>, err: &mut E) -> u8
     ensures { result ≡ status_after done }
 {

@@ -1,5 +1,6 @@
 -- Lemmas on where the whole entries of a journal end.
-use Rattle.std.proofs.Common.{◌≡◌, ◌∙◌, ap, sym, refl, arith, ℕ, ◌+◌, List, [], ◌∷◌, ◌++◌, length, drop, min, append-nil, append_assoc, length-append, All, Option, Some, None, Result, Ok, Err}
+use Rattle.std.proofs.Common.{◌≡◌, ◌∙◌, ap, sym, refl, arith, ℕ, ◌+◌, List, [], ◌∷◌, ◌++◌, length, drop, min}
+use Rattle.std.proofs.Common.{append-nil, append_assoc, length-append, All, Option, Some, None, Result, Ok, Err}
 use Rattle.std.specs.Io.KnownBytes.{prepend_known, Keeps}
 use Rattle.std.proofs.lemmas.List.Elements.{All-nil, All-push}
 use Rattle.dispatch_room_journal.specs.declared.entry_prefixes.EntryLayout.{EntryLayout}
@@ -16,7 +17,8 @@ pub record Taken (first left : Option (List ℕ)) (taken : ℕ) (entries : List 
 
 texts-append : (xs ys : List Entry) → texts_of (xs ++ ys) ≡ texts_of xs ++ texts_of ys
 texts-append [] ys = refl
-texts-append (x ∷ xs) ys = ap (λ t. text_of x ++ t) (texts-append xs ys) ∙ sym (append_assoc (text_of x) (texts_of xs) (texts_of ys))
+texts-append (x ∷ xs) ys =
+    ap (λ t. text_of x ++ t) (texts-append xs ys) ∙ sym (append_assoc (text_of x) (texts_of xs) (texts_of ys))
 
 texts-push : (entries : List Entry) (e : Entry)
     → texts_of (entries ++ e ∷ []) ≡ texts_of entries ++ text_of e
@@ -53,7 +55,9 @@ pub taken_more : (first left : Option (List ℕ)) (kept : List ℕ) (taken now :
 taken_more first left kept taken now entries layout e x is count = record {
   are_entries = All-push IsEntry entries e x.are_entries is.begins.0;
   follows = follows left x.follows;
-  count = omega (arith, count, x.count, is.end, ap length (texts-push entries e), length-append (texts_of entries) (text_of e));
+  count =
+      omega
+      (arith, count, x.count, is.end, ap length (texts-push entries e), length-append (texts_of entries) (text_of e));
 }
   where
     follows : (left : Option (List ℕ))
@@ -69,7 +73,9 @@ taken_more first left kept taken now entries layout e x is count = record {
         let same : kept ++ more ≡ b.0 = cc in (
           drop layout.end kept ++ more,
           refl,
-          b.2 ∙ ap (λ t. texts_of entries ++ t) (sym same ∙ ap (λ t. t ++ more) is.begins.1 ∙ append_assoc (text_of e) (drop layout.end kept) more)
+          b.2
+              ∙ ap (λ t. texts_of entries ++ t)
+              (sym same ∙ ap (λ t. t ++ more) is.begins.1 ∙ append_assoc (text_of e) (drop layout.end kept) more)
               ∙ sym (append_assoc (texts_of entries) (text_of e) (drop layout.end kept ++ more))
               ∙ ap (λ t. t ++ (drop layout.end kept ++ more)) (sym (texts-push entries e)),
         )
@@ -77,4 +83,5 @@ taken_more first left kept taken now entries layout e x is count = record {
 -- the reader's bytes are what the empty inbox begins with
 pub nothing_taken : (left : Option (List ℕ)) → Taken left (prepend_known [] left) 0 []
 nothing_taken None = taken_kept None None (prepend_known [] None) 0 [] (none_taken None) tt
-nothing_taken (Some text) = taken_kept (Some text) (Some text) (prepend_known [] (Some text)) 0 [] (none_taken (Some text)) refl
+nothing_taken (Some text) =
+    taken_kept (Some text) (Some text) (prepend_known [] (Some text)) 0 [] (none_taken (Some text)) refl

@@ -1,7 +1,8 @@
 -- Lemmas on why a replay stops.
-use Rattle.std.proofs.Common.{◌≡◌, ◌∙◌, sym, ap, subst, refl, arith, ℕ, ◌<◌, ◌≢◌, List, [], ◌∷◌, ◌++◌, length, drop, append-nil, length-drop, Bool, true, false, Option, Some, None, Err, inl, inr}
+use Rattle.std.proofs.Common.{◌≡◌, ◌∙◌, sym, ap, subst, refl, arith, ℕ, ◌<◌, ◌≢◌, List, [], ◌∷◌, ◌++◌, length, drop}
+use Rattle.std.proofs.Common.{append-nil, length-drop, Bool, true, false, Option, Some, None, Err, inl, inr}
 use Rattle.std.specs.Io.KnownBytes.{Consumes}
-use Rattle.room_types.specs.declared.refusals.Refusal.{Refusal}
+use Rattle.room_types.specs.declared.refusal_statuses.Refusal.{Refusal}
 use Rattle.room_http_messages.specs.declared.messages.Layout.{Layout as MessageLayout}
 use Rattle.room_http_messages.specs.declared.message_prefixes.MessagePrefix.{MessagePrefix}
 use Rattle.room_http_messages.specs.declared.message_prefixes.MessagePrefix.TheVariants.{Whole, Refused, Wants}
@@ -19,11 +20,14 @@ use Rattle.dispatch_room_journal.specs.declared.entry_reader.EntryFault.TheVaria
 use Rattle.dispatch_room_journal.specs.Entries.{Entry, message, IsEntry, text_of, texts_of, Begins}
 use Rattle.dispatch_room_journal.specs.EntryReadings.{SaysOf, FirstIs}
 use Rattle.dispatch_room_journal.specs.declared.replay_faults.ReplayFault.{ReplayFault}
-use Rattle.dispatch_room_journal.specs.declared.replay_faults.ReplayFault.TheVariants.{Bad, Differs, Another, ReadFailed, WriteFailed, Want}
+use Rattle.dispatch_room_journal.specs.declared.replay_faults.ReplayFault.TheVariants.{Bad, Differs, Another}
+use Rattle.dispatch_room_journal.specs.declared.replay_faults.ReplayFault.TheVariants.{ReadFailed, WriteFailed, Want}
 use Rattle.dispatch_room_journal.specs.declared.replay_faults.Stopped.{Stopped}
 use Rattle.dispatch_room_journal.specs.ReplayedTurns.{Open, Turn, BeginsWith}
 use Rattle.dispatch_room_journal.specs.Replays.{Unless}
-use Rattle.dispatch_room_journal.specs.ReplayFaults.{read_fault, miss_fault, IsBroken, IsNoMessage, IsWanting, IsPlayedFor, IsBad, broken, unasked, headless, no_message, broken_after, too_many, Explains, IsDueTo, Refuses}
+use Rattle.dispatch_room_journal.specs.ReplayFaults.{read_fault, miss_fault, IsBroken, IsNoMessage, IsWanting}
+use Rattle.dispatch_room_journal.specs.ReplayFaults.{IsPlayedFor, IsBad, broken, unasked, headless, no_message}
+use Rattle.dispatch_room_journal.specs.ReplayFaults.{broken_after, too_many, Explains, IsDueTo, Refuses}
 
 pub not_both : (b : Bool) → b ≡ false → b ≡ true → ⊥
 not_both b f t = cc
@@ -33,7 +37,8 @@ not_both b f t = cc
 refused_none : (bytes : List ℕ) (r : Refusal) (head_only : Bool)
     → ((more : List ℕ) → IsRefused (bytes ++ more) r head_only) → IsNoMessage bytes
 refused_none bytes r head_only refused m x =
-    no_end_law bytes m [] (unread.Refused r head_only) x (subst (λ (t : List ℕ). IsRefused t r head_only) (append-nil bytes) (refused []))
+    no_end_law bytes m [] (unread.Refused r head_only) x
+    (subst (λ (t : List ℕ). IsRefused t r head_only) (append-nil bytes) (refused []))
 
 part_none : (bytes : List ℕ) (count : ℕ) → length bytes < count
     → ((more : List ℕ) → length (bytes ++ more) < count → IsPartOfMessage (bytes ++ more))
@@ -41,7 +46,8 @@ part_none : (bytes : List ℕ) (count : ℕ) → length bytes < count
 part_none [] count short parts m x = no_end_law [] m [] unread.End x refl
 part_none (byte ∷ more) count short parts m x =
     let same = append-nil (byte ∷ more) in
-    let part = subst (λ (t : List ℕ). IsPartOfMessage t) same (parts [] (subst (λ (t : List ℕ). length t < count) (sym same) short)) in
+    let part = subst (λ (t : List ℕ). IsPartOfMessage t) same
+    (parts [] (subst (λ (t : List ℕ). length t < count) (sym same) short)) in
     no_end_law (byte ∷ more) m [] unread.Cut x (omega arith, part)
 
 pub longer_none : (bytes : List ℕ) (layout : MessageLayout) → IsWhole bytes layout
@@ -82,17 +88,20 @@ bad_more : (waits : Bool) (none full other whole : Type 0) (E F : Option Open �
     → IsBad waits none full E last rest → IsBad waits other whole F last rest
 bad_more waits none full other whole E F last rest n f e (broken few x) = broken few x
 bad_more waits none full other whole E F last rest n f e (unasked status more few x) = unasked status more few x
-bad_more waits none full other whole E F last rest n f e (headless at sent more few x y) = headless at sent more few x (n y)
+bad_more waits none full other whole E F last rest n f e (headless at sent more few x y) =
+    headless at sent more few x (n y)
 bad_more waits none full other whole E F last rest n f e (no_message at sent more few x y played) =
     no_message at sent more few x y (λ wait. played_more E F more e (played wait))
-bad_more waits none full other whole E F last rest n f e (broken_after at sent more wait few x y) = broken_after at sent more wait few x y
+bad_more waits none full other whole E F last rest n f e (broken_after at sent more wait few x y) =
+    broken_after at sent more wait few x y
 bad_more waits none full other whole E F last rest n f e (too_many x) = too_many (f x)
 
 explains_more : (waits : Bool) (none full other whole : Type 0) (E F : Option Open → Head → Type 0)
     (last : List Turn) (fault : ReplayFault) (rest : List ℕ) → (none → other) → (full → whole)
     → ((open_ : Option Open) (head : Head) → E open_ head → F open_ head) → Explains waits none full E last fault rest
     → Explains waits other whole F last fault rest
-explains_more waits none full other whole E F last Bad rest n f e x = bad_more waits none full other whole E F last rest n f e x
+explains_more waits none full other whole E F last Bad rest n f e x =
+    bad_more waits none full other whole E F last rest n f e x
 explains_more waits none full other whole E F last Differs rest n f e x = x
 explains_more waits none full other whole E F last Another rest n f e x = (x.0, x.1, x.2, x.3, e x.1 x.2 x.4)
 explains_more waits none full other whole E F last ReadFailed rest n f e x = tt
@@ -127,11 +136,13 @@ read_due kept failed ended left Read x = (x, refl)
 pub wanting_explains : (waits : Bool) (none full : Type 0) (E : Option Open → Head → Type 0) (last : List Turn)
     (fault : ReplayFault) (rest : List ℕ) → IsWanting fault
     → Explains waits none full E last fault rest
-wanting_explains waits none full E last fault rest x = subst (λ (f : ReplayFault). Explains waits none full E last f rest) (sym x.1) tt
+wanting_explains waits none full E last fault rest x =
+    subst (λ (f : ReplayFault). Explains waits none full E last f rest) (sym x.1) tt
 
 pub wanting_due : (read_failed write_failed : Bool) (fault : ReplayFault) → read_failed ≡ false
     → write_failed ≡ false → IsWanting fault → IsDueTo read_failed write_failed fault
-wanting_due read_failed write_failed fault read write x = subst (λ (f : ReplayFault). IsDueTo read_failed write_failed f) (sym x.1) (read, write, x.2)
+wanting_due read_failed write_failed fault read write x =
+    subst (λ (f : ReplayFault). IsDueTo read_failed write_failed f) (sym x.1) (read, write, x.2)
 
 -- a message that was not played
 pub refuses_explains : (waits : Bool) (none full : Type 0) (E : Option Open → Head → Type 0) (at : ℕ)
@@ -139,14 +150,18 @@ pub refuses_explains : (waits : Bool) (none full : Type 0) (E : Option Open → 
     → Refuses sent fault → (waits ≡ true → fault ≡ Bad → IsPlayedFor E rest)
     → Explains waits none full E [] fault text
 refuses_explains waits none full E at sent fault text rest begins (inl x) played =
-    subst (λ (f : ReplayFault). Explains waits none full E [] f text) (sym x.0) (no_message at sent rest refl begins x.1 (λ wait. played wait x.0))
-refuses_explains waits none full E at sent fault text rest begins (inr x) played = wanting_explains waits none full E [] fault text x
+    subst (λ (f : ReplayFault). Explains waits none full E [] f text) (sym x.0)
+    (no_message at sent rest refl begins x.1 (λ wait. played wait x.0))
+refuses_explains waits none full E at sent fault text rest begins (inr x) played =
+    wanting_explains waits none full E [] fault text x
 
 pub refuses_due : (read_failed write_failed : Bool) (sent : List ℕ) (fault : ReplayFault)
     → read_failed ≡ false → write_failed ≡ false → Refuses sent fault
     → IsDueTo read_failed write_failed fault
-refuses_due read_failed write_failed sent fault read write (inl x) = subst (λ (f : ReplayFault). IsDueTo read_failed write_failed f) (sym x.0) (read, write)
-refuses_due read_failed write_failed sent fault read write (inr x) = wanting_due read_failed write_failed fault read write x
+refuses_due read_failed write_failed sent fault read write (inl x) =
+    subst (λ (f : ReplayFault). IsDueTo read_failed write_failed f) (sym x.0) (read, write)
+refuses_due read_failed write_failed sent fault read write (inr x) =
+    wanting_due read_failed write_failed fault read write x
 
 -- what a failed write says is said only of the writer
 pub due_with : (read_failed write_failed : Bool) (fault : ReplayFault) → write_failed ≡ false

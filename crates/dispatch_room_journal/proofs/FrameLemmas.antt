@@ -1,5 +1,6 @@
 -- Lemmas on answers that are written as their messages are played.
-use Rattle.std.proofs.Common.{◌≡◌, ◌∙◌, sym, ap, subst, refl, ℕ, ◌+◌, ◌-◌, ◌^◌, min, List, [], ◌∷◌, ◌++◌, append-nil, Bool, true, false, Option, Some, None, Ok}
+use Rattle.std.proofs.Common.{◌≡◌, ◌∙◌, sym, ap, subst, refl, ℕ, ◌+◌, ◌-◌, ◌^◌, min, List, [], ◌∷◌, ◌++◌, append-nil}
+use Rattle.std.proofs.Common.{Bool, true, false, Option, Some, None, Ok}
 use Rattle.std.specs.List.{flat_map}
 use Rattle.std.specs.Io.KnownBytes.{Appends, Consumes}
 use Rattle.std.proofs.KnownBytes.{Consumes-kept}
@@ -17,7 +18,8 @@ use Rattle.dispatch_room_journal.specs.declared.next_entry.Next.TheVariants.{Mes
 use Rattle.dispatch_room_journal.specs.declared.replay_faults.ReplayFault.{ReplayFault}
 use Rattle.dispatch_room_journal.specs.declared.replay_progress.Progress.{Progress}
 use Rattle.dispatch_room_journal.specs.JournalRecords.{status_in}
-use Rattle.dispatch_room_journal.specs.ReplayedTurns.{Play, Turn, answered, tried, plays_in, plays_of, has_message, is_left_out, IsPlayed, BeginsWith}
+use Rattle.dispatch_room_journal.specs.ReplayedTurns.{Play, Turn, answered, tried, plays_in, plays_of, has_message}
+use Rattle.dispatch_room_journal.specs.ReplayedTurns.{is_left_out, IsPlayed, BeginsWith}
 use Rattle.dispatch_room_journal.specs.ReplayFaults.{Explains, IsDueTo}
 use Rattle.dispatch_room_journal.specs.Replays.{DigitsOf, Leads, LeadsElsewhere}
 use Rattle.dispatch_room_journal.specs.ReplaySteps.{NextIs, Passes, StopsIn}
@@ -25,27 +27,34 @@ use Rattle.dispatch_room_journal.specs.AnswerFrames.{frame_of, frames_of, Follow
 use Rattle.dispatch_room_journal.proofs.FaultLemmas.{not_both, begins_explain}
 use Rattle.dispatch_room_journal.proofs.StepLemmas.{WasPlayed, Shows, played_stops}
 use Rattle.dispatch_room_journal.proofs.NextEntryLemmas.{taken_two}
-use Rattle.dispatch_room_journal.proofs.TurnLemmas.{one_by, two_by, consumes_begins, keeps_consumes, message_progress, Leads-after, passes_one}
+use Rattle.dispatch_room_journal.proofs.TurnLemmas.{one_by, two_by, consumes_begins, keeps_consumes, message_progress}
+use Rattle.dispatch_room_journal.proofs.TurnLemmas.{Leads-after, passes_one}
 
 -- frames, one after another
 pub frames_append : (us ts : List Turn) → frames_of us ++ frames_of ts ≡ frames_of (us ++ ts)
 frames_append us ts =
-    sym (ap (λ (ps : List Play). flat_map (λ p. frame_of p.told) ps) (flat_map-append plays_in us ts) ∙ flat_map-append (λ p. frame_of p.told) (plays_of us) (plays_of ts))
+    sym (ap (λ (ps : List Play). flat_map (λ p. frame_of p.told) ps) (flat_map-append plays_in us ts)
+    ∙ flat_map-append (λ p. frame_of p.told) (plays_of us) (plays_of ts))
 
 pub frames_more : (a b c : Option (List ℕ)) (us ts : List Turn) → Appends a b (frames_of us)
     → Appends b c (frames_of ts) → Appends a c (frames_of (us ++ ts))
-frames_more a b c us ts first second = subst (λ (t : List ℕ). Appends a c t) (frames_append us ts) (Appends-more a b c (frames_of us) (frames_of ts) first second)
+frames_more a b c us ts first second =
+    subst (λ (t : List ℕ). Appends a c t) (frames_append us ts)
+    (Appends-more a b c (frames_of us) (frames_of ts) first second)
 
 module _ (step : Step) (setting : Setting) (digest_of : DigitsOf) (trusted : Type 0)
     (stood stands : List Terminal → Room → Type 0) (before : Option (List ℕ))
     (held holds : Option (List ℕ)) (at : ℕ) (sent told slice : List ℕ)
-    (x : WasPlayed step setting trusted stood stands at sent told) (same : slice ≡ told) (is : IsEntry (message at sent)) where
+    (x : WasPlayed step setting trusted stood stands at sent told) (same : slice ≡ told)
+    (is : IsEntry (message at sent)) where
   leads_tried : Leads step setting digest_of trusted stood stands (tried x.0 ∷ [])
-  leads_tried trust terminals room stood_for = let y = x.5 trust terminals room stood_for in (y.0, (y.0, y.1, refl), y.2)
+  leads_tried trust terminals room stood_for =
+      let y = x.5 trust terminals room stood_for in (y.0, (y.0, y.1, refl), y.2)
 
   leads_answered : (status : ℕ) → Leads step setting digest_of trusted stood stands
       (answered x.0 status ∷ [])
-  leads_answered status trust terminals room stood_for = let y = x.5 trust terminals room stood_for in (y.0, (y.0, y.1, refl), y.2)
+  leads_answered status trust terminals room stood_for =
+      let y = x.5 trust terminals room stood_for in (y.0, (y.0, y.1, refl), y.2)
 
   told_same : x.0.told ≡ slice
   told_same = x.3 ∙ sym same
@@ -61,7 +70,8 @@ module _ (step : Step) (setting : Setting) (digest_of : DigitsOf) (trusted : Typ
       × (front : List ℕ) × IsFront front (frames_of last) × Appends held holds front
   each_stops fault read_failed write_failed begins due front rest split wrote = (
     tried x.0 ∷ [],
-    played_stops false step setting digest_of trusted stood stands before at sent is read_failed write_failed x.0 fault x.1 x.2 x.4 leads_tried begins due,
+    played_stops false step setting digest_of trusted stood stands before at sent is read_failed write_failed x.0 fault
+        x.1 x.2 x.4 leads_tried begins due,
     front,
     (rest, append-nil (frame_of x.0.told) ∙ ap frame_of told_same ∙ split),
     wrote,
@@ -71,7 +81,9 @@ module _ (step : Step) (setting : Setting) (digest_of : DigitsOf) (trusted : Typ
       (took_message : Consumes before mid (texts_of (message at sent ∷ [])))
       (wrote : Appends held holds (frame_of slice)) where
     wrote_one : Appends held holds (frame_of x.0.told ++ [])
-    wrote_one = subst (λ (t : List ℕ). Appends held holds t) (sym (append-nil (frame_of x.0.told) ∙ ap frame_of told_same)) wrote
+    wrote_one =
+        subst (λ (t : List ℕ). Appends held holds t) (sym (append-nil (frame_of x.0.told) ∙ ap frame_of told_same))
+        wrote
 
     -- the answer was written, and a status that follows it is the answer's
     pub each_done : (took : Bool) → FollowIs mid after failed slice (Ok took)
@@ -80,8 +92,10 @@ module _ (step : Step) (setting : Setting) (digest_of : DigitsOf) (trusted : Typ
         × Appends held holds (frames_of (t ∷ []))
     each_done true f = (
       answered x.0 f.0,
-      passes_one step setting digest_of trusted stood stands before after None IsPlayed (answered x.0 f.0) (message at sent ∷ answer f.0 ∷ []) (x.4, ap status_in told_same ∙ f.1) tt
-          (λ i. message (x.1 i) (x.2 i) ∷ answer f.0 ∷ []) (two_by None at sent sent (answer f.0) tt is tt f.2) (taken_two before mid after (message at sent) (answer f.0) took_message f.3)
+      passes_one step setting digest_of trusted stood stands before after None IsPlayed (answered x.0 f.0)
+          (message at sent ∷ answer f.0 ∷ []) (x.4, ap status_in told_same ∙ f.1) tt
+          (λ i. message (x.1 i) (x.2 i) ∷ answer f.0 ∷ []) (two_by None at sent sent (answer f.0) tt is tt f.2)
+          (taken_two before mid after (message at sent) (answer f.0) took_message f.3)
           (leads_answered f.0) (λ never. absurd (cc)) (λ never. absurd (cc)),
       refl,
       refl,
@@ -90,8 +104,10 @@ module _ (step : Step) (setting : Setting) (digest_of : DigitsOf) (trusted : Typ
     )
     each_done false f = (
       tried x.0,
-      passes_one step setting digest_of trusted stood stands before after None IsPlayed (tried x.0) (message at sent ∷ []) x.4 tt
-          (λ i. message (x.1 i) (x.2 i) ∷ []) (one_by None at sent sent tt is) (Consumes-kept before mid after (texts_of (message at sent ∷ [])) took_message f.0)
+      passes_one step setting digest_of trusted stood stands before after None IsPlayed (tried x.0)
+          (message at sent ∷ []) x.4 tt
+          (λ i. message (x.1 i) (x.2 i) ∷ []) (one_by None at sent sent tt is)
+          (Consumes-kept before mid after (texts_of (message at sent ∷ [])) took_message f.0)
           leads_tried (λ _. f.2) (λ never. absurd (cc)),
       refl,
       refl,
@@ -109,14 +125,17 @@ pub each_follows : (step : Step) (setting : Setting) (digest_of : DigitsOf) (tru
     → BeginsWith before (message at sent ∷ [])
     (Shows false step setting digest_of trusted stood stands fault (tried p ∷ []))
 each_follows step setting digest_of trusted stood stands before mid at sent slice p fault same took follows =
-    consumes_begins before mid (message at sent ∷ []) [] (Shows false step setting digest_of trusted stood stands fault (tried p ∷ [])) took
-    (begins_explain mid [] false ⊥ ⊥ (true ≡ false) ⊥ (λ open_ head. ⊥) (LeadsElsewhere step setting digest_of trusted stood stands (tried p ∷ [])) (tried p ∷ []) fault
+    consumes_begins before mid (message at sent ∷ []) []
+    (Shows false step setting digest_of trusted stood stands fault (tried p ∷ [])) took
+    (begins_explain mid [] false ⊥ ⊥ (true ≡ false) ⊥ (λ open_ head. ⊥)
+    (LeadsElsewhere step setting digest_of trusted stood stands (tried p ∷ [])) (tried p ∷ []) fault
     (λ never. absurd never) (λ never. never) (λ open_ head never. absurd never) (follows p same))
 
 -- a message is next: it was played, and its answer was written
 module _ (step : Step) (setting : Setting) (digest_of : DigitsOf) (early late : Type 0)
     (earlier : late → early) (stood middle stands : List Terminal → Room → Type 0)
-    (before mid after held holds : Option (List ℕ)) (kept : List ℕ) (looked read_failed write_failed : Bool) (at : ℕ) (layout : EntryLayout) (next : Next) (is : next ≡ Message at layout)
+    (before mid after held holds : Option (List ℕ)) (kept : List ℕ) (looked read_failed write_failed : Bool) (at : ℕ)
+    (layout : EntryLayout) (next : Next) (is : next ≡ Message at layout)
     (old new : Progress)
     (noted : new ≡ record old { records = min (old.records + 1) (2 ^ 64 - 1); is_open = false }) where
   pub each_turn : NextIs digest_of early stood middle before mid looked None old.is_begun kept
@@ -125,7 +144,9 @@ module _ (step : Step) (setting : Setting) (digest_of : DigitsOf) (early late : 
       write_failed (Ok tt)
       → AnswersTurn step setting digest_of late stood stands before after held holds old new
       read_failed write_failed (Ok true)
-  each_turn found x = go (subst (λ (n : Next). NextIs digest_of early stood middle before mid looked None old.is_begun kept (Ok n)) is found)
+  each_turn found x =
+      go (subst (λ (n : Next). NextIs digest_of early stood middle before mid looked None old.is_begun kept (Ok n)) is
+      found)
     where
       go : NextIs digest_of early stood middle before mid looked None old.is_begun kept
           (Ok (Message at layout))

@@ -1,5 +1,7 @@
 -- The turns of what a list kept of a room that was served, and to which rooms a list has come.
-use Rattle.std.proofs.Common.{◌≡◌, ◌∙◌, ◌≤◌, ◌⊎◌, inl, inr, sym, ap, subst, refl, arith, ℕ, List, [], ◌∷◌, ◌++◌, drop, take, length, length-append, ◌/◌, ◌%◌, ◌+◌, append-nil, append_assoc, codes, decimal, Bool, true, Result, Ok, Err}
+use Rattle.std.proofs.Common.{◌≡◌, ◌∙◌, ◌≤◌, ◌⊎◌, inl, inr, sym, ap, subst, refl, arith, ℕ, List, [], ◌∷◌, ◌++◌, drop}
+use Rattle.std.proofs.Common.{take, length, length-append, ◌/◌, ◌%◌, ◌+◌, append-nil, append_assoc, codes, decimal}
+use Rattle.std.proofs.Common.{Bool, true, Result, Ok, Err}
 use Rattle.std.specs.Prelude.{All, map}
 use Rattle.std.proofs.lemmas.Bool.{cases_eq}
 use Rattle.std.proofs.lemmas.Fmt.{decimal_digit, decimal_step}
@@ -8,8 +10,8 @@ use Rattle.std.proofs.lemmas.List.{map-append, take_at}
 use Rattle.std.proofs.lemmas.List.Elements.{All-append, All-cons, All-head, All-nil, All-tail}
 use Rattle.room_types.specs.declared.answers.Answer.{Answer}
 use Rattle.room_types.specs.declared.fleet.Terminal.{Terminal}
-use Rattle.room_types.specs.declared.refusals.Refusal.{Refusal}
-use Rattle.room_types.specs.declared.refusals.Refusal.TheVariants.{NoSuchIncident}
+use Rattle.room_types.specs.declared.refusal_statuses.Refusal.{Refusal}
+use Rattle.room_types.specs.declared.refusal_statuses.Refusal.TheVariants.{NoSuchIncident}
 use Rattle.room_model.specs.Room.{Room}
 use Rattle.room_http_answers.specs.ReplyMessages.{line, reply_bytes, status_of}
 use Rattle.room_http.specs.declared.settings.Setting.{Setting}
@@ -20,13 +22,16 @@ use Rattle.room_http.specs.Kept.{AreKept, AreReplies, IsCutShort, IsRecord, IsUn
 use Rattle.room_http.specs.Talk.{IsFront, IsReplyTo, Timed, replied}
 use Rattle.dispatch_room_journal.specs.declared.entry_lines.TheConstants.{LEAST_STATUS, GREATEST_STATUS}
 use Rattle.dispatch_room_journal.specs.WholeEntries.{Follows}
-use Rattle.dispatch_room_journal.specs.Entries.{Entry, room as head_entry, message, answer, IsEntry, IsPart, text_of, texts_of}
+use Rattle.dispatch_room_journal.specs.Entries.{Entry, room as head_entry, message, answer, IsEntry, IsPart, text_of}
+use Rattle.dispatch_room_journal.specs.Entries.{texts_of}
 use Rattle.dispatch_room_journal.specs.JournalRecords.{answer_text, message_text, room_text, status_in}
 use Rattle.dispatch_room_journal.proofs.EntryLemmas.{no_end_law, one_entry_law}
 use Rattle.dispatch_room_journal.specs.ReplayLaws.{answers_to_messages}
 use Rattle.dispatch_room_journal.specs.Replays.{Answers, Does, DigitsOf, IsHeadOf, IsReplay}
 use Rattle.dispatch_room_journal.proofs.TurnLemmas.{begun-append}
-use Rattle.dispatch_room_journal.specs.ReplayedTurns.{Play, Turn, compared, answered, caught_up, left_out, answers_of, ends_open, entries_in, entries_of, plays_in, plays_of, IsBegun, IsPlay, IsReplayed, IsTurn}
+use Rattle.dispatch_room_journal.specs.ReplayedTurns.{Play, Turn, compared, answered, caught_up, left_out, answers_of}
+use Rattle.dispatch_room_journal.specs.ReplayedTurns.{ends_open, entries_in, entries_of, plays_in, plays_of, IsBegun}
+use Rattle.dispatch_room_journal.specs.ReplayedTurns.{IsPlay, IsReplayed, IsTurn}
 
 -- ---- the status of an answer
 abbrev IsStatus : ℕ → Type 0
@@ -57,7 +62,8 @@ status_front : (told : Result Answer Refusal) (date : List ℕ) (head_only closi
 unfolding line
 status_front told date head_only closing =
     let d = decimal (status_of told) in
-    front_more d _ _ (front_more d _ _ (front_more d _ _ (front_more d _ _ (front_more d _ _ (front_more d _ _ (front_more d _ _ (front_more d _ _ (front_more d _ _ (codes " ", refl)))))))))
+    front_more d _ _ (front_more d _ _ (front_more d _ _ (front_more d _ _
+    (front_more d _ _ (front_more d _ _ (front_more d _ _ (front_more d _ _ (front_more d _ _ (codes " ", refl)))))))))
 
 status_first : (told : Result Answer Refusal) (date : List ℕ) (head_only closing : Bool)
     → status_in (reply_bytes told date head_only closing) ≡ decimal (status_of told)
@@ -73,8 +79,11 @@ pub status_told : (step : Step) (setting : Setting) (terminals : List Terminal) 
 status_told step setting terminals room x after bytes reply =
     let told = (replied step reply.0 room).1 in
     let fits = status_fits told in
-    let date = reply.3 in
-    (status_of told, (fits.0, fits.1), ap status_in date.2 ∙ status_first told date.0 (is_head_only x.0) (is_closing x.0))
+    let date = reply.3 in (
+      status_of told,
+      (fits.0, fits.1),
+      ap status_in date.2 ∙ status_first told date.0 (is_head_only x.0) (is_closing x.0),
+    )
 
 -- ---- a text that is cut within an entry
 abbrev IsTail : List ℕ → Type 0
@@ -91,14 +100,20 @@ cut_one : (entries others : List Entry) (tail rest : List ℕ) → All IsEntry e
     → texts_of entries ++ tail ≡ texts_of others ++ rest → entries ≡ others
 cut_one [] [] tail rest a b t r same = refl
 cut_one [] (f ∷ others) tail rest a b t r same =
-    absurd (no_start tail f (texts_of others ++ rest) (All-head IsEntry f others b) t (same ∙ append_assoc (text_of f) (texts_of others) rest))
+    absurd (no_start tail f (texts_of others ++ rest) (All-head IsEntry f others b) t
+    (same ∙ append_assoc (text_of f) (texts_of others) rest))
 cut_one (e ∷ entries) [] tail rest a b t r same =
-    absurd (no_start rest e (texts_of entries ++ tail) (All-head IsEntry e entries a) r (sym same ∙ append_assoc (text_of e) (texts_of entries) tail))
+    absurd (no_start rest e (texts_of entries ++ tail) (All-head IsEntry e entries a) r
+    (sym same ∙ append_assoc (text_of e) (texts_of entries) tail))
 cut_one (e ∷ entries) (f ∷ others) tail rest a b t r same =
     let text = text_of e ++ (texts_of entries ++ tail) in
-    let first = one_entry_law text e f (texts_of entries ++ tail) (texts_of others ++ rest) (All-head IsEntry e entries a, refl)
-    (All-head IsEntry f others b, sym (append_assoc (text_of e) (texts_of entries) tail) ∙ same ∙ append_assoc (text_of f) (texts_of others) rest) in
-    let more = cut_one entries others tail rest (All-tail IsEntry e entries a) (All-tail IsEntry f others b) t r first.1 in
+    let first = one_entry_law text e f (texts_of entries ++ tail) (texts_of others ++ rest)
+    (All-head IsEntry e entries a, refl) (
+      All-head IsEntry f others b,
+      sym (append_assoc (text_of e) (texts_of entries) tail) ∙ same ∙ append_assoc (text_of f) (texts_of others) rest,
+    ) in
+    let more = cut_one entries others tail rest (All-tail IsEntry e entries a) (All-tail IsEntry f others b) t r
+    first.1 in
     λ i. first.0 i ∷ more i
 
 -- some first bytes of an entry's text are all of it, or a part
@@ -108,12 +123,15 @@ front_tail e tail is ([], same) = inl (sym (same ∙ append-nil tail))
 front_tail e tail is (byte ∷ rest, same) = inr (inr (e, byte ∷ rest, is, same, omega arith))
 
 texts_push : (entries : List Entry) (e : Entry) → texts_of (entries ++ e ∷ []) ≡ texts_of entries ++ text_of e
-texts_push entries e = flat_map-append text_of entries (e ∷ []) ∙ ap (λ t. texts_of entries ++ t) (append-nil (text_of e))
+texts_push entries e =
+    flat_map-append text_of entries (e ∷ []) ∙ ap (λ t. texts_of entries ++ t) (append-nil (text_of e))
 
 -- what is whole of entries and some first bytes of one more
 module _ (entries others : List Entry) (rest : List ℕ) (a : All IsEntry entries) (end : IsTail rest) where
   pub whole_all : Follows (texts_of entries) others rest → texts_of others ≡ texts_of entries
-  whole_all follows = ap texts_of (sym (cut_one entries others [] rest a follows.0 (inl refl) end (append-nil (texts_of entries) ∙ follows.1)))
+  whole_all follows =
+      ap texts_of
+      (sym (cut_one entries others [] rest a follows.0 (inl refl) end (append-nil (texts_of entries) ∙ follows.1)))
 
   pub whole_part : (tail : List ℕ) → IsTail tail → Follows (texts_of entries ++ tail) others rest
       → texts_of others ≡ texts_of entries
@@ -125,7 +143,8 @@ pub whole_front : (entries others : List Entry) (e : Entry) (tail rest : List �
 whole_front entries others e tail rest a is end front follows = elim (front_tail e tail is front) [
   | inl whole ↦
       let all = All-append IsEntry entries (e ∷ []) a (All-cons IsEntry e [] is (All-nil IsEntry)) in
-      let text : texts_of entries ++ tail ≡ texts_of (entries ++ e ∷ []) = ap (λ t. texts_of entries ++ t) whole ∙ sym (texts_push entries e) in
+      let text : texts_of entries ++ tail
+      ≡ texts_of (entries ++ e ∷ []) = ap (λ t. texts_of entries ++ t) whole ∙ sym (texts_push entries e) in
       inr (whole_all (entries ++ e ∷ []) others rest all end (follows.0, sym text ∙ follows.1) ∙ texts_push entries e)
   | inr part ↦ inl (whole_part entries others rest a end tail part follows)
 ]
@@ -143,8 +162,10 @@ module _ (step : Step) (setting : Setting) (digits : DigitsOf) (terminals : List
       → IsReplay step setting digits terminals held us mid
       → IsReplay step setting digits terminals mid ts after
       → IsReplay step setting digits terminals held (us ++ ts) after
-  replay_join held mid after [] ts first second = subst (λ (r : Room). IsReplay step setting digits terminals r ts after) first second
-  replay_join held mid after (u ∷ us) ts first second = (first.0, first.1, replay_join first.0 mid after us ts first.2 second)
+  replay_join held mid after [] ts first second =
+      subst (λ (r : Room). IsReplay step setting digits terminals r ts after) first second
+  replay_join held mid after (u ∷ us) ts first second =
+      (first.0, first.1, replay_join first.0 mid after us ts first.2 second)
 
   told_join : (held mid after : Room) (list more : List ℕ) (us ts : List Turn)
       → Told held list us mid → Told mid more ts after → Told held (list ++ more) (us ++ ts) after
@@ -153,8 +174,12 @@ module _ (step : Step) (setting : Setting) (digits : DigitsOf) (terminals : List
       record {
         are_turns = All-append IsTurn us ts first.are_turns second.are_turns;
         replayed = All-append IsReplayed us ts first.replayed second.replayed;
-        entries = subst (λ (es : List Entry). All IsEntry es) (sym all) (All-append IsEntry (entries_of us) (entries_of ts) first.entries second.entries);
-        text = ap texts_of all ∙ flat_map-append text_of (entries_of us) (entries_of ts) ∙ (λ i. first.text i ++ second.text i);
+        entries =
+            subst (λ (es : List Entry). All IsEntry es) (sym all)
+            (All-append IsEntry (entries_of us) (entries_of ts) first.entries second.entries);
+        text =
+            ap texts_of all ∙ flat_map-append text_of (entries_of us) (entries_of ts)
+            ∙ (λ i. first.text i ++ second.text i);
         replay = replay_join held mid after us ts first.replay second.replay;
       }
 
@@ -184,7 +209,9 @@ module _ (step : Step) (setting : Setting) (digits : DigitsOf) (terminals : List
       → Does step setting digits terminals mid t after → list ++ texts_of (entries_in t) ≡ more
       → Told held more (us ++ t ∷ []) after
   told_push held mid after list more us t told turn kind entries does is =
-      subst (λ (text : List ℕ). Told held text (us ++ t ∷ []) after) is (told_join held mid after list (texts_of (entries_in t)) us (t ∷ []) told (told_one mid after t turn kind entries does))
+      subst (λ (text : List ℕ). Told held text (us ++ t ∷ []) after) is
+      (told_join held mid after list (texts_of (entries_in t)) us (t ∷ []) told
+      (told_one mid after t turn kind entries does))
 
 all_one : (e : Entry) → IsEntry e → All IsEntry (e ∷ [])
 all_one e is = All-cons IsEntry e [] is (All-nil IsEntry)
@@ -194,7 +221,9 @@ all_two e f is also = All-cons IsEntry e (f ∷ []) is (all_one f also)
 
 -- the answers of turns, one after another
 answers_join : (us ts : List Turn) → answers_of (us ++ ts) ≡ answers_of us ++ answers_of ts
-answers_join us ts = ap (map (λ (p : Play). p.told)) (flat_map-append plays_in us ts) ∙ map-append (λ (p : Play). p.told) (plays_of us) (plays_of ts)
+answers_join us ts =
+    ap (map (λ (p : Play). p.told)) (flat_map-append plays_in us ts)
+    ∙ map-append (λ (p : Play). p.told) (plays_of us) (plays_of ts)
 
 -- the text of a status
 status_text_is : (told : List ℕ) (status : ℕ) → status_in told ≡ decimal status
@@ -215,8 +244,10 @@ module _ (step : Step) (setting : Setting) (digits : DigitsOf) (terminals : List
       let status = status_told step setting terminals held (arrived p.whole, p.at) after p.told reply in
       let turn = answered p status.0 in
       let text : texts_of (entries_in turn) ≡ message_text p.at p.sent ++ answer_text p.told =
-      ap (λ t. message_text p.at p.sent ++ t) (append-nil (text_of (answer status.0)) ∙ status_text_is p.told status.0 status.2) in
-      let one = told_one step setting digits terminals held after turn (is, status.2) tt (all_two (message p.at p.sent) (answer status.0) entry status.1) reply in
+      ap (λ t. message_text p.at p.sent ++ t)
+      (append-nil (text_of (answer status.0)) ∙ status_text_is p.told status.0 status.2) in
+      let one = told_one step setting digits terminals held after turn (is, status.2) tt
+      (all_two (message p.at p.sent) (answer status.0) entry status.1) reply in
       (turn ∷ [], subst (λ (t : List ℕ). Told step setting digits terminals held t (turn ∷ []) after) text one, refl)
 
   pub kept_turns : (outs : List Timed) (answers : List (List ℕ)) (text : List ℕ)
@@ -236,14 +267,17 @@ module _ (step : Step) (setting : Setting) (digits : DigitsOf) (terminals : List
       let same : (message_text at came.0 ++ answer_text told) ++ more ≡ text =
       sym (joined ∙ ap (λ (t : List ℕ). t ++ more) (is.2 ∙ ap (λ (t : List ℕ). t ++ answer_text told) came.3)) in (
         one.0 ++ rest.0,
-        subst (λ (t : List ℕ). Told step setting digits terminals held t (one.0 ++ rest.0) after) same (told_join step setting digits terminals held replies.0 after _ more one.0 rest.0 one.1 rest.1),
+        subst (λ (t : List ℕ). Told step setting digits terminals held t (one.0 ++ rest.0) after) same
+            (told_join step setting digits terminals held replies.0 after _ more one.0 rest.0 one.1 rest.1),
         answers_join one.0 rest.0 ∙ (λ i. one.2 i ++ rest.2 i),
       )
-  kept_turns ((refused r head_only, at) ∷ outs) (told ∷ answers) text held after replies (first, more, is, joined, kept) =
+  kept_turns ((refused r head_only, at) ∷ outs) (told ∷ answers) text held after replies
+      (first, more, is, joined, kept) =
       let nothing : first ≡ [] = is.2 ∙ append-nil is.0 ∙ is.1 in
       let alike : more ≡ text = sym (joined ∙ ap (λ (t : List ℕ). t ++ more) nothing) in
       let still : replies.0 ≡ held = replies.1.2 ∙ ap (λ found. (replied step found held).0) replies.1.1 in
-      let rest = kept_turns outs answers more held after (subst (λ (r : Room). AreReplies step setting terminals r outs answers after) still replies.2) kept in
+      let rest = kept_turns outs answers more held after
+      (subst (λ (r : Room). AreReplies step setting terminals r outs answers after) still replies.2) kept in
       (rest.0, subst (λ (t : List ℕ). Told step setting digits terminals held t rest.0 after) alike rest.1, rest.2)
 
 -- ---- the rooms to which a list has come
@@ -264,8 +298,10 @@ no_front : (front bytes : List ℕ) → bytes ≡ [] → IsFront front bytes →
 no_front [] bytes none is = refl
 no_front (byte ∷ front) bytes none is = absurd (cc (none, is.1))
 
-pub no_answer : (turns : List Turn) (t : Turn) → answers_of (t ∷ []) ≡ [] → answers_of (turns ++ t ∷ []) ≡ answers_of turns
-no_answer turns t none = answers_join turns (t ∷ []) ∙ ap (λ a. answers_of turns ++ a) none ∙ append-nil (answers_of turns)
+pub no_answer : (turns : List Turn) (t : Turn) → answers_of (t ∷ []) ≡ []
+    → answers_of (turns ++ t ∷ []) ≡ answers_of turns
+no_answer turns t none =
+    answers_join turns (t ∷ []) ∙ ap (λ a. answers_of turns ++ a) none ∙ append-nil (answers_of turns)
 
 module _ (step : Step) (setting : Setting) (digits : DigitsOf) (terminals : List Terminal)
     (Given : List (List ℕ) → Type 0) (held : Room) where
@@ -313,7 +349,8 @@ module _ (step : Step) (setting : Setting) (digits : DigitsOf) (terminals : List
       → IsTold list turns after → IsEntry (message at sent) → list ++ message_text at sent ≡ more
       → IsTold more (turns ++ left_out at sent ∷ []) after
   left_open list more turns after at sent told entry is =
-      told_push step setting digits terminals held after after list more turns (left_out at sent) told tt tt (all_one (message at sent) entry) refl
+      told_push step setting digits terminals held after after list more turns (left_out at sent) told tt tt
+      (all_one (message at sent) entry) refl
       (ap (λ t. list ++ t) (append-nil (text_of (message at sent))) ∙ is)
 
   settle_open : (list more : List ℕ) (turns : List Turn) (after : Room) (at : ℕ) (sent : List ℕ)
@@ -334,7 +371,8 @@ module _ (step : Step) (setting : Setting) (digits : DigitsOf) (terminals : List
     whole_is : (list : List ℕ) (now : Room) → Settled list now → Follows list others rest
         → list ≡ texts_of others
     whole_is list now s follows =
-        sym (whole_all (entries_of s.turns) others rest s.told.entries end (follows.0, s.told.text ∙ follows.1) ∙ s.told.text)
+        sym (whole_all (entries_of s.turns) others rest s.told.entries end (follows.0, s.told.text ∙ follows.1)
+        ∙ s.told.text)
 
     pub come_settled : (list : List ℕ) (now : Room) → Settled list now → Follows list others rest
         → Come (texts_of others) now
@@ -347,8 +385,10 @@ module _ (step : Step) (setting : Setting) (digits : DigitsOf) (terminals : List
   come_entries list now (inr (inl s)) = (entries_of s.turns, s.told.entries, s.told.text)
   come_entries list now (inr (inr w)) = (
     entries_of w.turns ++ message w.p.at w.p.sent ∷ [],
-    All-append IsEntry (entries_of w.turns) (message w.p.at w.p.sent ∷ []) w.told.entries (all_one (message w.p.at w.p.sent) w.entry),
-    texts_push (entries_of w.turns) (message w.p.at w.p.sent) ∙ ap (λ t. t ++ message_text w.p.at w.p.sent) w.told.text ∙ w.list_is,
+    All-append IsEntry (entries_of w.turns) (message w.p.at w.p.sent ∷ []) w.told.entries
+        (all_one (message w.p.at w.p.sent) w.entry),
+    texts_push (entries_of w.turns) (message w.p.at w.p.sent) ∙ ap (λ t. t ++ message_text w.p.at w.p.sent) w.told.text
+        ∙ w.list_is,
   )
 
   -- what a list has come to is whole
@@ -356,7 +396,8 @@ module _ (step : Step) (setting : Setting) (digits : DigitsOf) (terminals : List
       → Follows list others rest → Come list now → Come (texts_of others) now
   come_same list now others rest end follows come =
       let e = come_entries list now come in
-      subst (λ (t : List ℕ). Come t now) (sym (whole_all e.0 others rest e.1 end (follows.0, e.2 ∙ follows.1) ∙ e.2)) come
+      subst (λ (t : List ℕ). Come t now) (sym (whole_all e.0 others rest e.1 end (follows.0, e.2 ∙ follows.1) ∙ e.2))
+      come
 
   -- ---- a head
   module _ (h : Head) (entry : IsEntry (head_entry h)) where
@@ -364,7 +405,8 @@ module _ (step : Step) (setting : Setting) (digits : DigitsOf) (terminals : List
         → IsHeadOf digits h terminals now
         → IsTold (list ++ room_text h) (turns ++ compared h ∷ []) now
     head_next list turns now told is =
-        told_push step setting digits terminals held now now list (list ++ room_text h) turns (compared h) told tt tt (all_one (head_entry h) entry) (refl, is)
+        told_push step setting digits terminals held now now list (list ++ room_text h) turns (compared h) told tt tt
+        (all_one (head_entry h) entry) (refl, is)
         (ap (λ t. list ++ t) (append-nil (room_text h)))
 
     settle_head : (list : List ℕ) (now : Room) → IsHeadOf digits h terminals now → Settled list now
@@ -380,7 +422,8 @@ module _ (step : Step) (setting : Setting) (digits : DigitsOf) (terminals : List
     then_head : (text came list : List ℕ) → text ++ came ≡ list
         → text ++ (came ++ (room_text h ++ [])) ≡ list ++ room_text h
     then_head text came list is =
-        ap (λ t. text ++ (came ++ t)) (append-nil (room_text h)) ∙ sym (append_assoc text came (room_text h)) ∙ ap (λ t. t ++ room_text h) is
+        ap (λ t. text ++ (came ++ t)) (append-nil (room_text h)) ∙ sym (append_assoc text came (room_text h))
+        ∙ ap (λ t. t ++ room_text h) is
 
     -- the head shows whether it is the room before an open message or the one after it
     pub come_head : (list : List ℕ) (now : Room) → IsHeadOf digits h terminals now
@@ -389,7 +432,10 @@ module _ (step : Step) (setting : Setting) (digits : DigitsOf) (terminals : List
         → Come list now → Settled (list ++ room_text h) now
     come_head list now is twin (inl fresh) = record {
       turns = compared h ∷ [];
-      told = rw (fresh.list_is, fresh.now_is) (head_next [] [] held (told_none step setting digits terminals held) (subst (λ (r : Room). IsHeadOf digits h terminals r) fresh.now_is is));
+      told =
+          rw (fresh.list_is, fresh.now_is)
+          (head_next [] [] held (told_none step setting digits terminals held)
+          (subst (λ (r : Room). IsHeadOf digits h terminals r) fresh.now_is is));
       begun = (h, [], refl);
       given = fresh.given;
     }
@@ -397,11 +443,15 @@ module _ (step : Step) (setting : Setting) (digits : DigitsOf) (terminals : List
     come_head list now is twin (inr (inr w)) = elim (same_or_not (digits h.version terminals w.after) h.digits) [
       | inl same ↦
           let one : w.after ≡ now = twin w.after (arrived w.p.whole, w.p.at) w.p.told w.reply same in
-          settle_head list now is (subst (λ (r : Room). Settled list r) one (settle_open w.text list w.turns w.after w.p.at w.p.sent w.told w.entry w.list_is w.begun w.given))
+          settle_head list now is (subst (λ (r : Room). Settled list r) one
+          (settle_open w.text list w.turns w.after w.p.at w.p.sent w.told w.entry w.list_is w.begun w.given))
       | inr other ↦ record {
         turns = w.turns ++ caught_up w.p h ∷ [];
-        told = told_push step setting digits terminals held w.after now w.text (list ++ room_text h) w.turns (caught_up w.p h) w.told w.is_play tt
-            (all_two (message w.p.at w.p.sent) (head_entry h) w.entry entry) (other, w.reply, is) (then_head w.text (message_text w.p.at w.p.sent) list w.list_is);
+        told =
+            told_push step setting digits terminals held w.after now w.text (list ++ room_text h) w.turns
+            (caught_up w.p h) w.told w.is_play tt
+            (all_two (message w.p.at w.p.sent) (head_entry h) w.entry entry) (other, w.reply, is)
+            (then_head w.text (message_text w.p.at w.p.sent) list w.list_is);
         begun = begun-append w.turns (caught_up w.p h ∷ []) w.begun;
         given = subst Given (sym (answers_join w.turns (caught_up w.p h ∷ []))) w.more;
       }
@@ -416,9 +466,12 @@ module _ (step : Step) (setting : Setting) (digits : DigitsOf) (terminals : List
         → Come (texts_of others) now
     come_front list front now others rest end is twin first follows come =
         let e = come_entries list now come in
-        elim (whole_front e.0 others (head_entry h) front rest e.1 entry end first (follows.0, ap (λ t. t ++ front) e.2 ∙ follows.1)) [
+        elim (whole_front e.0 others (head_entry h) front rest e.1 entry end first
+        (follows.0, ap (λ t. t ++ front) e.2 ∙ follows.1)) [
           | inl same ↦ subst (λ (t : List ℕ). Come t now) (sym (same ∙ e.2)) come
-          | inr same ↦ inr (inl (settled_as (list ++ room_text h) (texts_of others) now (sym (same ∙ ap (λ t. t ++ room_text h) e.2)) (come_head list now is twin come)))
+          | inr same ↦
+              inr (inl (settled_as (list ++ room_text h) (texts_of others) now
+              (sym (same ∙ ap (λ t. t ++ room_text h) e.2)) (come_head list now is twin come)))
         ]
 
   -- ---- one arrival more
@@ -428,7 +481,9 @@ module _ (step : Step) (setting : Setting) (digits : DigitsOf) (terminals : List
 
     message_left : (at : ℕ) (sent : List ℕ) → IsEntry (message at sent)
         → Settled (list ++ message_text at sent) now
-    message_left at sent entry = settle_open list (list ++ message_text at sent) turns now at sent r.settled.told entry refl r.settled.begun r.settled.given
+    message_left at sent entry =
+        settle_open list (list ++ message_text at sent) turns now at sent r.settled.told entry refl r.settled.begun
+        r.settled.given
 
     module _ (p : Play) (after : Room) (is : IsPlay p) (entry : IsEntry (message p.at p.sent))
         (reply : Answers step setting digits terminals now p after) where
@@ -455,7 +510,8 @@ module _ (step : Step) (setting : Setting) (digits : DigitsOf) (terminals : List
             turns = turns ++ one.0;
             told = told_join step setting digits terminals held now after list _ turns one.0 r.settled.told one.1;
             begun = begun-append turns one.0 r.settled.begun;
-            given = subst Given (sym (answers_join turns one.0 ∙ ap (λ a. answers_of turns ++ a) one.2)) (r.more p.told);
+            given =
+                subst Given (sym (answers_join turns one.0 ∙ ap (λ a. answers_of turns ++ a) one.2)) (r.more p.told);
           }
 
     -- memory or storage was wanting for it
@@ -463,7 +519,8 @@ module _ (step : Step) (setting : Setting) (digits : DigitsOf) (terminals : List
         → IsWanting message_text answer_text x tail wrote → Settled (list ++ tail) now
     settle_wanting (arrived m, at) tail wrote is =
         let came = is.0 in
-        settled_as _ (list ++ tail) now (ap (λ t. list ++ t) (sym came.3)) (message_left at came.0 (came.2, came.1.some, came.1.fits))
+        settled_as _ (list ++ tail) now (ap (λ t. list ++ t) (sym came.3))
+        (message_left at came.0 (came.2, came.1.some, came.1.fits))
     settle_wanting (refused why head_only, at) tail wrote is =
         settled_as list (list ++ tail) now (sym (ap (λ t. list ++ t) is.0 ∙ append-nil list)) r.settled
 
@@ -479,10 +536,12 @@ module _ (step : Step) (setting : Setting) (digits : DigitsOf) (terminals : List
     settle_record (arrived m, at) told tail after is reply =
         let came = is.1 in
         let p : Play = record { at = at; sent = came.0; whole = m; told = told } in
-        settled_as _ (list ++ tail) after (ap (λ t. list ++ t) (sym (is.2 ∙ ap (λ t. t ++ answer_text told) came.3))) (message_answered p after came.1.whole (came.2, came.1.some, came.1.fits) reply)
+        settled_as _ (list ++ tail) after (ap (λ t. list ++ t) (sym (is.2 ∙ ap (λ t. t ++ answer_text told) came.3)))
+        (message_answered p after came.1.whole (came.2, came.1.some, came.1.fits) reply)
     settle_record (refused why head_only, at) told tail after is reply =
         let none : tail ≡ [] = is.2 ∙ append-nil is.0 ∙ is.1 in
-        subst (λ (room : Room). Settled (list ++ tail) room) (still why head_only at after told reply) (settled_as list (list ++ tail) now (sym (ap (λ t. list ++ t) none ∙ append-nil list)) r.settled)
+        subst (λ (room : Room). Settled (list ++ tail) room) (still why head_only at after told reply)
+        (settled_as list (list ++ tail) now (sym (ap (λ t. list ++ t) none ∙ append-nil list)) r.settled)
 
     -- ---- what is whole of the list
     module _ (others : List Entry) (rest : List ℕ) (end : IsTail rest) where
@@ -490,16 +549,19 @@ module _ (step : Step) (setting : Setting) (digits : DigitsOf) (terminals : List
       whole_next : (more : List ℕ) (room : Room) (e : Entry) (tail : List ℕ) → Settled more room
           → IsEntry e → IsFront tail (text_of e) → Follows (more ++ tail) others rest
           → (more ≡ texts_of others) ⊎ (more ++ text_of e ≡ texts_of others)
-      whole_next more room e tail s is front follows = elim (whole_front (entries_of s.turns) others e tail rest s.told.entries is end front (follows.0, ap (λ t. t ++ tail) s.told.text ∙ follows.1)) [
-        | inl same ↦ inl (sym (same ∙ s.told.text))
-        | inr same ↦ inr (sym (same ∙ ap (λ t. t ++ text_of e) s.told.text))
-      ]
+      whole_next more room e tail s is front follows =
+          elim (whole_front (entries_of s.turns) others e tail rest s.told.entries is end front
+          (follows.0, ap (λ t. t ++ tail) s.told.text ∙ follows.1)) [
+            | inl same ↦ inl (sym (same ∙ s.told.text))
+            | inr same ↦ inr (sym (same ∙ ap (λ t. t ++ text_of e) s.told.text))
+          ]
 
       -- no arrival, or a refusal, of which nothing is kept
       come_nothing : (tail : List ℕ) (room : Room) → tail ≡ [] → now ≡ room
           → Follows (list ++ tail) others rest → Come (texts_of others) room
       come_nothing tail room none same follows =
-          come_settled others rest end list room (subst (λ (room : Room). Settled list room) same r.settled) (follows.0, sym (ap (λ t. list ++ t) none ∙ append-nil list) ∙ follows.1)
+          come_settled others rest end list room (subst (λ (room : Room). Settled list room) same r.settled)
+          (follows.0, sym (ap (λ t. list ++ t) none ∙ append-nil list) ∙ follows.1)
 
       pub come_short : (x : Timed) (tail wrote : List ℕ)
           → IsCutShort message_text answer_text x tail wrote → Follows (list ++ tail) others rest
@@ -511,12 +573,14 @@ module _ (step : Step) (setting : Setting) (digits : DigitsOf) (terminals : List
             | inl same ↦ inr (inl (settled_as list (texts_of others) now same r.settled))
             | inr same ↦ inr (inl (settled_as _ (texts_of others) now same (message_left at came.0 entry)))
           ]
-      come_short (refused why head_only, at) tail wrote is follows = come_nothing tail now (no_front tail is.0 is.1 is.2) refl follows
+      come_short (refused why head_only, at) tail wrote is follows =
+          come_nothing tail now (no_front tail is.0 is.1 is.2) refl follows
 
       pub come_still : (x : Timed) (tail wrote : List ℕ)
           → IsWanting message_text answer_text x tail wrote → Follows (list ++ tail) others rest
           → Come (texts_of others) now
-      come_still x tail wrote is follows = come_settled others rest end (list ++ tail) now (settle_wanting x tail wrote is) follows
+      come_still x tail wrote is follows =
+          come_settled others rest end (list ++ tail) now (settle_wanting x tail wrote is) follows
 
       pub come_moved : (x : Timed) (tail wrote bytes : List ℕ) (after : Room)
           → IsWanting message_text answer_text x tail wrote → Follows (list ++ tail) others rest
@@ -525,7 +589,8 @@ module _ (step : Step) (setting : Setting) (digits : DigitsOf) (terminals : List
           let came = is.0 in
           let entry : IsEntry (message at came.0) = (came.2, came.1.some, came.1.fits) in
           let p : Play = record { at = at; sent = came.0; whole = m; told = bytes } in
-          let text = ap (λ t. list ++ t) (sym came.3) ∙ whole_is others rest end (list ++ tail) now (settle_wanting (arrived m, at) tail wrote is) follows in
+          let text = ap (λ t. list ++ t) (sym came.3)
+          ∙ whole_is others rest end (list ++ tail) now (settle_wanting (arrived m, at) tail wrote is) follows in
           inr (inr (subst (λ (t : List ℕ). Waits t after) text (message_waits p after came.1.whole entry reply)))
       come_moved (refused why head_only, at) tail wrote bytes after is follows reply =
           come_nothing tail after is.0 (still why head_only at after bytes reply) follows
@@ -539,21 +604,31 @@ module _ (step : Step) (setting : Setting) (digits : DigitsOf) (terminals : List
           let status = status_told step setting terminals now (arrived m, at) after told reply in
           let line_is = status_text_is told status.0 status.2 in
           let base = list ++ message_text at came.0 in
-          let joined : base ++ front ≡ list ++ tail = append_assoc list (message_text at came.0) front ∙ ap (λ t. list ++ t) (ap (λ t. t ++ front) (sym came.3) ∙ sym is) in
-          elim (whole_next base now (answer status.0) front (message_left at came.0 entry) status.1 (subst (IsFront front) (sym line_is) first) (follows.0, joined ∙ follows.1)) [
-            | inl same ↦ inr (inr (subst (λ (t : List ℕ). Waits t after) same (message_waits p after came.1.whole entry reply)))
+          let joined : base ++ front
+          ≡ list ++ tail =
+          append_assoc list (message_text at came.0) front
+          ∙ ap (λ t. list ++ t) (ap (λ t. t ++ front) (sym came.3) ∙ sym is) in
+          elim (whole_next base now (answer status.0) front (message_left at came.0 entry) status.1
+          (subst (IsFront front) (sym line_is) first) (follows.0, joined ∙ follows.1)) [
+            | inl same ↦
+                inr (inr (subst (λ (t : List ℕ). Waits t after) same (message_waits p after came.1.whole entry reply)))
             | inr same ↦
                 let whole : list ++ (message_text at came.0 ++ answer_text told) ≡ texts_of others =
-                sym (append_assoc list (message_text at came.0) (answer_text told)) ∙ ap (λ t. base ++ t) (sym line_is) ∙ same in
-                inr (inl (settled_as _ (texts_of others) after whole (message_answered p after came.1.whole entry reply)))
+                sym (append_assoc list (message_text at came.0) (answer_text told)) ∙ ap (λ t. base ++ t) (sym line_is)
+                ∙ same in
+                inr
+                (inl (settled_as _ (texts_of others) after whole (message_answered p after came.1.whole entry reply)))
           ]
-      come_unwritten (refused why head_only, at) told tail wrote after (coming, front, came, first, is, none) follows reply =
-          come_nothing tail after (is ∙ ap (λ t. t ++ front) came ∙ no_front front [] refl first) (still why head_only at after told reply) follows
+      come_unwritten (refused why head_only, at) told tail wrote after (coming, front, came, first, is, none) follows
+          reply =
+          come_nothing tail after (is ∙ ap (λ t. t ++ front) came ∙ no_front front [] refl first)
+          (still why head_only at after told reply) follows
 
       pub come_record : (x : Timed) (told tail : List ℕ) (after : Room)
           → IsRecord message_text answer_text x told tail → Follows (list ++ tail) others rest
           → IsReplyTo step setting terminals now x after told → Come (texts_of others) after
-      come_record x told tail after is follows reply = come_settled others rest end (list ++ tail) after (settle_record x told tail after is reply) follows
+      come_record x told tail after is follows reply =
+          come_settled others rest end (list ++ tail) after (settle_record x told tail after is reply) follows
 
       -- no arrival more
       pub come_none : Follows list others rest → Come (texts_of others) now
@@ -580,13 +655,19 @@ module _ (step : Step) (setting : Setting) (digits : DigitsOf) (terminals : List
   come_course list text now after outs answers goes s replies kept =
       let k = kept_turns step setting digits terminals outs answers text now after replies kept in
       let told = answers_to_messages outs answers in
-      let same : answers_of (s.turns ++ k.0) ≡ answers_of s.turns ++ told = answers_join s.turns k.0 ∙ ap (λ a. answers_of s.turns ++ a) k.2 in
+      let same : answers_of (s.turns ++ k.0)
+      ≡ answers_of s.turns ++ told = answers_join s.turns k.0 ∙ ap (λ a. answers_of s.turns ++ a) k.2 in
       record {
         settled = record {
           turns = s.turns ++ k.0;
           told = told_join step setting digits terminals held now after list text s.turns k.0 s.told k.1;
           begun = begun-append s.turns k.0 s.begun;
-          given = subst Next (sym (same ∙ ap (λ a. answers_of s.turns ++ a) (sym (append-nil told)))) (goes (answers_of s.turns) [] s.given (omega arith));
+          given =
+              subst Next (sym (same ∙ ap (λ a. answers_of s.turns ++ a) (sym (append-nil told))))
+              (goes (answers_of s.turns) [] s.given (omega arith));
         };
-        more = λ answer. subst Next (sym (ap (λ a. a ++ answer ∷ []) same ∙ append_assoc (answers_of s.turns) told (answer ∷ []))) (goes (answers_of s.turns) (answer ∷ []) s.given (omega arith));
+        more =
+            λ answer.
+            subst Next (sym (ap (λ a. a ++ answer ∷ []) same ∙ append_assoc (answers_of s.turns) told (answer ∷ [])))
+            (goes (answers_of s.turns) (answer ∷ []) s.given (omega arith));
       }

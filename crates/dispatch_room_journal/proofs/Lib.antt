@@ -16,3 +16,16 @@ pub mod FrameLemmas
 pub mod RoomLaws
 pub mod WholeLaws
 pub mod KeptTurns
+pub mod FrontLemmas
+pub mod ChainLemmas
+pub mod SaysLemmas
+pub mod SoundLemmas
+pub mod AgainLemmas
+pub mod ReadStepLemmas
+pub mod TallyLemmas
+pub mod AdvanceLemmas
+pub mod RecordLemmas
+pub mod PlainLemmas
+pub mod WholeLemmas
+pub mod EntryRecordLemmas
+pub mod FormLemmas

@@ -1,5 +1,6 @@
 -- Lemmas on the entries that a replay takes from a journal.
-use Rattle.std.proofs.Common.{◌≡◌, ◌∙◌, sym, ap, subst, refl, arith, ℕ, List, [], ◌∷◌, ◌++◌, drop, append-nil, append_assoc, Option, Some, None, inr}
+use Rattle.std.proofs.Common.{◌≡◌, ◌∙◌, sym, ap, subst, refl, arith, ℕ, List, [], ◌∷◌, ◌++◌, drop, append-nil}
+use Rattle.std.proofs.Common.{append_assoc, Option, Some, None, inr}
 use Rattle.std.specs.Prelude.{⊤}
 use Rattle.std.specs.Io.KnownBytes.{Consumes, Keeps, IsAtEnd, prepend_known}
 use Rattle.std.proofs.KnownBytes.{Consumes-trans}
@@ -53,7 +54,8 @@ texts_two e f = ap (λ t. t ++ texts_of (f ∷ [])) (append-nil (text_of e))
 
 pub taken_two : (a b c : Option (List ℕ)) (e f : Entry) → Consumes a b (texts_of (e ∷ []))
     → Consumes b c (texts_of (f ∷ [])) → Consumes a c (texts_of (e ∷ f ∷ []))
-taken_two a b c e f first second = subst (λ (t : List ℕ). Consumes a c t) (texts_two e f) (Consumes-trans a b c _ _ first second)
+taken_two a b c e f first second =
+    subst (λ (t : List ℕ). Consumes a c t) (texts_two e f) (Consumes-trans a b c _ _ first second)
 
 -- the text begins with the entry at the front
 pub begins_front : (left : Option (List ℕ)) (kept : List ℕ) (layout : EntryLayout) (e : Entry)
@@ -62,7 +64,8 @@ begins_front None kept layout e x text is = absurd (cc)
 begins_front (Some more) kept layout e x text is =
     let same : kept ++ more ≡ text = cc in (
       drop layout.end kept ++ more,
-      sym same ∙ ap (λ t. t ++ more) x.begins.1 ∙ append_assoc (text_of e) (drop layout.end kept) more ∙ ap (λ t. t ++ (drop layout.end kept ++ more)) (sym (append-nil (text_of e))),
+      sym same ∙ ap (λ t. t ++ more) x.begins.1 ∙ append_assoc (text_of e) (drop layout.end kept) more
+          ∙ ap (λ t. t ++ (drop layout.end kept ++ more)) (sym (append-nil (text_of e))),
       tt,
     )
 
@@ -72,12 +75,18 @@ pub no_status_front : (left : Option (List ℕ)) (kept : List ℕ) (layout : Ent
     → BeginsWith (prepend_known kept left) [] HasNoStatus
 no_status_front left kept layout e x other text is =
     let y = begins_front left kept layout e x text is in
-    let first : Begins text e y.0 = (x.begins.0, y.1 ∙ ap (λ t. t ++ y.0) (append-nil (text_of e))) in
-    (text, refl, λ status more begins. other status (x.line ∙ ap line_of (one_entry_law text e (answer status) y.0 more first begins).0))
+    let first : Begins text e y.0 = (x.begins.0, y.1 ∙ ap (λ t. t ++ y.0) (append-nil (text_of e))) in (
+      text,
+      refl,
+      λ status more begins.
+          other status (x.line ∙ ap line_of (one_entry_law text e (answer status) y.0 more first begins).0),
+    )
 
 pub no_status_end : (left : Option (List ℕ)) → IsAtEnd left → BeginsWith left [] HasNoStatus
 no_status_end None end text is = absurd (cc)
-no_status_end (Some x) end text is = let same : x ≡ text = cc in (text, refl, λ status more begins. (no_end_law text (answer status) more begins).0 (sym same ∙ end))
+no_status_end (Some x) end text is =
+    let same : x ≡ text = cc in
+    (text, refl, λ status more begins. (no_end_law text (answer status) more begins).0 (sym same ∙ end))
 
 -- a head that stands next is the one at the front
 pub head_front : (P : Head → Type 0) (left : Option (List ℕ)) (kept : List ℕ) (layout : EntryLayout)
@@ -87,8 +96,11 @@ pub head_front : (P : Head → Type 0) (left : Option (List ℕ)) (kept : List �
     (λ rest. (head : Head) (more : List ℕ) → Begins rest (room head) more → P head)
 head_front P left kept layout e x is_head text is =
     let y = begins_front left kept layout e x text is in
-    let first : Begins text e y.0 = (x.begins.0, y.1 ∙ ap (λ t. t ++ y.0) (append-nil (text_of e))) in
-    (text, refl, λ head more begins. is_head head (x.line ∙ ap line_of (one_entry_law text e (room head) y.0 more first begins).0))
+    let first : Begins text e y.0 = (x.begins.0, y.1 ∙ ap (λ t. t ++ y.0) (append-nil (text_of e))) in (
+      text,
+      refl,
+      λ head more begins. is_head head (x.line ∙ ap line_of (one_entry_law text e (room head) y.0 more first begins).0),
+    )
 
 pub head_end : (P : Head → Type 0) (left : Option (List ℕ)) → IsAtEnd left → BeginsWith left []
     (λ rest. (head : Head) (more : List ℕ) → Begins rest (room head) more → P head)

@@ -1,5 +1,7 @@
 -- Lemmas on the digits of numbers.
-use Rattle.std.proofs.Common.{◌≡◌, ◌≢◌, ◌∙◌, sym, ap, refl, arith, ℕ, ◌+◌, ◌/◌, ◌%◌, ◌^◌, ◌<◌, ◌≤◌, List, [], ◌∷◌, ◌++◌, length, ◌⊎◌, inl, inr, append-nil, length-append, decimal, Result, Ok, Err, is_ok, Option, Some, None, is_some, Bool, IsTrue, ◌↔◌, MatchOption}
+use Rattle.std.proofs.Common.{◌≡◌, ◌≢◌, ◌∙◌, sym, ap, refl, arith, ℕ, ◌+◌, ◌/◌, ◌%◌, ◌^◌, ◌<◌, ◌≤◌, List, [], ◌∷◌, ◌++◌}
+use Rattle.std.proofs.Common.{length, ◌⊎◌, inl, inr, append-nil, length-append, decimal, Result, Ok, Err, is_ok, Option}
+use Rattle.std.proofs.Common.{Some, None, is_some, Bool, IsTrue, ◌↔◌, MatchOption}
 use Rattle.std.proofs.lemmas.Fmt.{decimal_by_steps, decimal_step, decimal_is_IsNumeral, parse-decimal, IsAscii-decimal}
 use Rattle.std.proofs.lemmas.Bool.{cases_lt, false≢true}
 use Rattle.std.proofs.lemmas.List.{nil_from_length, append_cancel_right}
@@ -44,7 +46,8 @@ digits_are_one text bytes n least greatest small same reads has =
 pub digits_lack : (mark n : ℕ) → mark < 48 → n < 2 ^ 64 → Lacks mark (decimal n)
 digits_lack mark n low small =
     let all = (decimal_is_IsNumeral n small).0 in
-    All-from_get_or (λ byte. byte ≢ mark) (decimal n) 0 (λ i within is. let digit = digit_at (decimal n) i all.1 within in absurd (omega (arith, low, is, digit)))
+    All-from_get_or (λ byte. byte ≢ mark) (decimal n) 0
+    (λ i within is. let digit = digit_at (decimal n) i all.1 within in absurd (omega (arith, low, is, digit)))
 
 -- the first digits of a number are a number that is not above it, and not 0 where it isn't
 abbrev Front : ℕ → List ℕ → Type 0
@@ -55,8 +58,12 @@ Front n digits =
 front_whole : (n : ℕ) (digits front rest : List ℕ) → digits ≡ decimal n → digits ≡ front ++ rest
     → length rest ≡ 0
     → (m : ℕ) × (front ≡ decimal m) × (m ≤ n) × (0 < n → 0 < m)
-front_whole n digits front rest is cut none =
-    (n, sym (append-nil front) ∙ ap (λ t. front ++ t) (sym (nil_from_length rest none)) ∙ sym cut ∙ is, omega arith, λ some. some)
+front_whole n digits front rest is cut none = (
+  n,
+  sym (append-nil front) ∙ ap (λ t. front ++ t) (sym (nil_from_length rest none)) ∙ sym cut ∙ is,
+  omega arith,
+  λ some. some,
+)
 
 front_one : (n : ℕ) → n < 10 → Front n ((48 + n) ∷ [])
 front_one n one small is front rest cut some =
@@ -93,7 +100,8 @@ front_more n digits more less small is front rest cut some = go (split digits fr
 pub front_of : (n : ℕ) → n < 2 ^ 64 → (front rest : List ℕ) → decimal n ≡ front ++ rest
     → 0 < length front
     → (m : ℕ) × (front ≡ decimal m) × (m ≤ n) × (0 < n → 0 < m)
-front_of n small front rest cut some = decimal_by_steps Front front_one front_more n small small refl front rest cut some
+front_of n small front rest cut some =
+    decimal_by_steps Front front_one front_more n small small refl front rest cut some
 
 least_of : (least m n : ℕ) → least ≤ 1 → least ≤ n → (0 < n → 0 < m) → least ≤ m
 least_of least m n low le above = go (cases_lt 0 n)
@@ -116,8 +124,12 @@ begins_is_number bytes least greatest small low some has =
 -- nothing is the first part of a number
 pub begins_empty : (bytes : List ℕ) (least greatest : ℕ) → length bytes ≡ 0 → least ≤ greatest
     → BeginsOne (IsNumber least greatest) bytes
-begins_empty bytes least greatest none le =
-    (decimal greatest, decimal greatest, (greatest, le, omega arith, refl), ap (λ t. t ++ decimal greatest) (sym (nil_from_length bytes none)))
+begins_empty bytes least greatest none le = (
+  decimal greatest,
+  decimal greatest,
+  (greatest, le, omega arith, refl),
+  ap (λ t. t ++ decimal greatest) (sym (nil_from_length bytes none)),
+)
 
 -- what was read as a number or none says whether the bytes begin one
 pub begins_some : (bytes : List ℕ) (least greatest : ℕ) (r : Option ℕ) (b : Bool)
@@ -127,5 +139,7 @@ pub begins_some : (bytes : List ℕ) (least greatest : ℕ) (r : Option ℕ) (b 
     → b ≡ is_some r → IsTrue b ↔ BeginsOne (IsNumber least greatest) bytes
 begins_some bytes least greatest (Some n) b small low some has is =
     (λ _. (bytes, [], (n, has.0, has.1, has.2), sym (append-nil bytes)), λ _. is)
-begins_some bytes least greatest None b small low some has is =
-    (λ yes. absurd (false≢true (sym is ∙ yes)), λ begun. absurd (has (begins_is_number bytes least greatest small low some begun)))
+begins_some bytes least greatest None b small low some has is = (
+  λ yes. absurd (false≢true (sym is ∙ yes)),
+  λ begun. absurd (has (begins_is_number bytes least greatest small low some begun)),
+)

@@ -1,5 +1,8 @@
 -- Lemmas on first parts of lines.
-use Rattle.std.proofs.Common.{◌≡◌, ◌≢◌, ◌∙◌, sym, ap, subst, refl, arith, ℕ, ◌+◌, ◌-◌, ◌*◌, ◌/◌, ◌%◌, ◌<◌, ◌≤◌, List, [], ◌∷◌, ◌++◌, length, drop, Bool, true, false, IsTrue, ◌↔◌, nat_eq, Option, Some, None, is_some, MatchOption, All, ◌⊎◌, inl, inr, codes, decimal, replicate, append-nil, append_assoc, length-append}
+use Rattle.std.proofs.Common.{◌≡◌, ◌≢◌, ◌∙◌, sym, ap, subst, refl, arith, ℕ, ◌+◌, ◌-◌, ◌*◌, ◌/◌, ◌%◌, ◌<◌, ◌≤◌, List}
+use Rattle.std.proofs.Common.{[], ◌∷◌, ◌++◌, length, drop, Bool, true, false, IsTrue, ◌↔◌, nat_eq, Option, Some, None}
+use Rattle.std.proofs.Common.{is_some, MatchOption, All, ◌⊎◌, inl, inr, codes, decimal, replicate, append-nil}
+use Rattle.std.proofs.Common.{append_assoc, length-append}
 use Rattle.std.specs.List.{starts_with}
 use Rattle.std.proofs.lemmas.Bool.{cases_lt, false≢true}
 use Rattle.std.proofs.lemmas.Bool.Decides.{Decides-eqb}
@@ -11,7 +14,8 @@ use Rattle.std.proofs.lemmas.List.Elements.{All-append, All-take, All-replicate,
 use Rattle.room_http_messages.specs.declared.limits.TheConstants.{INBOX_ROOM}
 use Rattle.room_model.specs.declared.digests.Version.{Version}
 use Rattle.dispatch_room_journal.specs.declared.entry_lines.EntryLine.TheVariants.{Room, Message, Answer}
-use Rattle.dispatch_room_journal.specs.declared.entry_lines.TheConstants.{LAST_MOMENT, LEAST_STATUS, GREATEST_STATUS, DIGEST_DIGITS}
+use Rattle.dispatch_room_journal.specs.declared.entry_lines.TheConstants.{LAST_MOMENT, LEAST_STATUS, GREATEST_STATUS}
+use Rattle.dispatch_room_journal.specs.declared.entry_lines.TheConstants.{DIGEST_DIGITS}
 use Rattle.dispatch_room_journal.specs.Entries.{is_digest_digit, IsDigest, head_words}
 use Rattle.dispatch_room_journal.specs.TextParts.{Lacks, BeginsOne, After, AreNumbers, IsNumber, IsLineText}
 use Rattle.dispatch_room_journal.proofs.TextLemmas.{head, split, cut_unique, has_mark}
@@ -20,8 +24,12 @@ use Rattle.dispatch_room_journal.proofs.NumberLemmas.{digits_lack}
 -- a text that begins with the word is the first part of one after it where what follows the word is
 pub after_word : (word : List ℕ) (Kind : List ℕ → Type 0) (bytes rest : List ℕ)
     → bytes ≡ word ++ rest → BeginsOne Kind rest → BeginsOne (After word Kind) bytes
-after_word word Kind bytes rest is has =
-    (word ++ has.0, has.1, (has.0, has.2, refl), ap (λ t. word ++ t) has.3 ∙ sym (append_assoc word rest has.1) ∙ ap (λ t. t ++ has.1) (sym is))
+after_word word Kind bytes rest is has = (
+  word ++ has.0,
+  has.1,
+  (has.0, has.2, refl),
+  ap (λ t. word ++ t) has.3 ∙ sym (append_assoc word rest has.1) ∙ ap (λ t. t ++ has.1) (sym is),
+)
 
 pub before_word : (word : List ℕ) (Kind : List ℕ → Type 0) (bytes rest : List ℕ)
     → bytes ≡ word ++ rest → BeginsOne (After word Kind) bytes → BeginsOne Kind rest
@@ -61,21 +69,28 @@ digest_part bytes short all =
       bytes ++ zeros,
       zeros,
       (
-        length-append bytes zeros ∙ ap (λ n. length bytes + n) (length-replicate (DIGEST_DIGITS - length bytes) 48) ∙ omega (arith, short),
-        All-append (λ byte. is_digest_digit byte ≡ true) bytes zeros all (All-replicate (λ byte. is_digest_digit byte ≡ true) (DIGEST_DIGITS - length bytes) 48 refl),
+        length-append bytes zeros ∙ ap (λ n. length bytes + n) (length-replicate (DIGEST_DIGITS - length bytes) 48)
+            ∙ omega (arith, short),
+        All-append (λ byte. is_digest_digit byte ≡ true) bytes zeros all
+            (All-replicate (λ byte. is_digest_digit byte ≡ true) (DIGEST_DIGITS - length bytes) 48 refl),
       ),
       refl,
     )
 
 all_front : (a b : List ℕ) → All (λ byte. is_digest_digit byte ≡ true) (a ++ b)
     → All (λ byte. is_digest_digit byte ≡ true) a
-all_front a b all = All-same (λ byte. is_digest_digit byte ≡ true) a _ (sym (take-append_seam a b)) (All-take (λ byte. is_digest_digit byte ≡ true) (length a) (a ++ b) all)
+all_front a b all =
+    All-same (λ byte. is_digest_digit byte ≡ true) a _ (sym (take-append_seam a b))
+    (All-take (λ byte. is_digest_digit byte ≡ true) (length a) (a ++ b) all)
 
 pub digest_begun : (bytes : List ℕ) → BeginsOne IsDigest bytes
     → (length bytes ≤ DIGEST_DIGITS) × All (λ byte. is_digest_digit byte ≡ true) bytes
 digest_begun bytes has =
-    let size : length bytes + length has.1 ≡ DIGEST_DIGITS = sym (length-append bytes has.1) ∙ ap length (sym has.3) ∙ has.2.0 in
-    (omega (arith, size), all_front bytes has.1 (All-same (λ byte. is_digest_digit byte ≡ true) _ _ (sym has.3) has.2.1))
+    let size : length bytes + length has.1
+    ≡ DIGEST_DIGITS = sym (length-append bytes has.1) ∙ ap length (sym has.3) ∙ has.2.0 in (
+      omega (arith, size),
+      all_front bytes has.1 (All-same (λ byte. is_digest_digit byte ≡ true) _ _ (sym has.3) has.2.1),
+    )
 
 -- without a space, it is the first part of the moment
 pub moment_part : (bytes : List ℕ) → BeginsOne (IsNumber 0 LAST_MOMENT) bytes
@@ -97,10 +112,16 @@ moment_begun bytes lacks has = go (split (decimal has.2.0) bytes (32 ∷ decimal
         ⊎ ((c : List ℕ) × (decimal has.2.0 ≡ bytes ++ c) × (has.1 ≡ c ++ 32 ∷ decimal has.2.1))
         → BeginsOne (IsNumber 0 LAST_MOMENT) bytes
     go (inr shorter) = (decimal has.2.0, shorter.0, (has.2.0, omega arith, has.2.2, refl), shorter.1)
-    go (inl ([], longer, next)) = (decimal has.2.0, [], (has.2.0, omega arith, has.2.2, refl), sym (append-nil bytes ∙ longer ∙ append-nil (decimal has.2.0)))
+    go (inl ([], longer, next)) = (
+      decimal has.2.0,
+      [],
+      (has.2.0, omega arith, has.2.2, refl),
+      sym (append-nil bytes ∙ longer ∙ append-nil (decimal has.2.0)),
+    )
     go (inl (k ∷ c, longer, next)) =
         let space : k ≡ 32 = sym (ap head next) in
-        absurd (has_mark 32 (decimal has.2.0) c (subst (λ (t : List ℕ). Lacks 32 t) (longer ∙ ap (λ j. decimal has.2.0 ++ j ∷ c) space) lacks))
+        absurd (has_mark 32 (decimal has.2.0) c
+        (subst (λ (t : List ℕ). Lacks 32 t) (longer ∙ ap (λ j. decimal has.2.0 ++ j ∷ c) space) lacks))
 
 -- after a space, the moment is whole, and the rest is the first part of the number of bytes
 pub numbers_part : (bytes at size : List ℕ) → bytes ≡ at ++ 32 ∷ size → IsNumber 0 LAST_MOMENT at
@@ -110,7 +131,8 @@ numbers_part bytes at size is moment has =
       at ++ 32 ∷ decimal n.0,
       has.1,
       (moment.0, n.0, moment.2, n.1, n.2, ap (λ t. t ++ 32 ∷ decimal n.0) moment.3),
-      ap (λ t. at ++ 32 ∷ t) (sym n.3 ∙ has.3) ∙ sym (append_assoc at (32 ∷ size) has.1) ∙ ap (λ t. t ++ has.1) (sym is),
+      ap (λ t. at ++ 32 ∷ t) (sym n.3 ∙ has.3) ∙ sym (append_assoc at (32 ∷ size) has.1)
+          ∙ ap (λ t. t ++ has.1) (sym is),
     )
 
 pub numbers_begun : (bytes at size : List ℕ) → bytes ≡ at ++ 32 ∷ size → Lacks 32 at
@@ -121,7 +143,8 @@ numbers_begun bytes at size is lacks has =
     let small : n.0 ≤ LAST_MOMENT = n.2 in
     let whole : decimal n.0 ++ 32 ∷ decimal n.1 ≡ at ++ 32 ∷ (size ++ has.1) =
     sym n.5 ∙ has.3 ∙ ap (λ t. t ++ has.1) is ∙ append_assoc at (32 ∷ size) has.1 in
-    let parts = cut_unique 32 (decimal n.0) (decimal n.1) at (size ++ has.1) (digits_lack 32 n.0 (omega arith) (omega (arith, small))) lacks whole in
+    let parts = cut_unique 32 (decimal n.0) (decimal n.1) at (size ++ has.1)
+    (digits_lack 32 n.0 (omega arith) (omega (arith, small))) lacks whole in
     ((n.0, omega arith, small, sym parts.0), (decimal n.1, has.1, (n.1, n.3, n.4, refl), parts.1))
 
 -- one more digit, a zero
@@ -129,7 +152,8 @@ tens : (n : ℕ) → 1 ≤ n → n ≤ 99 → decimal (n * 10) ≡ decimal n ++ 
 tens n some few =
     let whole : n * 10 / 10 ≡ n = omega arith in
     let none : n * 10 % 10 ≡ 0 = omega arith in
-    decimal_step (n * 10) (omega arith) (omega arith) ∙ ap (λ m. decimal m ++ (48 + n * 10 % 10) ∷ []) whole ∙ ap (λ d. decimal n ++ (48 + d) ∷ []) none
+    decimal_step (n * 10) (omega arith) (omega arith) ∙ ap (λ m. decimal m ++ (48 + n * 10 % 10) ∷ []) whole
+    ∙ ap (λ d. decimal n ++ (48 + d) ∷ []) none
 
 -- a number up to the greatest status that is not 0 is the first part of a status
 pub status_part : (bytes : List ℕ) → BeginsOne (IsNumber 1 GREATEST_STATUS) bytes
@@ -150,20 +174,23 @@ status_part bytes has = go has.2.0 has.2.1 has.2.2 (sym has.2.3 ∙ has.3) (case
       decimal (n * 10 * 10),
       has.1 ++ 48 ∷ 48 ∷ [],
       (n * 10 * 10, omega arith, omega arith, refl),
-      tens (n * 10) (omega arith) (omega arith) ∙ ap (λ t. t ++ 48 ∷ []) (tens n some (omega arith)) ∙ append_assoc (decimal n) (48 ∷ []) (48 ∷ [])
+      tens (n * 10) (omega arith) (omega arith) ∙ ap (λ t. t ++ 48 ∷ []) (tens n some (omega arith))
+          ∙ append_assoc (decimal n) (48 ∷ []) (48 ∷ [])
           ∙ ap (λ t. t ++ 48 ∷ 48 ∷ []) is ∙ append_assoc bytes has.1 (48 ∷ 48 ∷ []),
     )
 
 pub status_begun : (bytes : List ℕ) → BeginsOne (IsNumber LEAST_STATUS GREATEST_STATUS) bytes
     → BeginsOne (IsNumber 1 GREATEST_STATUS) bytes
-status_begun bytes has = let n = has.2 in let low : LEAST_STATUS ≤ n.0 = n.1 in (has.0, has.1, (n.0, omega (arith, low), n.2, n.3), has.3)
+status_begun bytes has =
+    let n = has.2 in let low : LEAST_STATUS ≤ n.0 = n.1 in (has.0, has.1, (n.0, omega (arith, low), n.2, n.3), has.3)
 
 -- a text with a space in it is no moment and number of bytes, unless its parts are
 pub numbers_cut : (bytes at size : List ℕ) → bytes ≡ at ++ 32 ∷ size → Lacks 32 at
     → AreNumbers bytes → IsNumber 0 LAST_MOMENT at × IsNumber 1 INBOX_ROOM size
 numbers_cut bytes at size is lacks n =
     let small : n.0 ≤ LAST_MOMENT = n.2 in
-    let parts = cut_unique 32 (decimal n.0) (decimal n.1) at size (digits_lack 32 n.0 (omega arith) (omega (arith, small))) lacks (sym n.5 ∙ is) in
+    let parts = cut_unique 32 (decimal n.0) (decimal n.1) at size
+    (digits_lack 32 n.0 (omega arith) (omega (arith, small))) lacks (sym n.5 ∙ is) in
     ((n.0, omega arith, small, sym parts.0), (n.1, n.3, n.4, sym parts.1))
 
 pub numbers_uncut : (bytes : List ℕ) → Lacks 32 bytes → ¬ (AreNumbers bytes)
@@ -175,8 +202,10 @@ pub numbers_some : (bytes at size : List ℕ) (r : Option ℕ) (b : Bool) → by
     → MatchOption r (¬ (IsNumber 0 LAST_MOMENT at))
     (λ n. (0 ≤ n) × (n ≤ LAST_MOMENT) × (at ≡ decimal n)) → is_some r ≡ true
     → IsTrue b ↔ BeginsOne (IsNumber 1 INBOX_ROOM) size → IsTrue b ↔ BeginsOne AreNumbers bytes
-numbers_some bytes at size (Some n) b is lacks has some begun =
-    (λ yes. numbers_part bytes at size is (n, has.0, has.1, has.2) (begun.0 yes), λ all. begun.1 (numbers_begun bytes at size is lacks all).1)
+numbers_some bytes at size (Some n) b is lacks has some begun = (
+  λ yes. numbers_part bytes at size is (n, has.0, has.1, has.2) (begun.0 yes),
+  λ all. begun.1 (numbers_begun bytes at size is lacks all).1,
+)
 numbers_some bytes at size None b is lacks has some begun = absurd (false≢true some)
 
 pub numbers_none : (bytes at size : List ℕ) (r : Option ℕ) → bytes ≡ at ++ 32 ∷ size → Lacks 32 at
@@ -224,16 +253,22 @@ line_of_answer bytes has =
 
 pub line_cases : (bytes : List ℕ) → BeginsOne IsLineText bytes
     → ((version : Version) × BeginsOne (After (head_words version) IsDigest) bytes)
-    ⊎ (BeginsOne (After (codes "message ") AreNumbers) bytes ⊎ BeginsOne (After (codes "answer ") (IsNumber LEAST_STATUS GREATEST_STATUS)) bytes)
-line_cases bytes (whole, more, (Room h, is_one, is), goes_on) = inl (h.version, (whole, more, (h.digits, is_one, is), goes_on))
+    ⊎ (BeginsOne (After (codes "message ") AreNumbers) bytes
+    ⊎ BeginsOne (After (codes "answer ") (IsNumber LEAST_STATUS GREATEST_STATUS)) bytes)
+line_cases bytes (whole, more, (Room h, is_one, is), goes_on) =
+    inl (h.version, (whole, more, (h.digits, is_one, is), goes_on))
 line_cases bytes (whole, more, (Message at size, is_one, is), goes_on) =
-    inr (inl (whole, more, (decimal at ++ 32 ∷ decimal size, (at, size, is_one.0, is_one.1, is_one.2, refl), is), goes_on))
+    inr
+    (inl (whole, more, (decimal at ++ 32 ∷ decimal size, (at, size, is_one.0, is_one.1, is_one.2, refl), is), goes_on))
 line_cases bytes (whole, more, (Answer status, is_one, is), goes_on) =
     inr (inr (whole, more, (decimal status, (status, is_one.0, is_one.1, refl), is), goes_on))
 
 -- digests, numbers and statuses that there are
 pub zeros_are_digest : IsDigest (replicate DIGEST_DIGITS 48)
-zeros_are_digest = (length-replicate {A = ℕ} DIGEST_DIGITS 48, All-replicate (λ byte. is_digest_digit byte ≡ true) DIGEST_DIGITS 48 refl)
+zeros_are_digest = (
+  length-replicate {A = ℕ} DIGEST_DIGITS 48,
+  All-replicate (λ byte. is_digest_digit byte ≡ true) DIGEST_DIGITS 48 refl,
+)
 
 pub least_numbers : AreNumbers (decimal 0 ++ 32 ∷ decimal 1)
 least_numbers = (0, 1, omega arith, omega arith, omega arith, refl)

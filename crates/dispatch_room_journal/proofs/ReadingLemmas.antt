@@ -1,5 +1,7 @@
 -- Lemmas on reads.
-use Rattle.std.proofs.Common.{◌≡◌, ◌∙◌, ap, sym, subst, refl, arith, ℕ, ◌+◌, ◌-◌, ◌<◌, ◌≤◌, List, [], ◌∷◌, ◌++◌, length, drop, append-nil, append_assoc, length-append, Bool, true, false, Option, Some, None, Result, Ok, Err}
+use Rattle.std.proofs.Common.{◌≡◌, ◌∙◌, ap, sym, subst, refl, arith, ℕ, ◌+◌, ◌-◌, ◌<◌, ◌≤◌, List, [], ◌∷◌, ◌++◌, length}
+use Rattle.std.proofs.Common.{drop, append-nil, append_assoc, length-append, Bool, true, false, Option, Some, None}
+use Rattle.std.proofs.Common.{Result, Ok, Err}
 use Rattle.std.specs.Io.KnownBytes.{prepend_known, Keeps, Consumes, IsAtEnd}
 use Rattle.std.proofs.lemmas.List.{drop-append-le, nil_from_length}
 use Rattle.dispatch_room_journal.specs.declared.journal_inbox.TheConstants.{ENTRY_ROOM}
@@ -44,7 +46,8 @@ ends before kept more failed ended left none is part sound found end =
 -- an entry at the front of the bytes ends within them
 pub layout_fits : (kept : List ℕ) (layout : EntryLayout) (e : Entry) → IsLayout kept layout e
     → layout.end ≤ length kept
-layout_fits kept layout e x = omega (arith, x.end, length-append (text_of e) (drop layout.end kept), ap length x.begins.1)
+layout_fits kept layout e x =
+    omega (arith, x.end, length-append (text_of e) (drop layout.end kept), ap length x.begins.1)
 
 -- bytes that follow leave the entry at the front
 layout-append : (kept more : List ℕ) (layout : EntryLayout) (e : Entry) → IsLayout kept layout e

@@ -17,7 +17,9 @@ use Rattle.room_http.proofs.RunLemmas.{talk_run}
 use Rattle.room_http.proofs.PromiseLaws.{promises_kept}
 use Rattle.room_model.specs.declared.digests.Head.{Head}
 use Rattle.dispatch_room_journal.specs.Entries.{Entry, room, answer}
-use Rattle.dispatch_room_journal.specs.ReplayedTurns.{Play, Turn, compared, answered, caught_up, tried, left_out, timed, entries_in, entries_of, is_left_out, is_unanswered, arrivals_of, bytes_of, IsPlay, IsTurn, IsReplayed, IsPlayed}
+use Rattle.dispatch_room_journal.specs.ReplayedTurns.{Play, Turn, compared, answered, caught_up, tried, left_out, timed}
+use Rattle.dispatch_room_journal.specs.ReplayedTurns.{entries_in, entries_of, is_left_out, is_unanswered, arrivals_of}
+use Rattle.dispatch_room_journal.specs.ReplayedTurns.{bytes_of, IsPlay, IsTurn, IsReplayed, IsPlayed}
 use Rattle.dispatch_room_journal.specs.Replays.{DigitsOf, Answers, Does, IsReplay, IsHeadOf}
 use Rattle.dispatch_room_journal.specs.ReplayLaws.{IsOneReplay, IsOneAnswering, IsKept}
 use Rattle.dispatch_room_journal.proofs.TurnLemmas.{talk_of}
@@ -49,11 +51,16 @@ module _ (step : Step) (setting : Setting) (digest_of : DigitsOf) (terminals : L
       → Answers step setting digest_of terminals held p after
       → Answers step setting digest_of terminals held q other → (p ≡ q) × (after ≡ other)
   same_play held after other p q p_is q_is at sent first second =
-      let whole : p.whole ≡ q.whole = (one_message_law p.sent p.whole q.whole [] [] p_is (subst (λ (t : List ℕ). HasMessage t q.whole []) (sym sent) q_is)).0 in
+      let whole : p.whole
+      ≡ q.whole =
+      (one_message_law p.sent p.whole q.whole [] [] p_is
+      (subst (λ (t : List ℕ). HasMessage t q.whole []) (sym sent) q_is)).0 in
       let arrives : timed p ≡ timed q = λ i. (arrived (whole i), at i) in
-      let again : IsReplyTo step setting terminals held (timed p) other q.told = subst (λ (x : Timed). IsReplyTo step setting terminals held x other q.told) (sym arrives) second in
+      let again : IsReplyTo step setting terminals held (timed p) other q.told = subst
+      (λ (x : Timed). IsReplyTo step setting terminals held x other q.told) (sym arrives) second in
       let same = one_talk_law step setting terminals held (timed p ∷ []) after other p.told q.told
-      (IsTalk-one step setting terminals held after (timed p) p.told first) (IsTalk-one step setting terminals held other (timed p) q.told again) in
+      (IsTalk-one step setting terminals held after (timed p) p.told first)
+      (IsTalk-one step setting terminals held other (timed p) q.told again) in
       (λ i. record { at = at i; sent = sent i; whole = whole i; told = same.1 i }, same.0)
 
   -- no turn begins with a status
@@ -69,7 +76,8 @@ module _ (step : Step) (setting : Setting) (digest_of : DigitsOf) (terminals : L
   pub first_head : (held next : Room) (t : Turn) (entries : List Entry) (head : Head)
       (more : List Entry) → entries_in t ++ entries ≡ room head ∷ more
       → Does step setting digest_of terminals held t next → IsHeadOf digest_of head terminals held
-  first_head held next (compared d) entries head more is x = let same : d ≡ head = cc in subst (λ (h : Head). IsHeadOf digest_of h terminals held) same x.1
+  first_head held next (compared d) entries head more is x =
+      let same : d ≡ head = cc in subst (λ (h : Head). IsHeadOf digest_of h terminals held) same x.1
   first_head held next (answered p s) entries head more is x = absurd (cc)
   first_head held next (caught_up p d) entries head more is x = absurd (cc)
   first_head held next (tried p) entries head more is x = absurd (cc)
@@ -94,7 +102,8 @@ module _ (step : Step) (setting : Setting) (digest_of : DigitsOf) (terminals : L
 
   -- what follows a turn, after which the room is this
   abbrev pub Follows : Turn → Room → List Entry → Type 0
-  Follows t next entries = (is_unanswered t ≡ true → AreUnanswered entries) × (is_left_out t ≡ true → AreMet next entries)
+  Follows t next entries =
+      (is_unanswered t ≡ true → AreUnanswered entries) × (is_left_out t ≡ true → AreMet next entries)
 
   -- the entries of turns
   pub unanswered_turns : (ts : List Turn) → AreUnanswered (entries_of ts)
@@ -116,7 +125,8 @@ module _ (step : Step) (setting : Setting) (digest_of : DigitsOf) (terminals : L
         → entries_in t ++ es ≡ entries_in u ++ fs → Follows t next es → Follows u then fs
         → Does step setting digest_of terminals held t next
         → Does step setting digest_of terminals held u then → Decides t u es fs next then
-    one_turn (compared g) (compared h) a b alike is x y d e = let same : g ≡ h = cc in (ap compared same, d.0 ∙ sym e.0, ap (drop 1) is)
+    one_turn (compared g) (compared h) a b alike is x y d e =
+        let same : g ≡ h = cc in (ap compared same, d.0 ∙ sym e.0, ap (drop 1) is)
     one_turn (compared g) (answered q r) a b alike is x y d e = absurd (cc)
     one_turn (compared g) (caught_up q h) a b alike is x y d e = absurd (cc)
     one_turn (compared g) (tried q) a b alike is x y d e = absurd (cc)
@@ -142,7 +152,8 @@ module _ (step : Step) (setting : Setting) (digest_of : DigitsOf) (terminals : L
     one_turn (tried p) (answered q r) a b alike is x y d e = absurd (x.0 refl r fs (ap (drop 1) is))
     one_turn (tried p) (caught_up q h) a b alike is x y d e = absurd (alike.0 (refl, refl))
     one_turn (tried p) (tried q) a b alike is x y d e =
-        let played = same_play held next then p q a b (cc) (cc) d e in (λ i. tried (played.0 i), played.1, ap (drop 1) is)
+        let played = same_play held next then p q a b (cc) (cc) d e in
+        (λ i. tried (played.0 i), played.1, ap (drop 1) is)
     one_turn (tried p) (left_out n k) a b alike is x y d e = absurd (alike.0 (refl, refl))
     one_turn (left_out m l) (compared h) a b alike is x y d e = absurd (cc)
     one_turn (left_out m l) (answered q r) a b alike is x y d e = absurd (x.0 refl r fs (ap (drop 1) is))
@@ -165,9 +176,12 @@ module _ (step : Step) (setting : Setting) (digest_of : DigitsOf) (terminals : L
     one_of held [] (u ∷ us) a b c d is x y = absurd (some_entry u (entries_of us) is)
     one_of held (t ∷ ts) [] a b c d is x y = absurd (some_entry t (entries_of ts) (sym is))
     one_of held (t ∷ ts) (u ∷ us) a b c d is x y =
-        let one = one_turn held x.0 y.0 (entries_of ts) (entries_of us) t u (All-head IsTurn t ts a) (All-head IsTurn u us b) (alike t u (All-head Kind t ts c) (All-head Kind u us d)) is
-        (λ _. unanswered_turns ts, λ _. met_turns x.0 after ts x.2) (λ _. unanswered_turns us, λ _. met_turns y.0 other us y.2) x.1 y.1 in
-        let rest = one_of x.0 ts us (All-tail IsTurn t ts a) (All-tail IsTurn u us b) (All-tail Kind t ts c) (All-tail Kind u us d) one.2 x.2
+        let one = one_turn held x.0 y.0 (entries_of ts) (entries_of us) t u (All-head IsTurn t ts a)
+        (All-head IsTurn u us b) (alike t u (All-head Kind t ts c) (All-head Kind u us d)) is
+        (λ _. unanswered_turns ts, λ _. met_turns x.0 after ts x.2)
+        (λ _. unanswered_turns us, λ _. met_turns y.0 other us y.2) x.1 y.1 in
+        let rest = one_of x.0 ts us (All-tail IsTurn t ts a) (All-tail IsTurn u us b) (All-tail Kind t ts c)
+        (All-tail Kind u us d) one.2 x.2
         (subst (λ (o : Room). IsReplay step setting digest_of terminals o us other) (sym one.1) y.2) in
         (λ i. one.0 i ∷ rest.0 i, rest.1)
 
@@ -202,5 +216,6 @@ one_answering_law step setting digest_of terminals held after other ts us a b c 
 
 pub kept_law : IsKept
 kept_law setting digest_of terminals held after ts fit formed x =
-    let run = talk_run setting terminals held (arrivals_of ts) after (bytes_of ts) fit (talk_of machine setting digest_of terminals held ts after x) in
+    let run = talk_run setting terminals held (arrivals_of ts) after (bytes_of ts) fit
+    (talk_of machine setting digest_of terminals held ts after x) in
     (run.0, run.1, promises_kept setting terminals run.0 held formed run.1.run)

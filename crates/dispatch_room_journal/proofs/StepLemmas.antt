@@ -1,5 +1,6 @@
 -- Lemmas on the steps of a replay.
-use Rattle.std.proofs.Common.{◌≡◌, ◌∙◌, sym, ap, subst, refl, arith, ℕ, List, [], ◌∷◌, drop, decimal, Bool, true, false, ◌↔◌, IsTrue, Option, Some, Result, Ok, Err, inl, inr}
+use Rattle.std.proofs.Common.{◌≡◌, ◌∙◌, sym, ap, subst, refl, arith, ℕ, List, [], ◌∷◌, drop, decimal, Bool, true, false}
+use Rattle.std.proofs.Common.{◌↔◌, IsTrue, Option, Some, Result, Ok, Err, inl, inr}
 use Rattle.std.specs.Io.KnownBytes.{Consumes, prepend_known}
 use Rattle.std.proofs.KnownBytes.{Consumes-kept, Keeps-refl}
 use Rattle.room_types.specs.declared.fleet.Terminal.{Terminal}
@@ -21,11 +22,15 @@ use Rattle.dispatch_room_journal.specs.declared.replay_faults.ReplayFault.{Repla
 use Rattle.dispatch_room_journal.specs.declared.replay_faults.ReplayFault.TheVariants.{Bad, Differs, Want}
 use Rattle.dispatch_room_journal.specs.declared.journal_messages.Turned.TheVariants.{Played, LeftOut}
 use Rattle.dispatch_room_journal.specs.JournalRecords.{status_in}
-use Rattle.dispatch_room_journal.specs.ReplayedTurns.{Play, Turn, answered, caught_up, tried, left_out, timed, IsPlay, AreBy, BeginsWith}
-use Rattle.dispatch_room_journal.specs.ReplayFaults.{read_fault, miss_fault, IsPlayedFor, broken_after, Explains, IsDueTo, Refuses}
+use Rattle.dispatch_room_journal.specs.ReplayedTurns.{Play, Turn, answered, caught_up, tried, left_out, timed, IsPlay}
+use Rattle.dispatch_room_journal.specs.ReplayedTurns.{AreBy, BeginsWith}
+use Rattle.dispatch_room_journal.specs.ReplayFaults.{read_fault, miss_fault, IsPlayedFor, broken_after, Explains}
+use Rattle.dispatch_room_journal.specs.ReplayFaults.{IsDueTo, Refuses}
 use Rattle.dispatch_room_journal.specs.Replays.{DigitsOf, Leads, LeadsElsewhere, IsHeadOf}
-use Rattle.dispatch_room_journal.specs.ReplaySteps.{Stays, IsAt, TurnOf, Deviates, IsAstray, IsPlayedForLine, RefusesAt, StopsAt, StopsIn, ComesTo, Misses, PlaysTowards, Settles, MessageIs}
-use Rattle.dispatch_room_journal.proofs.FaultLemmas.{not_both, known_after, begins_one, read_explains, refuses_explains, refuses_due}
+use Rattle.dispatch_room_journal.specs.ReplaySteps.{Stays, IsAt, TurnOf, Deviates, IsAstray, IsPlayedForLine, RefusesAt}
+use Rattle.dispatch_room_journal.specs.ReplaySteps.{StopsAt, StopsIn, ComesTo, Misses, PlaysTowards, Settles, MessageIs}
+use Rattle.dispatch_room_journal.proofs.FaultLemmas.{not_both, known_after, begins_one, read_explains, refuses_explains}
+use Rattle.dispatch_room_journal.proofs.FaultLemmas.{refuses_due}
 use Rattle.dispatch_room_journal.proofs.NextEntryLemmas.{layout_of_mark, taken, taken_two, no_status_front, head_front}
 use Rattle.dispatch_room_journal.proofs.TurnLemmas.{one_by}
 
@@ -41,7 +46,8 @@ WasPlayed step setting trusted stood stands at sent told =
 -- the digest of the room is that of this head, or it is not
 abbrev pub Tells : DigitsOf → Type 0 → (List Terminal → Room → Type 0) → Head → Bool → Type 0
 Tells digest_of trusted stood head is =
-    trusted → (terminals : List Terminal) (room : Room) → stood terminals room → (IsTrue is ↔ (IsHeadOf digest_of head terminals room))
+    trusted → (terminals : List Terminal) (room : Room) → stood terminals room
+    → (IsTrue is ↔ (IsHeadOf digest_of head terminals room))
 
 module _ (step : Step) (setting : Setting) (digest_of : DigitsOf) (trusted : Type 0)
     (stood stands : List Terminal → Room → Type 0) (at : ℕ) (sent : List ℕ) where
@@ -55,12 +61,14 @@ module _ (step : Step) (setting : Setting) (digest_of : DigitsOf) (trusted : Typ
     entries = λ i. message (x.1 i) (x.2 i) ∷ answer status ∷ [];
     counts = refl;
     leaves = refl;
-    leads = λ trust terminals room stood_for. let y = x.5 trust terminals room stood_for in (y.0, (y.0, y.1, refl), y.2);
+    leads =
+        λ trust terminals room stood_for. let y = x.5 trust terminals room stood_for in (y.0, (y.0, y.1, refl), y.2);
   }
 
   leads_tried : (told : List ℕ) (x : WasPlayed step setting trusted stood stands at sent told)
       → Leads step setting digest_of trusted stood stands (tried x.0 ∷ [])
-  leads_tried told x trust terminals held stood_for = let y = x.5 trust terminals held stood_for in (y.0, (y.0, y.1, refl), y.2)
+  leads_tried told x trust terminals held stood_for =
+      let y = x.5 trust terminals held stood_for in (y.0, (y.0, y.1, refl), y.2)
 
   -- the status is another
   pub differs_stops : (told : List ℕ) (status : ℕ)
@@ -90,7 +98,8 @@ module _ (step : Step) (setting : Setting) (digest_of : DigitsOf) (trusted : Typ
   pub settles_line : (line other : EntryLine) (result : Result Bool ReplayFault) → line ≡ other
       → Settles step setting digest_of trusted stood stands at sent other result
       → Settles step setting digest_of trusted stood stands at sent line result
-  settles_line line other result is x = subst (λ (l : EntryLine). Settles step setting digest_of trusted stood stands at sent l result) (sym is) x
+  settles_line line other result is x =
+      subst (λ (l : EntryLine). Settles step setting digest_of trusted stood stands at sent l result) (sym is) x
 
   pub left_turn : Stays trusted stood stands
       → TurnOf step setting digest_of trusted stood stands at sent [] true
@@ -121,7 +130,8 @@ module _ (step : Step) (setting : Setting) (digest_of : DigitsOf) (early late : 
     leaves = refl;
     leads = λ trust terminals held stood_for.
         let y = x.4 trust terminals held (stays (earlier trust) terminals held stood_for) in
-        let differs : ¬ (IsHeadOf digest_of head terminals held) = λ same. not_both is said ((tells (earlier trust) terminals held stood_for).1 same) in
+        let differs : ¬ (IsHeadOf digest_of head terminals held) = λ same.
+        not_both is said ((tells (earlier trust) terminals held stood_for).1 same) in
         (y.0, (y.0, (differs, y.1, y.2), refl), y.3);
   }
 
@@ -138,7 +148,8 @@ module _ (step : Step) (setting : Setting) (digest_of : DigitsOf) (early late : 
           refl,
           λ trust terminals held stood_for.
               let now = stays (earlier trust) terminals held stood_for in
-              let differs : ¬ (IsHeadOf digest_of head terminals held) = λ same. not_both is said ((tells (earlier trust) terminals held stood_for).1 same) in
+              let differs : ¬ (IsHeadOf digest_of head terminals held) = λ same.
+              not_both is said ((tells (earlier trust) terminals held stood_for).1 same) in
               (held, refl, differs, tt, still trust terminals held now),
         )) refuses),
       )
@@ -151,7 +162,8 @@ module _ (step : Step) (setting : Setting) (digest_of : DigitsOf) (early late : 
           refl,
           λ trust terminals held stood_for.
               let now = stays (earlier trust) terminals held stood_for in
-              let differs : ¬ (IsHeadOf digest_of head terminals held) = λ same. not_both is said ((tells (earlier trust) terminals held stood_for).1 same) in
+              let differs : ¬ (IsHeadOf digest_of head terminals held) = λ same.
+              not_both is said ((tells (earlier trust) terminals held stood_for).1 same) in
               (held, refl, differs, astray.1 trust terminals held now differs, still trust terminals held now),
         ),
       )
@@ -159,7 +171,8 @@ module _ (step : Step) (setting : Setting) (digest_of : DigitsOf) (early late : 
 -- what follows a message explains why it stopped the replay
 abbrev pub Shows : Bool → Step → Setting → DigitsOf → Type 0 → (List Terminal → Room → Type 0)
     → (List Terminal → Room → Type 0) → ReplayFault → List Turn → List ℕ → Type 0
-Shows waits step setting digest_of trusted stood stands fault last = Explains waits (true ≡ false) ⊥ (LeadsElsewhere step setting digest_of trusted stood stands last) last fault
+Shows waits step setting digest_of trusted stood stands fault last =
+    Explains waits (true ≡ false) ⊥ (LeadsElsewhere step setting digest_of trusted stood stands last) last fault
 
 -- why a message stopped the replay
 module _ (waits : Bool) (step : Step) (setting : Setting) (digest_of : DigitsOf) (trusted : Type 0)
@@ -167,7 +180,9 @@ module _ (waits : Bool) (step : Step) (setting : Setting) (digest_of : DigitsOf)
     (sent : List ℕ)
     (is : IsEntry (message at sent)) (read_failed write_failed : Bool) where
   abbrev Stops : ReplayFault → List Turn → Type 0
-  Stops fault last = StopsIn step setting digest_of trusted stood stands waits before (Some at) true fault read_failed write_failed last
+  Stops fault last =
+      StopsIn step setting digest_of trusted stood stands waits before (Some at) true fault read_failed write_failed
+      last
 
   unplayed_stops : (fault : ReplayFault) → Stays trusted stood stands
       → BeginsWith before [] (Shows waits step setting digest_of trusted stood stands fault [])
@@ -187,8 +202,18 @@ module _ (waits : Bool) (step : Step) (setting : Setting) (digest_of : DigitsOf)
   played_stops p fault same_at same_sent played leads begins due =
       let all : message at sent ∷ [] ≡ message p.at p.sent ∷ [] = λ i. message (sym same_at i) (sym same_sent i) ∷ [] in
       record {
-        few = inr (p, played, subst (λ (l : List Entry). AreBy (Some at) l) all (one_by (Some at) at sent sent (omega arith) is), refl, refl);
-        begins = subst (λ (l : List Entry). BeginsWith before l (Shows waits step setting digest_of trusted stood stands fault (tried p ∷ []))) all begins;
+        few =
+            inr (
+              p,
+              played,
+              subst (λ (l : List Entry). AreBy (Some at) l) all (one_by (Some at) at sent sent (omega arith) is),
+              refl,
+              refl,
+            );
+        begins =
+            subst (λ (l : List Entry).
+            BeginsWith before l (Shows waits step setting digest_of trusted stood stands fault (tried p ∷ []))) all
+            begins;
         leads = leads;
         due = due;
       }
@@ -205,8 +230,12 @@ module _ (waits : Bool) (step : Step) (setting : Setting) (digest_of : DigitsOf)
         unplayed_stops fault stays
         (λ text known.
         let x = known_after before mid (texts_of (message at sent ∷ [])) text took known in
-        let begins = begins_one (message at sent) text x.0 is x.2 in
-        (text, refl, refuses_explains waits (true ≡ false) ⊥ (LeadsElsewhere step setting digest_of trusted stood stands []) at sent fault text x.0 begins refuses (played x.0 x.1)))
+        let begins = begins_one (message at sent) text x.0 is x.2 in (
+          text,
+          refl,
+          refuses_explains waits (true ≡ false) ⊥ (LeadsElsewhere step setting digest_of trusted stood stands []) at
+              sent fault text x.0 begins refuses (played x.0 x.1),
+        ))
         (refuses_due read_failed write_failed sent fault read write refuses)
 
     -- it was not played, since what follows it was not read
@@ -219,7 +248,8 @@ module _ (waits : Bool) (step : Step) (setting : Setting) (digest_of : DigitsOf)
         let x = known_after before mid (texts_of (message at sent ∷ [])) text took known in (
           text,
           refl,
-          read_explains waits (true ≡ false) ⊥ (LeadsElsewhere step setting digest_of trusted stood stands []) [] fault text x.0 (first x.0 x.1)
+          read_explains waits (true ≡ false) ⊥ (LeadsElsewhere step setting digest_of trusted stood stands []) [] fault
+              text x.0 (first x.0 x.1)
               (λ b. broken_after at sent x.0 wait refl (begins_one (message at sent) text x.0 is x.2) b),
         ))
         due
@@ -241,7 +271,13 @@ module _ (waits : Bool) (step : Step) (setting : Setting) (digest_of : DigitsOf)
             refl,
             Some (at, sent),
             x.1,
-            (wait, y.0, drop layout.end y.0, begins_one (message at sent) text y.0 is y.2, (layout_of_mark y.0 layout found.0 (room x.1) found.1 tt x.2).begins),
+            (
+              wait,
+              y.0,
+              drop layout.end y.0,
+              begins_one (message at sent) text y.0 is y.2,
+              (layout_of_mark y.0 layout found.0 (room x.1) found.1 tt x.2).begins,
+            ),
             x.3,
           ),
         ))
@@ -253,7 +289,8 @@ module _ (waits : Bool) (step : Step) (setting : Setting) (digest_of : DigitsOf)
         → Deviates step setting digest_of trusted stood stands p layout.line fault
         → Shows waits step setting digest_of trusted stood stands fault (tried p ∷ []) text
     deviates_explains p layout e fault text l x =
-        subst (λ (f : ReplayFault). Shows waits step setting digest_of trusted stood stands f (tried p ∷ []) text) (sym x.0)
+        subst (λ (f : ReplayFault). Shows waits step setting digest_of trusted stood stands f (tried p ∷ []) text)
+        (sym x.0)
         (p, x.1, drop layout.end text, refl, (layout_of_mark text layout e (answer x.1) l tt x.2).begins, x.3)
 
     -- what stands after it is what it is played for
@@ -264,10 +301,19 @@ module _ (waits : Bool) (step : Step) (setting : Setting) (digest_of : DigitsOf)
         → IsPlayedFor (LeadsElsewhere step setting digest_of trusted stood stands []) rest
     played_for layout first (inl status) rest known =
         let found = first rest known in
-        inl (status.0, drop layout.end rest, (layout_of_mark rest layout found.0 (answer status.0) found.1 tt status.1).begins)
+        inl (
+          status.0,
+          drop layout.end rest,
+          (layout_of_mark rest layout found.0 (answer status.0) found.1 tt status.1).begins,
+        )
     played_for layout first (inr head) rest known =
         let found = first rest known in
-        inr (head.0, drop layout.end rest, (layout_of_mark rest layout found.0 (room head.0) found.1 tt head.1).begins, head.2)
+        inr (
+          head.0,
+          drop layout.end rest,
+          (layout_of_mark rest layout found.0 (room head.0) found.1 tt head.1).begins,
+          head.2,
+        )
 
     refused_at : (layout : EntryLayout) (fault : ReplayFault)
         → ((text : List ℕ) → mid ≡ Some text → FirstIs text (Ok (Some layout)))
@@ -277,15 +323,18 @@ module _ (waits : Bool) (step : Step) (setting : Setting) (digest_of : DigitsOf)
     refused_at layout fault first read write stays (inl want) =
         refused_stops fault read write stays (inr want) (λ rest known wait bad. absurd (cc (want.1, bad)))
     refused_at layout fault first read write stays (inr x) =
-        refused_stops fault read write stays (inl (x.0, x.1)) (λ rest known wait bad. played_for layout first x.2 rest known)
+        refused_stops fault read write stays (inl (x.0, x.1))
+        (λ rest known wait bad. played_for layout first x.2 rest known)
 
     settled_stops : (layout : EntryLayout) (fault : ReplayFault) → waits ≡ true
         → ((text : List ℕ) → mid ≡ Some text → FirstIs text (Ok (Some layout)))
         → read_failed ≡ false → write_failed ≡ false
         → StopsAt step setting digest_of trusted stood stands at sent layout.line fault
         → (last : List Turn) × Stops fault last
-    settled_stops layout fault wait first read write (inl (stays, inl x)) = ([], refused_at layout fault first read write stays x)
-    settled_stops layout fault wait first read write (inl (stays, inr x)) = ([], astray_stops layout fault wait first read write stays x)
+    settled_stops layout fault wait first read write (inl (stays, inl x)) =
+        ([], refused_at layout fault first read write stays x)
+    settled_stops layout fault wait first read write (inl (stays, inr x)) =
+        ([], astray_stops layout fault wait first read write stays x)
     settled_stops layout fault wait first read write (inr x) = (
       tried x.0 ∷ [],
       played_stops x.0 fault x.1 x.2 x.3 x.4
@@ -304,21 +353,27 @@ copied kept layout at sent copy x same = subst (λ (t : List ℕ). IsLayout kept
 -- a message was copied and taken, and then the next entry was read
 module _ {R : Type 0} (left : R → Option (List ℕ)) (has_failed has_ended : R → Bool) (old new : R)
     (step : Step) (setting : Setting) (digest_of : DigitsOf) (trusted : Type 0)
-    (stood stands : List Terminal → Room → Type 0) (kept mid ahead : List ℕ) (at : ℕ) (layout next : EntryLayout) (sent copy : List ℕ) (is : IsLayout kept layout (message at sent)) (same : copy ≡ sent)
-    (gone : mid ≡ drop layout.end kept) (found : Option EntryLayout) (some : found ≡ Some next) (came : ReadsEntry left has_failed has_ended old new mid ahead (Ok found)) where
+    (stood stands : List Terminal → Room → Type 0) (kept mid ahead : List ℕ) (at : ℕ) (layout next : EntryLayout)
+    (sent copy : List ℕ) (is : IsLayout kept layout (message at sent)) (same : copy ≡ sent)
+    (gone : mid ≡ drop layout.end kept) (found : Option EntryLayout) (some : found ≡ Some next)
+    (came : ReadsEntry left has_failed has_ended old new mid ahead (Ok found)) where
   front : IsLayout kept layout (message at copy)
   front = copied kept layout at sent copy is same
 
   took : Consumes (prepend_known kept (left old)) (prepend_known mid (left old))
       (texts_of (message at copy ∷ []))
-  took = taken (prepend_known kept (left old)) (left old) kept mid layout (message at copy) front (Keeps-refl (prepend_known kept (left old))) gone
+  took =
+      taken (prepend_known kept (left old)) (left old) kept mid layout (message at copy) front
+      (Keeps-refl (prepend_known kept (left old))) gone
 
   read : ReadsEntry left has_failed has_ended old new mid ahead (Ok (Some next))
   read = subst (λ (o : Option EntryLayout). ReadsEntry left has_failed has_ended old new mid ahead (Ok o)) some came
 
   took_one : Consumes (prepend_known kept (left old)) (prepend_known ahead (left new))
       (texts_of (message at copy ∷ []))
-  took_one = Consumes-kept (prepend_known kept (left old)) (prepend_known mid (left old)) (prepend_known ahead (left new)) (texts_of (message at copy ∷ [])) took read.same
+  took_one =
+      Consumes-kept (prepend_known kept (left old)) (prepend_known mid (left old)) (prepend_known ahead (left new))
+      (texts_of (message at copy ∷ [])) took read.same
 
   abbrev Settled : Bool → Type 0
   Settled takes = Settles step setting digest_of trusted stood stands at copy next.line (Ok takes)
@@ -330,8 +385,17 @@ module _ {R : Type 0} (left : R → Option (List ℕ)) (has_failed has_ended : R
   settled_played rest takes true_is x out =
       let y = subst Settled true_is x in
       let mark = layout_of_mark ahead next read.says.0.0 y.0 read.says.0.1 y.1 y.2 in
-      let second = taken (prepend_known ahead (left new)) (left new) ahead rest next y.0 mark (Keeps-refl (prepend_known ahead (left new))) out in
-      (copy, y.0, y.1, y.3, front.begins.0, mark.begins.0, taken_two _ _ _ (message at copy) y.0 took_one second, read.says.1)
+      let second = taken (prepend_known ahead (left new)) (left new) ahead rest next y.0 mark
+      (Keeps-refl (prepend_known ahead (left new))) out in (
+        copy,
+        y.0,
+        y.1,
+        y.3,
+        front.begins.0,
+        mark.begins.0,
+        taken_two _ _ _ (message at copy) y.0 took_one second,
+        read.says.1,
+      )
 
   pub settled_left : (takes : Bool) → takes ≡ false → Settled takes
       → MessageIs step setting digest_of trusted stood stands (prepend_known kept (left old))
@@ -352,6 +416,7 @@ module _ {R : Type 0} (left : R → Option (List ℕ)) (has_failed has_ended : R
       → MessageIs step setting digest_of trusted stood stands (prepend_known kept (left old))
       (prepend_known ahead (left new)) (has_failed new) at (Err fault)
   settled_fault fault x =
-      settled_stops true step setting digest_of trusted stood stands (prepend_known kept (left old)) at copy front.begins.0 (has_failed new) false (prepend_known mid (left old)) took next
+      settled_stops true step setting digest_of trusted stood stands (prepend_known kept (left old)) at copy
+      front.begins.0 (has_failed new) false (prepend_known mid (left old)) took next
       fault refl read.first
       read.says.1 refl x

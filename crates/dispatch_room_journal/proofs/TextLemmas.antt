@@ -1,5 +1,6 @@
 -- Lemmas on texts: first parts, and what stands before a mark.
-use Rattle.std.proofs.Common.{◌≡◌, ◌≢◌, ◌∙◌, sym, ap, refl, ℕ, ◌+◌, List, [], ◌∷◌, ◌++◌, length, take, drop, get_or, ◌⊎◌, inl, inr}
+use Rattle.std.proofs.Common.{◌≡◌, ◌≢◌, ◌∙◌, sym, ap, refl, ℕ, ◌+◌, List, [], ◌∷◌, ◌++◌, length, take, drop, get_or}
+use Rattle.std.proofs.Common.{◌⊎◌, inl, inr}
 use Rattle.std.proofs.lemmas.List.{take_at, drop_at}
 use Rattle.std.proofs.lemmas.List.Elements.{All-head, All-tail, All-cons}
 use Rattle.dispatch_room_journal.specs.TextParts.{Lacks}
@@ -36,10 +37,12 @@ has_mark mark (k ∷ a) b none = has_mark mark a b (All-tail (λ byte. byte ≢ 
 pub cut_unique : (mark : ℕ) (a b c d : List ℕ) → Lacks mark a → Lacks mark c
     → a ++ mark ∷ b ≡ c ++ mark ∷ d → (a ≡ c) × (b ≡ d)
 cut_unique mark [] b [] d a_lacks c_lacks is = (refl, ap (drop 1) is)
-cut_unique mark [] b (k ∷ c) d a_lacks c_lacks is = absurd (All-head (λ byte. byte ≢ mark) k c c_lacks (ap head (sym is)))
+cut_unique mark [] b (k ∷ c) d a_lacks c_lacks is =
+    absurd (All-head (λ byte. byte ≢ mark) k c c_lacks (ap head (sym is)))
 cut_unique mark (k ∷ a) b [] d a_lacks c_lacks is = absurd (All-head (λ byte. byte ≢ mark) k a a_lacks (ap head is))
 cut_unique mark (k ∷ a) b (m ∷ c) d a_lacks c_lacks is =
-    let parts = cut_unique mark a b c d (All-tail (λ byte. byte ≢ mark) k a a_lacks) (All-tail (λ byte. byte ≢ mark) m c c_lacks) (ap (drop 1) is) in
+    let parts = cut_unique mark a b c d (All-tail (λ byte. byte ≢ mark) k a a_lacks)
+    (All-tail (λ byte. byte ≢ mark) m c c_lacks) (ap (drop 1) is) in
     ((λ i. ap head is i ∷ parts.0 i), parts.1)
 
 -- the first byte of a text that is not empty is in it, and the mark is not

@@ -1,5 +1,6 @@
 -- Lemmas on the turns of a replay, one after another.
-use Rattle.std.proofs.Common.{◌≡◌, ◌∙◌, sym, ap, subst, refl, arith, ℕ, ◌+◌, ◌-◌, ◌^◌, ◌≤◌, min, List, [], ◌∷◌, ◌++◌, append-nil, append_assoc, length, Bool, true, false, cond, Option, Some, None, Ok}
+use Rattle.std.proofs.Common.{◌≡◌, ◌∙◌, sym, ap, subst, refl, arith, ℕ, ◌+◌, ◌-◌, ◌^◌, ◌≤◌, min, List, [], ◌∷◌, ◌++◌}
+use Rattle.std.proofs.Common.{append-nil, append_assoc, length, Bool, true, false, cond, Option, Some, None, Ok}
 use Rattle.std.proofs.Common.{◌⊎◌, inl, inr}
 use Rattle.std.specs.Prelude.{All, count_by}
 use Rattle.std.specs.Io.KnownBytes.{Consumes, Keeps, IsAtEnd}
@@ -8,7 +9,7 @@ use Rattle.std.proofs.lemmas.Grind.{flat_map-append}
 use Rattle.std.proofs.lemmas.List.Elements.{All-append, All-cons, All-head, All-nil}
 use Rattle.std.proofs.lemmas.List.Sums.{sum_by-append}
 use Rattle.room_types.specs.declared.fleet.Terminal.{Terminal}
-use Rattle.room_types.specs.declared.refusals.Refusal.TheVariants.{Memory}
+use Rattle.room_types.specs.declared.refusal_statuses.Refusal.TheVariants.{Memory}
 use Rattle.room_model.specs.Room.{Room}
 use Rattle.room_http.specs.declared.settings.Setting.{Setting}
 use Rattle.room_model.specs.Rooms.{Step}
@@ -24,11 +25,17 @@ use Rattle.dispatch_room_journal.specs.declared.replay_faults.Stopped.{Stopped}
 use Rattle.dispatch_room_journal.specs.declared.journal_messages.Turned.{Turned}
 use Rattle.dispatch_room_journal.specs.declared.journal_messages.Turned.TheVariants.{Played, LeftOut, Last}
 use Rattle.dispatch_room_journal.specs.declared.replay_progress.Progress.{Progress}
-use Rattle.dispatch_room_journal.specs.ReplayedTurns.{Open, Play, Turn, compared, answered, caught_up, tried, left_out, entries_in, entries_of, arrivals_of, bytes_of, has_message, is_left_out, is_unanswered}
-use Rattle.dispatch_room_journal.specs.ReplayedTurns.{ends_open, ends_unanswered, IsPlay, IsTurn, IsReplayed, IsBy, AreBy, IsBegun, StartsBy, HasNoStatus, BeginsWith, EndsAt, AreTurns}
+use Rattle.dispatch_room_journal.specs.ReplayedTurns.{Open, Play, Turn, compared, answered, caught_up, tried, left_out}
+use Rattle.dispatch_room_journal.specs.ReplayedTurns.{entries_in, entries_of, arrivals_of, bytes_of, has_message}
+use Rattle.dispatch_room_journal.specs.ReplayedTurns.{is_left_out, is_unanswered}
+use Rattle.dispatch_room_journal.specs.ReplayedTurns.{ends_open, ends_unanswered, IsPlay, IsTurn, IsReplayed, IsBy}
+use Rattle.dispatch_room_journal.specs.ReplayedTurns.{AreBy, IsBegun, StartsBy, HasNoStatus, BeginsWith, EndsAt}
+use Rattle.dispatch_room_journal.specs.ReplayedTurns.{AreTurns}
 use Rattle.dispatch_room_journal.specs.ReplayFaults.{too_many, Explains, IsDueTo}
-use Rattle.dispatch_room_journal.specs.Replays.{DigitsOf, IsReplay, Leads, LeadsElsewhere, LeadsTalking, MeetsHead, StopsAfter, WouldMiss}
-use Rattle.dispatch_room_journal.specs.ReplaySteps.{Stays, HasItsHead, IsMark, TurnOf, MessageIs, IsElsewhere, NextIs, IsProgress, Progresses, Passes, StopsIn, TakesTurn}
+use Rattle.dispatch_room_journal.specs.Replays.{DigitsOf, IsReplay, Leads, LeadsElsewhere, LeadsTalking, MeetsHead}
+use Rattle.dispatch_room_journal.specs.Replays.{StopsAfter, WouldMiss}
+use Rattle.dispatch_room_journal.specs.ReplaySteps.{Stays, HasItsHead, IsMark, TurnOf, MessageIs, IsElsewhere, NextIs}
+use Rattle.dispatch_room_journal.specs.ReplaySteps.{IsProgress, Progresses, Passes, StopsIn, TakesTurn}
 use Rattle.dispatch_room_journal.proofs.FaultLemmas.{not_both, begins_explain}
 use Rattle.dispatch_room_journal.proofs.NextEntryLemmas.{begins_more}
 
@@ -96,7 +103,9 @@ head_progress : (head : RoomHead) (old new : Progress)
 head_progress head old new is us x = record {
   records = ap (λ p. p.records) is ∙ x.records ∙ ap (λ n. min n (2 ^ 64 - 1)) (sym (counted us));
   opens = ap (λ p. p.is_open) is ∙ sym (ends_open-snoc us (compared head));
-  begun = subst (λ b. StartsBy b (us ++ compared head ∷ [])) (sym (ap (λ p. p.is_begun) is)) (head_begins old.is_begun us head x.begun);
+  begun =
+      subst (λ b. StartsBy b (us ++ compared head ∷ [])) (sym (ap (λ p. p.is_begun) is))
+      (head_begins old.is_begun us head x.begun);
 }
   where
     counted : (us : List Turn) → count_by has_message (us ++ compared head ∷ [])
@@ -108,9 +117,13 @@ pub message_progress : (t : Turn) (left : Bool) (old new : Progress) → has_mes
     → new ≡ record old { records = min (old.records + 1) (2 ^ 64 - 1); is_open = left }
     → Progresses old new (t ∷ [])
 message_progress t left old new has is begun new_is us x = record {
-  records = ap (λ p. p.records) new_is ∙ ap (λ n. min (n + 1) (2 ^ 64 - 1)) x.records ∙ stops (count_by has_message us) ∙ ap (λ n. min n (2 ^ 64 - 1)) (sym counted);
+  records =
+      ap (λ p. p.records) new_is ∙ ap (λ n. min (n + 1) (2 ^ 64 - 1)) x.records ∙ stops (count_by has_message us)
+      ∙ ap (λ n. min n (2 ^ 64 - 1)) (sym counted);
   opens = ap (λ p. p.is_open) new_is ∙ sym is ∙ sym (ends_open-snoc us t);
-  begun = subst (λ b. StartsBy b (us ++ t ∷ [])) (sym (ap (λ p. p.is_begun) new_is ∙ begun)) (begun-append us (t ∷ []) (begun_by old.is_begun us begun x.begun));
+  begun =
+      subst (λ b. StartsBy b (us ++ t ∷ [])) (sym (ap (λ p. p.is_begun) new_is ∙ begun))
+      (begun-append us (t ∷ []) (begun_by old.is_begun us begun x.begun));
 }
   where
     stops : (n : ℕ) → min (min n (2 ^ 64 - 1) + 1) (2 ^ 64 - 1) ≡ min (n + 1) (2 ^ 64 - 1)
@@ -150,7 +163,8 @@ consumes_begins (Some x) None entries more follows took begins text is = absurd 
 consumes_begins (Some x) (Some y) entries more follows took begins text is =
     let next = begins y refl in
     let same : x ≡ text = cc in
-    let joined = sym (append_assoc (texts_of entries) (texts_of more) next.0) ∙ ap (λ t. t ++ next.0) (sym (flat_map-append text_of entries more)) in
+    let joined = sym (append_assoc (texts_of entries) (texts_of more) next.0)
+    ∙ ap (λ t. t ++ next.0) (sym (flat_map-append text_of entries more)) in
     (next.0, sym same ∙ took ∙ ap (λ t. texts_of entries ++ t) next.1 ∙ joined, next.2)
 
 -- what was taken was the rest
@@ -192,7 +206,8 @@ pub two_by : (until : Option ℕ) (at : ℕ) (sent other : List ℕ) (e : Entry)
     → IsBy until (message at sent) → IsEntry (message at other) → IsMark e → IsEntry e
     → AreBy until (message at other ∷ e ∷ [])
 two_by until at sent other e by is mark e_is =
-    All-cons (IsIn until) (message at other) (e ∷ []) (is, message_by until at sent other by) (all_one (IsIn until) e (e_is, mark_by until e mark))
+    All-cons (IsIn until) (message at other) (e ∷ []) (is, message_by until at sent other by)
+    (all_one (IsIn until) e (e_is, mark_by until e mark))
 
 head_by : (until : Option ℕ) (head : RoomHead) → IsEntry (room head)
     → AreBy until (room head ∷ [])
@@ -204,7 +219,8 @@ module _ (step : Step) (setting : Setting) (digest_of : DigitsOf) where
       (ts : List Turn) → (late → early) → Stays early stood mid
       → Leads step setting digest_of late mid stands ts
       → Leads step setting digest_of late stood stands ts
-  Leads-after early late stood mid stands ts earlier stays leads trust terminals held stood_for = leads trust terminals held (stays (earlier trust) terminals held stood_for)
+  Leads-after early late stood mid stands ts earlier stays leads trust terminals held stood_for =
+      leads trust terminals held (stays (earlier trust) terminals held stood_for)
 
   module _ (trusted : Type 0) (stood stands : List Terminal → Room → Type 0)
       (before after : Option (List ℕ)) (until : Option ℕ) where
@@ -242,13 +258,16 @@ module _ (step : Step) (setting : Setting) (digest_of : DigitsOf) where
 module _ (step : Step) (setting : Setting) (digest_of : DigitsOf) (trusted : Type 0)
     (stood stands : List Terminal → Room → Type 0) (before after : Option (List ℕ))
     (until : Option ℕ) (Kind : Turn → Type 0)
-    (kind : (head : RoomHead) → Kind (compared head)) (failed : Bool) (kept : List ℕ) (old new : Progress) (noted : new ≡ record old { is_open = false; is_begun = true }) (next : Next)
+    (kind : (head : RoomHead) → Kind (compared head)) (failed : Bool) (kept : List ℕ) (old new : Progress)
+    (noted : new ≡ record old { is_open = false; is_begun = true }) (next : Next)
     (is : next ≡ Head) where
   pub head_turn : NextIs digest_of trusted stood stands before after failed until old.is_begun kept
       (Ok next)
       → (head : RoomHead) × Passes step setting digest_of trusted stood stands before after until Kind
       (compared head ∷ []) × Progresses old new (compared head ∷ []) × (failed ≡ false)
-  head_turn found = go (subst (λ (n : Next). NextIs digest_of trusted stood stands before after failed until old.is_begun kept (Ok n)) is found)
+  head_turn found =
+      go (subst (λ (n : Next). NextIs digest_of trusted stood stands before after failed until old.is_begun kept (Ok n))
+      is found)
     where
       go : NextIs digest_of trusted stood stands before after failed until old.is_begun kept
           (Ok Head)
@@ -256,8 +275,11 @@ module _ (step : Step) (setting : Setting) (digest_of : DigitsOf) (trusted : Typ
           Kind (compared head ∷ []) × Progresses old new (compared head ∷ []) × (failed ≡ false)
       go x = (
         x.0,
-        passes_one step setting digest_of trusted stood stands before after until Kind (compared x.0) (room x.0 ∷ []) tt (kind x.0) refl (head_by until x.0 x.1) x.2
-            (λ trust terminals held stood_for. let y = x.4 trust terminals held stood_for in (held, (held, (refl, y.0), refl), y.1)) (λ never. absurd (cc)) (λ never. absurd (cc)),
+        passes_one step setting digest_of trusted stood stands before after until Kind (compared x.0) (room x.0 ∷ []) tt
+            (kind x.0) refl (head_by until x.0 x.1) x.2
+            (λ trust terminals held stood_for.
+            let y = x.4 trust terminals held stood_for in (held, (held, (refl, y.0), refl), y.1)) (λ never. absurd (cc))
+            (λ never. absurd (cc)),
         head_progress x.0 old new noted,
         x.3,
       )
@@ -275,9 +297,18 @@ module _ (waits : Bool) (step : Step) (setting : Setting) (digest_of : DigitsOf)
       read_failed write_failed []
   next_stops is_begun fault read_failed write_failed stays begins due = record {
     few = inl refl;
-    begins = begins_explain before [] waits (is_begun ≡ false) ⊥ (is_begun ≡ false) ⊥ (IsElsewhere digest_of trusted stood stands) (LeadsElsewhere step setting digest_of trusted stood stands []) [] fault
-        (λ none. none) (λ never. never) (λ open_ head x trust terminals held stood_for. let y = x.1 trust terminals held stood_for in
-        (held, refl, y.0, subst (λ (o : Option Open). WouldMiss step setting digest_of terminals held o head) (sym x.0) tt, y.1)) begins;
+    begins =
+        begins_explain before [] waits (is_begun ≡ false) ⊥ (is_begun ≡ false) ⊥
+        (IsElsewhere digest_of trusted stood stands) (LeadsElsewhere step setting digest_of trusted stood stands []) []
+        fault
+        (λ none. none) (λ never. never)
+        (λ open_ head x trust terminals held stood_for. let y = x.1 trust terminals held stood_for in (
+          held,
+          refl,
+          y.0,
+          subst (λ (o : Option Open). WouldMiss step setting digest_of terminals held o head) (sym x.0) tt,
+          y.1,
+        )) begins;
     leads = λ trust terminals held stood_for. (held, refl, stays trust terminals held stood_for);
     due = due;
   }
@@ -285,7 +316,8 @@ module _ (waits : Bool) (step : Step) (setting : Setting) (digest_of : DigitsOf)
 -- a message that is next stopped it
 module _ (waits : Bool) (step : Step) (setting : Setting) (digest_of : DigitsOf) (early late : Type 0)
     (earlier : late → early) (stood mid stands : List Terminal → Room → Type 0)
-    (a b : Option (List ℕ)) (until : Option ℕ) (at : ℕ) (sent : List ℕ) (stays : Stays early stood mid) (same : Keeps a b) (by : IsBy until (message at sent)) where
+    (a b : Option (List ℕ)) (until : Option ℕ) (at : ℕ) (sent : List ℕ) (stays : Stays early stood mid)
+    (same : Keeps a b) (by : IsBy until (message at sent)) where
   few_turn : (is_begun : Bool) (last : List Turn) → is_begun ≡ true
       → (last ≡ []) ⊎ ((p : Play) × IsPlay p × AreBy (Some at) (message p.at p.sent ∷ [])
       × (true ≡ true) × (last ≡ tried p ∷ []))
@@ -294,7 +326,13 @@ module _ (waits : Bool) (step : Step) (setting : Setting) (digest_of : DigitsOf)
   few_turn is_begun last begun (inl x) = inl x
   few_turn is_begun last begun (inr x) =
       let is = All-head (IsIn (Some at)) (message x.0.at x.0.sent) [] x.2 in
-      inr (x.0, x.1, all_one (IsIn until) (message x.0.at x.0.sent) (is.0, earlier_by until at x.0.at sent x.0.sent by is.1), begun, x.4)
+      inr (
+        x.0,
+        x.1,
+        all_one (IsIn until) (message x.0.at x.0.sent) (is.0, earlier_by until at x.0.at sent x.0.sent by is.1),
+        begun,
+        x.4,
+      )
 
   turn_stops : (is_begun : Bool) (fault : ReplayFault) (read_failed write_failed : Bool)
       (last : List Turn) → is_begun ≡ true
@@ -304,10 +342,16 @@ module _ (waits : Bool) (step : Step) (setting : Setting) (digest_of : DigitsOf)
       write_failed last
   turn_stops is_begun fault read_failed write_failed last begun x = record {
     few = few_turn is_begun last begun x.few;
-    begins = keeps_begins a b (entries_of last) (Explains waits (is_begun ≡ false) ⊥ (LeadsElsewhere step setting digest_of late stood stands last) last fault) same
-        (begins_explain b (entries_of last) waits (true ≡ false) ⊥ (is_begun ≡ false) ⊥ (LeadsElsewhere step setting digest_of late mid stands last)
+    begins =
+        keeps_begins a b (entries_of last)
+        (Explains waits (is_begun ≡ false) ⊥ (LeadsElsewhere step setting digest_of late stood stands last) last fault)
+        same
+        (begins_explain b (entries_of last) waits (true ≡ false) ⊥ (is_begun ≡ false) ⊥
+        (LeadsElsewhere step setting digest_of late mid stands last)
         (LeadsElsewhere step setting digest_of late stood stands last) last fault
-        (λ never. absurd (cc)) (λ never. never) (λ open_ head y trust terminals held stood_for. y trust terminals held (stays (earlier trust) terminals held stood_for)) x.begins);
+        (λ never. absurd (cc)) (λ never. never)
+        (λ open_ head y trust terminals held stood_for.
+        y trust terminals held (stays (earlier trust) terminals held stood_for)) x.begins);
     leads = Leads-after step setting digest_of early late stood mid stands last earlier stays x.leads;
     due = x.due;
   }
@@ -336,7 +380,8 @@ left_replay step setting digest_of terminals held (left_out at sent) left = (hel
 -- a message is next, and it stopped the replay, or this became of it
 module _ (step : Step) (setting : Setting) (digest_of : DigitsOf) (early late : Type 0)
     (earlier : late → early) (stood mid stands : List Terminal → Room → Type 0)
-    (a b : Option (List ℕ)) (until : Option ℕ) (kept : List ℕ) (looked : Bool) (at : ℕ) (layout : EntryLayout) (next : Next) (is : next ≡ Message at layout) (old : Progress)
+    (a b : Option (List ℕ)) (until : Option ℕ) (kept : List ℕ) (looked : Bool) (at : ℕ) (layout : EntryLayout)
+    (next : Next) (is : next ≡ Message at layout) (old : Progress)
     (x : NextIs digest_of early stood mid a b looked until old.is_begun kept (Ok next)) where
   front : NextIs digest_of early stood mid a b looked until old.is_begun kept
       (Ok (Message at layout))
@@ -349,7 +394,8 @@ module _ (step : Step) (setting : Setting) (digest_of : DigitsOf) (early late : 
       → StopsIn step setting digest_of late stood stands waits a until old.is_begun fault read_failed
       write_failed last
   stops_message waits fault read_failed write_failed last y =
-      turn_stops waits step setting digest_of early late earlier stood mid stands a b until at front.0 front.6 front.3 front.2 old.is_begun fault read_failed write_failed last front.4 y
+      turn_stops waits step setting digest_of early late earlier stood mid stands a b until at front.0 front.6 front.3
+      front.2 old.is_begun fault read_failed write_failed last front.4 y
 
   module _ (c : Option (List ℕ)) (failed : Bool) (new : Progress) where
     left_meets : (t : Turn) → is_left_out t ≡ true → (rest : List ℕ)
@@ -369,10 +415,14 @@ module _ (step : Step) (setting : Setting) (digest_of : DigitsOf) (early late : 
         → (is_left_out t.turn ≡ true → BeginsWith c [] (HasItsHead digest_of late mid))
         → Passes step setting digest_of late stood stands a c until IsReplayed (t.turn ∷ [])
     one_passes sent taken left t by took unanswered met =
-        passes_one step setting digest_of late stood stands a c until IsReplayed t.turn (message at sent ∷ taken) t.is t.replayed t.entries by
+        passes_one step setting digest_of late stood stands a c until IsReplayed t.turn (message at sent ∷ taken) t.is
+        t.replayed t.entries by
         (keeps_consumes a b c (texts_of (message at sent ∷ taken)) front.3 took)
-        (Leads-after step setting digest_of early late stood mid stands (t.turn ∷ []) earlier front.6 t.leads) unanswered
-        (λ left. begins_more c [] (HasItsHead digest_of late mid) (MeetsHead step setting digest_of late stood (t.turn ∷ [])) (left_meets t.turn left) (met left))
+        (Leads-after step setting digest_of early late stood mid stands (t.turn ∷ []) earlier front.6 t.leads)
+        unanswered
+        (λ left.
+        begins_more c [] (HasItsHead digest_of late mid) (MeetsHead step setting digest_of late stood (t.turn ∷ []))
+        (left_meets t.turn left) (met left))
 
     left_passes : (sent : List ℕ) (t : TurnOf step setting digest_of late mid stands at sent [] true)
         → IsEntry (message at sent) → Consumes b c (texts_of (message at sent ∷ []))
@@ -387,7 +437,9 @@ module _ (step : Step) (setting : Setting) (digest_of : DigitsOf) (early late : 
         → new ≡ record old { records = min (old.records + 1) (2 ^ 64 - 1); is_open = leaves turned }
         → TakesTurn step setting digest_of late stood stands a c until IsReplayed old new failed
         (Ok (goes_on turned))
-    takes_message turned r same y noted = go turned (subst (λ (t : Turned). MessageIs step setting digest_of late mid stands b c failed at (Ok t)) same y) noted
+    takes_message turned r same y noted =
+        go turned (subst (λ (t : Turned). MessageIs step setting digest_of late mid stands b c failed at (Ok t)) same y)
+        noted
       where
         go : (turned : Turned) → MessageIs step setting digest_of late mid stands b c failed at
             (Ok turned)
@@ -401,7 +453,8 @@ module _ (step : Step) (setting : Setting) (digest_of : DigitsOf) (early late : 
         go Played y noted = (
           y.3.turn ∷ [],
           one_passes y.0 (y.1 ∷ []) false y.3 (two_by until at front.0 y.0 y.1 front.2 y.4 y.2 y.5) y.6
-              (λ ends. absurd (replayed_answered y.3.turn y.3.replayed y.3.leaves ends)) (λ left. absurd (not_both (is_left_out y.3.turn) y.3.leaves left)),
+              (λ ends. absurd (replayed_answered y.3.turn y.3.replayed y.3.leaves ends))
+              (λ left. absurd (not_both (is_left_out y.3.turn) y.3.leaves left)),
           message_progress y.3.turn false old new y.3.counts y.3.leaves front.4 noted,
           λ _. (y.7, refl),
           λ never. absurd (cc),
@@ -427,8 +480,10 @@ module _ (step : Step) (setting : Setting) (digest_of : DigitsOf) (terminals : L
       → IsReplay step setting digest_of terminals held us mid
       → IsReplay step setting digest_of terminals mid ts after
       → IsReplay step setting digest_of terminals held (us ++ ts) after
-  IsReplay-append held mid after [] ts first second = subst (λ (r : Room). IsReplay step setting digest_of terminals r ts after) first second
-  IsReplay-append held mid after (u ∷ us) ts first second = (first.0, first.1, IsReplay-append first.0 mid after us ts first.2 second)
+  IsReplay-append held mid after [] ts first second =
+      subst (λ (r : Room). IsReplay step setting digest_of terminals r ts after) first second
+  IsReplay-append held mid after (u ∷ us) ts first second =
+      (first.0, first.1, IsReplay-append first.0 mid after us ts first.2 second)
 
   -- what is played is a talk
   pub talk_of : (held : Room) (ts : List Turn) (after : Room)
@@ -436,12 +491,14 @@ module _ (step : Step) (setting : Setting) (digest_of : DigitsOf) (terminals : L
       → IsTalk step setting terminals held (arrivals_of ts) after (bytes_of ts)
   talk_of held [] after x = (x, refl)
   talk_of held (compared head ∷ ts) after x =
-      subst (λ (r : Room). IsTalk step setting terminals r (arrivals_of ts) after (bytes_of ts)) x.1.0 (talk_of x.0 ts after x.2)
+      subst (λ (r : Room). IsTalk step setting terminals r (arrivals_of ts) after (bytes_of ts)) x.1.0
+      (talk_of x.0 ts after x.2)
   talk_of held (answered p status ∷ ts) after x = (x.0, p.told, bytes_of ts, refl, x.1, talk_of x.0 ts after x.2)
   talk_of held (caught_up p head ∷ ts) after x = (x.0, p.told, bytes_of ts, refl, x.1.1, talk_of x.0 ts after x.2)
   talk_of held (tried p ∷ ts) after x = (x.0, p.told, bytes_of ts, refl, x.1, talk_of x.0 ts after x.2)
   talk_of held (left_out at sent ∷ ts) after x =
-      subst (λ (r : Room). IsTalk step setting terminals r (arrivals_of ts) after (bytes_of ts)) x.1 (talk_of x.0 ts after x.2)
+      subst (λ (r : Room). IsTalk step setting terminals r (arrivals_of ts) after (bytes_of ts)) x.1
+      (talk_of x.0 ts after x.2)
 
 module _ (step : Step) (setting : Setting) (digest_of : DigitsOf) (early late : Type 0)
     (earlier : late → early) (stood mid stands : List Terminal → Room → Type 0)
@@ -489,11 +546,17 @@ module _ (step : Step) (setting : Setting) (digest_of : DigitsOf) (early late : 
     passes_more c one second = record {
       turns = All-append IsTurn us ts first.turns second.turns;
       kinds = All-append Kind us ts first.kinds second.kinds;
-      entries = subst (λ (l : List Entry). AreBy until l) entries_append (All-append (IsIn until) (entries_of us) (entries_of ts) first.entries second.entries);
+      entries =
+          subst (λ (l : List Entry). AreBy until l) entries_append
+          (All-append (IsIn until) (entries_of us) (entries_of ts) first.entries second.entries);
       read = subst (λ (l : List Entry). Consumes a c (texts_of l)) entries_append
-          (subst (λ (t : List ℕ). Consumes a c t) (sym (flat_map-append text_of (entries_of us) (entries_of ts))) (Consumes-trans a b c _ _ first.read second.read));
+          (subst (λ (t : List ℕ). Consumes a c t) (sym (flat_map-append text_of (entries_of us) (entries_of ts)))
+          (Consumes-trans a b c _ _ first.read second.read));
       unanswered = λ ends. second.unanswered (sym (ends_unanswered-append us ts one) ∙ ends);
-      met = λ ends. begins_more c [] (MeetsHead step setting digest_of late mid ts) (MeetsHead step setting digest_of late stood (us ++ ts)) (λ rest. meets_append rest first.leads)
+      met =
+          λ ends.
+          begins_more c [] (MeetsHead step setting digest_of late mid ts)
+          (MeetsHead step setting digest_of late stood (us ++ ts)) (λ rest. meets_append rest first.leads)
           (second.met (sym (ends_open-append us ts one) ∙ ends));
       leads = Leads-append first.leads second.leads;
     }
@@ -507,8 +570,12 @@ module _ (step : Step) (setting : Setting) (digest_of : DigitsOf) (early late : 
         → AreTurns a until (us ++ ts) follows
     are_turns follows turns entries begins begun = record {
       turns = All-append IsTurn us ts first.turns turns;
-      entries = subst (λ (l : List Entry). AreBy until l) entries_append (All-append (IsIn until) (entries_of us) (entries_of ts) first.entries entries);
-      begins = subst (λ (l : List Entry). BeginsWith a l follows) entries_append (consumes_begins a b (entries_of us) (entries_of ts) follows first.read begins);
+      entries =
+          subst (λ (l : List Entry). AreBy until l) entries_append
+          (All-append (IsIn until) (entries_of us) (entries_of ts) first.entries entries);
+      begins =
+          subst (λ (l : List Entry). BeginsWith a l follows) entries_append
+          (consumes_begins a b (entries_of us) (entries_of ts) follows first.read begins);
       begun = begun;
     }
 
@@ -540,15 +607,21 @@ module _ (step : Step) (setting : Setting) (digest_of : DigitsOf) (early late : 
           → StopsAfter step setting digest_of late stood stands a until waits Kind read_failed
           write_failed s us ts
       stops_after few turns entries begins begun leads due =
-          subst (λ (t : Stopped). StopsAfter step setting digest_of late stood stands a until waits Kind read_failed write_failed t us ts) (sym is) (record {
+          subst (λ (t : Stopped).
+          StopsAfter step setting digest_of late stood stands a until waits Kind read_failed write_failed t us ts)
+          (sym is) (record {
             kinds = first.kinds;
             few = few;
             turns = are_turns _ turns entries begins begun;
             unanswered = λ ends. subst (λ (l : List Entry). BeginsWith a l HasNoStatus) (append-nil (entries_of us))
                 (consumes_begins a b (entries_of us) [] HasNoStatus first.read (first.unanswered ends));
-            met = λ ends. subst (λ (l : List Entry). BeginsWith a l (MeetsHead step setting digest_of late stood us)) (append-nil (entries_of us))
+            met =
+                λ ends.
+                subst (λ (l : List Entry). BeginsWith a l (MeetsHead step setting digest_of late stood us))
+                (append-nil (entries_of us))
                 (consumes_begins a b (entries_of us) [] (MeetsHead step setting digest_of late stood us) first.read
-                (begins_more b [] (MeetsHead step setting digest_of early stood us) (MeetsHead step setting digest_of late stood us)
+                (begins_more b [] (MeetsHead step setting digest_of early stood us)
+                (MeetsHead step setting digest_of late stood us)
                 (λ rest met head more begins trust. met head more begins (earlier trust)) (first.met ends)));
             leads = Talks-append first.leads leads;
             due = due;
@@ -564,19 +637,26 @@ module _ (step : Step) (setting : Setting) (digest_of : DigitsOf) (early late : 
           begins : BeginsWith b (entries_of ts)
               (Explains waits (us ≡ []) (length us ≡ 2 ^ 64 - 1)
               (LeadsElsewhere step setting digest_of late stood stands (us ++ ts)) ts fault)
-          begins = begins_explain b (entries_of ts) waits (old.is_begun ≡ false) ⊥ (us ≡ []) (length us ≡ 2 ^ 64 - 1) (LeadsElsewhere step setting digest_of late mid stands ts)
+          begins =
+              begins_explain b (entries_of ts) waits (old.is_begun ≡ false) ⊥ (us ≡ []) (length us ≡ 2 ^ 64 - 1)
+              (LeadsElsewhere step setting digest_of late mid stands ts)
               (LeadsElsewhere step setting digest_of late stood stands (us ++ ts)) ts fault
-              (λ none. unbegun old.is_begun us none progress.begun) (λ never. absurd never) (λ open_ head y. Elsewhere-append open_ head first.leads y) x.begins
+              (λ none. unbegun old.is_begun us none progress.begun) (λ never. absurd never)
+              (λ open_ head y. Elsewhere-append open_ head first.leads y) x.begins
 
           go : (ts ≡ []) ⊎ ((p : Play) × IsPlay p × AreBy until (message p.at p.sent ∷ [])
               × (old.is_begun ≡ true) × (ts ≡ tried p ∷ []))
               → StopsAfter step setting digest_of late stood stands a until waits Kind read_failed
               write_failed s us ts
           go (inl none) =
-              stops_after (inl none) (subst (λ (l : List Turn). All IsTurn l) (sym none) (All-nil IsTurn)) (subst (λ (l : List Turn). AreBy until (entries_of l)) (sym none) (All-nil (IsIn until)))
-              begins (subst (λ (l : List Turn). (us ++ l ≡ []) ⊎ IsBegun (us ++ l)) (sym none) (none_begun old.is_begun us progress.begun)) x.leads x.due
+              stops_after (inl none) (subst (λ (l : List Turn). All IsTurn l) (sym none) (All-nil IsTurn))
+              (subst (λ (l : List Turn). AreBy until (entries_of l)) (sym none) (All-nil (IsIn until)))
+              begins (subst (λ (l : List Turn). (us ++ l ≡ []) ⊎ IsBegun (us ++ l)) (sym none)
+              (none_begun old.is_begun us progress.begun)) x.leads x.due
           go (inr y) =
-              stops_after (inr (y.0, y.4)) (subst (λ (l : List Turn). All IsTurn l) (sym y.4) (all_one IsTurn (tried y.0) y.1)) (subst (λ (l : List Turn). AreBy until (entries_of l)) (sym y.4) y.2)
+              stops_after (inr (y.0, y.4))
+              (subst (λ (l : List Turn). All IsTurn l) (sym y.4) (all_one IsTurn (tried y.0) y.1))
+              (subst (λ (l : List Turn). AreBy until (entries_of l)) (sym y.4) y.2)
               begins (inr (begun-append us ts (begun_by old.is_begun us y.3 progress.begun))) x.leads x.due
 
 -- no more turns are taken
@@ -590,22 +670,32 @@ module _ (step : Step) (setting : Setting) (digest_of : DigitsOf) (trusted : Typ
       → StopsAfter step setting digest_of trusted stood stands a until waits Kind read_failed
       write_failed s us []
   exhausted waits old read_failed write_failed s first progress is full read write =
-      stops_after step setting digest_of trusted trusted (λ trust. trust) stood stands stands us [] a b until Kind first waits old progress Bad read_failed write_failed s is
-      (inl refl) (All-nil IsTurn) (All-nil (IsIn until)) (λ text known. (text, refl, too_many full)) (none_begun old.is_begun us progress.begun)
+      stops_after step setting digest_of trusted trusted (λ trust. trust) stood stands stands us [] a b until Kind first
+      waits old progress Bad read_failed write_failed s is
+      (inl refl) (All-nil IsTurn) (All-nil (IsIn until)) (λ text known. (text, refl, too_many full))
+      (none_begun old.is_begun us progress.begun)
       (λ trust terminals held stood_for. (held, refl, stood_for)) (read, write)
 
 -- nothing was done
 pub nothing_done : (waits : Bool) (step : Step) (setting : Setting) (digest_of : DigitsOf)
     (trusted : Type 0) (stands : List Terminal → Room → Type 0) (left : Option (List ℕ))
     (until : Option ℕ)
-    (Kind : Turn → Type 0) (read_failed write_failed : Bool) (s : Stopped) → s ≡ record { fault = Want Memory; number = 1 } → read_failed ≡ false → write_failed ≡ false
+    (Kind : Turn → Type 0) (read_failed write_failed : Bool) (s : Stopped)
+    → s ≡ record { fault = Want Memory; number = 1 } → read_failed ≡ false → write_failed ≡ false
     → StopsAfter step setting digest_of trusted stands stands left until waits Kind read_failed
     write_failed s [] []
 nothing_done waits step setting digest_of trusted stands left until Kind read_failed write_failed s is read write =
-    subst (λ (t : Stopped). StopsAfter step setting digest_of trusted stands stands left until waits Kind read_failed write_failed t [] []) (sym is) (record {
+    subst (λ (t : Stopped).
+    StopsAfter step setting digest_of trusted stands stands left until waits Kind read_failed write_failed t [] [])
+    (sym is) (record {
       kinds = All-nil Kind;
       few = inl refl;
-      turns = record { turns = All-nil IsTurn; entries = All-nil (IsIn until); begins = λ text is. (text, refl, tt); begun = inl refl };
+      turns = record {
+        turns = All-nil IsTurn;
+        entries = All-nil (IsIn until);
+        begins = λ text is. (text, refl, tt);
+        begun = inl refl;
+      };
       unanswered = λ never. absurd (cc);
       met = λ never. absurd (cc);
       leads = λ trust terminals held stood_for. (held, refl, (refl, refl), stood_for);

@@ -1,12 +1,14 @@
 -- A list that can be replayed is replayed.
-use Rattle.std.proofs.Common.{◌≡◌, ◌∙◌, sym, ap, subst, refl, arith, ℕ, ◌-◌, ◌^◌, List, [], ◌∷◌, ◌++◌, drop, length, append-nil, append_assoc, length-append, decimal, Bool, true, false, Option, Some, None, Result, Ok, Err, ◌⊎◌, inl, inr}
+use Rattle.std.proofs.Common.{◌≡◌, ◌∙◌, sym, ap, subst, refl, arith, ℕ, ◌-◌, ◌^◌, List, [], ◌∷◌, ◌++◌, drop, length}
+use Rattle.std.proofs.Common.{append-nil, append_assoc, length-append, decimal, Bool, true, false, Option, Some, None}
+use Rattle.std.proofs.Common.{Result, Ok, Err, ◌⊎◌, inl, inr}
 use Rattle.std.specs.Prelude.{All, count_by, min}
 use Rattle.std.proofs.lemmas.Grind.{flat_map-append}
 use Rattle.std.proofs.lemmas.List.{append_cancel_left}
 use Rattle.std.proofs.lemmas.List.Elements.{All-head, All-tail, All-cons, All-nil, All-same, All-weaker}
 use Rattle.room_types.specs.declared.asks.Event.{Event}
 use Rattle.room_types.specs.declared.fleet.Terminal.{Terminal}
-use Rattle.room_types.specs.declared.refusals.Refusal.{Refusal}
+use Rattle.room_types.specs.declared.refusal_statuses.Refusal.{Refusal}
 use Rattle.room_model.specs.Room.{Room}
 use Rattle.room_http.specs.declared.settings.Setting.{Setting}
 use Rattle.room_http_messages.specs.Messages.{WholeMessage, HasMessage}
@@ -19,15 +21,23 @@ use Rattle.dispatch_room_journal.specs.Entries.{Entry, room, message, answer, Is
 use Rattle.dispatch_room_journal.specs.JournalRecords.{status_in}
 use Rattle.dispatch_room_journal.proofs.EntryLemmas.{no_end_law, one_entry_law}
 use Rattle.dispatch_room_journal.specs.declared.replay_faults.ReplayFault.{ReplayFault}
-use Rattle.dispatch_room_journal.specs.declared.replay_faults.ReplayFault.TheVariants.{Bad, Differs, Another, ReadFailed, WriteFailed, Want}
+use Rattle.dispatch_room_journal.specs.declared.replay_faults.ReplayFault.TheVariants.{Bad, Differs, Another}
+use Rattle.dispatch_room_journal.specs.declared.replay_faults.ReplayFault.TheVariants.{ReadFailed, WriteFailed, Want}
 use Rattle.dispatch_room_journal.specs.declared.replay_faults.Stopped.{Stopped}
-use Rattle.dispatch_room_journal.specs.ReplayedTurns.{Open, Play, Turn, compared, answered, caught_up, tried, left_out, entries_in, entries_of, ends_open, ends_unanswered, is_left_out, is_unanswered, has_message}
-use Rattle.dispatch_room_journal.specs.ReplayedTurns.{IsPlay, IsTurn, IsReplayed, IsAfter, IsBy, AreBy, IsBegun, HasNoStatus, AreTurns, EndsAt}
-use Rattle.dispatch_room_journal.specs.ReplayFaults.{IsBroken, IsNoMessage, IsPlayedFor, IsBad, broken, broken_after, unasked, headless, no_message, too_many, IsHead, Explains, IsDueTo}
-use Rattle.dispatch_room_journal.specs.Replays.{DigitsOf, Answers, IsReplay, LeadsElsewhere, LeadsTalking, StopsAfter, WouldMiss, IsHeadOf}
+use Rattle.dispatch_room_journal.specs.ReplayedTurns.{Open, Play, Turn, compared, answered, caught_up, tried, left_out}
+use Rattle.dispatch_room_journal.specs.ReplayedTurns.{entries_in, entries_of, ends_open, ends_unanswered, is_left_out}
+use Rattle.dispatch_room_journal.specs.ReplayedTurns.{is_unanswered, has_message}
+use Rattle.dispatch_room_journal.specs.ReplayedTurns.{IsPlay, IsTurn, IsReplayed, IsAfter, IsBy, AreBy, IsBegun}
+use Rattle.dispatch_room_journal.specs.ReplayedTurns.{HasNoStatus, AreTurns, EndsAt}
+use Rattle.dispatch_room_journal.specs.ReplayFaults.{IsBroken, IsNoMessage, IsPlayedFor, IsBad, broken, broken_after}
+use Rattle.dispatch_room_journal.specs.ReplayFaults.{unasked, headless, no_message, too_many, IsHead, Explains, IsDueTo}
+use Rattle.dispatch_room_journal.specs.Replays.{DigitsOf, Answers, IsReplay, LeadsElsewhere, LeadsTalking, StopsAfter}
+use Rattle.dispatch_room_journal.specs.Replays.{WouldMiss, IsHeadOf}
 use Rattle.dispatch_room_journal.specs.ReplayLaws.{GivesThese, IsExcused, IsWhole, IsWholeUpTo}
 use Rattle.dispatch_room_journal.proofs.FaultLemmas.{begins_one}
-use Rattle.dispatch_room_journal.proofs.ReplayLawLemmas.{AreMet, AreUnanswered, Follows, first_head, met_turns, no_status_first, one_replay_law, one_turn, replayed_alike, same_play, some_entry, unanswered_turns}
+use Rattle.dispatch_room_journal.proofs.ReplayLawLemmas.{AreMet, AreUnanswered, Follows, first_head, met_turns}
+use Rattle.dispatch_room_journal.proofs.ReplayLawLemmas.{no_status_first, one_replay_law, one_turn, replayed_alike}
+use Rattle.dispatch_room_journal.proofs.ReplayLawLemmas.{same_play, some_entry, unanswered_turns}
 use Rattle.dispatch_room_journal.proofs.RoomLaws.{same_first}
 use Rattle.dispatch_room_journal.proofs.TurnLemmas.{IsIn, IsReplay-append}
 
@@ -36,7 +46,8 @@ all_parts : {X : Type 0} (P : X → Type 0) (xs ys : List X) → All P (xs ++ ys
     → All P xs × All P ys
 all_parts P [] ys all = (All-nil P, all)
 all_parts P (x ∷ xs) ys all =
-    let rest = all_parts P xs ys (All-tail P x (xs ++ ys) all) in (All-cons P x xs (All-head P x (xs ++ ys) all) rest.0, rest.1)
+    let rest = all_parts P xs ys (All-tail P x (xs ++ ys) all) in
+    (All-cons P x xs (All-head P x (xs ++ ys) all) rest.0, rest.1)
 
 -- the first entry of a text of entries
 first_of : (es : List Entry) (e : Entry) (more : List ℕ) → All IsEntry es
@@ -57,8 +68,10 @@ not_broken : (es : List Entry) → All IsEntry es → ¬ (IsBroken (texts_of es)
 not_broken [] all (inl cut) = absurd (omega (arith, cut.0))
 not_broken [] all (inr foreign) =
     foreign (text_of (answer 200)) (answer 200) [] ((omega arith, omega arith), sym (append-nil (text_of (answer 200))))
-not_broken (e ∷ es) all (inl cut) = (no_end_law (texts_of (e ∷ es)) e (texts_of es) (All-head IsEntry e es all, refl)).1 cut.1
-not_broken (e ∷ es) all (inr foreign) = (no_end_law (texts_of (e ∷ es)) e (texts_of es) (All-head IsEntry e es all, refl)).2 foreign
+not_broken (e ∷ es) all (inl cut) =
+    (no_end_law (texts_of (e ∷ es)) e (texts_of es) (All-head IsEntry e es all, refl)).1 cut.1
+not_broken (e ∷ es) all (inr foreign) =
+    (no_end_law (texts_of (e ∷ es)) e (texts_of es) (All-head IsEntry e es all, refl)).2 foreign
 
 -- what is left of a text of entries after others
 rest_of_text : (fs es : List Entry) (rest : List ℕ) → All IsEntry fs → All IsEntry es
@@ -66,7 +79,8 @@ rest_of_text : (fs es : List Entry) (rest : List ℕ) → All IsEntry fs → All
     → (more : List Entry) × (es ≡ fs ++ more) × (texts_of more ≡ rest) × All IsEntry more
 rest_of_text [] es rest a b is = (es, refl, is, b)
 rest_of_text (f ∷ fs) es rest a b is =
-    let next = first_of es f (texts_of fs ++ rest) b (All-head IsEntry f fs a, is ∙ append_assoc (text_of f) (texts_of fs) rest) in
+    let next = first_of es f (texts_of fs ++ rest) b
+    (All-head IsEntry f fs a, is ∙ append_assoc (text_of f) (texts_of fs) rest) in
     let left = rest_of_text fs next.0 rest (All-tail IsEntry f fs a) next.3 next.2 in
     (left.0, next.1 ∙ ap (λ (l : List Entry). f ∷ l) left.1, left.2, left.3)
 
@@ -106,17 +120,23 @@ module _ (step : Step) (setting : Setting) (digest_of : DigitsOf) (terminals : L
 
   -- an open turn at the end is one that these entries may follow
   abbrev MayGoOn : List Turn → Room → List Entry → Type 0
-  MayGoOn us mid es = ends_open us ≡ true → AreUnanswered step setting digest_of terminals es × AreMet step setting digest_of terminals mid es
+  MayGoOn us mid es =
+      ends_open us ≡ true
+      → AreUnanswered step setting digest_of terminals es × AreMet step setting digest_of terminals mid es
 
   first_follows : (u : Turn) (us : List Turn) (next mid : Room) (es : List Entry) → IsReplayed u
       → IsReplay step setting digest_of terminals next us mid → MayGoOn (u ∷ us) mid es
       → Follows step setting digest_of terminals u next (entries_of us ++ es)
-  first_follows u [] next mid es replayed x may =
-      (λ is. (may (replayed_left u replayed is)).0, λ is. subst (λ (r : Room). AreMet step setting digest_of terminals r es) x (may is).1)
+  first_follows u [] next mid es replayed x may = (
+    λ is. (may (replayed_left u replayed is)).0,
+    λ is. subst (λ (r : Room). AreMet step setting digest_of terminals r es) x (may is).1,
+  )
   first_follows u (v ∷ us) next mid es replayed x may =
       let moved = append_assoc (entries_in v) (entries_of us) es in (
-        λ _ status more is. no_status_first step setting digest_of terminals v (entries_of us ++ es) status more (sym moved ∙ is),
-        λ _ head more is. first_head step setting digest_of terminals next x.0 v (entries_of us ++ es) head more (sym moved ∙ is) x.1,
+        λ _ status more is.
+            no_status_first step setting digest_of terminals v (entries_of us ++ es) status more (sym moved ∙ is),
+        λ _ head more is.
+            first_head step setting digest_of terminals next x.0 v (entries_of us ++ es) head more (sym moved ∙ is) x.1,
       )
 
   -- turns of the first entries are the first turns
@@ -132,14 +152,21 @@ module _ (step : Step) (setting : Setting) (digest_of : DigitsOf) (terminals : L
   first_turns held mid after [] ts es a b c d is may x y =
       (ts, refl, is, subst (λ (r : Room). IsReplay step setting digest_of terminals r ts after) (sym x) y)
   first_turns held mid after (u ∷ us) [] es a b c d is may x y =
-      absurd (some_entry step setting digest_of terminals u (entries_of us ++ es) (is ∙ append_assoc (entries_in u) (entries_of us) es))
+      absurd (some_entry step setting digest_of terminals u (entries_of us ++ es)
+      (is ∙ append_assoc (entries_in u) (entries_of us) es))
   first_turns held mid after (u ∷ us) (t ∷ ts) es a b c d is may x y =
-      let one = one_turn step setting digest_of terminals held y.0 x.0 (entries_of ts) (entries_of us ++ es) t u (All-head IsTurn t ts b) (All-head IsTurn u us a)
-      (replayed_alike t u (All-head IsReplayed t ts d) (All-head IsReplayed u us c)) (is ∙ append_assoc (entries_in u) (entries_of us) es)
-      (λ _. unanswered_turns step setting digest_of terminals ts, λ _. met_turns step setting digest_of terminals y.0 after ts y.2)
+      let one = one_turn step setting digest_of terminals held y.0 x.0 (entries_of ts) (entries_of us ++ es) t u
+      (All-head IsTurn t ts b) (All-head IsTurn u us a)
+      (replayed_alike t u (All-head IsReplayed t ts d) (All-head IsReplayed u us c))
+      (is ∙ append_assoc (entries_in u) (entries_of us) es) (
+        λ _. unanswered_turns step setting digest_of terminals ts,
+        λ _. met_turns step setting digest_of terminals y.0 after ts y.2,
+      )
       (first_follows u us x.0 mid es (All-head IsReplayed u us c) x.2 may) y.1 x.1 in
-      let rest = first_turns x.0 mid after us ts es (All-tail IsTurn u us a) (All-tail IsTurn t ts b) (All-tail IsReplayed u us c) (All-tail IsReplayed t ts d) one.2
-      (λ open_. may (still_open u us open_)) x.2 (subst (λ (r : Room). IsReplay step setting digest_of terminals r ts after) one.1 y.2) in
+      let rest = first_turns x.0 mid after us ts es (All-tail IsTurn u us a) (All-tail IsTurn t ts b)
+      (All-tail IsReplayed u us c) (All-tail IsReplayed t ts d) one.2
+      (λ open_. may (still_open u us open_)) x.2
+      (subst (λ (r : Room). IsReplay step setting digest_of terminals r ts after) one.1 y.2) in
       (rest.0, λ i. one.0 i ∷ rest.1 i, rest.2, rest.3)
 
   -- a room is led to one room by a message, whatever is found of it
@@ -167,42 +194,76 @@ module _ (step : Step) (setting : Setting) (digest_of : DigitsOf) (terminals : L
 
   abbrev IsDone : Room → ℕ → List ℕ → List ℕ → Type 0
   IsDone held at sent more =
-      ((p : Play) × (next : Room) × IsPlay p × (p.at ≡ at) × (p.sent ≡ sent) × Answers step setting digest_of terminals held p next × IsFor held next p more)
-      ⊎ (HasNoStatus more × ((head : Head) (rest : List ℕ) → Begins more (room head) rest → IsHeadOf digest_of head terminals held))
+      ((p : Play) × (next : Room) × IsPlay p × (p.at ≡ at) × (p.sent ≡ sent)
+      × Answers step setting digest_of terminals held p next × IsFor held next p more)
+      ⊎ (HasNoStatus more
+      × ((head : Head) (rest : List ℕ) → Begins more (room head) rest → IsHeadOf digest_of head terminals held))
 
   next_message : (held after : Room) (ts : List Turn) → All IsTurn ts → All IsReplayed ts
       → All IsEntry (entries_of ts) → IsReplay step setting digest_of terminals held ts after
       → (at : ℕ) (sent more : List ℕ) → Begins (texts_of (entries_of ts)) (message at sent) more
       → IsDone held at sent more
-  next_message held after [] turns kinds entries x at sent more begins = absurd ((no_end_law [] (message at sent) more begins).0 refl)
+  next_message held after [] turns kinds entries x at sent more begins =
+      absurd ((no_end_law [] (message at sent) more begins).0 refl)
   next_message held after (compared head ∷ ts) turns kinds entries x at sent more begins =
-      let first = first_of (entries_of (compared head ∷ ts)) (message at sent) more entries begins in absurd (cc (first.1))
+      let first = first_of (entries_of (compared head ∷ ts)) (message at sent) more entries begins in
+      absurd (cc (first.1))
   next_message held after (answered p status ∷ ts) turns kinds entries x at sent more begins =
       let first = first_of (entries_of (answered p status ∷ ts)) (message at sent) more entries begins in
       let same_at : p.at ≡ at = cc (first.1) in
       let same_sent : p.sent ≡ sent = cc (first.1) in
       let turn = All-head IsTurn (answered p status) ts turns in
       let mark = begins_of first.0 (answer status) (entries_of ts) first.3 (sym (ap (drop 1) first.1)) in
-      inl (p, x.0, turn.0, same_at, same_sent, x.1, inl (status, texts_of (entries_of ts), subst (λ (t : List ℕ). Begins t (answer status) (texts_of (entries_of ts))) first.2 mark, turn.1))
+      inl (
+        p,
+        x.0,
+        turn.0,
+        same_at,
+        same_sent,
+        x.1,
+        inl (
+          status,
+          texts_of (entries_of ts),
+          subst (λ (t : List ℕ). Begins t (answer status) (texts_of (entries_of ts))) first.2 mark,
+          turn.1,
+        ),
+      )
   next_message held after (caught_up p head ∷ ts) turns kinds entries x at sent more begins =
       let first = first_of (entries_of (caught_up p head ∷ ts)) (message at sent) more entries begins in
       let same_at : p.at ≡ at = cc (first.1) in
       let same_sent : p.sent ≡ sent = cc (first.1) in
       let mark = begins_of first.0 (room head) (entries_of ts) first.3 (sym (ap (drop 1) first.1)) in
       let turn = All-head IsTurn (caught_up p head) ts turns in
-      inl (p, x.0, turn, same_at, same_sent, x.1.1, inr (head, texts_of (entries_of ts), subst (λ (t : List ℕ). Begins t (room head) (texts_of (entries_of ts))) first.2 mark, x.1.2))
-  next_message held after (tried p ∷ ts) turns kinds entries x at sent more begins = absurd (All-head IsReplayed (tried p) ts kinds)
+      inl (
+        p,
+        x.0,
+        turn,
+        same_at,
+        same_sent,
+        x.1.1,
+        inr (
+          head,
+          texts_of (entries_of ts),
+          subst (λ (t : List ℕ). Begins t (room head) (texts_of (entries_of ts))) first.2 mark,
+          x.1.2,
+        ),
+      )
+  next_message held after (tried p ∷ ts) turns kinds entries x at sent more begins =
+      absurd (All-head IsReplayed (tried p) ts kinds)
   next_message held after (left_out n bytes ∷ ts) turns kinds entries x at sent more begins =
       let first = first_of (entries_of (left_out n bytes ∷ ts)) (message at sent) more entries begins in
       let left : texts_of (entries_of ts) ≡ more = ap texts_of (ap (drop 1) first.1) ∙ first.2 in
       let later = All-tail IsEntry (message n bytes) (entries_of ts) entries in
       inr (
         λ status rest begun.
-            let mark = first_of (entries_of ts) (answer status) rest later (subst (λ (t : List ℕ). Begins t (answer status) rest) (sym left) begun) in
+            let mark = first_of (entries_of ts) (answer status) rest later
+            (subst (λ (t : List ℕ). Begins t (answer status) rest) (sym left) begun) in
             unanswered_turns step setting digest_of terminals ts status mark.0 mark.1,
         λ head rest begun.
-            let mark = first_of (entries_of ts) (room head) rest later (subst (λ (t : List ℕ). Begins t (room head) rest) (sym left) begun) in
-            ap (λ (r : Room). digest_of head.version terminals r) (sym x.1) ∙ met_turns step setting digest_of terminals x.0 after ts x.2 head mark.0 mark.1,
+            let mark = first_of (entries_of ts) (room head) rest later
+            (subst (λ (t : List ℕ). Begins t (room head) rest) (sym left) begun) in
+            ap (λ (r : Room). digest_of head.version terminals r) (sym x.1)
+            ∙ met_turns step setting digest_of terminals x.0 after ts x.2 head mark.0 mark.1,
       )
 
   -- a message does not stand first
@@ -233,26 +294,31 @@ module _ (step : Step) (setting : Setting) (digest_of : DigitsOf) (terminals : L
 
     message_left : last ≡ [] → (at : ℕ) (sent more : List ℕ)
         → Begins rest (message at sent) more → IsDone mid at sent more
-    message_left few at sent more begins = next_message mid after vs turns kinds entries x at sent more (begins_left few (message at sent) more begins)
+    message_left few at sent more begins =
+        next_message mid after vs turns kinds entries x at sent more (begins_left few (message at sent) more begins)
 
     not_played : (at : ℕ) (sent more : List ℕ) → last ≡ [] → IsNoMessage sent
         → IsDone mid at sent more → IsPlayedFor Elsewhere more → ⊥
-    not_played at sent more few none (inl p) for_it = none p.0.whole (subst (λ (t : List ℕ). HasMessage t p.0.whole []) p.4 p.2)
+    not_played at sent more few none (inl p) for_it =
+        none p.0.whole (subst (λ (t : List ℕ). HasMessage t p.0.whole []) p.4 p.2)
     not_played at sent more few none (inr left) (inl mark) = left.0 mark.0 mark.1 mark.2
-    not_played at sent more few none (inr left) (inr mark) = (elsewhere None mark.0 few mark.3).0 (left.1 mark.0 mark.1 mark.2)
+    not_played at sent more few none (inr left) (inr mark) =
+        (elsewhere None mark.0 few mark.3).0 (left.1 mark.0 mark.1 mark.2)
 
     not_bad : (none full : Type 0) → (none → (vs ≡ []) ⊎ IsBegun vs)
         → IsBad true none full Elsewhere last rest → full
     not_bad none full first (broken few b) =
         absurd (not_broken (entries_of vs) entries (subst (λ (t : List ℕ). IsBroken t) (sym (same_rest (few refl))) b))
     not_bad none full first (broken_after at sent more wait few begins b) =
-        let e = first_of (entries_of vs) (message at sent) more entries (begins_left few (message at sent) more begins) in
+        let e = first_of (entries_of vs) (message at sent) more entries
+        (begins_left few (message at sent) more begins) in
         absurd (not_broken e.0 e.3 (subst (λ (t : List ℕ). IsBroken t) (sym e.2) b))
     not_bad none full first (unasked status more few begins) =
         let e = first_of (entries_of vs) (answer status) more entries (begins_left few (answer status) more begins) in
         absurd (unanswered_turns step setting digest_of terminals vs status e.0 e.1)
     not_bad none full first (headless at sent more few begins n) =
-        let e = first_of (entries_of vs) (message at sent) more entries (begins_left few (message at sent) more begins) in
+        let e = first_of (entries_of vs) (message at sent) more entries
+        (begins_left few (message at sent) more begins) in
         absurd (headed vs at sent e.0 (first n) e.1)
     not_bad none full first (no_message at sent more few begins none_sent played) =
         absurd (not_played at sent more few none_sent (message_left few at sent more begins) (played refl))
@@ -261,11 +327,15 @@ module _ (step : Step) (setting : Setting) (digest_of : DigitsOf) (terminals : L
     same_status : (p : Play) (next : Room) (status : ℕ) (more : List ℕ) → IsPlay p
         → Answers step setting digest_of terminals mid p next → Begins rest (answer status) more
         → IsDone mid p.at p.sent rest → status_in p.told ≡ decimal status
-    same_status p next status more p_is first begins (inl (q, then, q_is, at, sent, second, inl (s, left, mark, told))) =
+    same_status p next status more p_is first begins
+        (inl (q, then, q_is, at, sent, second, inl (s, left, mark, told))) =
         let same : answer s ≡ answer status = (one_entry_law rest (answer s) (answer status) left more mark begins).0 in
         let statuses : s ≡ status = cc in
-        ap (λ (r : Play). status_in r.told) (same_play step setting digest_of terminals mid next then p q p_is q_is (sym at) (sym sent) first second).0 ∙ told ∙ ap decimal statuses
-    same_status p next status more p_is first begins (inl (q, then, q_is, at, sent, second, inr (head, left, mark, comes))) =
+        ap (λ (r : Play). status_in r.told)
+        (same_play step setting digest_of terminals mid next then p q p_is q_is (sym at) (sym sent) first second).0
+        ∙ told ∙ ap decimal statuses
+    same_status p next status more p_is first begins
+        (inl (q, then, q_is, at, sent, second, inr (head, left, mark, comes))) =
         absurd (cc ((one_entry_law rest (room head) (answer status) left more mark begins).0))
     same_status p next status more p_is first begins (inr left) = absurd (left.0 status more begins)
 
@@ -273,11 +343,16 @@ module _ (step : Step) (setting : Setting) (digest_of : DigitsOf) (terminals : L
         → Begins rest (answer status) more → ¬ (¬ (status_in p.told ≡ decimal status))
     not_different p status more one begins other =
         let turn : IsPlay p = All-head IsTurn (tried p) [] (All-same IsTurn (tried p ∷ []) last (sym one) last_turns) in
-        let entry : IsEntry (message p.at p.sent) = All-head IsEntry (message p.at p.sent) [] (All-same IsEntry (message p.at p.sent ∷ []) (entries_of last) (sym (ap entries_of one)) last_entries) in
-        let replay : IsReplay step setting digest_of terminals mid (tried p ∷ []) end = subst (λ (l : List Turn). IsReplay step setting digest_of terminals mid l end) one y in
-        let text : texts_of (entries_of vs) ≡ texts_of (message p.at p.sent ∷ []) ++ rest = is ∙ ap (λ (l : List Turn). texts_of (entries_of l) ++ rest) one in
+        let entry : IsEntry (message p.at p.sent) = All-head IsEntry (message p.at p.sent) []
+        (All-same IsEntry (message p.at p.sent ∷ []) (entries_of last) (sym (ap entries_of one)) last_entries) in
+        let replay : IsReplay step setting digest_of terminals mid (tried p ∷ []) end = subst
+        (λ (l : List Turn). IsReplay step setting digest_of terminals mid l end) one y in
+        let text : texts_of (entries_of vs)
+        ≡ texts_of (message p.at p.sent ∷ []) ++ rest =
+        is ∙ ap (λ (l : List Turn). texts_of (entries_of l) ++ rest) one in
         other (same_status p replay.0 status more turn replay.1 begins
-        (next_message mid after vs turns kinds entries x p.at p.sent rest (begins_one (message p.at p.sent) (texts_of (entries_of vs)) rest entry text)))
+        (next_message mid after vs turns kinds entries x p.at p.sent rest
+        (begins_one (message p.at p.sent) (texts_of (entries_of vs)) rest entry text)))
 
     not_astray : (o : Open) (head : Head) (mid_text more : List ℕ)
         → ¬ (IsHeadOf digest_of head terminals mid)
@@ -289,7 +364,8 @@ module _ (step : Step) (setting : Setting) (digest_of : DigitsOf) (terminals : L
         let same : room d ≡ room head = (one_entry_law mid_text (room d) (room head) left more mark begins).0 in
         let digests : d ≡ head = cc in
         let led = one_led mid next p o.0 o.1 miss.0 miss.2.0 p_is miss.1 at sent ans miss.2.1 in
-        miss.2.2 (ap (λ (r : Room). digest_of head.version terminals r) (sym led) ∙ subst (λ (h : Head). IsHeadOf digest_of h terminals next) digests comes)
+        miss.2.2 (ap (λ (r : Room). digest_of head.version terminals r) (sym led)
+        ∙ subst (λ (h : Head). IsHeadOf digest_of h terminals next) digests comes)
     not_astray o head mid_text more other miss begins (inr left) = other (left.1 head more begins)
 
     not_another : (open_ : Option Open) (head : Head) → last ≡ []
@@ -307,8 +383,12 @@ ended_first : (until : Option ℕ) (es : List Entry) (e : Entry) (more : List En
     → (at : ℕ) × (sent : List ℕ) × (e ≡ message at sent) × IsAfter until at
 ended_first until es e more all is (inl none) =
     absurd ((no_end_law (texts_of es) e (texts_of more) (begins_of es e more all is)).0 none)
-ended_first until es e more all is (inr (at, sent, after, begins, late)) =
-    (at, sent, (one_entry_law (texts_of es) e (message at sent) (texts_of more) after (begins_of es e more all is) begins).0, late)
+ended_first until es e more all is (inr (at, sent, after, begins, late)) = (
+  at,
+  sent,
+  (one_entry_law (texts_of es) e (message at sent) (texts_of more) after (begins_of es e more all is) begins).0,
+  late,
+)
 
 not_late : (until : Option ℕ) (at : ℕ) (sent : List ℕ) → IsBy until (message at sent)
     → ¬ (IsAfter until at)
@@ -327,9 +407,12 @@ not_ended : (until : Option ℕ) (t : Turn) (ts us : List Turn) → All IsEntry 
     → AreBy until (entries_of (t ∷ us)) → ¬ (EndsAt until (texts_of (entries_of (t ∷ ts))))
 not_ended until t ts us all by ends =
     let first = first_entry t in
-    let found = ended_first until (entries_of (t ∷ ts)) first.0 (first.1 ++ entries_of ts) all (ap (λ (l : List Entry). l ++ entries_of ts) first.2) ends in
-    let same : entries_of (t ∷ us) ≡ first.0 ∷ (first.1 ++ entries_of us) = ap (λ (l : List Entry). l ++ entries_of us) first.2 in
-    let entry = All-head (IsIn until) first.0 (first.1 ++ entries_of us) (All-same (IsIn until) (first.0 ∷ (first.1 ++ entries_of us)) (entries_of (t ∷ us)) (sym same) by) in
+    let found = ended_first until (entries_of (t ∷ ts)) first.0 (first.1 ++ entries_of ts) all
+    (ap (λ (l : List Entry). l ++ entries_of ts) first.2) ends in
+    let same : entries_of (t ∷ us)
+    ≡ first.0 ∷ (first.1 ++ entries_of us) = ap (λ (l : List Entry). l ++ entries_of us) first.2 in
+    let entry = All-head (IsIn until) first.0 (first.1 ++ entries_of us)
+    (All-same (IsIn until) (first.0 ∷ (first.1 ++ entries_of us)) (entries_of (t ∷ us)) (sym same) by) in
     not_late until found.0 found.1 (subst (λ (e : Entry). IsBy until e) found.2 entry.1) found.3
 
 -- the turns up to a moment are one list
@@ -338,13 +421,17 @@ one_split : (until : Option ℕ) (ws us zs vs : List Turn) → All IsEntry (entr
     → EndsAt until (texts_of (entries_of zs)) → EndsAt until (texts_of (entries_of vs)) → ws ≡ us
 one_split until [] [] zs vs all is a b c d = refl
 one_split until [] (u ∷ us) zs vs all is a b c d =
-    absurd (not_ended until u (us ++ vs) us (subst (λ (l : List Turn). All IsEntry (entries_of l)) is all) b (subst (λ (l : List Turn). EndsAt until (texts_of (entries_of l))) is c))
+    absurd (not_ended until u (us ++ vs) us (subst (λ (l : List Turn). All IsEntry (entries_of l)) is all) b
+    (subst (λ (l : List Turn). EndsAt until (texts_of (entries_of l))) is c))
 one_split until (w ∷ ws) [] zs vs all is a b c d =
-    absurd (not_ended until w (ws ++ zs) ws all a (subst (λ (l : List Turn). EndsAt until (texts_of (entries_of l))) (sym is) d))
+    absurd (not_ended until w (ws ++ zs) ws all a
+    (subst (λ (l : List Turn). EndsAt until (texts_of (entries_of l))) (sym is) d))
 one_split until (w ∷ ws) (u ∷ us) zs vs all is a b c d =
     let first : w ≡ u = cc in
-    let rest = one_split until ws us zs vs (all_parts IsEntry (entries_in w) (entries_of (ws ++ zs)) all).1 (ap (drop 1) is)
-    (all_parts (IsIn until) (entries_in w) (entries_of ws) a).1 (all_parts (IsIn until) (entries_in u) (entries_of us) b).1 c d in
+    let rest = one_split until ws us zs vs (all_parts IsEntry (entries_in w) (entries_of (ws ++ zs)) all).1
+    (ap (drop 1) is)
+    (all_parts (IsIn until) (entries_in w) (entries_of ws) a).1
+    (all_parts (IsIn until) (entries_in u) (entries_of us) b).1 c d in
     λ i. first i ∷ rest i
 
 -- a replay of a list that can be replayed
@@ -375,33 +462,42 @@ module _ (step : Step) (setting : Setting) (digest_of : DigitsOf) (terminals : L
       → (ws ≡ us) × stands terminals then
   done_are us vs then split first by ends ws replayed are leads =
       let found = are.begins (texts_of (entries_of ts)) refl in
-      let cut = rest_of_text (entries_of ws) (entries_of ts) found.0 (of_entries ws (EndsAt until) are) entries found.1 in
+      let cut = rest_of_text (entries_of ws) (entries_of ts) found.0 (of_entries ws (EndsAt until) are) entries
+      found.1 in
       let ended : EndsAt until (texts_of cut.0) = subst (λ (t : List ℕ). EndsAt until t) (sym cut.2) found.2 in
       let y = leads trust terminals held stood_for in
-      let goes = first_turns step setting digest_of terminals held y.0 after ws ts cut.0 are.turns turns replayed kinds cut.1
+      let goes = first_turns step setting digest_of terminals held y.0 after ws ts cut.0 are.turns turns replayed kinds
+      cut.1
       (λ _. ended_goes_on y.0 cut.0 cut.3 ended) y.1 x in
-      let same = one_split until ws us goes.0 vs (subst (λ (l : List Turn). All IsEntry (entries_of l)) goes.1 entries) (sym goes.1 ∙ split) are.entries by
+      let same = one_split until ws us goes.0 vs (subst (λ (l : List Turn). All IsEntry (entries_of l)) goes.1 entries)
+      (sym goes.1 ∙ split) are.entries by
       (subst (λ (l : List Entry). EndsAt until (texts_of l)) (sym goes.2) ended) ends in
       let us_turns = (all_parts IsTurn us vs (All-same IsTurn (us ++ vs) ts (sym split) turns)).0 in
       let us_kinds = (all_parts IsReplayed us vs (All-same IsReplayed (us ++ vs) ts (sym split) kinds)).0 in
-      let room_is : y.0 ≡ then = (one_replay_law step setting digest_of terminals held y.0 then ws us are.turns us_turns replayed us_kinds (ap entries_of same) y.1 first).1 in
+      let room_is : y.0
+      ≡ then =
+      (one_replay_law step setting digest_of terminals held y.0
+      then ws us are.turns us_turns replayed us_kinds (ap entries_of same) y.1 first).1 in
       (same, subst (λ (r : Room). stands terminals r) room_is y.3)
 
   -- where it stopped after turns, and maybe one more message
   module _ (read_failed : Bool) (stopped : Stopped) (us last : List Turn)
-      (s : StopsAfter step setting digest_of trusted stood stands (Some (texts_of (entries_of ts))) until true IsReplayed read_failed false stopped us last) where
+      (s : StopsAfter step setting digest_of trusted stood stands (Some (texts_of (entries_of ts))) until true
+      IsReplayed read_failed false stopped us last) where
     done_turns : All IsTurn us × All IsTurn last
     done_turns = all_parts IsTurn us last s.turns.turns
 
     done_entries : All IsEntry (entries_of us) × All IsEntry (entries_of last)
     done_entries = all_parts IsEntry (entries_of us) (entries_of last)
-        (All-same IsEntry (entries_of us ++ entries_of last) (entries_of (us ++ last)) (sym (flat_map-append entries_in us last)) (of_entries (us ++ last) _ s.turns))
+        (All-same IsEntry (entries_of us ++ entries_of last) (entries_of (us ++ last))
+        (sym (flat_map-append entries_in us last)) (of_entries (us ++ last) _ s.turns))
 
     -- the first turns lead to one room
     one_room : (mid other : Room) → IsReplay step setting digest_of terminals held us mid
         → IsReplay step setting digest_of terminals held us other → mid ≡ other
     one_room mid other first second =
-        (one_replay_law step setting digest_of terminals held mid other us us done_turns.0 done_turns.0 s.kinds s.kinds refl first second).1
+        (one_replay_law step setting digest_of terminals held mid other us us done_turns.0 done_turns.0 s.kinds s.kinds
+        refl first second).1
 
     may_go_on : (mid : Room) (es : List Entry)
         → IsReplay step setting digest_of terminals held us mid → All IsEntry es
@@ -412,9 +508,14 @@ module _ (step : Step) (setting : Setting) (digest_of : DigitsOf) (terminals : L
         let m = s.met open_ (texts_of (entries_of ts)) refl in
         let same : texts_of es ≡ u.0 = append_cancel_left (texts_of (entries_of us)) (texts_of es) u.0 (sym is ∙ u.1) in
         let also : texts_of es ≡ m.0 = append_cancel_left (texts_of (entries_of us)) (texts_of es) m.0 (sym is ∙ m.1) in (
-          λ status more begins. u.2 status (texts_of more) (subst (λ (t : List ℕ). Begins t (answer status) (texts_of more)) same (begins_of es (answer status) more all begins)),
+          λ status more begins.
+              u.2 status (texts_of more)
+              (subst (λ (t : List ℕ). Begins t (answer status) (texts_of more)) same
+              (begins_of es (answer status) more all begins)),
           λ head more begins.
-              let led = m.2 head (texts_of more) (subst (λ (t : List ℕ). Begins t (room head) (texts_of more)) also (begins_of es (room head) more all begins)) trust terminals held stood_for in
+              let led = m.2 head (texts_of more)
+              (subst (λ (t : List ℕ). Begins t (room head) (texts_of more)) also
+              (begins_of es (room head) more all begins)) trust terminals held stood_for in
               ap (λ (r : Room). digest_of head.version terminals r) (one_room mid led.0 first led.1) ∙ led.2,
         )
 
@@ -426,15 +527,19 @@ module _ (step : Step) (setting : Setting) (digest_of : DigitsOf) (terminals : L
         → (¬ (IsHeadOf digest_of head terminals mid)) × WouldMiss step setting digest_of terminals mid open_ head
     elsewhere mid first open_ head few other =
         let y = other trust terminals held stood_for in
-        let replay = subst (λ (l : List Turn). IsReplay step setting digest_of terminals held l y.0) (ap (λ (l : List Turn). us ++ l) few ∙ append-nil us) y.1 in
-        let same : y.0 ≡ mid = one_room y.0 mid replay first in
-        (λ is. y.2 (ap (λ (r : Room). digest_of head.version terminals r) same ∙ is), subst (λ (r : Room). WouldMiss step setting digest_of terminals r open_ head) same y.3)
+        let replay = subst (λ (l : List Turn). IsReplay step setting digest_of terminals held l y.0)
+        (ap (λ (l : List Turn). us ++ l) few ∙ append-nil us) y.1 in
+        let same : y.0 ≡ mid = one_room y.0 mid replay first in (
+          λ is. y.2 (ap (λ (r : Room). digest_of head.version terminals r) same ∙ is),
+          subst (λ (r : Room). WouldMiss step setting digest_of terminals r open_ head) same y.3,
+        )
 
     module _ (mid end : Room) (vs : List Turn) (rest : List ℕ)
         (first : IsReplay step setting digest_of terminals held us mid)
         (more : IsReplay step setting digest_of terminals mid last end)
         (left : IsReplay step setting digest_of terminals mid vs after) (is : ts ≡ us ++ vs)
-        (vs_entries : All IsEntry (entries_of vs)) (text : texts_of (entries_of vs) ≡ texts_of (entries_of last) ++ rest) where
+        (vs_entries : All IsEntry (entries_of vs))
+        (text : texts_of (entries_of vs) ≡ texts_of (entries_of last) ++ rest) where
       vs_turns : All IsTurn vs
       vs_turns = (all_parts IsTurn us vs (All-same IsTurn (us ++ vs) ts (sym is) turns)).1
 
@@ -449,14 +554,17 @@ module _ (step : Step) (setting : Setting) (digest_of : DigitsOf) (terminals : L
           → IsDueTo read_failed false fault → IsExcused read_failed ts fault
       excused Bad why due =
           let full : length us ≡ 2 ^ 64 - 1 =
-          not_bad step setting digest_of terminals mid after end vs last rest vs_turns vs_kinds vs_entries left done_turns.1 done_entries.1 more text Elsewhere (elsewhere mid first)
+          not_bad step setting digest_of terminals mid after end vs last rest vs_turns vs_kinds vs_entries left
+          done_turns.1 done_entries.1 more text Elsewhere (elsewhere mid first)
           (us ≡ []) (length us ≡ 2 ^ 64 - 1) starts why in
           omega (arith, full, length-append us vs, ap length is)
       excused Differs why due =
-          not_different step setting digest_of terminals mid after end vs last rest vs_turns vs_kinds vs_entries left done_turns.1 done_entries.1 more text Elsewhere (elsewhere mid first)
+          not_different step setting digest_of terminals mid after end vs last rest vs_turns vs_kinds vs_entries left
+          done_turns.1 done_entries.1 more text Elsewhere (elsewhere mid first)
           why.0 why.1 why.2 why.3 why.4 why.5
       excused Another why due =
-          not_another step setting digest_of terminals mid after end vs last rest vs_turns vs_kinds vs_entries left done_turns.1 done_entries.1 more text Elsewhere (elsewhere mid first)
+          not_another step setting digest_of terminals mid after end vs last rest vs_turns vs_kinds vs_entries left
+          done_turns.1 done_entries.1 more text Elsewhere (elsewhere mid first)
           why.1 why.2 why.0 why.3 why.4
       excused ReadFailed why due = due.0
       excused WriteFailed why due = absurd (cc (due.1))
@@ -471,8 +579,10 @@ module _ (step : Step) (setting : Setting) (digest_of : DigitsOf) (terminals : L
         → IsExcused read_failed ts stopped.fault
     excused_after mid end es rest first more same text all why =
         let may = may_go_on mid es first all (ap texts_of same ∙ flat_map-append text_of (entries_of us) es) in
-        let goes = first_turns step setting digest_of terminals held mid after us ts es done_turns.0 turns s.kinds kinds same may first x in
-        excused mid end goes.0 rest first more goes.3 goes.1 (All-same IsEntry (entries_of goes.0) es goes.2 all) (ap texts_of goes.2 ∙ text) stopped.fault why s.due
+        let goes = first_turns step setting digest_of terminals held mid after us ts es done_turns.0 turns s.kinds kinds
+        same may first x in
+        excused mid end goes.0 rest first more goes.3 goes.1 (All-same IsEntry (entries_of goes.0) es goes.2 all)
+        (ap texts_of goes.2 ∙ text) stopped.fault why s.due
 
     stops : IsExcused read_failed ts stopped.fault
     stops =
@@ -481,8 +591,10 @@ module _ (step : Step) (setting : Setting) (digest_of : DigitsOf) (terminals : L
         let found = s.turns.begins (texts_of (entries_of ts)) refl in
         let joined : texts_of (entries_of (us ++ last)) ≡ texts_of (entries_of us) ++ texts_of (entries_of last) =
         ap texts_of (flat_map-append entries_in us last) ∙ flat_map-append text_of (entries_of us) (entries_of last) in
-        let cut = rest_of_text (entries_of us) (entries_of ts) (texts_of (entries_of last) ++ found.0) done_entries.0 entries
-        (found.1 ∙ ap (λ (t : List ℕ). t ++ found.0) joined ∙ append_assoc (texts_of (entries_of us)) (texts_of (entries_of last)) found.0) in
+        let cut = rest_of_text (entries_of us) (entries_of ts) (texts_of (entries_of last) ++ found.0) done_entries.0
+        entries
+        (found.1 ∙ ap (λ (t : List ℕ). t ++ found.0) joined
+        ∙ append_assoc (texts_of (entries_of us)) (texts_of (entries_of last)) found.0) in
         excused_after parts.0 y.0 cut.0 found.0 parts.1 parts.2 cut.1 cut.2 cut.3 found.2
 
 module _ {M : Type 0} (step : Step) (digest_of : DigitsOf) (is_trusted : M → Type 0)
@@ -493,21 +605,30 @@ module _ {M : Type 0} (step : Step) (digest_of : DigitsOf) (is_trusted : M → T
       → ts ≡ us ++ vs → IsReplay step setting digest_of terminals held us then
       → (until : Option ℕ) → AreBy until (entries_of us) → EndsAt until (texts_of (entries_of vs))
       → GivesThese step digest_of is_trusted stands setting terminals held then ts us until
-  gives setting terminals held then after ts us vs turns kinds entries begun x split first until by ends old new read_failed (Ok done) (ws, replayed, are, leads, records, opens) trust stood_for =
-      let these = done_are step setting digest_of terminals held after ts turns kinds entries begun x until (is_trusted new) (stands old) (stands new) trust stood_for us vs then split first by ends in
+  gives setting terminals held
+      then after ts us vs turns kinds entries begun x split first until by ends old new read_failed (Ok done)
+      (ws, replayed, are, leads, records, opens) trust stood_for =
+      let these = done_are step setting digest_of terminals held after ts turns kinds entries begun x until
+      (is_trusted new) (stands old) (stands new) trust stood_for us vs then split first by ends in
       let mine = these ws replayed are leads in (
         mine.1,
         opens ∙ ap ends_open mine.0,
         records ∙ ap (λ (l : List Turn). min (count_by has_message l) (2 ^ 64 - 1)) mine.0,
         λ others others_replayed others_are others_lead. (these others others_replayed others_are others_lead).0,
       )
-  gives setting terminals held then after ts us vs turns kinds entries begun x split first until by ends old new read_failed (Err stopped) (ws, last, s) trust stood_for =
-      stops step setting digest_of terminals held after ts turns kinds entries begun x until (is_trusted new) (stands old) (stands new) trust stood_for read_failed stopped ws last s
+  gives setting terminals held
+      then after ts us vs turns kinds entries begun x split first until by ends old new read_failed (Err stopped)
+      (ws, last, s) trust stood_for =
+      stops step setting digest_of terminals held after ts turns kinds entries begun x until (is_trusted new)
+      (stands old) (stands new) trust stood_for read_failed stopped ws last s
 
   pub whole_law : IsWhole step digest_of is_trusted stands
   whole_law setting terminals held after ts turns kinds entries begun x =
-      gives setting terminals held after after ts ts [] turns kinds entries begun x (sym (append-nil ts)) x None (All-weaker IsEntry (IsIn None) (λ e is. (is, tt)) (entries_of ts) entries) (inl refl)
+      gives setting terminals held after after ts ts [] turns kinds entries begun x (sym (append-nil ts)) x None
+      (All-weaker IsEntry (IsIn None) (λ e is. (is, tt)) (entries_of ts) entries) (inl refl)
 
   pub whole_up_to_law : IsWholeUpTo step digest_of is_trusted stands
   whole_up_to_law setting terminals held then after us vs turns kinds entries begun first more until by ends =
-      gives setting terminals held then after (us ++ vs) us vs turns kinds entries begun (IsReplay-append step setting digest_of terminals held then after us vs first more) refl first until by ends
+      gives setting terminals held
+      then after (us ++ vs) us vs turns kinds entries begun
+      (IsReplay-append step setting digest_of terminals held then after us vs first more) refl first until by ends

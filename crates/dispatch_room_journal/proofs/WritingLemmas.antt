@@ -1,5 +1,6 @@
 -- Lemmas on what is written one after another, and on how long an entry is.
-use Rattle.std.proofs.Common.{◌≡◌, ◌∙◌, refl, sym, ap, subst, arith, ℕ, ◌+◌, ◌≤◌, List, ◌++◌, ◌∷◌, [], length, append_assoc, length-append, codes, decimal, Bool, Option, Result, Ok, Err}
+use Rattle.std.proofs.Common.{◌≡◌, ◌∙◌, refl, sym, ap, subst, arith, ℕ, ◌+◌, ◌≤◌, List, ◌++◌, ◌∷◌, [], length}
+use Rattle.std.proofs.Common.{append_assoc, length-append, codes, decimal, Bool, Option, Result, Ok, Err}
 use Rattle.std.proofs.lemmas.Fmt.{length-decimal-le}
 use Rattle.room_http_messages.specs.Streams.{WritesAll}
 use Rattle.room_http_messages.proofs.StreamLemmas.{Appends-more}
@@ -8,7 +9,8 @@ use Rattle.room_model.specs.declared.digests.Version.TheVariants.{First, Second}
 use Rattle.dispatch_room_journal.specs.declared.journal_inbox.TheConstants.{ENTRY_ROOM}
 use Rattle.dispatch_room_journal.specs.declared.entry_lines.EntryLine.{EntryLine}
 use Rattle.dispatch_room_journal.specs.declared.entry_lines.EntryLine.TheVariants.{Room, Message, Answer}
-use Rattle.dispatch_room_journal.specs.Entries.{Entry, room, message, answer, IsLine, IsEntry, head_words, line_text, text_of}
+use Rattle.dispatch_room_journal.specs.Entries.{Entry, room, message, answer, IsLine, IsEntry, head_words, line_text}
+use Rattle.dispatch_room_journal.specs.Entries.{text_of}
 
 words_length : (version : Version) → length (head_words version) ≡ 7
 words_length First = refl
@@ -26,7 +28,11 @@ line_short (Message at size) is =
       length-decimal-le 4 size (omega arith) (omega (arith, is)) (omega (arith, is)),
     )
 line_short (Answer status) is =
-    omega (arith, length-append (codes "answer ") (decimal status), length-decimal-le 3 status (omega arith) (omega (arith, is)) (omega (arith, is)))
+    omega (
+      arith,
+      length-append (codes "answer ") (decimal status),
+      length-decimal-le 3 status (omega arith) (omega (arith, is)) (omega (arith, is)),
+    )
 
 message_short : (at size : ℕ) → IsLine (Message at size) → length (line_text (Message at size)) ≤ 23
 message_short at size is =
@@ -40,10 +46,18 @@ message_short at size is =
 
 -- there is room for each entry
 pub entry_fits : (e : Entry) → IsEntry e → length (text_of e) ≤ ENTRY_ROOM
-entry_fits (room digest) is = omega (arith, line_short (Room digest) is, length-append (line_text (Room digest)) (10 ∷ []))
-entry_fits (answer status) is = omega (arith, line_short (Answer status) is, length-append (line_text (Answer status)) (10 ∷ []))
+entry_fits (room digest) is =
+    omega (arith, line_short (Room digest) is, length-append (line_text (Room digest)) (10 ∷ []))
+entry_fits (answer status) is =
+    omega (arith, line_short (Answer status) is, length-append (line_text (Answer status)) (10 ∷ []))
 entry_fits (message at bytes) is =
-    omega (arith, is, message_short at (length bytes) is, length-append (line_text (Message at (length bytes))) (10 ∷ (bytes ++ 10 ∷ [])), length-append bytes (10 ∷ []))
+    omega (
+      arith,
+      is,
+      message_short at (length bytes) is,
+      length-append (line_text (Message at (length bytes))) (10 ∷ (bytes ++ 10 ∷ [])),
+      length-append bytes (10 ∷ []),
+    )
 
 module _ {W E : Type 0} (held : W → Option (List ℕ)) (failed : W → Bool) where
   -- what is written after what was written
@@ -57,7 +71,13 @@ module _ {W E : Type 0} (held : W → Option (List ℕ)) (failed : W → Bool) w
   WritesAll-more a b c xs ys (Err e) first second =
       let cut = second.part in record {
         all = tt;
-        part = (xs ++ cut.0, cut.1, ap (λ t. xs ++ t) cut.2 ∙ sym (append_assoc xs cut.0 cut.1), Appends-more _ _ _ _ _ first.all.0 cut.3, cut.4);
+        part = (
+          xs ++ cut.0,
+          cut.1,
+          ap (λ t. xs ++ t) cut.2 ∙ sym (append_assoc xs cut.0 cut.1),
+          Appends-more _ _ _ _ _ first.all.0 cut.3,
+          cut.4,
+        );
       }
 
   -- and what was not written for a failure before it
@@ -74,10 +94,12 @@ module _ {W E : Type 0} (held : W → Option (List ℕ)) (failed : W → Bool) w
       → WritesAll held failed a b (line_text l ++ 10 ∷ []) (Err e)
       → WritesAll held failed a b (line_text l ++ 10 ∷ rest) (Err e)
   line-cut a b l rest e first =
-      subst (λ (t : List ℕ). WritesAll held failed a b t (Err e)) (append_assoc (line_text l) (10 ∷ []) rest) (WritesAll-cut a b (line_text l ++ 10 ∷ []) rest e first)
+      subst (λ (t : List ℕ). WritesAll held failed a b t (Err e)) (append_assoc (line_text l) (10 ∷ []) rest)
+      (WritesAll-cut a b (line_text l ++ 10 ∷ []) rest e first)
 
   pub line-more : (a b c : W) (l : EntryLine) (rest : List ℕ) (r : Result (Unit {0}) E)
       → WritesAll {E = E} held failed a b (line_text l ++ 10 ∷ []) (Ok tt)
       → WritesAll held failed b c rest r → WritesAll held failed a c (line_text l ++ 10 ∷ rest) r
   line-more a b c l rest r first second =
-      subst (λ (t : List ℕ). WritesAll held failed a c t r) (append_assoc (line_text l) (10 ∷ []) rest) (WritesAll-more a b c (line_text l ++ 10 ∷ []) rest r first second)
+      subst (λ (t : List ℕ). WritesAll held failed a c t r) (append_assoc (line_text l) (10 ∷ []) rest)
+      (WritesAll-more a b c (line_text l ++ 10 ∷ []) rest r first second)

@@ -12,3 +12,10 @@ pub mod Replays
 pub mod ReplaySteps
 pub mod ReplayLaws
 pub mod AnswerFrames
+pub mod Chains
+pub mod RecordFronts
+pub mod ReadSteps
+pub mod ListTallies
+pub mod ChainLaws
+pub mod PlainTexts
+pub mod WholeRecords

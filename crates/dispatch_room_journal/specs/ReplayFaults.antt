@@ -1,6 +1,7 @@
 -- Why a replay stops: what follows the turns that were done with, and what has failed.
-use Rattle.std.specs.Prelude.{◌≡◌, ◌⊎◌, ⊤, ℕ, ◌<◌, List, [], ◌∷◌, length, decimal, Bool, true, false, Option, Some, None}
-use Rattle.room_types.specs.declared.refusals.Refusal.{Refusal}
+use Rattle.std.specs.Prelude.{◌≡◌, ◌⊎◌, ⊤, ℕ, ◌<◌, List, [], ◌∷◌, length, decimal, Bool, true, false, Option, Some}
+use Rattle.std.specs.Prelude.{None}
+use Rattle.room_types.specs.declared.refusal_statuses.Refusal.{Refusal}
 use Rattle.room_http_messages.specs.Messages.{WholeMessage, HasMessage}
 use Rattle.room_model.specs.Rooms.{IsWant}
 use Rattle.room_model.specs.declared.digests.Miss.{Miss}
@@ -10,7 +11,8 @@ use Rattle.dispatch_room_journal.specs.declared.entry_reader.EntryFault.{EntryFa
 use Rattle.dispatch_room_journal.specs.declared.entry_reader.EntryFault.TheVariants.{Cut, Foreign, Read}
 use Rattle.dispatch_room_journal.specs.Entries.{room, message, answer, Begins, IsPart, IsForeign}
 use Rattle.dispatch_room_journal.specs.declared.replay_faults.ReplayFault.{ReplayFault}
-use Rattle.dispatch_room_journal.specs.declared.replay_faults.ReplayFault.TheVariants.{Bad, Differs, Another, ReadFailed, WriteFailed, Want}
+use Rattle.dispatch_room_journal.specs.declared.replay_faults.ReplayFault.TheVariants.{Bad, Differs, Another}
+use Rattle.dispatch_room_journal.specs.declared.replay_faults.ReplayFault.TheVariants.{ReadFailed, WriteFailed, Want}
 use Rattle.dispatch_room_journal.specs.JournalRecords.{status_in}
 use Rattle.dispatch_room_journal.specs.ReplayedTurns.{Open, Play, Turn, tried}
 

@@ -1,5 +1,6 @@
 -- What a journal and a room decide by themselves.
-use Rattle.std.specs.Prelude.{◌≡◌, ◌≤◌, ◌⊎◌, ℕ, ◌-◌, ◌^◌, min, List, [], ◌∷◌, ◌++◌, length, count_by, All, Bool, true, Option, Some, None, Result, MatchResult}
+use Rattle.std.specs.Prelude.{◌≡◌, ◌≤◌, ◌⊎◌, ℕ, ◌-◌, ◌^◌, min, List, [], ◌∷◌, ◌++◌, length, count_by, All, Bool, true}
+use Rattle.std.specs.Prelude.{Option, Some, None, Result, MatchResult}
 use Rattle.room_types.specs.declared.fleet.Terminal.{Terminal}
 use Rattle.room_model.specs.Enrol.{AreTerminals}
 use Rattle.room_model.specs.Room.{Room}
@@ -14,10 +15,12 @@ use Rattle.room_http.specs.Promises.{Promises}
 use Rattle.room_http.specs.Runs.{Exchange, IsRunOf}
 use Rattle.room_http.specs.Talk.{Timed}
 use Rattle.dispatch_room_journal.specs.declared.replay_faults.ReplayFault.{ReplayFault}
-use Rattle.dispatch_room_journal.specs.declared.replay_faults.ReplayFault.TheVariants.{Bad, Differs, Another, ReadFailed, WriteFailed, Want}
+use Rattle.dispatch_room_journal.specs.declared.replay_faults.ReplayFault.TheVariants.{Bad, Differs, Another}
+use Rattle.dispatch_room_journal.specs.declared.replay_faults.ReplayFault.TheVariants.{ReadFailed, WriteFailed, Want}
 use Rattle.dispatch_room_journal.specs.declared.replay_faults.Stopped.{Stopped}
 use Rattle.dispatch_room_journal.specs.declared.replayed_journal.Replayed.{Replayed}
-use Rattle.dispatch_room_journal.specs.ReplayedTurns.{Turn, answers_of, entries_of, arrivals_of, bytes_of, has_message, ends_open, IsTurn, IsReplayed, IsPlayed}
+use Rattle.dispatch_room_journal.specs.ReplayedTurns.{Turn, answers_of, entries_of, arrivals_of, bytes_of, has_message}
+use Rattle.dispatch_room_journal.specs.ReplayedTurns.{ends_open, IsTurn, IsReplayed, IsPlayed}
 use Rattle.dispatch_room_journal.specs.ReplayedTurns.{IsBegun, AreBy, AreTurns, EndsAt}
 use Rattle.dispatch_room_journal.specs.Replays.{DigitsOf, IsReplay, LeadsTalking, Replays}
 

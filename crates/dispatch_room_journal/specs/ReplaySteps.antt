@@ -1,5 +1,6 @@
 -- What each step of a replay does.
-use Rattle.std.specs.Prelude.{◌≡◌, ◌⊎◌, ℕ, ◌-◌, ◌^◌, ⊤, min, count_by, List, [], ◌∷◌, ◌++◌, length, decimal, All, Bool, true, false, Vec, Option, Some, None, Result, Ok, Err}
+use Rattle.std.specs.Prelude.{◌≡◌, ◌⊎◌, ℕ, ◌-◌, ◌^◌, ⊤, min, count_by, List, [], ◌∷◌, ◌++◌, length, decimal, All, Bool}
+use Rattle.std.specs.Prelude.{true, false, Vec, Option, Some, None, Result, Ok, Err}
 use Rattle.std.specs.Io.KnownBytes.{Consumes, Keeps, IsAtEnd}
 use Rattle.room_types.specs.declared.fleet.Terminal.{Terminal}
 use Rattle.room_model.specs.Room.{Room}
@@ -17,7 +18,9 @@ use Rattle.dispatch_room_journal.specs.declared.next_entry.Next.TheVariants as n
 use Rattle.dispatch_room_journal.specs.declared.journal_messages.Turned.{Turned}
 use Rattle.dispatch_room_journal.specs.declared.journal_messages.Turned.TheVariants.{Played, LeftOut, Last}
 use Rattle.dispatch_room_journal.specs.JournalRecords.{status_in}
-use Rattle.dispatch_room_journal.specs.ReplayedTurns.{Open, Play, Turn, tried, timed, entries_in, entries_of, has_message, is_left_out, ends_open, ends_unanswered, IsPlay, IsTurn, IsReplayed, IsBy}
+use Rattle.dispatch_room_journal.specs.ReplayedTurns.{Open, Play, Turn, tried, timed, entries_in, entries_of}
+use Rattle.dispatch_room_journal.specs.ReplayedTurns.{has_message, is_left_out, ends_open, ends_unanswered, IsPlay}
+use Rattle.dispatch_room_journal.specs.ReplayedTurns.{IsTurn, IsReplayed, IsBy}
 use Rattle.dispatch_room_journal.specs.ReplayedTurns.{AreBy, StartsBy, HasNoStatus, BeginsWith, EndsAt}
 use Rattle.dispatch_room_journal.specs.declared.replay_progress.Progress.{Progress}
 use Rattle.dispatch_room_journal.specs.ReplayFaults.{IsNoMessage, IsWanting, Refuses, Explains, IsDueTo}

@@ -4,7 +4,7 @@ ghost use Rattle.arrayvec.specs.ArrayVec.{array_vec_len};
 ghost use Rattle.room_http_messages.specs.Streams.{WritesAll};
 ghost use Rattle.dispatch_room_journal.specs.AnswerFrames.{frame_line, frame_of};
 
-use crate::statuses::status_in;
+use crate::answer_statuses::status_in;
 use arrayvec::ArrayVec;
 use itoa::Buffer;
 use room_http_messages::sinks::{Sink, WriteFailed, write_all};

@@ -10,14 +10,14 @@ use crate::entry_prefixes::EntryLayout;
 use crate::entry_reader::read_entry;
 use crate::journal_inbox::JournalInbox;
 use crate::next_entry::read_fault;
-use crate::outcomes::settle;
 use crate::replay_faults::ReplayFault;
+use crate::replay_outcomes::settle;
 use room_http::settings::Setting;
 use room_http_messages::sources::Source;
 use room_http_requests::routes::Routes;
 use room_model::digests::Digested;
 use room_types::numbers::Moment;
-use room_types::refusals::Refusal;
+use room_types::refusal_statuses::Refusal;
 use std::alloc::Global;
 
 /// What became of a message.

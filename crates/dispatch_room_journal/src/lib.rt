@@ -17,12 +17,32 @@
 //!
 //! A replay plays the messages of a journal, at their moments, to a room that stands where the
 //! journal begins, and compares their answers with those that it has.
+//!
+//! A journal may be a chain of records: each has a check of itself and of all before it, so that a
+//! byte that changed, or a record that was lost or came twice, is found at its record.
+//!
+//! ```text
+//! list 2
+//! 00072 5f1c..07               a record of 72 bytes, and its check: SHA-256, in digits, of the
+//! room 2 9f86d0..0a08          check before it and of the record; before the first, 64 zeros
+//! 00254 88ab..1e
+//! message 1774771200 231
+//! POST /call HTTP/1.1 ..
+//! ```
+//!
+//! Where the list ended well, its last record is a line `end`. `Unchained` reads what the records
+//! say, and a byte with which no entry begins where a record is not the one that comes next;
+//! `put_record` writes a record, and `verify` looks a whole list through.
 #![tactic(auto)]
 
 pub mod answer_frames;
+pub mod answer_statuses;
+pub mod chain_laws;
+pub mod chain_source;
 pub mod entry_lines;
 pub mod entry_prefixes;
 pub mod entry_reader;
+pub mod entry_texts;
 pub mod entry_writer;
 pub mod journal_digests;
 pub mod journal_inbox;
@@ -30,13 +50,22 @@ pub mod journal_messages;
 pub mod journal_numbers;
 pub mod laws;
 pub mod line_prefixes;
+pub mod list_ends;
+pub mod list_tallies;
 pub mod next_entry;
-pub mod outcomes;
 pub mod played_message;
+pub mod read_progress;
+pub mod read_steps;
+pub mod record_fronts;
+pub mod record_headers;
+pub mod record_inbox;
+pub mod record_writer;
 pub mod replay_faults;
 pub mod replay_laws;
+pub mod replay_outcomes;
 pub mod replay_progress;
 pub mod replayed_journal;
-pub mod statuses;
 pub mod streamed_messages;
+pub mod verification;
 pub mod whole_entries;
+pub mod whole_records;

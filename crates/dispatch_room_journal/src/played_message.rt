@@ -11,9 +11,9 @@ ghost use Rattle.dispatch_room_journal.specs.JournalRecords.{status_in};
 ghost use Rattle.dispatch_room_journal.specs.Replays.{IsHeadOf, UnlessOutOfMemory, digits_of};
 ghost use Rattle.dispatch_room_journal.specs.ReplaySteps.{Plays, PlaysTowards};
 
+use crate::answer_statuses::status_in;
 use crate::journal_digests::digest_of;
 use crate::replay_faults::ReplayFault;
-use crate::statuses::status_in;
 use itoa::Buffer;
 use room_http::arrivals::Arrived;
 use room_http::digest_replies::reply_towards;

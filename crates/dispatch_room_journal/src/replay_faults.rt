@@ -1,6 +1,6 @@
 //! Why a replay stops.
 
-use room_types::refusals::Refusal;
+use room_types::refusal_statuses::Refusal;
 
 /// Why a replay stops.
 #[derive(Clone, Copy)]
@@ -15,7 +15,7 @@ pub enum ReplayFault {
     ReadFailed,
     /// A write failed, or took nothing.
     WriteFailed,
-    /// Memory or storage is wanting.
+    /// Memory was refused, or storage failed.
     Want(Refusal),
 }
 

@@ -12,7 +12,8 @@ pub fn one_replay()
     ensures { IsOneReplay }
 {}
 
-/// So they do where each message is played as soon as it is whole.
+/// Two equal rooms answer equally and end equal, too, where each message is played once it is
+/// whole.
 pub fn one_answering()
     ensures { IsOneAnswering }
 {}
@@ -28,14 +29,14 @@ pub fn the_list_is_the_room()
     ensures { IsTheRoom }
 {}
 
-/// A list that can be replayed to a room is replayed to it: it stops only where a read fails, where
-/// memory or storage is wanting, or after more turns than are counted.
+/// A list that can be replayed to a room is replayed to it. It stops only where a read fails,
+/// memory is refused, storage fails, or after more turns than are counted.
 pub fn a_list_that_can_be_replayed_is<M: Digested>()
     ensures { (place : List ℕ)
         → IsWhole M.step (digits_of M.digest_of place) M.is_trusted M.stands }
 {}
 
-/// So it is up to a moment: what is done are its turns up to that moment.
+/// A list that can be replayed is replayed up to any moment: what is done are its turns up to it.
 pub fn a_list_up_to_a_moment_is_replayed<M: Digested>()
     ensures { (place : List ℕ)
         → IsWholeUpTo M.step (digits_of M.digest_of place) M.is_trusted M.stands }

@@ -1,7 +1,7 @@
 //! A journal, replayed.
 ghost use Rattle.std.specs.Prelude.{◌≡◌, ◌+◌, [], false, min};
 ghost use Rattle.std.specs.Io.KnownBytes.{prepend_known};
-ghost use Rattle.room_types.specs.declared.refusals.Refusal.TheVariants.{Memory};
+ghost use Rattle.room_types.specs.declared.refusal_statuses.Refusal.TheVariants.{Memory};
 ghost use Rattle.dispatch_room_journal.specs.declared.replay_faults.ReplayFault.TheVariants.{Want};
 ghost use Rattle.dispatch_room_journal.specs.Replays.{Replays, UnlessStopped, UnlessOutOfMemory, digits_of};
 ghost use Rattle.dispatch_room_journal.specs.ReplaySteps.{TakesTurn};
@@ -17,7 +17,7 @@ use room_http_messages::sources::Source;
 use room_http_requests::routes::Routes;
 use room_model::digests::Digested;
 use room_types::numbers::Moment;
-use room_types::refusals::Refusal;
+use room_types::refusal_statuses::Refusal;
 use std::alloc::Global;
 
 /// A journal was replayed.
@@ -170,7 +170,7 @@ fn done(progress: &Progress) -> Replayed
     }
 }
 
-/// Memory was wanting before anything was read.
+/// Memory was refused before anything was read.
 pub fn memory() -> Stopped
     ensures { result ≡ record { fault = Want Memory; number = 1 } }
 {

@@ -1,6 +1,8 @@
 -- What is served on some connections and then on others is served on all of them, one after
 -- another.
-use Rattle.std.proofs.Common.{◌≡◌, ◌∙◌, ap, append-nil, append_assoc, arith, length, length-append, refl, subst, sym, ℕ, List, [], ◌∷◌, ◌++◌, ◌<◌, Bool, Option, None, Some, Result, Ok, Err, false, true, inl, inr, ◌+◌}
+use Rattle.std.proofs.Common.{◌≡◌, ◌∙◌, ap, append-nil, append_assoc, arith, length, length-append, refl, subst, sym, ℕ}
+use Rattle.std.proofs.Common.{List, [], ◌∷◌, ◌++◌, ◌<◌, Bool, Option, None, Some, Result, Ok, Err, false, true, inl}
+use Rattle.std.proofs.Common.{inr, ◌+◌}
 use Rattle.std.proofs.lemmas.List.{map-append}
 use Rattle.std.proofs.lemmas.List.Elements.{All-append, All-cons, All-head, All-nil, All-tail}
 use Rattle.std.specs.Prelude.{All, option_and_then}
@@ -26,7 +28,10 @@ use Rattle.room_http.proofs.PromiseLaws.{promises_kept}
 use Rattle.room_http.proofs.RunLemmas.{room_split, run_join}
 use Rattle.dispatch_room_exit.specs.declared.exit_status.Failure.{Failure}
 use Rattle.dispatch_room_serving.specs.Callers.{Grows, Opening}
-use Rattle.dispatch_room_serving.specs.Connections.{AreAttended, AreJoined, AreKept, AreNext, AreServed, AttendsNext, Conversation, EndsAs, GoOn, GoesOn, HasServed, IsNext, Service, Stage, connected, done_or, fault_after, fault_by, opening_of, stage_after, stage_before, together}
+use Rattle.dispatch_room_serving.specs.Connections.{AreAttended, AreJoined, AreKept, AreNext, AreServed, AttendsNext}
+use Rattle.dispatch_room_serving.specs.Connections.{Conversation, EndsAs, GoOn, GoesOn, HasServed, IsNext, Service}
+use Rattle.dispatch_room_serving.specs.Connections.{Stage, connected, done_or, fault_after, fault_by, opening_of}
+use Rattle.dispatch_room_serving.specs.Connections.{stage_after, stage_before, together}
 
 -- ---- what is known grows
 pub grows_none : {A : Type 0} (known : Option (List A)) → Grows known known []
@@ -38,7 +43,8 @@ pub grows_more : {A : Type 0} (a b c : Option (List A)) (xs ys : List A) → Gro
 grows_more None b c xs ys first second = tt
 grows_more (Some known) None c xs ys first second = absurd first
 grows_more (Some known) (Some more) None xs ys first second = second
-grows_more (Some known) (Some more) (Some most) xs ys first second = second ∙ ap (λ t. t ++ ys) first ∙ append_assoc known xs ys
+grows_more (Some known) (Some more) (Some most) xs ys first second =
+    second ∙ ap (λ t. t ++ ys) first ∙ append_assoc known xs ys
 
 -- nothing was heard or told
 -- ---- all that was exchanged
@@ -64,7 +70,8 @@ module _ {S : Type 0} (g : Ghosts S) (setting : Setting) (terminals : List Termi
   served_more (c ∷ cs) ds [] yss room first second = absurd first
   served_more (c ∷ cs) ds (xs ∷ xss) yss room first second = (
     first.0,
-    served_more cs ds xss yss (room_by xs room) first.1 (subst (AreServed g setting terminals ds yss) (room_split xs (together xss) room) second),
+    served_more cs ds xss yss (room_by xs room) first.1
+        (subst (AreServed g setting terminals ds yss) (room_split xs (together xss) room) second),
   )
 
   joined_more : (cs ds : List (Conversation S)) (mid last : Store S) (room : Room)
@@ -76,7 +83,8 @@ module _ {S : Type 0} (g : Ghosts S) (setting : Setting) (terminals : List Termi
       let here = together first.talks in
       let there = together second.talks in
       let all : together (first.talks ++ second.talks) ≡ here ++ there = together_more first.talks second.talks in
-      let run : IsRun setting terminals (here ++ there) room = run_join setting terminals room here there fit first.run second.run in
+      let run : IsRun setting terminals (here ++ there) room = run_join setting terminals room here there fit first.run
+      second.run in
       record {
         talks = first.talks ++ second.talks;
         served = served_more cs ds first.talks second.talks room first.served second.served;
@@ -154,7 +162,9 @@ module _ {S : Type 0} (g : Ghosts S) (setting : Setting) (came_text : ℕ → Li
     told = back;
     in_turn = (next, stage);
     trusted = λ clean. trusted (rw stage at clean);
-    joined = λ clean terminals room is. rw stage (joined_one g setting terminals c room (promised (rw stage at clean) terminals room is is.formed));
+    joined =
+        λ clean terminals room is.
+        rw stage (joined_one g setting terminals c room (promised (rw stage at clean) terminals room is is.formed));
   }
 
   pub attended_more : (calls more : List (Option (Conversation S))) (old mid new : Service S)
@@ -166,12 +176,15 @@ module _ {S : Type 0} (g : Ghosts S) (setting : Setting) (came_text : ℕ → Li
       record {
         heard = rw map-append (grows_more old.heard mid.heard new.heard _ _ first.heard second.heard);
         told = rw (all, map-append) (grows_more old.told mid.told new.told _ _ first.told second.told);
-        in_turn = rw all (next_more (connected calls) (connected more) old.stage mid.stage new.stage first.in_turn second.in_turn);
+        in_turn =
+            rw all
+            (next_more (connected calls) (connected more) old.stage mid.stage new.stage first.in_turn second.in_turn);
         trusted = λ clean. first.trusted (second.trusted clean);
         joined = λ clean terminals room is.
             let here = first.joined (second.trusted clean) terminals room is in
             let there = second.joined clean terminals (room_by (together here.talks) room) here.after in
-            rw all (joined_more g setting terminals (connected calls) (connected more) mid.stage.store new.stage.store room is.fits is.formed here there);
+            rw all (joined_more g setting terminals (connected calls) (connected more) mid.stage.store new.stage.store
+            room is.fits is.formed here there);
       }
 
 -- ---- whether more is served
@@ -206,11 +219,12 @@ module _ {S : Type 0} where
   go_on_more calls call go is = each_more GoesOn calls call go (go_on_one call is)
 
   pub ends_after : (calls : List (Option (Conversation S))) (call : Option (Conversation S))
-      (most : ℕ) (fault : Failure) → GoOn calls → length calls < most
+      (renews : Bool) (most : ℕ) (fault : Failure) → GoOn calls → length calls < most
       → Err fault ≡ done_or (option_and_then fault_after call)
-      → EndsAs (calls ++ call ∷ []) most (Err fault)
-  ends_after calls None most fault go within is = cc
-  ends_after calls (Some c) most fault go within is = (calls, c, refl, rw length-append (omega (arith, within)), go, has_some fault (fault_after c) is)
+      → EndsAs renews (calls ++ call ∷ []) most (Err fault)
+  ends_after calls None renews most fault go within is = cc
+  ends_after calls (Some c) renews most fault go within is =
+      (calls, c, refl, rw length-append (omega (arith, within)), go, has_some fault (fault_after c) is)
 
 -- ---- what is kept
 -- a stop leaves only what is kept
@@ -218,7 +232,8 @@ pub leaves_kept : {S : Type 0} (g : Ghosts S) (store : Store S) (terminals : Lis
     (room : Room) → IsRoom g store terminals room → IsKept g store
     → LeavesOneOf g store terminals (room ∷ [])
 leaves_kept g store terminals room is kept db left =
-    inl (subst (λ (trees : Trees). Stands trees (config_of store.plan terminals) room) (sym (kept.alone db left)) (is.tables kept.is_open))
+    inl (subst (λ (trees : Trees). Stands trees (config_of store.plan terminals) room) (sym (kept.alone db left))
+    (is.tables kept.is_open))
 
 -- more is served only with a store that is sound
 sound_of_none : (end : ServeEnd) (is_sound : Bool) → fault_by end is_sound ≡ None
@@ -253,7 +268,8 @@ module _ {S : Type 0} (g : Ghosts S) (setting : Setting) (came_text : ℕ → Li
       → HasCleanDisk (state g stage.store.conn)
   clean_before [] stage last same clean = rw (← same) clean
   clean_before (c ∷ cs) stage last in_turn clean =
-      subst (λ (s : Stage S). HasCleanDisk (state g s.store.conn)) in_turn.0.begins (in_turn.0.trusted (clean_before cs (stage_after c) last in_turn.1 clean))
+      subst (λ (s : Stage S). HasCleanDisk (state g s.store.conn)) in_turn.0.begins
+      (in_turn.0.trusted (clean_before cs (stage_after c) last in_turn.1 clean))
 
   kept_from : (stage : Stage S) (c : Conversation S) → stage_before c ≡ stage
       → IsKept g stage.store → IsKept g c.from
@@ -277,7 +293,8 @@ module _ {S : Type 0} (g : Ghosts S) (setting : Setting) (came_text : ℕ → Li
       → AreNext g setting came_text told_text (connected (call ∷ [])) stage last
       → IsKept g stage.store → All (λ c. IsKept g c.from) (connected (call ∷ []))
   kept_at None stage last in_turn kept = All-nil (λ c. IsKept g c.from)
-  kept_at (Some c) stage last in_turn kept = All-cons (λ c. IsKept g c.from) c [] (kept_from stage c in_turn.0.begins kept) (All-nil (λ c. IsKept g c.from))
+  kept_at (Some c) stage last in_turn kept =
+      All-cons (λ c. IsKept g c.from) c [] (kept_from stage c in_turn.0.begins kept) (All-nil (λ c. IsKept g c.from))
 
 -- ---- one call more
 module _ {S : Type 0} (g : Ghosts S) (setting : Setting) (came_text : ℕ → List ℕ → List ℕ)
@@ -305,13 +322,18 @@ module _ {S : Type 0} (g : Ghosts S) (setting : Setting) (came_text : ℕ → Li
     longer = λ goes_on first count before.
         let on : Ok tt ≡ done_or (option_and_then fault_after call) = sym goes_on ∙ ends in
         let one = λ (clean : HasCleanDisk (state g new.stage.store.conn)) (kept : IsKept g first.stage.store).
-        kept_each g setting came_text told_text (connected (call ∷ [])) old.stage new.stage next.in_turn (go_on_one call on) clean (before.is_kept (next.trusted clean) kept) in
+        kept_each g setting came_text told_text (connected (call ∷ [])) old.stage new.stage next.in_turn
+        (go_on_one call on) clean (before.is_kept (next.trusted clean) kept) in
         record {
           calls = before.calls ++ call ∷ [];
           counted = rw length-append (ap (λ n. n + 1) before.counted);
           go_on = go_on_more before.calls call before.go_on on;
-          attended = attended_more g setting came_text told_text before.calls (call ∷ []) first old new before.attended next;
-          kept = λ clean kept. each_more (λ c. IsKept g c.from) before.calls call (before.kept (next.trusted clean) kept) (one clean kept).0;
+          attended =
+              attended_more g setting came_text told_text before.calls (call ∷ []) first old new before.attended next;
+          kept =
+              λ clean kept.
+              each_more (λ c. IsKept g c.from) before.calls call (before.kept (next.trusted clean) kept)
+              (one clean kept).0;
           is_kept = λ clean kept. (one clean kept).1;
         };
   }
@@ -320,8 +342,10 @@ module _ {S : Type 0} (g : Ghosts S) (setting : Setting) (came_text : ℕ → Li
   pub kept_ending : (call : Option (Conversation S)) (first old new : Service S) (count : ℕ)
       → (before : HasServed g setting came_text told_text first old count)
       → AreAttended g setting came_text told_text (call ∷ []) old new
-      → AreKept g setting came_text told_text (connected (before.calls ++ call ∷ [])) first (HasCleanDisk (state g new.stage.store.conn))
+      → AreKept g setting came_text told_text (connected (before.calls ++ call ∷ [])) first
+      (HasCleanDisk (state g new.stage.store.conn))
   kept_ending call first old new count before next clean kept =
       let here = next.trusted clean in
-      let last = kept_at g setting came_text told_text call old.stage new.stage next.in_turn (before.is_kept here kept) in
+      let last = kept_at g setting came_text told_text call old.stage new.stage next.in_turn
+      (before.is_kept here kept) in
       each_more (λ c. IsKept g c.from) before.calls call (before.kept here kept) last

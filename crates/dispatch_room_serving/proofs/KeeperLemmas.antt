@@ -1,17 +1,63 @@
 -- Lemmas on entries that are kept.
-use Rattle.std.proofs.Common.{◌≡◌, ◌∙◌, refl, sym, ap, arith, ◌≤◌, ℕ, List, [], ◌∷◌, ◌++◌, length, length-append, append-nil, Bool, false, Option, Result, Err}
+use Rattle.std.proofs.Common.{◌≡◌, ◌∙◌, refl, sym, ap, arith, ◌≤◌, ℕ, List, [], ◌∷◌, ◌++◌, length, length-append}
+use Rattle.std.proofs.Common.{append-nil, Bool, true, false, if◌then◌else◌, Option, None, Some, Result, Ok, Err, subst}
 use Rattle.std.specs.Io.KnownBytes.{Appends}
-use Rattle.room_http.specs.Kept.{KeepsAll}
+use Rattle.room_http.specs.Kept.{KeepsAll, came_of}
+use Rattle.room_http.specs.declared.arrivals.Arrived.{Arrived}
+use Rattle.room_http.specs.declared.arrivals.Arrived.TheVariants.{Message, Refused}
 use Rattle.room_model.specs.declared.digests.Version.{Version}
 use Rattle.room_model.specs.declared.digests.Version.TheVariants.{First, Second}
-use Rattle.dispatch_room_journal.specs.Entries.{Entry, IsEntry, answer, head_words, line_of, line_text, message, rest_of, room, text_of}
+use Rattle.dispatch_room_journal.specs.Entries.{Entry, IsEntry, answer, head_words, line_of, line_text, message}
+use Rattle.dispatch_room_journal.specs.Entries.{rest_of, room, text_of}
 use Rattle.dispatch_room_journal.proofs.WritingLemmas.{entry_fits}
-use Rattle.dispatch_room_chain.specs.Chains.{IsBody, is_end}
+use Rattle.dispatch_room_journal.specs.Chains.{IsBody, is_end}
+use Rattle.dispatch_room_serving.specs.Journals.{known_by, known_where}
+use Rattle.dispatch_room_serving.specs.declared.journals.Journal.{Journal}
+use Rattle.dispatch_room_serving.specs.KeptChanges.{is_kept, kept_of}
 
 -- what was kept could not be made to last
 pub keeps_whole : {E : Type 0} (a b : Option (List ℕ)) (bytes : List ℕ) (e : E) → Appends a b bytes
     → KeepsAll a b bytes (Err e)
 keeps_whole a b bytes e grows = (bytes, ([], sym (append-nil bytes)), grows)
+
+-- what has arrived and is kept is kept wholly, and of what is not nothing is
+pub keeps_it : {E : Type 0} (keeps : Bool) (arrived : Arrived) (a b : Option (List ℕ))
+    (text : List ℕ) (result : Result (Unit {0}) E) → is_kept keeps arrived ≡ true
+    → KeepsAll a b text result → KeepsAll a b (kept_of keeps arrived text) result
+keeps_it keeps arrived a b text result is grows =
+    subst (λ (it : Bool). KeepsAll a b (if it then text else []) result) (sym is) grows
+
+appends_none : (a : Option (List ℕ)) → Appends a a []
+appends_none None = tt
+appends_none (Some text) = sym (append-nil text)
+
+pub keeps_none : (keeps : Bool) (arrived : Arrived) (a : Option (List ℕ)) (text : List ℕ)
+    → is_kept keeps arrived ≡ false → Appends a a (kept_of keeps arrived text)
+keeps_none keeps arrived a text is =
+    subst (λ (it : Bool). Appends a a (if it then text else [])) (sym is) (appends_none a)
+
+-- all that is to be kept is, where questions are kept too; else it is not known what is
+known_kept : {E : Type 0} (keeps : Bool) (arrived : Arrived) (came : ℕ → List ℕ → List ℕ)
+    (at : ℕ) (a b : Option (List ℕ)) (result : Result (Unit {0}) E)
+    → KeepsAll a b (kept_of keeps arrived (came_of came arrived at)) result
+    → KeepsAll (known_where keeps a) (known_where keeps b) (came_of came arrived at) result
+known_kept true (Message shown bytes) came at a b result grows = grows
+known_kept true (Refused r head_only) came at a b result grows = grows
+known_kept false arrived came at a b (Ok done) grows = tt
+known_kept false arrived came at a b (Err e) grows =
+    (came_of came arrived at, ([], sym (append-nil (came_of came arrived at))), tt)
+
+pub known_of : {W E : Type 0} (held : W → Option (List ℕ)) (old new : Journal W) (arrived : Arrived)
+    (came : ℕ → List ℕ → List ℕ) (at : ℕ) (result : Result (Unit {0}) E)
+    → new.keeps_questions ≡ old.keeps_questions
+    → KeepsAll (held old.out) (held new.out)
+    (kept_of old.keeps_questions arrived (came_of came arrived at)) result
+    → KeepsAll (known_by held old) (known_by held new) (came_of came arrived at) result
+known_of held old new arrived came at result same grows =
+    subst
+    (λ (keeps : Bool). KeepsAll (known_by held old) (known_where keeps (held new.out)) (came_of came arrived at) result)
+    (sym same)
+    (known_kept old.keeps_questions arrived came at (held old.out) (held new.out) result grows)
 
 -- an entry is a record
 pub entry_body : (entry : List ℕ) → ((e : Entry) × IsEntry e × (entry ≡ text_of e)) → IsBody entry

@@ -10,3 +10,5 @@ pub mod ListLaws
 pub mod ReplayLaws
 -- entries that are kept
 pub mod KeeperLemmas
+-- questions change nothing
+pub mod ChangeLaws

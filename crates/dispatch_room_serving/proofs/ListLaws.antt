@@ -1,5 +1,7 @@
 -- The list that is kept over all starts is replayed from the room that the first of them found.
-use Rattle.std.proofs.Common.{◌≡◌, ◌∙◌, ◌+◌, ◌≤◌, ◌<◌, ◌⊎◌, inl, inr, sym, ap, subst, refl, arith, ℕ, zero, suc, List, [], ◌∷◌, ◌++◌, length, length-append, append-nil, append_assoc, true, Option, Some, None, Ok}
+use Rattle.std.proofs.Common.{◌≡◌, ◌∙◌, ◌+◌, ◌≤◌, ◌<◌, ◌⊎◌, inl, inr, sym, ap, subst, refl, arith, ℕ, zero, suc, List}
+use Rattle.std.proofs.Common.{[], ◌∷◌, ◌++◌, length, length-append, append-nil, append_assoc, true, Option, Some, None}
+use Rattle.std.proofs.Common.{Ok}
 use Rattle.std.specs.Prelude.{All}
 use Rattle.std.specs.Int.{to_be_bytes, w32}
 use Rattle.std.specs.Io.KnownBytes.{Appends}
@@ -51,14 +53,21 @@ use Rattle.dispatch_room_journal.specs.JournalRecords.{answer_text, message_text
 use Rattle.dispatch_room_journal.proofs.DigestLemmas.{digits_of as are_digits}
 use Rattle.dispatch_room_journal.specs.ReplayLaws.{answers_to_messages}
 use Rattle.dispatch_room_journal.specs.ReplayedTurns.{left_out}
-use Rattle.dispatch_room_journal.proofs.KeptTurns.{Come, Ready, Settled, come_course, come_front, come_head, come_moved, come_none, come_record, come_same, come_settled, come_short, come_still, come_unwritten, ends_open-push, left_open, no_answer, settle_record, settle_wanting}
+use Rattle.dispatch_room_journal.proofs.KeptTurns.{Come, Ready, Settled, come_course, come_front, come_head, come_moved}
+use Rattle.dispatch_room_journal.proofs.KeptTurns.{come_none, come_record, come_same, come_settled, come_short}
+use Rattle.dispatch_room_journal.proofs.KeptTurns.{come_still, come_unwritten, ends_open-push, left_open, no_answer}
+use Rattle.dispatch_room_journal.proofs.KeptTurns.{settle_record, settle_wanting}
 use Rattle.dispatch_room_journal.proofs.TurnLemmas.{begun-append}
-use Rattle.dispatch_room_serving.specs.Connections.{AreNext, AreServed, Conversation, GoOnBefore, GoesOn, IsNext, IsServed, Service, Stage, connected, fault_by, stage_after}
-use Rattle.dispatch_room_serving.specs.Lists.{AreGiven, AreParts, HasNoTwin, IsListOf, IsPartOf, ListIsTheRoom, Part, ServedKeepsItsPart}
+use Rattle.dispatch_room_tasks.specs.OpenedRoom.{OpensRoom}
+use Rattle.dispatch_room_serving.specs.Connections.{AreNext, AreServed, Conversation, GoOnBefore, GoesOn, IsNext}
+use Rattle.dispatch_room_serving.specs.Connections.{IsServed, Service, Stage, connected, fault_by, stage_after}
+use Rattle.dispatch_room_serving.specs.Lists.{AreGiven, AreParts, HasNoTwin, IsListOf, IsPartOf, ListIsTheRoom, Part}
+use Rattle.dispatch_room_serving.specs.Lists.{ServedKeepsItsPart}
 use Rattle.dispatch_room_serving.specs.ServedRoom.{IsDigestOf, IsHead}
 use Rattle.dispatch_room_serving.specs.Starts.{AreStarts, IsStart, IsTrusted, OfLast, Start, connections, left_by}
 use Rattle.dispatch_room_serving.proofs.ConnectionLaws.{clean_before, kept_after, leaves_kept}
-use Rattle.dispatch_room_serving.proofs.StartLaws.{all_kept, clean_first, joined, leaves_first, one_zone, opens, opens_it, served_start}
+use Rattle.dispatch_room_serving.proofs.StartLaws.{all_kept, clean_first, joined, leaves_first, one_zone, opens}
+use Rattle.dispatch_room_serving.proofs.StartLaws.{opens_it, served_start, stands_on}
 
 -- ---- what is known of a tape
 appended : (old new : Option (List ℕ)) (list bytes : List ℕ) → old ≡ Some list
@@ -77,7 +86,8 @@ unfolding digest_bytes
 bytes_small h zero = All-nil (λ byte. byte < 256)
 bytes_small h (suc n) =
     All-append (λ byte. byte < 256) (digest_bytes h n) (to_be_bytes w32 _) (bytes_small h n)
-    (All-from_recursion (λ byte. byte < 256) (to_be_bytes w32 _) (omega arith, (omega arith, (omega arith, (omega arith, tt)))))
+    (All-from_recursion (λ byte. byte < 256) (to_be_bytes w32 _)
+    (omega arith, (omega arith, (omega arith, (omega arith, tt)))))
 
 hash_small : (text : List ℕ) → All (λ byte. byte < 256) (sha256 text)
 unfolding sha256
@@ -99,7 +109,8 @@ module _ {S : Type 0} where
       let told = answers_to_messages c.course.outs c.course.answers in (
         more,
         rest ++ others,
-        ap (λ a. a ++ others) is ∙ append_assoc told (more ++ rest) others ∙ ap (λ a. told ++ a) (append_assoc more rest others),
+        ap (λ a. a ++ others) is ∙ append_assoc told (more ++ rest) others
+            ∙ ap (λ a. told ++ a) (append_assoc more rest others),
         few,
         given_join cs ds rest others later given,
       )
@@ -117,7 +128,8 @@ module _ (text : List ℕ) (a b : Setting) (in_a : IsSetting text b.history a)
   pub reply_in : (room : Room) (x : Timed) (after : Room) (bytes : List ℕ)
       → IsReplyTo machine a terminals room x after bytes
       → IsReplyTo machine b terminals room x after bytes
-  reply_in room x after bytes reply = (reply.0, found_in text a b in_a in_b terminals x reply.0 reply.1, reply.2, reply.3)
+  reply_in room x after bytes reply =
+      (reply.0, found_in text a b in_a in_b terminals x reply.0 reply.1, reply.2, reply.3)
 
   replies_in : (room : Room) (outs : List Timed) (answers : List (List ℕ)) (after : Room)
       → AreReplies machine a terminals room outs answers after
@@ -137,13 +149,15 @@ module _ (setting : Setting) (terminals : List Terminal) where
       → Replies room x after bytes → Replies room x other others → after ≡ other
   one_reply room x after other bytes others is also =
       let talk = IsTalk-one machine setting terminals room in
-      (one_talk_law machine setting terminals room (x ∷ []) after other bytes others (talk after x bytes is) (talk other x others also)).0
+      (one_talk_law machine setting terminals room (x ∷ []) after other bytes others (talk after x bytes is)
+      (talk other x others also)).0
 
   exchanged : (x : Exchange) (xs : List Exchange) (room : Room) (y : Timed)
       → AreAnswered setting terminals (x ∷ xs) room → x.arrival ≡ y
       → Replies room y (replied machine x.found room).0 x.bytes
   exchanged x xs room y answered is =
-      subst (λ (t : Timed). Replies room t (replied machine x.found room).0 x.bytes) is (x.found, answered.0, refl, answered.1)
+      subst (λ (t : Timed). Replies room t (replied machine x.found room).0 x.bytes) is
+      (x.found, answered.0, refl, answered.1)
 
   -- the room after the first of them is the one after its answer
   module _ (o : Timed) (outs : List Timed) (told : List ℕ) (answers : List (List ℕ)) (x : Exchange)
@@ -152,7 +166,8 @@ module _ (setting : Setting) (terminals : List Terminal) where
       (answered : AreAnswered setting terminals (x ∷ xs) room) (is : x.arrival ≡ o) where
     next_replies : AreReplies machine setting terminals (replied machine x.found room).0 outs answers after
     next_replies = subst (λ (r : Room). AreReplies machine setting terminals r outs answers after)
-        (one_reply room o replies.0 (replied machine x.found room).0 told x.bytes replies.1 (exchanged x xs room o answered is)) replies.2
+        (one_reply room o replies.0 (replied machine x.found room).0 told x.bytes replies.1
+        (exchanged x xs room o answered is)) replies.2
 
   same_room : (outs : List Timed) (answers : List (List ℕ)) (xs : List Exchange) (room after : Room)
       → AreReplies machine setting terminals room outs answers after
@@ -166,7 +181,8 @@ module _ (setting : Setting) (terminals : List Terminal) where
       let first : x.arrival ≡ o = cc in
       let rest : arrivals_of xs ≡ outs = cc in
       run_first x.found (events_of xs) room
-      ∙ same_room outs answers xs (replied machine x.found room).0 after (next_replies o outs told answers x xs room after replies answered first) answered.2 rest
+      ∙ same_room outs answers xs (replied machine x.found room).0 after
+      (next_replies o outs told answers x xs room after replies answered first) answered.2 rest
 
   last_reply : (outs : List Timed) (answers : List (List ℕ)) (xs : List Exchange) (y : Timed)
       (room after : Room) → AreReplies machine setting terminals room outs answers after
@@ -186,7 +202,8 @@ module _ (setting : Setting) (terminals : List Terminal) where
   last_reply (o ∷ outs) (told ∷ answers) (x ∷ xs) y room after replies answered is =
       let first : x.arrival ≡ o = cc in
       let rest : arrivals_of xs ≡ outs ++ y ∷ [] = cc in
-      let found = last_reply outs answers xs y (replied machine x.found room).0 after (next_replies o outs told answers x xs room after replies answered first) answered.2 rest in
+      let found = last_reply outs answers xs y (replied machine x.found room).0 after
+      (next_replies o outs told answers x xs room after replies answered first) answered.2 rest in
       (found.0, subst (λ (r : Room). Replies after y r found.0) (sym (run_first x.found (events_of xs) room)) found.1)
 
   -- the answers to these arrivals and to one more
@@ -214,8 +231,11 @@ module _ (setting : Setting) (terminals : List Terminal) where
       → IsCome message_text answer_text x coming → Finds setting terminals x (Ok event)
       → (bytes : List ℕ) × Replies room x (machine event room).0 bytes
   event_reply x coming event room came finds =
-      let done = exchange_of setting terminals x event room (in_time x coming event came finds) finds in
-      (done.0.bytes, subst (λ (r : Room). Replies room x r done.0.bytes) (ap (λ found. (replied machine found room).0) done.2) (exchanged done.0 [] room x done.3 done.1))
+      let done = exchange_of setting terminals x event room (in_time x coming event came finds) finds in (
+        done.0.bytes,
+        subst (λ (r : Room). Replies room x r done.0.bytes) (ap (λ found. (replied machine found room).0) done.2)
+            (exchanged done.0 [] room x done.3 done.1),
+      )
 
 -- ---- one arrival more than these
 longer : (few many : List Timed) (x : Timed) → few ++ x ∷ [] ≡ many → length many ≤ length few → ⊥
@@ -231,7 +251,8 @@ module _ {S : Type 0} (g : Ghosts S) where
   one_of : (store : Store S) (terminals : List Terminal) (room other : Room)
       → IsRoom g store terminals room → IsRoom g store terminals other → IsKept g store → room ≡ other
   one_of store terminals room other is also kept =
-      one_room (state g store.conn).now.trees (config_of store.plan terminals) (config_of store.plan terminals) room other (is.tables kept.is_open) (also.tables kept.is_open)
+      one_room (state g store.conn).now.trees (config_of store.plan terminals) (config_of store.plan terminals) room
+      other (is.tables kept.is_open) (also.tables kept.is_open)
 
   -- the room after what was answered, or the one after the last arrival
   module _ (setting : Setting) (terminals : List Terminal) (c : Conversation S) (now after : Room)
@@ -251,17 +272,22 @@ module _ {S : Type 0} (g : Ghosts S) where
 
     abbrev Leaves : Type 0
     Leaves = LeavesOneOf g c.store terminals (room_by s.exchanges now ∷ [])
-        ⊎ ((y : Timed) × AreFirstIn c.course c.before.left c.before.given c.after.given (arrivals_of s.exchanges ++ y ∷ [])
+        ⊎ ((y : Timed)
+        × AreFirstIn c.course c.before.left c.before.given c.after.given (arrivals_of s.exchanges ++ y ∷ [])
         × LeavesNext machine setting (LeavesOneOf g c.store) y terminals (room_by s.exchanges now))
 
     -- all but the last arrival were exchanged
     but_last : arrivals_of s.exchanges ≡ c.course.outs → Leaves → OneOf
     but_last all (inl alone) = elim (alone db left) [
-      | inl stands ↦ inl (subst StandsFor (same_room setting terminals c.course.outs c.course.answers s.exchanges now after replies s.run.answered all) stands)
+      | inl stands ↦
+          inl (subst StandsFor
+          (same_room setting terminals c.course.outs c.course.answers s.exchanges now after replies s.run.answered all)
+          stands)
       | inr none ↦ absurd none
     ]
     but_last all (inr (y, first, (event, finds, leaves))) =
-        let room_is = same_room setting terminals c.course.outs c.course.answers s.exchanges now after replies s.run.answered all in
+        let room_is = same_room setting terminals c.course.outs c.course.answers s.exchanges now after replies
+        s.run.answered all in
         elim first.0 [
           | inl same ↦ absurd (longer (arrivals_of s.exchanges) c.course.outs y same (omega (arith, ap length all)))
           | inr (z, last_z, same) ↦
@@ -273,7 +299,12 @@ module _ {S : Type 0} (g : Ghosts S) where
                 | inr more ↦ elim more [
                   | inl stands ↦
                       let reply = event_reply setting terminals x coming event after came found in
-                      inr ((machine event after).0, reply.0, reply.1, subst (λ (r : Room). StandsFor (machine event r).0) room_is stands)
+                      inr (
+                        (machine event after).0,
+                        reply.0,
+                        reply.1,
+                        subst (λ (r : Room). StandsFor (machine event r).0) room_is stands,
+                      )
                   | inr none ↦ absurd none
                 ]
               ]
@@ -283,17 +314,27 @@ module _ {S : Type 0} (g : Ghosts S) where
     with_last : (y : Timed) → c.course.last ≡ Some y
         → arrivals_of s.exchanges ≡ c.course.outs ++ y ∷ [] → Leaves → OneOf
     with_last y last_y all (inl alone) =
-        let reply = last_reply setting terminals c.course.outs c.course.answers s.exchanges y now after replies s.run.answered all in
+        let reply = last_reply setting terminals c.course.outs c.course.answers s.exchanges y now after replies
+        s.run.answered all in
         let y_is : y ≡ x = cc (last, last_y) in
         elim (alone db left) [
-          | inl stands ↦ inr (room_by s.exchanges now, reply.0, subst (λ (t : Timed). IsReplyTo machine setting terminals after t (room_by s.exchanges now) reply.0) y_is reply.1, stands)
+          | inl stands ↦
+              inr (
+                room_by s.exchanges now,
+                reply.0,
+                subst (λ (t : Timed). IsReplyTo machine setting terminals after t (room_by s.exchanges now) reply.0)
+                    y_is reply.1,
+                stands,
+              )
           | inr none ↦ absurd none
         ]
     with_last y last_y all (inr (z, first, leaves)) =
         let long = ap length all ∙ length-append c.course.outs (y ∷ []) in
         elim first.0 [
           | inl same ↦ absurd (longer (arrivals_of s.exchanges) c.course.outs z same (omega (arith, long)))
-          | inr (u, last_u, same) ↦ absurd (longer (arrivals_of s.exchanges) (c.course.outs ++ u ∷ []) z same (omega (arith, long, length-append c.course.outs (u ∷ []))))
+          | inr (u, last_u, same) ↦
+              absurd (longer (arrivals_of s.exchanges) (c.course.outs ++ u ∷ []) z same
+              (omega (arith, long, length-append c.course.outs (u ∷ []))))
         ]
 
     leaves_one : OneOf
@@ -356,9 +397,11 @@ module _ {S : Type 0} (g : Ghosts S) (setting : Setting) (text : List ℕ)
         → AreRecords message_text answer_text c.course.outs c.course.answers more
         → Ready machine setting digits terminals (AreGiven (cs ++ c ∷ [])) held (list ++ more) after
     ready cs c list more now after s replies kept =
-        come_course machine setting digits terminals (AreGiven cs) (AreGiven (cs ++ c ∷ [])) held list more now after c.course.outs c.course.answers
+        come_course machine setting digits terminals (AreGiven cs) (AreGiven (cs ++ c ∷ [])) held list more now after
+        c.course.outs c.course.answers
         (λ old answers given few. given_next cs c old answers given few) s
-        (replies_in text served_in setting in_served in_zone terminals now c.course.outs c.course.answers after replies) kept
+        (replies_in text served_in setting in_served in_zone terminals now c.course.outs c.course.answers after replies)
+        kept
 
     module _ (cs : List (Conversation S)) (c : Conversation S) (stage : Stage S) (list : List ℕ)
         (now : Room) (next : IsNext g served_in message_text answer_text stage c)
@@ -382,7 +425,8 @@ module _ {S : Type 0} (g : Ghosts S) (setting : Setting) (text : List ℕ)
       keeps_more : (tail : List ℕ) → Appends c.kept c.keeps (next.observed.text ++ tail)
           → c.keeps ≡ Some (base ++ tail)
       keeps_more tail grows =
-          appended c.kept c.keeps list (next.observed.text ++ tail) kept_is grows ∙ ap (λ t. Some t) (sym (append_assoc list next.observed.text tail))
+          appended c.kept c.keeps list (next.observed.text ++ tail) kept_is grows
+          ∙ ap (λ t. Some t) (sym (append_assoc list next.observed.text tail))
 
       made : (after : Room) → AreReplies machine served_in terminals now c.course.outs c.course.answers after
           → IsReady after
@@ -393,8 +437,12 @@ module _ {S : Type 0} (g : Ghosts S) (setting : Setting) (text : List ℕ)
           → AreReplies machine served_in terminals now (c.course.outs ++ x ∷ []) (c.course.answers ++ answer ∷ []) after
           → (mid : Room) × IsReady mid × IsReplyTo machine setting terminals mid x after answer
       acted x answer after replies =
-          let split = replies_split served_in terminals c.course.outs c.course.answers next.observed.text x answer now after next.observed.kept replies in
-          (split.0, made split.0 split.1, reply_in text served_in setting in_served in_zone terminals split.0 x after answer split.2)
+          let split = replies_split served_in terminals c.course.outs c.course.answers next.observed.text x answer now
+          after next.observed.kept replies in (
+            split.0,
+            made split.0 split.1,
+            reply_in text served_in setting in_served in_zone terminals split.0 x after answer split.2,
+          )
 
       -- ---- more is served after it
       record Middle : Type 0 where
@@ -406,7 +454,9 @@ module _ {S : Type 0} (g : Ghosts S) (setting : Setting) (text : List ℕ)
 
       no_more : GoesOn c → c.end ≡ end.Unkept → ⊥
       no_more goes unkept =
-          let fault : fault_by end.Unkept c.store.is_sound ≡ None = subst (λ (e : ServeEnd). fault_by e c.store.is_sound ≡ None) unkept goes in cc
+          let fault : fault_by end.Unkept c.store.is_sound
+          ≡ None = subst (λ (e : ServeEnd). fault_by e c.store.is_sound ≡ None) unkept goes in
+          cc
 
       middle : GoesOn c → Middle
       middle goes = elim next.observed.ends [
@@ -427,7 +477,9 @@ module _ {S : Type 0} (g : Ghosts S) (setting : Setting) (text : List ℕ)
                 record {
                   list_after = base ++ tail;
                   after = m.0;
-                  settled = settle_wanting machine setting digits terminals (AreGiven All_of) held base m.0 (made m.0 m.1) x tail wrote want;
+                  settled =
+                      settle_wanting machine setting digits terminals (AreGiven All_of) held base m.0 (made m.0 m.1) x
+                      tail wrote want;
                   keeps = keeps_more tail grow.kept;
                   stands = m.2;
                 }
@@ -440,7 +492,9 @@ module _ {S : Type 0} (g : Ghosts S) (setting : Setting) (text : List ℕ)
                 record {
                   list_after = base ++ tail;
                   after = m.0;
-                  settled = settle_record machine setting digits terminals (AreGiven All_of) held base done.0 done.1 x answer tail m.0 whole done.2;
+                  settled =
+                      settle_record machine setting digits terminals (AreGiven All_of) held base done.0 done.1 x answer
+                      tail m.0 whole done.2;
                   keeps = keeps_more tail grow.kept;
                   stands = m.2;
                 }
@@ -462,14 +516,18 @@ module _ {S : Type 0} (g : Ghosts S) (setting : Setting) (text : List ℕ)
 
         alone : (room : Room) → Came room → IsRoom g c.store terminals room → IsKept g c.store
             → EndsAt All_of (texts_of entries) c.store
-        alone room come stands lasts = still_ends All_of (texts_of entries) c.store room come stands (leaves_kept g c.store terminals room stands lasts)
+        alone room come stands lasts =
+            still_ends All_of (texts_of entries) c.store room come stands
+            (leaves_kept g c.store terminals room stands lasts)
 
         last_one : EndsAt All_of (texts_of entries) c.store
         last_one = elim next.observed.ends [
           | inl (none, lasts, moved, begins, (late, is_late, grow)) ↦
               let m = moved clean terminals now from_is in
               let it = grown base (appended c.kept c.keeps list next.observed.text kept_is grow.kept) in
-              alone m.0 (come_none machine setting digits terminals (AreGiven All_of) held base m.0 (made m.0 m.1) entries rest end_is it) m.2 (lasts clean kept)
+              alone m.0
+              (come_none machine setting digits terminals (AreGiven All_of) held base m.0 (made m.0 m.1) entries rest
+              end_is it) m.2 (lasts clean kept)
           | inr (x, last, tail, wrote, begins, begun, grow) ↦
               let it = grown (base ++ tail) (keeps_more tail grow.kept) in
               elim begun [
@@ -478,20 +536,30 @@ module _ {S : Type 0} (g : Ghosts S) (setting : Setting) (text : List ℕ)
                     let r = made m.0 m.1 in
                     elim few [
                       | inl (lasts, short, unkept) ↦
-                          let come = come_short machine setting digits terminals (AreGiven All_of) held base m.0 r entries rest end_is x tail wrote short it in
+                          let come = come_short machine setting digits terminals (AreGiven All_of) held base m.0 r
+                          entries rest end_is x tail wrote short it in
                           alone m.0 come m.2 (lasts clean kept)
                       | inr want ↦
-                          let come = come_still machine setting digits terminals (AreGiven All_of) held base m.0 r entries rest end_is x tail wrote want it in
+                          let come = come_still machine setting digits terminals (AreGiven All_of) held base m.0 r
+                          entries rest end_is x tail wrote want it in
                           record {
                             now = m.0;
                             come = come;
                             is = m.2;
-                            leaves = λ db left. elim (leaves_one g served_in terminals c now m.0 served.served kept m.1 x last tail want.0 db left) [
-                              | inl stands ↦ (m.0, come, stands)
-                              | inr (room, bytes, reply, stands) ↦
-                                  let here = reply_in text served_in setting in_served in_zone terminals m.0 x room bytes reply in
-                                  (room, come_moved machine setting digits terminals (AreGiven All_of) held base m.0 r entries rest end_is x tail wrote bytes room want it here, stands)
-                            ];
+                            leaves =
+                                λ db left.
+                                elim (leaves_one g served_in terminals c now m.0 served.served kept m.1 x last tail
+                                want.0 db left) [
+                                  | inl stands ↦ (m.0, come, stands)
+                                  | inr (room, bytes, reply, stands) ↦
+                                      let here = reply_in text served_in setting in_served in_zone terminals m.0 x room
+                                      bytes reply in (
+                                        room,
+                                        come_moved machine setting digits terminals (AreGiven All_of) held base m.0 r
+                                            entries rest end_is x tail wrote bytes room want it here,
+                                        stands,
+                                      )
+                                ];
                           }
                     ]
                 | inr (answer, moved, lasts, few) ↦
@@ -499,10 +567,12 @@ module _ {S : Type 0} (g : Ghosts S) (setting : Setting) (text : List ℕ)
                     let done = acted x answer m.0 m.1 in
                     elim few [
                       | inl (unwritten, unkept) ↦
-                          let come = come_unwritten machine setting digits terminals (AreGiven All_of) held base done.0 done.1 entries rest end_is x answer tail wrote m.0 unwritten it done.2 in
+                          let come = come_unwritten machine setting digits terminals (AreGiven All_of) held base done.0
+                          done.1 entries rest end_is x answer tail wrote m.0 unwritten it done.2 in
                           alone m.0 come m.2 (lasts clean kept)
                       | inr (whole, front) ↦
-                          let come = come_record machine setting digits terminals (AreGiven All_of) held base done.0 done.1 entries rest end_is x answer tail m.0 whole it done.2 in
+                          let come = come_record machine setting digits terminals (AreGiven All_of) held base done.0
+                          done.1 entries rest end_is x answer tail m.0 whole it done.2 in
                           alone m.0 come m.2 (lasts clean kept)
                     ]
               ]
@@ -517,19 +587,34 @@ module _ {S : Type 0} (g : Ghosts S) (setting : Setting) (text : List ℕ)
         → IsRoom g stage.store terminals now → stage.kept ≡ Some list → last.kept ≡ Some after
         → (entries : List Entry) (rest : List ℕ) → Follows after entries rest
         → (rest ≡ []) ⊎ IsPart rest → EndsAt (cs ++ c ∷ more) (texts_of entries) last.store
-    all_calls cs c more stage last list after now [] next served kept go clean s is known after_is entries rest follows end_is = absurd served
-    all_calls cs c [] stage last list after now (xs ∷ talks) next served kept go clean s is known after_is entries rest follows end_is =
+    all_calls cs c more stage last list after now [] next served kept go clean s is known after_is entries rest follows
+        end_is = absurd served
+    all_calls cs c [] stage last list after now (xs ∷ talks) next served kept go clean s is known after_is entries rest
+        follows end_is =
         subst (λ (t : Stage S). EndsAt (cs ++ c ∷ []) (texts_of entries) t.store) (sym next.1)
-        (last_one cs c stage list now next.0 (subst (λ (t : Stage S). HasCleanDisk (state g t.store.conn)) next.1 clean) s is known
-        xs served.0 (All-head (λ d. IsKept g d.from) c [] kept) after (sym (ap (λ (t : Stage S). t.kept) next.1) ∙ after_is) entries rest follows end_is)
-    all_calls cs c (d ∷ more) stage last list after now (xs ∷ talks) next served kept go clean s is known after_is entries rest follows end_is =
-        let clean_here = clean_before g served_in message_text answer_text (d ∷ more) (stage_after c) last next.1 clean in
+        (last_one cs c stage list now next.0 (subst (λ (t : Stage S). HasCleanDisk (state g t.store.conn)) next.1 clean)
+        s is known
+        xs served.0 (All-head (λ d. IsKept g d.from) c [] kept) after
+        (sym (ap (λ (t : Stage S). t.kept) next.1) ∙ after_is) entries rest follows end_is)
+    all_calls cs c (d ∷ more) stage last list after now (xs ∷ talks) next served kept go clean s is known after_is
+        entries rest follows end_is =
+        let clean_here = clean_before g served_in message_text answer_text (d ∷ more) (stage_after c) last next.1
+        clean in
         let m = middle cs c stage list now next.0 clean_here s is known go.0 in
-        let stands = subst (λ (es : List Exchange). IsRoom g c.store terminals (room_by es now)) served.0.exchanged served.0.served.after in
-        let same : room_by xs now ≡ m.after = one_of g c.store terminals (room_by xs now) m.after stands m.stands (kept_after g served_in message_text answer_text stage c next.0 go.0 clean_here) in
-        let then = all_calls (cs ++ c ∷ []) d more (stage_after c) last m.list_after after m.after talks next.1 (subst (λ (r : Room). AreServed g served_in terminals (d ∷ more) talks r) same served.1)
-        (All-tail (λ e. IsKept g e.from) c (d ∷ more) kept) go.1 clean m.settled m.stands m.keeps after_is entries rest follows end_is in
-        subst (λ (ds : List (Conversation S)). EndsAt ds (texts_of entries) last.store) (append_assoc cs (c ∷ []) (d ∷ more)) then
+        let stands = subst (λ (es : List Exchange). IsRoom g c.store terminals (room_by es now)) served.0.exchanged
+        served.0.served.after in
+        let same : room_by xs now
+        ≡ m.after =
+        one_of g c.store terminals (room_by xs now) m.after stands m.stands
+        (kept_after g served_in message_text answer_text stage c next.0 go.0 clean_here) in
+        let
+        then =
+        all_calls (cs ++ c ∷ []) d more (stage_after c) last m.list_after after m.after talks next.1
+        (subst (λ (r : Room). AreServed g served_in terminals (d ∷ more) talks r) same served.1)
+        (All-tail (λ e. IsKept g e.from) c (d ∷ more) kept) go.1 clean m.settled m.stands m.keeps after_is entries rest
+        follows end_is in
+        subst (λ (ds : List (Conversation S)). EndsAt ds (texts_of entries) last.store)
+        (append_assoc cs (c ∷ []) (d ∷ more)) then
 
     -- from the head of a start on
     calls_end : (cs ds : List (Conversation S)) (stage last : Stage S) (list after : List ℕ) (now : Room)
@@ -540,11 +625,17 @@ module _ {S : Type 0} (g : Ghosts S) (setting : Setting) (text : List ℕ)
         → stage.kept ≡ Some list → last.kept ≡ Some after
         → (entries : List Entry) (rest : List ℕ) → Follows after entries rest
         → (rest ≡ []) ⊎ IsPart rest → EndsAt (cs ++ ds) (texts_of entries) last.store
-    calls_end cs [] stage last list after now talks next served kept go clean s is leaves known after_is entries rest follows end_is =
-        let same : list ≡ after = same_known stage.kept list after known (sym (ap (λ (t : Stage S). t.kept) next) ∙ after_is) in
-        no_calls cs stage last (texts_of entries) now next (come_settled machine setting digits terminals (AreGiven cs) held entries rest end_is list now s (follows.0, same ∙ follows.1)) is leaves
-    calls_end cs (c ∷ more) stage last list after now talks next served kept go clean s is leaves known after_is entries rest follows end_is =
-        all_calls cs c more stage last list after now talks next served kept go clean s is known after_is entries rest follows end_is
+    calls_end cs [] stage last list after now talks next served kept go clean s is leaves known after_is entries rest
+        follows end_is =
+        let same : list
+        ≡ after = same_known stage.kept list after known (sym (ap (λ (t : Stage S). t.kept) next) ∙ after_is) in
+        no_calls cs stage last (texts_of entries) now next
+        (come_settled machine setting digits terminals (AreGiven cs) held entries rest end_is list now s
+        (follows.0, same ∙ follows.1)) is leaves
+    calls_end cs (c ∷ more) stage last list after now talks next served kept go clean s is leaves known after_is entries
+        rest follows end_is =
+        all_calls cs c more stage last list after now talks next served kept go clean s is known after_is entries rest
+        follows end_is
 
 -- ---- the first of some starts, and the last
 module _ {S : Type 0} (g : Ghosts S) where
@@ -600,15 +691,21 @@ module _ {S : Type 0} (g : Ghosts S) (setting : Setting) (text : List ℕ)
       no_one = ap connected none
 
       unmoved : s.last.stage ≡ s.first.stage
-      unmoved = subst (λ (ds : List (Conversation S)). AreNext g s.setting message_text answer_text ds s.first.stage s.last.stage) no_one start.attended.in_turn
+      unmoved =
+          subst
+          (λ (ds : List (Conversation S)). AreNext g s.setting message_text answer_text ds s.first.stage s.last.stage)
+          no_one start.attended.in_turn
 
       all_kept_is : from ++ p.front ≡ part.after
-      all_kept_is = same_known s.first.stage.kept (from ++ p.front) part.after (first_is p.front refl) (sym (ap (λ (t : Stage S). t.kept) unmoved) ∙ p.last)
+      all_kept_is =
+          same_known s.first.stage.kept (from ++ p.front) part.after (first_is p.front refl)
+          (sym (ap (λ (t : Stage S). t.kept) unmoved) ∙ p.last)
 
       unheard : (list : List ℕ) → CameTo cs list now → Stops (cs ++ connections s) list (left_by s)
       unheard list came =
           subst (λ (ds : List (Conversation S)). Stops (cs ++ ds) list (left_by s)) (sym no_one)
-          (no_calls g setting text in_zone terminals held cs s.first.stage s.last.stage list now unmoved came first_room leaves_it)
+          (no_calls g setting text in_zone terminals held cs s.first.stage s.last.stage list now unmoved came first_room
+          leaves_it)
 
     module _ (entries : List Entry) (rest : List ℕ) (follows : Follows part.after entries rest)
         (end_is : (rest ≡ []) ⊎ IsPart rest) where
@@ -617,7 +714,8 @@ module _ {S : Type 0} (g : Ghosts S) (setting : Setting) (text : List ℕ)
           → Stops (cs ++ connections s) (texts_of entries) (left_by s)
       headless none nothing =
           let same : from ≡ part.after = sym (append-nil from) ∙ ap (λ t. from ++ t) (sym nothing) ∙ all_kept_is none in
-          unheard none (texts_of entries) (come_same machine setting (digits_of digest_of text) terminals (AreGiven cs) held from now entries rest end_is (follows.0, same ∙ follows.1) come)
+          unheard none (texts_of entries) (come_same machine setting (digits_of digest_of text) terminals (AreGiven cs)
+          held from now entries rest end_is (follows.0, same ∙ follows.1) come)
 
       module _ (told : List ℕ) (first_head : IsHead g true room_text s.opened s.first.stage.store told) where
         abbrev h : Head
@@ -637,17 +735,25 @@ module _ {S : Type 0} (g : Ghosts S) (setting : Setting) (text : List ℕ)
             → IsReplyTo machine setting terminals after x now bytes
             → IsHeadOf (digits_of digest_of text) h terminals after → after ≡ now
         twin after x bytes reply same =
-            let equal = subst (λ (v : Version). digits_of digest_of text v terminals after ≡ digits_of digest_of text v terminals now) tells.0 (same ∙ sym head_is) in
-            twins x after now bytes is (reply_in text setting s.setting (record { zone = in_zone; history = sym alike.history }) zone_served terminals after x now bytes reply)
-            (subst (λ (t : List ℕ). digits_of digest_of t Second terminals after ≡ digits_of digest_of t Second terminals now) (sym alike.zone) equal)
+            let equal = subst
+            (λ (v : Version). digits_of digest_of text v terminals after ≡ digits_of digest_of text v terminals now)
+            tells.0 (same ∙ sym head_is) in
+            twins x after now bytes is (reply_in text setting s.setting
+            (record { zone = in_zone; history = sym alike.history }) zone_served terminals after x now bytes reply)
+            (subst
+            (λ (t : List ℕ). digits_of digest_of t Second terminals after ≡ digits_of digest_of t Second terminals now)
+            (sym alike.zone) equal)
 
         -- its head is kept
         headed : p.front ≡ told → Stops (cs ++ connections s) (texts_of entries) (left_by s)
         headed whole =
             let all = joined g message_text answer_text s start clean terminals now is in
-            let s0 = come_head machine setting (digits_of digest_of text) terminals (AreGiven cs) held h entry from now head_is twin come in
-            calls_end g setting text in_zone terminals held s.setting in_served cs (connections s) s.first.stage s.last.stage (from ++ room_text h) part.after now all.talks
-            start.attended.in_turn all.served (all_kept g message_text answer_text s start clean terminals now is) start.go_on clean s0 first_room leaves_it
+            let s0 = come_head machine setting (digits_of digest_of text) terminals (AreGiven cs) held h entry from now
+            head_is twin come in
+            calls_end g setting text in_zone terminals held s.setting in_served cs (connections s) s.first.stage
+            s.last.stage (from ++ room_text h) part.after now all.talks
+            start.attended.in_turn all.served (all_kept g message_text answer_text s start clean terminals now is)
+            start.go_on clean s0 first_room leaves_it
             (first_is (room_text h) (whole ∙ first_head.told)) p.last entries rest follows end_is
 
         -- its head is cut short
@@ -656,7 +762,8 @@ module _ {S : Type 0} (g : Ghosts S) (setting : Setting) (text : List ℕ)
         cut_short none front =
             let first = subst (IsFront p.front) first_head.told front in
             let it : Follows (from ++ p.front) entries rest = (follows.0, all_kept_is none ∙ follows.1) in
-            unheard none (texts_of entries) (come_front machine setting (digits_of digest_of text) terminals (AreGiven cs) held h entry from p.front now entries rest end_is head_is twin first it come)
+            unheard none (texts_of entries) (come_front machine setting (digits_of digest_of text) terminals
+            (AreGiven cs) held h entry from p.front now entries rest end_is head_is twin first it come)
 
     start_ends : (whole : List ℕ) → IsCutTo part.after whole
         → Stops (cs ++ connections s) whole (left_by s)
@@ -675,6 +782,18 @@ module _ {S : Type 0} (g : Ghosts S) (setting : Setting) (text : List ℕ)
     come : CameTo (cs ++ flat_map connections starts) list now
     is : OfLast (λ s. IsRoom g (left_by s) terminals now) starts
 
+  -- the next start finds a room to which the list has come
+  comes_on : (cs : List (Conversation S)) (s next : Start S) (list : List ℕ)
+      → OpensRoom g next.found next.opened
+      → (state g (left_by s).conn).may_leave (state g next.found).now.trees
+      ⊎ (next.found ≡ (left_by s).conn)
+      → Stops (cs ++ connections s) list (left_by s)
+      → (room : Room) × CameTo (cs ++ connections s) list room
+      × Stands (state g next.found).now.trees (config_of (left_by s).plan terminals) room
+  comes_on cs s next list opens_next (inl found) e = e.leaves (state g next.found).now.trees found
+  comes_on cs s next list opens_next (inr same) e =
+      (e.now, e.come, stands_on g message_text answer_text s next terminals e.now opens_next e.is same)
+
   all_starts : (cs : List (Conversation S)) (s : Start S) (starts : List (Start S))
       (parts : List Part) (from list : List ℕ) (now : Room)
       → AreStarts g message_text answer_text (s ∷ starts) → All (IsTrusted g) (s ∷ starts)
@@ -683,29 +802,40 @@ module _ {S : Type 0} (g : Ghosts S) (setting : Setting) (text : List ℕ)
       → AreParts g (s ∷ starts) parts from list → Over cs (s ∷ starts) list
   all_starts cs s starts [] from list now are clean alike is twins come parts_are = absurd parts_are
   all_starts cs s [] (part ∷ []) from list now are clean alike is twins come (before, p, (whole, cut, same)) =
-      let e = start_ends cs s part from now are (All-head (IsTrusted g) s [] clean) alike is (All-head (HasNoTwin g terminals) s [] twins) come before p whole cut in
+      let e = start_ends cs s part from now are (All-head (IsTrusted g) s [] clean) alike is
+      (All-head (HasNoTwin g terminals) s [] twins) come before p whole cut in
       record {
         now = e.now;
         come = subst (λ (t : List ℕ). CameTo (cs ++ (connections s ++ [])) t e.now) (sym same)
-            (subst (λ (ds : List (Conversation S)). CameTo (cs ++ ds) whole e.now) (sym (append-nil (connections s))) e.come);
+            (subst (λ (ds : List (Conversation S)). CameTo (cs ++ ds) whole e.now) (sym (append-nil (connections s)))
+            e.come);
         is = e.is;
       }
-  all_starts cs s [] (part ∷ other ∷ parts) from list now are clean alike is twins come (before, p, (whole, cut, more)) = absurd more
-  all_starts cs s (next ∷ starts) (part ∷ parts) from list now (start, follows, later) clean alike is twins come (before, p, (whole, cut, more)) =
+  all_starts cs s [] (part ∷ other ∷ parts) from list now are clean alike is twins come
+      (before, p, (whole, cut, more)) = absurd more
+  all_starts cs s (next ∷ starts) (part ∷ parts) from list now (start, follows, later) clean alike is twins come
+      (before, p, (whole, cut, more)) =
       let here = All-head (IsTrusted g) s (next ∷ starts) clean in
       let rest = All-tail (IsTrusted g) s (next ∷ starts) clean in
-      let e = start_ends cs s part from now start here alike is (All-head (HasNoTwin g terminals) s (next ∷ starts) twins) come before p whole cut in
-      let left = e.leaves (state g next.found).now.trees follows.0 in
+      let e = start_ends cs s part from now start here alike is
+      (All-head (HasNoTwin g terminals) s (next ∷ starts) twins) come before p whole cut in
       let next_start = first_of g next starts later in
-      let opened = opens_it g message_text answer_text s next terminals left.0 (opens g message_text answer_text next next_start (All-head (IsTrusted g) next starts rest)) left.2 in
+      let opens_next = opens g message_text answer_text next next_start (All-head (IsTrusted g) next starts rest) in
+      let left = comes_on cs s next whole opens_next follows.0 e in
+      let opened = opens_it g message_text answer_text s next terminals left.0 opens_next left.2 in
       let next_alike : IsAlike next = record {
         zone = sym opened.0 ∙ one_zone g message_text answer_text s start here ∙ alike.zone;
         history = follows.1 ∙ alike.history;
       } in
-      let then = all_starts (cs ++ connections s) next starts parts whole list left.0 later rest next_alike opened.1 (All-tail (HasNoTwin g terminals) s (next ∷ starts) twins) left.1 more in
+      let
+      then =
+      all_starts (cs ++ connections s) next starts parts whole list left.0 later rest next_alike opened.1
+      (All-tail (HasNoTwin g terminals) s (next ∷ starts) twins) left.1 more in
       record {
         now = then.now;
-        come = subst (λ (ds : List (Conversation S)). CameTo ds list then.now) (append_assoc cs (connections s) (flat_map connections (next ∷ starts))) then.come;
+        come =
+            subst (λ (ds : List (Conversation S)). CameTo ds list then.now)
+            (append_assoc cs (connections s) (flat_map connections (next ∷ starts))) then.come;
         is = then.is;
       }
 
@@ -723,7 +853,9 @@ module _ {S : Type 0} (g : Ghosts S) (setting : Setting) (text : List ℕ)
       after = held;
       replay = refl;
       given = fresh.given;
-      leads = of_last g (λ s. IsRoom g (left_by s) terminals over.now) _ (λ s is. inl (subst (λ (r : Room). IsRoom g (left_by s) terminals r) fresh.now_is is)) starts over.is;
+      leads =
+          of_last g (λ s. IsRoom g (left_by s) terminals over.now) _
+          (λ s is. inl (subst (λ (r : Room). IsRoom g (left_by s) terminals r) fresh.now_is is)) starts over.is;
     }
     | inr some ↦ elim some [
       | inl s ↦ record {
@@ -739,7 +871,9 @@ module _ {S : Type 0} (g : Ghosts S) (setting : Setting) (text : List ℕ)
         leads = of_last g (λ s. IsRoom g (left_by s) terminals over.now) _ (λ s is. inl is) starts over.is;
       }
       | inr w ↦
-          let told = left_open machine setting (digits_of digest_of text) terminals (AreGiven (flat_map connections starts)) held w.text list w.turns w.after w.p.at w.p.sent w.told w.entry w.list_is in
+          let told = left_open machine setting (digits_of digest_of text) terminals
+          (AreGiven (flat_map connections starts)) held w.text list w.turns w.after w.p.at w.p.sent w.told w.entry
+          w.list_is in
           record {
             turns = w.turns ++ left_out w.p.at w.p.sent ∷ [];
             are_turns = told.are_turns;
@@ -749,9 +883,14 @@ module _ {S : Type 0} (g : Ghosts S) (setting : Setting) (text : List ℕ)
             text = told.text;
             after = w.after;
             replay = told.replay;
-            given = subst (λ (a : List (List ℕ)). AreGiven (flat_map connections starts) a) (sym (no_answer w.turns (left_out w.p.at w.p.sent) refl)) w.given;
+            given =
+                subst (λ (a : List (List ℕ)). AreGiven (flat_map connections starts) a)
+                (sym (no_answer w.turns (left_out w.p.at w.p.sent) refl)) w.given;
             leads = of_last g (λ s. IsRoom g (left_by s) terminals over.now) _
-                (λ s is. inr (ends_open-push w.turns w.p.at w.p.sent, (arrived w.p.whole, w.p.at), over.now, w.p.told, w.reply, is)) starts over.is;
+                (λ s is.
+                inr
+                (ends_open-push w.turns w.p.at w.p.sent, (arrived w.p.whole, w.p.at), over.now, w.p.told, w.reply, is))
+                starts over.is;
           }
     ]
   ]
@@ -762,13 +901,15 @@ list_is_the_room_law g first more parts list home room starts clean stands twins
     let here = All-head (IsTrusted g) first more clean in
     let is = ((opens g message_text answer_text first start here).2.same home room stands).1 in
     list_of g first.setting first.opened.plan.zone start.in_zone home.terminals room (first ∷ more) list
-    (all_starts g first.setting first.opened.plan.zone start.in_zone home.terminals room [] first more parts [] list room starts clean (record { zone = refl; history = refl }) is twins
+    (all_starts g first.setting first.opened.plan.zone start.in_zone home.terminals room [] first more parts [] list
+    room starts clean (record { zone = refl; history = refl }) is twins
     (inl (record { list_is = refl; now_is = refl; given = refl })) parts_are)
 
 -- ---- what serving gives
 pub served_keeps_its_part_law : {S : Type 0} (g : Ghosts S) → ServedKeepsItsPart g
-served_keeps_its_part_law g found old new most worked part history of_old of_new is =
-    let s = served_start g true room_text message_text answer_text history found old new most worked (λ store. (of_old store).0) (λ store. (of_new store).0) is in
+served_keeps_its_part_law g found old new renews most worked part history of_old of_new is =
+    let s = served_start g true room_text message_text answer_text history found old new renews most worked
+    (λ store. (of_old store).0) (λ store. (of_new store).0) is in
     let before = (of_old s.0.opened).1 in
     let after = ap (λ (t : Service _). t.stage.kept) s.1.last_is ∙ (of_new s.1.last).1 in (
       s.0,

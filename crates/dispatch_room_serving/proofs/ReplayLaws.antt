@@ -44,12 +44,20 @@ module _ (text : List ℕ) (a b : Setting) (in_a : IsSetting text b.history a)
   replay_in room (t ∷ ts) after is = (is.0, turn_in room t is.0 is.1, replay_in is.0 ts after is.2)
 
 pub list_is_replayed_law : {S T : Type 0} (g : Ghosts S) (h : Ghosts T) → ListIsReplayed g h
-list_is_replayed_law g h terminals here there text starts room list in_here in_there of old new read_failed result same clean is replays =
+list_is_replayed_law g h terminals here there text starts room list in_here in_there of old new read_failed result same
+    clean is replays =
     let digits : DigitsOf = digits_of digest_of text in
     let clean_new = HasCleanDisk (state h new.conn) in
-    let of_text = subst (λ (z : List ℕ). Replays machine there (digits_of digest_of z) clean_new (IsRoom h old) (IsRoom h new) (Some list) None read_failed result) same replays in
-    let given = whole_law machine digits (λ (s : Store _). HasCleanDisk (state h s.conn)) (λ (s : Store _). IsRoom h s) there terminals room of.after of.turns of.are_turns of.replayed
+    let of_text = subst
+    (λ (z : List ℕ).
+    Replays machine there (digits_of digest_of z) clean_new (IsRoom h old) (IsRoom h new) (Some list) None read_failed
+    result) same replays in
+    let given = whole_law machine digits (λ (s : Store _). HasCleanDisk (state h s.conn)) (λ (s : Store _). IsRoom h s)
+    there terminals room of.after of.turns of.are_turns of.replayed
     of.entries of.begun
-    (replay_in text here there in_here in_there digits terminals room of.turns of.after of.replay) old new read_failed result
-    (subst (λ (l : List ℕ). Replays machine there digits clean_new (IsRoom h old) (IsRoom h new) (Some l) None read_failed result) (sym of.text) of_text) clean is in
+    (replay_in text here there in_here in_there digits terminals room of.turns of.after of.replay) old new read_failed
+    result
+    (subst (λ (l : List ℕ).
+    Replays machine there digits clean_new (IsRoom h old) (IsRoom h new) (Some l) None read_failed result) (sym of.text)
+    of_text) clean is in
     MatchResult-weaker result given (λ done it. (it.0, it.1)) (λ stopped it. it)

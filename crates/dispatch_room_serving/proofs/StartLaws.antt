@@ -1,7 +1,8 @@
 -- Starts of a room's service, one after another, are one run.
-use Rattle.std.proofs.Common.{◌≡◌, ◌∙◌, ◌≤◌, ap, append-nil, append_assoc, arith, inl, inr, refl, subst, sym, ℕ, List, [], ◌∷◌, ◌++◌, Bool, Option, Some, None, Result, Ok, Err}
+use Rattle.std.proofs.Common.{◌≡◌, ◌∙◌, ◌≤◌, ap, append-nil, append_assoc, arith, inl, inr, refl, subst, sym, ℕ, List}
+use Rattle.std.proofs.Common.{[], ◌∷◌, ◌++◌, Bool, Option, Some, None, Result, Ok, Err}
 use Rattle.std.proofs.lemmas.List.Elements.{All-contains_itself, All-head, All-nil, All-pop, All-same, All-tail}
-use Rattle.std.specs.Prelude.{All, ◌⊎◌, IfSome, ⊤}
+use Rattle.std.specs.Prelude.{All, ◌⊎◌, IfSome, IsTrue, ⊤}
 use Rattle.jiff.specs.Placed.{IsPosixZone}
 use Rattle.sqlite.specs.Held.{Held, state}
 use Rattle.sqlite.specs.State.{HasCleanDisk}
@@ -20,7 +21,8 @@ use Rattle.room_http.specs.ServedRuns.{Served}
 use Rattle.room_http.specs.Session.{Finish, ServeIs, Sides}
 use Rattle.room_http.specs.Talk.{LeavesNext, Stays, Timed, Wants, replied}
 use Rattle.room_http.specs.declared.session.ServeEnd.{ServeEnd}
-use Rattle.room_http.specs.declared.session.ServeEnd.TheVariants.{Closed, Cut, ReadFault, WriteFault, ClockFault, Unkept, ReadsSpent, Memory}
+use Rattle.room_http.specs.declared.session.ServeEnd.TheVariants.{Closed, Cut, ReadFault, WriteFault, ClockFault}
+use Rattle.room_http.specs.declared.session.ServeEnd.TheVariants.{Unkept, ReadsSpent, Memory}
 use Rattle.room_http.proofs.ExchangeLemmas.{answered_in, exchange_of}
 use Rattle.room_http.proofs.PromiseLaws.{promises_kept}
 use Rattle.room_http.proofs.RunLemmas.{answered_join, room_split, run_first, run_of}
@@ -31,9 +33,13 @@ use Rattle.room_tables.specs.Stands.{Stands}
 use Rattle.dispatch_room_exit.specs.declared.exit_status.Done.{Done}
 use Rattle.dispatch_room_exit.specs.declared.exit_status.Failure.{Failure}
 use Rattle.dispatch_room_tasks.specs.OpenedRoom.{IsOpened, OpensRoom}
-use Rattle.dispatch_room_serving.specs.Connections.{AreJoined, AreNext, AreServed, Conversation, EndsAs, GoOnBefore, GoesOn, IsNext, IsServed, Service, Stage, connected, stage_after, stage_before, together}
+use Rattle.dispatch_room_serving.specs.Connections.{AreJoined, AreNext, AreServed, Conversation, EndsAs, GoOnBefore}
+use Rattle.dispatch_room_serving.specs.Connections.{GoesOn, IsNext, IsServed, Service, Stage, connected, stage_after}
+use Rattle.dispatch_room_serving.specs.Connections.{stage_before, together}
 use Rattle.dispatch_room_serving.specs.ServedRoom.{KeepsHead, Looks, ServesRoom}
-use Rattle.dispatch_room_serving.specs.Starts.{AreDone, AreOneRun, AreStarts, Exchanged, Follows, IsDone, IsStart, IsTrusted, IsUntold, OfLast, ServedIsAStart, ServingIsAStart, Start, StartsAreOneRun, all_of, connections, left_by, whole_of}
+use Rattle.dispatch_room_serving.specs.Starts.{AreDone, AreOneRun, AreStarts, Exchanged, Follows, IsDone, IsStart}
+use Rattle.dispatch_room_serving.specs.Starts.{IsTrusted, IsUntold, OfLast, ServedIsAStart, ServingIsAStart, Start}
+use Rattle.dispatch_room_serving.specs.Starts.{StartsAreOneRun, all_of, connections, left_by, whole_of}
 use Rattle.dispatch_room_serving.proofs.ConnectionLaws.{attended_none, connected_more}
 
 -- ---- the moments of a course
@@ -49,7 +55,8 @@ module _ (course : Course) where
 
   last_timed : (x : Timed) → course.last ≡ Some x → All InTime (course.outs ++ x ∷ [])
       → (outs : List Timed) → AreOf course outs → All InTime outs
-  last_timed x last timed outs (inl is) = All-same InTime outs course.outs is (All-pop InTime (course.outs ++ x ∷ []) course.outs (Some x) refl timed).0
+  last_timed x last timed outs (inl is) =
+      All-same InTime outs course.outs is (All-pop InTime (course.outs ++ x ∷ []) course.outs (Some x) refl timed).0
   last_timed x last timed outs (inr (y, other, is)) =
       let same : y ≡ x = cc (other, last) in
       All-same InTime outs (course.outs ++ x ∷ []) (is ∙ ap (λ z. course.outs ++ z ∷ []) same) timed
@@ -88,7 +95,8 @@ module _ {S : Type 0} (g : Ghosts S) (setting : Setting) (terminals : List Termi
       × LeavesOneOf g last terminals (room ∷ room_by (done ∷ []) room ∷ [])
   untold_one x room last within (event, finds, leaves) =
       let done = exchange_of setting terminals x event room within finds in
-      let after : room_by (done.0 ∷ []) room ≡ (machine event room).0 = run_first done.0.found [] room ∙ ap (λ found. (replied machine found room).0) done.2 in
+      let after : room_by (done.0 ∷ []) room
+      ≡ (machine event room).0 = run_first done.0.found [] room ∙ ap (λ found. (replied machine found room).0) done.2 in
       (done.0, done.1, done.3, rw after leaves)
 
   -- a stop leaves the room after these exchanges, or after what arrives next
@@ -105,8 +113,10 @@ module _ {S : Type 0} (g : Ghosts S) (setting : Setting) (terminals : List Termi
       elim (subst (LeavesOne c room) is.exchanged (is.served.kept kept)) [
         | inl alone ↦ inl alone
         | inr (x, first, leaves) ↦
-            let within = timed c.course setting c.before c.after _ _ _ _ _ _ c.end next.talk (arrivals_of xs ++ x ∷ []) first.0 in
-            let done = untold_one x (room_by xs room) c.store (All-pop InTime (arrivals_of xs ++ x ∷ []) (arrivals_of xs) (Some x) refl within).1 leaves in
+            let within = timed c.course setting c.before c.after _ _ _ _ _ _ c.end next.talk (arrivals_of xs ++ x ∷ [])
+            first.0 in
+            let done = untold_one x (room_by xs room) c.store
+            (All-pop InTime (arrivals_of xs ++ x ∷ []) (arrivals_of xs) (Some x) refl within).1 leaves in
             inr (
               done.0,
               record {
@@ -150,12 +160,16 @@ module _ {S : Type 0} (g : Ghosts S) (setting : Setting) (terminals : List Termi
       → Left (c ∷ cs) talks last.store (room_by (together talks) room)
   left_some came_text told_text c cs [] room stage last next served kept = absurd served
   left_some came_text told_text c [] (xs ∷ []) room stage last next served kept =
-      let one = left_one came_text told_text stage c xs room next.0 served.0 (All-head (λ d. IsKept g d.from) c [] kept) in
-      subst (λ (s : Stage S). Left (c ∷ []) (xs ∷ []) s.store (room_by (xs ++ []) room)) (sym next.1) (subst (λ ys. Left (c ∷ []) (xs ∷ []) c.store (room_by ys room)) (sym (append-nil xs)) one)
+      let one = left_one came_text told_text stage c xs room next.0 served.0
+      (All-head (λ d. IsKept g d.from) c [] kept) in
+      subst (λ (s : Stage S). Left (c ∷ []) (xs ∷ []) s.store (room_by (xs ++ []) room)) (sym next.1)
+      (subst (λ ys. Left (c ∷ []) (xs ∷ []) c.store (room_by ys room)) (sym (append-nil xs)) one)
   left_some came_text told_text c [] (xs ∷ ys ∷ more) room stage last next served kept = absurd served.1
   left_some came_text told_text c (d ∷ cs) (xs ∷ more) room stage last next served kept =
-      left_more c (d ∷ cs) xs more last.store (room_by (together more) (room_by xs room)) (room_by (xs ++ together more) room) (sym (room_split xs (together more) room))
-      (left_some came_text told_text d cs more (room_by xs room) (stage_after c) last next.1 served.1 (All-tail (λ e. IsKept g e.from) c (d ∷ cs) kept))
+      left_more c (d ∷ cs) xs more last.store (room_by (together more) (room_by xs room))
+      (room_by (xs ++ together more) room) (sym (room_split xs (together more) room))
+      (left_some came_text told_text d cs more (room_by xs room) (stage_after c) last next.1 served.1
+      (All-tail (λ e. IsKept g e.from) c (d ∷ cs) kept))
 
   left_all : (came_text : ℕ → List ℕ → List ℕ) (told_text : List ℕ → List ℕ)
       (cs : List (Conversation S)) (talks : List (List Exchange)) (room : Room) (stage last : Stage S)
@@ -164,7 +178,8 @@ module _ {S : Type 0} (g : Ghosts S) (setting : Setting) (terminals : List Termi
       → Left cs talks last.store (room_by (together talks) room)
   left_all came_text told_text [] [] room stage last same served leaves kept = inl (rw same leaves)
   left_all came_text told_text [] (xs ∷ more) room stage last same served leaves kept = absurd served
-  left_all came_text told_text (c ∷ cs) talks room stage last next served leaves kept = left_some came_text told_text c cs talks room stage last next served kept
+  left_all came_text told_text (c ∷ cs) talks room stage last next served leaves kept =
+      left_some came_text told_text c cs talks room stage last next served kept
 
 -- ---- the setting of the plan stays
 module _ {S : Type 0} (g : Ghosts S) (setting : Setting) (came_text : ℕ → List ℕ → List ℕ)
@@ -173,7 +188,8 @@ module _ {S : Type 0} (g : Ghosts S) (setting : Setting) (came_text : ℕ → Li
       → AreNext g setting came_text told_text cs stage last → last.store.plan.zone ≡ stage.store.plan.zone
   zone_stays [] stage last same = ap (λ (s : Stage S). s.store.plan.zone) same
   zone_stays (c ∷ cs) stage last next =
-      zone_stays cs (stage_after c) last next.1 ∙ next.0.same_zone ∙ ap (λ (s : Stage S). s.store.plan.zone) next.0.begins
+      zone_stays cs (stage_after c) last next.1 ∙ next.0.same_zone
+      ∙ ap (λ (s : Stage S). s.store.plan.zone) next.0.begins
 
 -- what was exchanged at a start after which there is none
 abbrev last_done : List Exchange → Exchanged
@@ -194,7 +210,9 @@ module _ {S : Type 0} (g : Ghosts S) (came_text : ℕ → List ℕ → List ℕ)
     opens = start.opens (start.looks.trusted clean_first)
 
     pub one_zone : (left_by s).plan.zone ≡ s.opened.plan.zone
-    one_zone = zone_stays g s.setting came_text told_text (connections s) s.first.stage s.last.stage start.attended.in_turn ∙ start.looks.zone
+    one_zone =
+        zone_stays g s.setting came_text told_text (connections s) s.first.stage s.last.stage start.attended.in_turn
+        ∙ start.looks.zone
 
     module _ (terminals : List Terminal) (room : Room) (is : IsRoom g s.opened terminals room) where
       pub joined : AreJoined g s.setting terminals (connections s) (left_by s) room
@@ -210,15 +228,19 @@ module _ {S : Type 0} (g : Ghosts S) (came_text : ℕ → List ℕ → List ℕ)
       ]
 
       left : Left g s.setting terminals (connections s) joined.talks (left_by s) (room_by (together joined.talks) room)
-      left = left_all g s.setting terminals came_text told_text (connections s) joined.talks room s.first.stage s.last.stage start.attended.in_turn joined.served leaves_first all_kept
+      left =
+          left_all g s.setting terminals came_text told_text (connections s) joined.talks room s.first.stage
+          s.last.stage start.attended.in_turn joined.served leaves_first all_kept
 
-      done_with : (untold : List Exchange) → (untold ≡ []) ⊎ ((x : Exchange) × (untold ≡ x ∷ []) × IsUntold (connections s) joined.talks x)
+      done_with : (untold : List Exchange)
+          → (untold ≡ []) ⊎ ((x : Exchange) × (untold ≡ x ∷ []) × IsUntold (connections s) joined.talks x)
           → IsDone g terminals s (record { told = together joined.talks; untold = untold }) room
       done_with untold few = record { opened = is; joined = joined; told = refl; untold = few }
 
   -- ---- the next start
   -- what the next start opens is the room after what was exchanged, told and untold
-  record Goes (s next : Start S) (terminals : List Terminal) (talks : List (List Exchange)) (after : Room) : Type 0 where
+  record Goes (s next : Start S) (terminals : List Terminal) (talks : List (List Exchange)) (after : Room) : Type
+      0 where
     untold : List Exchange
     few : (untold ≡ []) ⊎ ((x : Exchange) × (untold ≡ x ∷ []) × IsUntold (connections s) talks x)
     answered : AreAnswered s.setting terminals untold after
@@ -231,27 +253,55 @@ module _ {S : Type 0} (g : Ghosts S) (came_text : ℕ → List ℕ → List ℕ)
       → ((left_by s).plan.zone ≡ next.opened.plan.zone) × IsRoom g next.opened terminals room
   opens_it s next terminals room opens stands = opens.2.same (config_of (left_by s).plan terminals) room stands
 
-  goes : (s next : Start S) (terminals : List Terminal) (talks : List (List Exchange)) (after : Room)
-      → OpensRoom g next.found next.opened → Follows g s next
+  -- all that was exchanged was told
+  all_told : (s next : Start S) (terminals : List Terminal) (talks : List (List Exchange)) (after : Room)
+      → OpensRoom g next.found next.opened
+      → Stands (state g next.found).now.trees (config_of (left_by s).plan terminals) after
+      → Goes s next terminals talks after
+  all_told s next terminals talks after opens stands =
+      let it = opens_it s next terminals after opens stands in
+      record { untold = []; few = inl refl; answered = tt; opened = it.1; zone = it.0 }
+
+  -- where it goes on with the database that the one before left, that stands for the same room
+  pub stands_on : (s next : Start S) (terminals : List Terminal) (after : Room)
+      → OpensRoom g next.found next.opened → IsRoom g (left_by s) terminals after
+      → next.found ≡ (left_by s).conn
+      → Stands (state g next.found).now.trees (config_of (left_by s).plan terminals) after
+  stands_on s next terminals after opens is same =
+      let is_open : IsTrue (state g (left_by s).conn).is_open =
+      subst (λ (conn : Held S). IsTrue (state g conn).is_open) same (opens.2.rows.was_open opens.2.kept.is_open) in
+      subst (λ (conn : Held S). Stands (state g conn).now.trees (config_of (left_by s).plan terminals) after)
+      (sym same) (is.tables is_open)
+
+  -- where it finds what a stop may leave
+  finds : (s next : Start S) (terminals : List Terminal) (talks : List (List Exchange)) (after : Room)
+      → OpensRoom g next.found next.opened
+      → (state g (left_by s).conn).may_leave (state g next.found).now.trees
       → Left g s.setting terminals (connections s) talks (left_by s) after
       → Goes s next terminals talks after
-  goes s next terminals talks after opens follows (inl alone) = elim (alone (state g next.found).now.trees follows.0) [
-    | inl stands ↦
-        let it = opens_it s next terminals after opens stands in
-        record { untold = []; few = inl refl; answered = tt; opened = it.1; zone = it.0 }
+  finds s next terminals talks after opens found (inl alone) = elim (alone (state g next.found).now.trees found) [
+    | inl stands ↦ all_told s next terminals talks after opens stands
     | inr none ↦ absurd none
   ]
-  goes s next terminals talks after opens follows (inr (x, is, answered, leaves)) = elim (leaves (state g next.found).now.trees follows.0) [
-    | inl stands ↦
-        let it = opens_it s next terminals after opens stands in
-        record { untold = []; few = inl refl; answered = tt; opened = it.1; zone = it.0 }
-    | inr other ↦ elim other [
-      | inl stands ↦
-          let it = opens_it s next terminals (room_by (x ∷ []) after) opens stands in
-          record { untold = x ∷ []; few = inr (x, refl, is); answered = answered; opened = it.1; zone = it.0 }
-      | inr none ↦ absurd none
-    ]
-  ]
+  finds s next terminals talks after opens found (inr (x, is, answered, leaves)) =
+      elim (leaves (state g next.found).now.trees found) [
+        | inl stands ↦ all_told s next terminals talks after opens stands
+        | inr other ↦ elim other [
+          | inl stands ↦
+              let it = opens_it s next terminals (room_by (x ∷ []) after) opens stands in
+              record { untold = x ∷ []; few = inr (x, refl, is); answered = answered; opened = it.1; zone = it.0 }
+          | inr none ↦ absurd none
+        ]
+      ]
+
+  goes : (s next : Start S) (terminals : List Terminal) (talks : List (List Exchange)) (after : Room)
+      → OpensRoom g next.found next.opened → IsRoom g (left_by s) terminals after → Follows g s next
+      → Left g s.setting terminals (connections s) talks (left_by s) after
+      → Goes s next terminals talks after
+  goes s next terminals talks after opens is (inl found, history) leaves =
+      finds s next terminals talks after opens found leaves
+  goes s next terminals talks after opens is (inr same, history) leaves =
+      all_told s next terminals talks after opens (stands_on s next terminals after opens is same)
 
   -- ---- all starts
   -- the zone of a start's plan, and history where it serves it
@@ -267,9 +317,12 @@ module _ {S : Type 0} (g : Ghosts S) (came_text : ℕ → List ℕ → List ℕ)
     after : OfLast (λ s. IsRoom g (left_by s) terminals (room_by (whole_of done) room)) starts
 
   module _ (setting : Setting) (terminals : List Terminal) where
-    own_answers : (s : Start S) → IsStart g came_text told_text s → IsSetFor setting s → (xs : List Exchange) (room : Room)
+    own_answers : (s : Start S) → IsStart g came_text told_text s → IsSetFor setting s
+        → (xs : List Exchange) (room : Room)
         → AreAnswered s.setting terminals xs room → AreAnswered setting terminals xs room
-    own_answers s start set = answered_in s.opened.plan.zone s.setting setting (record { zone = start.in_zone; history = set.history }) set.zone terminals
+    own_answers s start set =
+        answered_in s.opened.plan.zone s.setting setting (record { zone = start.in_zone; history = set.history })
+        set.zone terminals
 
     last_start : (s : Start S) (room : Room) → IsStart g came_text told_text s
         → HasCleanDisk (state g (left_by s).conn) → IsRoom g s.opened terminals room
@@ -281,7 +334,9 @@ module _ {S : Type 0} (g : Ghosts S) (came_text : ℕ → List ℕ → List ℕ)
         record {
           done = last_done xs ∷ [];
           each = (done_with s start clean terminals room is [] (inl refl), tt);
-          answered = subst (λ ys. AreAnswered setting terminals ys room) same (own_answers s start set xs room all.run.answered);
+          answered =
+              subst (λ ys. AreAnswered setting terminals ys room) same
+              (own_answers s start set xs room all.run.answered);
           after = subst (λ ys. IsRoom g (left_by s) terminals (room_by ys room)) same all.after;
         }
 
@@ -295,20 +350,32 @@ module _ {S : Type 0} (g : Ghosts S) (came_text : ℕ → List ℕ → List ℕ)
         let rest = All-tail (IsTrusted g) s (next ∷ starts) clean in
         let all = joined s start here terminals room is in
         let next_start = first_of next starts later in
-        let step = goes s next terminals all.talks (room_by (together all.talks) room) (opens next next_start (All-head (IsTrusted g) next starts rest)) follows (left s start here terminals room is) in
+        let step = goes s next terminals all.talks (room_by (together all.talks) room)
+        (opens next next_start (All-head (IsTrusted g) next starts rest)) all.after follows
+        (left s start here terminals room is) in
         let x : Exchanged = record { told = together all.talks; untold = step.untold } in
-        let room_is : room_by (all_of x) room ≡ room_by step.untold (room_by (together all.talks) room) = room_split (together all.talks) step.untold room in
+        let room_is : room_by (all_of x) room
+        ≡ room_by step.untold (room_by (together all.talks) room) = room_split (together all.talks) step.untold room in
         let zone_is : s.opened.plan.zone ≡ next.opened.plan.zone = sym (one_zone s start here) ∙ step.zone in
-        let then = more_starts next starts (room_by (all_of x) room) later rest (rw room_is step.opened) (record { zone = rw zone_is at set.zone; history = follows.1 ∙ set.history }) in
-        let mine = answered_join s.setting terminals (together all.talks) step.untold room all.run.answered step.answered in
+        let
+        then =
+        more_starts next starts (room_by (all_of x) room) later rest (rw room_is step.opened)
+        (record { zone = rw zone_is at set.zone; history = follows.1 ∙ set.history }) in
+        let mine = answered_join s.setting terminals (together all.talks) step.untold room all.run.answered
+        step.answered in
         record {
           done = x ∷ then.done;
           each = (done_with s start here terminals room is step.untold step.few, then.each);
-          answered = answered_join setting terminals (all_of x) (whole_of then.done) room (own_answers s start set (all_of x) room mine) then.answered;
-          after = subst (λ (r : Room). OfLast (λ u. IsRoom g (left_by u) terminals r) (next ∷ starts)) (sym (room_split (all_of x) (whole_of then.done) room)) then.after;
+          answered =
+              answered_join setting terminals (all_of x) (whole_of then.done) room
+              (own_answers s start set (all_of x) room mine) then.answered;
+          after =
+              subst (λ (r : Room). OfLast (λ u. IsRoom g (left_by u) terminals r) (next ∷ starts))
+              (sym (room_split (all_of x) (whole_of then.done) room)) then.after;
         }
       where
-        first_of : (next : Start S) (starts : List (Start S)) → AreStarts g came_text told_text (next ∷ starts) → IsStart g came_text told_text next
+        first_of : (next : Start S) (starts : List (Start S)) → AreStarts g came_text told_text (next ∷ starts)
+            → IsStart g came_text told_text next
         first_of next [] start = start
         first_of next (other ∷ starts) (start, follows, later) = start
 
@@ -317,8 +384,10 @@ starts_are_one_run_law g came_text told_text first more config room starts clean
     let start = first_start first more starts in
     let opened = opens g came_text told_text first start (All-head (IsTrusted g) first more clean) in
     let is = (opened.2.same config room stands).1 in
-    let run = more_starts g came_text told_text first.setting config.terminals first more room starts clean is (record { zone = start.in_zone; history = refl }) in
-    let whole : IsRun first.setting config.terminals (whole_of run.done) room = run_of first.setting config.terminals room (whole_of run.done) is.fits run.answered in
+    let run = more_starts g came_text told_text first.setting config.terminals first more room starts clean is
+    (record { zone = start.in_zone; history = refl }) in
+    let whole : IsRun first.setting config.terminals (whole_of run.done) room = run_of first.setting config.terminals
+    room (whole_of run.done) is.fits run.answered in
     record {
       done = run.done;
       each = run.each;
@@ -327,7 +396,8 @@ starts_are_one_run_law g came_text told_text first more config room starts clean
       after = run.after;
     }
   where
-    first_start : (next : _) (starts : _) → AreStarts g came_text told_text (next ∷ starts) → IsStart g came_text told_text next
+    first_start : (next : _) (starts : _) → AreStarts g came_text told_text (next ∷ starts)
+        → IsStart g came_text told_text next
     first_start next [] start = start
     first_start next (other ∷ starts) (start, follows, later) = start
 
@@ -343,12 +413,14 @@ module _ {S : Type 0} where
       → GoOnBefore (cs ++ last ∷ [])
   before_go [] last go = tt
   before_go (c ∷ []) last go = (All-head GoesOn c [] go, tt)
-  before_go (c ∷ d ∷ cs) last go = (All-head GoesOn c (d ∷ cs) go, before_go (d ∷ cs) last (All-tail GoesOn c (d ∷ cs) go))
+  before_go (c ∷ d ∷ cs) last go =
+      (All-head GoesOn c (d ∷ cs) go, before_go (d ∷ cs) last (All-tail GoesOn c (d ∷ cs) go))
 
-  ends_go : (calls : List (Option (Conversation S))) (most : ℕ) (result : Result Done Failure)
-      → EndsAs calls most result → GoOnBefore (connected calls)
-  ends_go calls most (Ok done) ends = all_go (connected calls) ends.2
-  ends_go calls most (Err fault) (before, last, is, few, go, why) =
+  ends_go : (renews : Bool) (calls : List (Option (Conversation S))) (most : ℕ)
+      (result : Result Done Failure) → EndsAs renews calls most result
+      → GoOnBefore (connected calls)
+  ends_go renews calls most (Ok done) ends = all_go (connected calls) ends.3
+  ends_go renews calls most (Err fault) (before, last, is, few, go, why) =
       subst (λ (all : List (Option (Conversation S))). GoOnBefore (connected all)) (sym is)
       (subst GoOnBefore (sym (connected_more before (Some last ∷ []))) (before_go (connected before) last go))
 
@@ -362,85 +434,102 @@ pub record IsServedStart {S : Type 0} (g : Ghosts S) (wants : Bool) (begun_text 
   pub history_is : s.setting.history ≡ history
   pub last : Store S
   pub last_is : s.last ≡ new last
-  pub head : KeepsHead g wants begun_text s.opened s.first.stage.store (old s.opened).stage.kept s.first.stage.kept (Ok tt)
+  pub head : KeepsHead g wants begun_text s.opened s.first.stage.store (old s.opened).stage.kept s.first.stage.kept
+      (Ok tt)
       ⊎ ((s.calls ≡ []) × (fault : Failure)
-      × KeepsHead g wants begun_text s.opened s.first.stage.store (old s.opened).stage.kept s.first.stage.kept (Err fault))
+      × KeepsHead g wants begun_text s.opened s.first.stage.store (old s.opened).stage.kept s.first.stage.kept
+      (Err fault))
 
 pub served_start : {S : Type 0} (g : Ghosts S) (wants : Bool) (begun_text : Head → List ℕ)
     (came_text : ℕ → List ℕ → List ℕ) (told_text : List ℕ → List ℕ) (history : Bool) (found : Held S)
-    (old new : Store S → Service S) (most : ℕ) (worked : Result Done Failure × Held S)
+    (old new : Store S → Service S) (renews : Bool) (most : ℕ)
+    (worked : Result Done Failure × Held S)
     → ((store : Store S) → (old store).stage.store ≡ store)
     → ((store : Store S) → (new store).stage.store ≡ store)
-    → ServesRoom g wants begun_text came_text told_text history found old new most worked
+    → ServesRoom g wants begun_text came_text told_text history found old new renews most worked
     → (s : Start S) × IsServedStart g wants begun_text came_text told_text history found old new worked s
-served_start g wants begun_text came_text told_text history found old new most worked of_old of_new is = elim is.attended [
-  | inl unheard ↦ (
-    record { found = found; opened = is.first; setting = is.setting; calls = []; first = new is.last; last = new is.last },
-    record {
-      start = record {
-        opens = is.opens;
-        in_zone = is.is_set.zone;
-        looks = rw of_new (rw (of_old, of_new) at unheard.looks);
-        attended = attended_none g is.setting came_text told_text (new is.last);
-        kept = λ clean kept. All-nil _;
-        go_on = tt;
-        begins_kept = inl refl;
-      };
-      found_is = refl;
-      closed = ap (λ store. store.conn) (of_new is.last) ∙ sym is.closed;
-      history_is = is.is_set.history;
-      last = is.last;
-      last_is = refl;
-      head = inr (
-        refl,
-        unheard.fault,
-        subst (λ (first : Store _). KeepsHead g wants begun_text first (new is.last).stage.store (old is.first).stage.kept (new is.last).stage.kept (Err unheard.fault))
-            (of_old is.first) unheard.head,
-      );
-    },
-  )
-  | inr served ↦ (
-    record {
-      found = found;
-      opened = is.first;
-      setting = is.setting;
-      calls = served.serves.calls;
-      first = record {
-        heard = (old is.first).heard;
-        told = (old is.first).told;
-        stage = record {
-          given = (old is.first).stage.given;
-          kept = served.kept;
-          has_failed = (old is.first).stage.has_failed;
-          store = served.store;
-        };
-      };
-      last = new is.last;
-    },
-    record {
-      start = record {
-        opens = is.opens;
-        in_zone = is.is_set.zone;
-        looks = rw of_old at served.looks.looks;
-        attended = served.serves.attended;
-        kept = served.serves.kept;
-        go_on = ends_go served.serves.calls most worked.0 served.serves.ends;
-        begins_kept = inr (rw of_old at served.looks.kept);
-      };
-      found_is = refl;
-      closed = ap (λ store. store.conn) (of_new is.last) ∙ sym is.closed;
-      history_is = is.is_set.history;
-      last = is.last;
-      last_is = refl;
-      head = inl (subst (λ (first : Store _). KeepsHead g wants begun_text first served.store (old is.first).stage.kept served.kept (Ok tt))
-          (of_old is.first) served.head);
-    },
-  )
-]
+served_start g wants begun_text came_text told_text history found old new renews most worked of_old of_new is =
+    elim is.attended [
+      | inl unheard ↦ (
+        record {
+          found = found;
+          opened = is.first;
+          setting = is.setting;
+          calls = [];
+          first = new is.last;
+          last = new is.last;
+        },
+        record {
+          start = record {
+            opens = is.opens;
+            in_zone = is.is_set.zone;
+            looks = rw of_new (rw (of_old, of_new) at unheard.looks);
+            attended = attended_none g is.setting came_text told_text (new is.last);
+            kept = λ clean kept. All-nil _;
+            go_on = tt;
+            begins_kept = inl refl;
+          };
+          found_is = refl;
+          closed = ap (λ store. store.conn) (of_new is.last) ∙ sym is.closed;
+          history_is = is.is_set.history;
+          last = is.last;
+          last_is = refl;
+          head = inr (
+            refl,
+            unheard.fault,
+            subst (λ (first : Store _).
+                KeepsHead g wants begun_text first (new is.last).stage.store (old is.first).stage.kept
+                (new is.last).stage.kept
+                (Err unheard.fault))
+                (of_old is.first) unheard.head,
+          );
+        },
+      )
+      | inr served ↦ (
+        record {
+          found = found;
+          opened = is.first;
+          setting = is.setting;
+          calls = served.serves.calls;
+          first = record {
+            heard = (old is.first).heard;
+            told = (old is.first).told;
+            stage = record {
+              given = (old is.first).stage.given;
+              kept = served.kept;
+              has_failed = (old is.first).stage.has_failed;
+              store = served.store;
+            };
+          };
+          last = new is.last;
+        },
+        record {
+          start = record {
+            opens = is.opens;
+            in_zone = is.is_set.zone;
+            looks = rw of_old at served.looks.looks;
+            attended = served.serves.attended;
+            kept = served.serves.kept;
+            go_on = ends_go renews served.serves.calls most worked.0 served.serves.ends;
+            begins_kept = inr (rw of_old at served.looks.kept);
+          };
+          found_is = refl;
+          closed = ap (λ store. store.conn) (of_new is.last) ∙ sym is.closed;
+          history_is = is.is_set.history;
+          last = is.last;
+          last_is = refl;
+          head =
+              inl (subst (λ (first : Store _).
+              KeepsHead g wants begun_text first served.store (old is.first).stage.kept served.kept (Ok tt))
+              (of_old is.first) served.head);
+        },
+      )
+    ]
 
 pub served_is_a_start_law : {S : Type 0} (g : Ghosts S) → ServedIsAStart g
-served_is_a_start_law g wants begun_text came_text told_text history found old new most worked of_old of_new is =
-    let s = served_start g wants begun_text came_text told_text history found old new most worked of_old of_new is in
+served_is_a_start_law g wants begun_text came_text told_text history found old new renews most worked of_old of_new is =
+    let s = served_start g wants begun_text came_text told_text history found old new renews most worked of_old of_new
+    is in
     (s.0, s.1.start, s.1.found_is, s.1.closed, s.1.history_is)
 
 pub serving_is_a_start_law : {S : Type 0} (g : Ghosts S) → ServingIsAStart g

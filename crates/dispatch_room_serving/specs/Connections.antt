@@ -1,5 +1,6 @@
 -- What is served on connections, one after another.
-use Rattle.std.specs.Prelude.{◌≡◌, ◌≢◌, ◌⊎◌, ◌≤◌, ◌+◌, ⊤, ℕ, List, [], ◌∷◌, ◌++◌, Bool, true, false, All, filter_map, flat_map, length, map, option_and_then, option_map, Option, None, Some, Result, Ok, Err}
+use Rattle.std.specs.Prelude.{◌≡◌, ◌≢◌, ◌⊎◌, ◌≤◌, ◌+◌, ⊤, ℕ, List, [], ◌∷◌, ◌++◌, Bool, true, false, All, filter_map}
+use Rattle.std.specs.Prelude.{flat_map, length, map, option_and_then, option_map, Option, None, Some, Result, Ok, Err}
 use Rattle.sqlite.specs.Held.{state}
 use Rattle.sqlite.specs.State.{HasCleanDisk}
 use Rattle.sqlite_trees.specs.declared.store.Store.{Ghosts}
@@ -128,11 +129,13 @@ module _ {S : Type 0} where
   GoOnBefore (c ∷ []) = ⊤
   GoOnBefore (c ∷ d ∷ cs) = GoesOn c × GoOnBefore (d ∷ cs)
 
-  -- How serving so many calls ended. Well: all came, and after each more was served. With a fault:
-  -- it is that after which no more is served, of the last.
-  abbrev pub EndsAs : List (Option (Conversation S)) → ℕ → Result Done Failure → Type 0
-  EndsAs calls most (Ok done) = (done ≡ Whole) × (length calls ≡ most) × GoOn calls
-  EndsAs calls most (Err fault) =
+  -- How serving so many calls ended. Well: all came, or no more than these, where it may end before
+  -- (`renews`), and after each more was served. With a fault: it is that after which no more is
+  -- served, of the last.
+  abbrev pub EndsAs : Bool → List (Option (Conversation S)) → ℕ → Result Done Failure → Type 0
+  EndsAs renews calls most (Ok done) =
+      (done ≡ Whole) × (length calls ≤ most) × (renews ≡ false → length calls ≡ most) × GoOn calls
+  EndsAs renews calls most (Err fault) =
       (before : List (Option (Conversation S))) × (last : Conversation S)
       × (calls ≡ before ++ Some last ∷ []) × (length calls ≤ most) × GoOn before
       × (fault_after last ≡ Some fault)
@@ -227,10 +230,11 @@ module _ {S : Type 0} (g : Ghosts S) (setting : Setting) (came_text : ℕ → Li
         → IsKept g now.stage.store
 
   -- so many calls were served, or those up to one after which no more is served
-  pub record Serves (old new : Service S) (most : ℕ) (result : Result Done Failure) : Type 0 where
+  pub record Serves (old new : Service S) (renews : Bool) (most : ℕ)
+      (result : Result Done Failure) : Type 0 where
     pub calls : List (Option (Conversation S))
     pub attended : AreAttended calls old new
-    pub ends : EndsAs calls most result
+    pub ends : EndsAs renews calls most result
     pub kept : AreKept (connected calls) old (HasCleanDisk (state g new.stage.store.conn))
 
 -- no fault, or this one

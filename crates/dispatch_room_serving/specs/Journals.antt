@@ -4,13 +4,19 @@ use Rattle.dispatch_room_exit.specs.declared.exit_status.Failure.{Failure}
 use Rattle.dispatch_room_exit.specs.declared.exit_status.Failure.TheVariants as failure
 use Rattle.dispatch_room_journal.specs.WholeEntries.{FailsIn}
 use Rattle.dispatch_room_journal.specs.declared.entry_reader.EntryFault.{EntryFault}
-use Rattle.room_http.specs.declared.arrivals.Arrived.{Arrived}
-use Rattle.room_http.specs.declared.arrivals.Arrived.TheVariants.{Message, Refused}
 use Rattle.dispatch_room_serving.specs.declared.journals.Journal.{Journal}
+
+-- What a journal holds is known as the list of all that came only where questions are kept too.
+abbrev pub known_where : Bool → Option (List ℕ) → Option (List ℕ)
+known_where true held = held
+known_where false held = None
+
+abbrev pub known_by : {W : Type 0} → (W → Option (List ℕ)) → Journal W → Option (List ℕ)
+known_by held journal = known_where journal.keeps_questions (held journal.out)
 
 -- what a journal holds, where there is one
 abbrev pub held_by : {W : Type 0} → (W → Option (List ℕ)) → Option (Journal W) → Option (List ℕ)
-held_by held journal = option_and_then (λ j. held j.out) journal
+held_by held journal = option_and_then (known_by held) journal
 
 -- whether it has failed
 abbrev pub failed_by : {W : Type 0} → Option (Journal W) → Bool
@@ -21,17 +27,13 @@ failed_by (Some journal) = journal.has_failed
 abbrev pub Lasts : Bool → Option (List ℕ) → Option (List ℕ) → Type 0
 Lasts is_synced lasting held = is_synced ≡ true → lasting ≡ held
 
--- what has arrived is a message, which is kept
-abbrev pub is_message : Arrived → Bool
-is_message (Message shown bytes) = true
-is_message (Refused r head_only) = false
-
 -- A journal has failed once something could not be kept. Then nothing more is, and it says so.
--- Whether its messages are to last stays the same.
+-- Whether its messages are to last, and whether questions are kept, stays the same.
 pub record FailsForGood {W E : Type 0} (old new : Journal W)
     (result : Result (Unit {0}) E) : Type 0 where
   pub for_good : old.has_failed ≡ true → (new.out ≡ old.out) × IsErr result
   pub is_synced : new.is_synced ≡ old.is_synced
+  pub keeps_questions : new.keeps_questions ≡ old.keeps_questions
 
 -- Why it is not known how much of a text is whole records: memory is wanting, or the text is no
 -- list of such, or a read failed.

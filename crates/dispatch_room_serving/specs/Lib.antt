@@ -2,6 +2,8 @@
 pub mod Callers
 -- what is served on connections, one after another
 pub mod Connections
+-- what is kept where questions are not
+pub mod KeptChanges
 -- what a journal holds, what of it lasts, and when it has failed
 pub mod Journals
 -- what the log has of what was asked and answered

@@ -1,5 +1,6 @@
 -- The list that a room's service keeps over all its starts, and that it can be replayed.
-use Rattle.std.specs.Prelude.{◌≡◌, ◌⊎◌, ◌≤◌, ℕ, List, [], ◌∷◌, ◌++◌, length, All, Bool, MatchResult, None, Option, Result, true, Some}
+use Rattle.std.specs.Prelude.{◌≡◌, ◌⊎◌, ◌≤◌, ℕ, List, [], ◌∷◌, ◌++◌, length, All, Bool, MatchResult, None, Option}
+use Rattle.std.specs.Prelude.{Result, true, Some}
 use Rattle.std.specs.List.{flat_map}
 use Rattle.jiff.specs.Placed.{IsPosixZone}
 use Rattle.sqlite.specs.Held.{Held, state}
@@ -27,7 +28,8 @@ use Rattle.dispatch_room_journal.specs.ReplayLaws.{IsExcused, answers_to_message
 use Rattle.dispatch_room_journal.specs.Replays.{IsReplay, Replays}
 use Rattle.dispatch_room_journal.specs.declared.replay_faults.Stopped.{Stopped}
 use Rattle.dispatch_room_journal.specs.declared.replayed_journal.Replayed.{Replayed}
-use Rattle.dispatch_room_journal.specs.ReplayedTurns.{IsBegun, IsReplayed, IsTurn, Turn, answers_of, ends_open, entries_of}
+use Rattle.dispatch_room_journal.specs.ReplayedTurns.{IsBegun, IsReplayed, IsTurn, Turn, answers_of, ends_open}
+use Rattle.dispatch_room_journal.specs.ReplayedTurns.{entries_of}
 use Rattle.dispatch_room_serving.specs.Connections.{Conversation, Service}
 use Rattle.dispatch_room_serving.specs.ServedRoom.{IsHead, ServesRoom}
 use Rattle.dispatch_room_serving.specs.Starts.{AreStarts, IsStart, IsTrusted, OfLast, Start, connections, left_by}
@@ -101,13 +103,14 @@ module _ {S : Type 0} (g : Ghosts S) where
   -- What serving gives once it has ended, where a list is kept, is a start that kept its part.
   abbrev pub ServedKeepsItsPart : Type 0
   ServedKeepsItsPart =
-      (found : Held S) (old new : Store S → Service S) (most : ℕ)
+      (found : Held S) (old new : Store S → Service S) (renews : Bool) (most : ℕ)
       (worked : Result Done Failure × Held S) (part : Part) (history : Bool)
       → ((store : Store S) → ((old store).stage.store ≡ store)
       × ((old store).stage.kept ≡ Some part.before))
       → ((store : Store S) → ((new store).stage.store ≡ store)
       × ((new store).stage.kept ≡ Some part.after))
-      → ServesRoom g true room_text message_text answer_text history found old new most worked
+      → ServesRoom g true room_text message_text answer_text history found old new renews most
+      worked
       → (s : Start S) × IsStart g message_text answer_text s × (s.found ≡ found)
       × ((left_by s).conn ≡ worked.1) × (s.setting.history ≡ history) × IsPartOf s part
 

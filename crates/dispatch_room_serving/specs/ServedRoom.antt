@@ -88,7 +88,7 @@ module _ {S : Type 0} (g : Ghosts S) where
 
     module _ (came_text : ℕ → List ℕ → List ℕ) (told_text : List ℕ → List ℕ) where
       -- from the store that was looked at so many calls were served
-      pub record ServesFrom (setting : Setting) (old new : Service S) (most : ℕ)
+      pub record ServesFrom (setting : Setting) (old new : Service S) (renews : Bool) (most : ℕ)
           (result : Result Done Failure) : Type 0 where
         pub store : Store S
         pub kept : Option (List ℕ)
@@ -105,22 +105,23 @@ module _ {S : Type 0} (g : Ghosts S) where
                     has_failed = old.stage.has_failed;
                     store = store;
                   };
-            }) new most result
+            }) new renews most result
 
       -- serving did not begin, or so many calls were served
-      abbrev pub Attends : Setting → Service S → Service S → ℕ → Result Done Failure → Type 0
-      Attends setting old new most result =
-          IsUnheard old new result ⊎ ServesFrom setting old new most result
+      abbrev pub Attends : Setting → Service S → Service S → Bool → ℕ → Result Done Failure
+          → Type 0
+      Attends setting old new renews most result =
+          IsUnheard old new result ⊎ ServesFrom setting old new renews most result
 
       -- The room that the tables of a connection stood for was opened and attended to, in the zone
       -- of its plan, with the paths of history or without.
       pub record ServesRoom (history : Bool) (conn : Held S) (old new : Store S → Service S)
-          (most : ℕ) (worked : Result Done Failure × Held S) : Type 0 where
+          (renews : Bool) (most : ℕ) (worked : Result Done Failure × Held S) : Type 0 where
         -- the store as it was opened, and as it was closed
         pub first : Store S
         pub last : Store S
         pub setting : Setting
         pub opens : HasCleanDisk (state g first.conn) → OpensRoom g conn first
         pub is_set : IsSetting first.plan.zone history setting
-        pub attended : Attends setting (old first) (new last) most worked.0
+        pub attended : Attends setting (old first) (new last) renews most worked.0
         pub closed : worked.1 ≡ last.conn

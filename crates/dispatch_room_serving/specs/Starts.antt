@@ -1,5 +1,5 @@
 -- Starts of a room's service, one after another: each finds what a stop of the one before may
--- leave.
+-- leave, or what that left.
 use Rattle.std.specs.Prelude.{◌≡◌, ◌⊎◌, ⊤, ℕ, List, [], ◌∷◌, ◌++◌, All, Bool, Option, Result}
 use Rattle.jiff.specs.Placed.{IsPosixZone}
 use Rattle.sqlite.specs.Held.{Held, state}
@@ -19,7 +19,8 @@ use Rattle.room_tables.specs.Stands.{Configuration, Stands}
 use Rattle.dispatch_room_exit.specs.declared.exit_status.Done.{Done}
 use Rattle.dispatch_room_exit.specs.declared.exit_status.Failure.{Failure}
 use Rattle.dispatch_room_tasks.specs.OpenedRoom.{OpensRoom}
-use Rattle.dispatch_room_serving.specs.Connections.{AreAttended, AreJoined, AreKept, Conversation, GoOnBefore, HasServed, Service, connected, together}
+use Rattle.dispatch_room_serving.specs.Connections.{AreAttended, AreJoined, AreKept, Conversation, GoOnBefore}
+use Rattle.dispatch_room_serving.specs.Connections.{HasServed, Service, connected, together}
 use Rattle.dispatch_room_serving.specs.ServedRoom.{Looks, LooksOnly, ServesRoom}
 
 -- A start: the database that was found, the store that was opened in it, what the service was set
@@ -90,10 +91,11 @@ module _ {S : Type 0} (g : Ghosts S) where
         ⊎ (HasCleanDisk (state g s.first.stage.store.conn) → IsKept g s.opened
         → IsKept g s.first.stage.store)
 
-  -- a start follows another: it finds what a stop of that may leave, and serves the paths of
-  -- history where that did
+  -- A start follows another: it finds what a stop of that may leave, or as a part that begins while
+  -- the room is served, the database that that left. It serves the paths of history where that did.
   abbrev pub Follows : Start S → Start S → Type 0
-  Follows before s = (state g (left_by before).conn).may_leave (state g s.found).now.trees
+  Follows before s = ((state g (left_by before).conn).may_leave (state g s.found).now.trees
+      ⊎ (s.found ≡ (left_by before).conn))
       × (s.setting.history ≡ before.setting.history)
 
   -- these starts, each after the one before
@@ -148,10 +150,11 @@ module _ {S : Type 0} (g : Ghosts S) where
   ServedIsAStart =
       (wants : Bool) (begun_text : Head → List ℕ) (came_text : ℕ → List ℕ → List ℕ)
       (told_text : List ℕ → List ℕ) (history : Bool) (found : Held S)
-      (old new : Store S → Service S) (most : ℕ) (worked : Result Done Failure × Held S)
+      (old new : Store S → Service S) (renews : Bool) (most : ℕ)
+      (worked : Result Done Failure × Held S)
       → ((store : Store S) → (old store).stage.store ≡ store)
       → ((store : Store S) → (new store).stage.store ≡ store)
-      → ServesRoom g wants begun_text came_text told_text history found old new most worked
+      → ServesRoom g wants begun_text came_text told_text history found old new renews most worked
       → (s : Start S) × IsStart came_text told_text s × (s.found ≡ found)
       × ((left_by s).conn ≡ worked.1) × (s.setting.history ≡ history)
 

@@ -4,6 +4,8 @@ ghost use Rattle.room_store.specs.StoredRoom.{IsReady};
 ghost use Rattle.dispatch_room_serving.specs.Connections.{AttendsNext, Serves, done_or, fault_by};
 
 use crate::callers::Callers;
+use crate::list_places::{Finding, ListPlace, standing};
+use crate::served_room::Terms;
 use dispatch_room_exit::exit_status::{Done, Failure};
 use room_http::observers::Observer;
 use room_http::session::{ServeEnd, serve};
@@ -17,7 +19,8 @@ use std::alloc::Global;
 /// How many reads a connection has at most.
 pub const MOST_READS: u32 = 100_000;
 
-/// Serves a room to so many calls, one after another, each as `serve_next` does.
+/// Serves a room to so many calls, one after another, each as `serve_next` does. Where it may end
+/// before, it does as soon as a look before a call finds the list no more as it was.
 pub fn serve_each<S: Alter, P: Callers, C: Clock, N: Observer>(
     alloc: Global,
     callers: &mut P,
@@ -25,7 +28,8 @@ pub fn serve_each<S: Alter, P: Callers, C: Clock, N: Observer>(
     setting: &Setting,
     clock: &mut C,
     observer: &mut N,
-    connections: u64,
+    terms: Terms,
+    place: &mut Option<ListPlace<'_>>,
 ) -> Result<Done, Failure>
     requires ready { IsReady S.Store room.old }
     ensures ready { IsReady S.Store room.new }
@@ -50,10 +54,13 @@ pub fn serve_each<S: Alter, P: Callers, C: Clock, N: Observer>(
             store = room.new;
           };
         })
-        connections result }
+        terms.renews terms.connections result }
 {
     let mut routes = None;
-    for _connection in 0..connections {
+    for _connection in 0..terms.connections {
+        if terms.renews && standing(place) != Finding::There {
+            return Ok(Done::Whole);
+        }
         if let Err(fault) = serve_next(
             alloc,
             &mut routes,
@@ -71,9 +78,9 @@ pub fn serve_each<S: Alter, P: Callers, C: Clock, N: Observer>(
 
 /// Serves the next call. Where more is served after it, what held after the calls before holds
 /// after one more: so it does after every number of them, however long the room is served. A
-/// connection that ends badly doesn't end the service, but for lack of memory, where the witness
-/// could not keep what it was told, and where the store is not sound any longer. The routes are
-/// kept from one to the next.
+/// connection that ends badly doesn't end the service, but for lack of memory, where the observer
+/// could not keep what was reported to it, and where the store is not sound any longer. The routes
+/// are kept from one to the next.
 pub fn serve_next<S: Alter, P: Callers, C: Clock, N: Observer>(
     alloc: Global,
     routes: &mut Option<Routes>,

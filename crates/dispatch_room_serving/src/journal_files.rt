@@ -1,9 +1,9 @@
 //! The file of a journal: what a crash cut off is taken away, and entries are put behind the rest.
-ghost use Rattle.std.specs.Prelude.{◌≡◌, ◌⊎◌, ℕ, List, false, if◌then◌else◌, nat_lt};
+ghost use Rattle.std.specs.Prelude.{◌≡◌, ◌⊎◌, ◌+◌, ℕ, List, false, if◌then◌else◌, min, nat_lt};
 ghost use Rattle.std.specs.Option.{option_map};
-ghost use Rattle.dispatch_room_chain.specs.Chains.{sha256_digits};
-ghost use Rattle.dispatch_room_chain.specs.PlainTexts.{StandsKnown, plain_of};
-ghost use Rattle.dispatch_room_chain.specs.declared.list_ends.ListEnd.{ListEnd};
+ghost use Rattle.dispatch_room_journal.specs.Chains.{sha256_digits};
+ghost use Rattle.dispatch_room_journal.specs.PlainTexts.{StandsKnown, plain_of};
+ghost use Rattle.dispatch_room_journal.specs.declared.list_ends.ListEnd.{ListEnd};
 ghost use Rattle.std.specs.Prelude.{Bool, Option, Some, None, IfErr, IsTrue, MatchResult, is_some, refl};
 ghost use Rattle.dispatch_room_exit.specs.declared.exit_status.Failure.TheVariants as failure;
 ghost use Rattle.dispatch_room_journal.specs.WholeEntries.{EndsWhole};
@@ -11,17 +11,17 @@ ghost use Rattle.dispatch_room_serving.specs.Journals.{IsUnread};
 ghost use Rattle.dispatch_room_serving.specs.declared.journal_files.WrittenFile.{WrittenFile};
 
 use crate::journals::Keeper;
-use dispatch_room_chain::fronts::{FIRST_LINK, OPENING};
-use dispatch_room_chain::headers::HEADER;
-use dispatch_room_chain::list_ends::{ListEnd, put_end, put_entry};
-use dispatch_room_chain::record_inbox::RecordInbox;
-use dispatch_room_chain::record_writer::put_opening;
-use dispatch_room_chain::whole_records::{ListForm, WholeChain, look_through};
 use dispatch_room_exit::exit_status::Failure;
 use dispatch_room_exit::explainer::Explainer;
 use dispatch_room_journal::entry_reader::EntryFault;
 use dispatch_room_journal::journal_inbox::JournalInbox;
+use dispatch_room_journal::list_ends::{ListEnd, put_end, put_entry};
+use dispatch_room_journal::record_fronts::{FIRST_LINK, OPENING};
+use dispatch_room_journal::record_headers::HEADER;
+use dispatch_room_journal::record_inbox::RecordInbox;
+use dispatch_room_journal::record_writer::put_opening;
 use dispatch_room_journal::whole_entries::whole_bytes;
+use dispatch_room_journal::whole_records::{ListForm, WholeChain, look_through};
 use room_http::observers::Unkept;
 use room_http_messages::sinks::{Sink, WriteFailed};
 use room_http_messages::sources::Source;
@@ -146,7 +146,7 @@ fn whole_chain(
 ) -> Result<WholeList, Failure>
     ensures { IfErr result (λ fault. (fault ≡ failure.Memory) ⊎ (fault ≡ failure.Journal)) }
 {
-    let whole = chain.bytes.saturating_add(OPENING.len() as u64);
+    let whole = whole_of(chain);
     match may_be_cut(file, whole) {
         Ok(true) => Ok(WholeList {
             whole,
@@ -158,6 +158,13 @@ fn whole_chain(
         }
         Err(error) => Err(fault_of(explainer, path, &error)),
     }
+}
+
+// How many bytes of a list the first line of a chain and its whole records are.
+fn whole_of(chain: &WholeChain) -> u64
+    ensures { result ≡ min (chain.now.bytes + 7) u64.MAX }
+{
+    chain.bytes.saturating_add(OPENING.len() as u64)
 }
 
 // Whether what follows so many bytes of a chain may be left of a record.
@@ -211,8 +218,8 @@ fn opened(rt: &HostRuntime, explainer: Explainer<'_>, path: &str) -> Result<File
 // Makes what stands in a file last, and its name in its folder. An earlier program may have ended
 // at a sync that failed: then the system still shows what it has not written, and says yes to the
 // next sync. So first what can be written is, then the system's copies are dropped, and what is
-// read from here on is what the disk has. Only of that it is reported how much is whole, what follows
-// is cut off, and the cut is made to last.
+// read from here on is what the disk has. Only of that it is reported how much is whole, what
+// follows is cut off, and the cut is made to last.
 fn settle(rt: &HostRuntime, path: &str, file: &File) -> Result<(), Error> {
     file.sync_all()?;
     let advised = libc::posix_fadvise(file.as_raw_fd(), 0, 0, libc::POSIX_FADV_DONTNEED);

@@ -1,15 +1,16 @@
 //! A journal of what is served: each message before the room acts on it, and its answer's status
 //! before the answer is written.
-ghost use Rattle.std.specs.Prelude.{◌≡◌, ◌&&◌, ◌||◌, ℕ, List, [], false, is_err, Option, IsTrue, OnOk};
+ghost use Rattle.std.specs.Prelude.{◌≡◌, ◌&&◌, ◌||◌, ℕ, List, [], false, is_err, Option, IsTrue, OnOk, ⊤};
 ghost use Rattle.room_http.specs.Arrivals.{IsBounded};
 ghost use Rattle.room_http.specs.Kept.{KeepsAll, came_of, told_of};
 ghost use Rattle.dispatch_room_journal.specs.Entries.{Entry, IsDigest, IsEntry, message, text_of};
 ghost use Rattle.dispatch_room_journal.specs.JournalRecords.{answer_text, message_text, room_text};
-ghost use Rattle.dispatch_room_serving.specs.Journals.{FailsForGood, Lasts, is_message};
+ghost use Rattle.dispatch_room_serving.specs.Journals.{FailsForGood, Lasts, known_by};
+ghost use Rattle.dispatch_room_serving.specs.KeptChanges.{asks_only, is_kept, kept_of};
 
-use dispatch_room_chain::entry_texts::EntryText;
+use dispatch_room_journal::answer_statuses::status_of;
+use dispatch_room_journal::entry_texts::EntryText;
 use dispatch_room_journal::entry_writer::{put_answer, put_message, put_room};
-use dispatch_room_journal::statuses::status_of;
 use room_http::arrivals::Arrived;
 use room_http::observers::{Asked, Observer, Unkept};
 use room_model::digests::Head;
@@ -38,26 +39,45 @@ pub trait Keeper {
         ensures lasts { IsTrue result → lasting self.new ≡ held self.new };
 }
 
-/// A journal: each message at its moment, as it came, and the status of its answer. What is refused
-/// where there is no message is not kept. Once something could not be kept, nothing more is.
+/// A journal: each message at its moment, as it came, and the status of its answer; or only those
+/// that are no questions. What is refused where there is no message is not kept. Once something
+/// could not be kept, nothing more is.
 #[derive(Drop)]
 pub struct Journal<W> {
     out: W,
     // Whether a message lasts before the room acts on it, or the system writes it when it likes.
     is_synced: bool,
+    // Whether questions are kept too, which change nothing.
+    keeps_questions: bool,
     has_failed: bool,
 }
 
 impl<W: Keeper> Journal<W> {
     /// A journal that goes on where its writer is. Its messages last before the room acts on them,
-    /// or the system writes them when it likes.
-    pub fn new(out: W, is_synced: bool) -> Journal<W>
-        ensures { result ≡ record { out = out; is_synced = is_synced; has_failed = false } }
+    /// or the system writes them when it likes; and all are kept, or those that are no questions.
+    pub fn new(out: W, is_synced: bool, keeps_questions: bool) -> Journal<W>
+        ensures { result ≡ record {
+          out = out;
+          is_synced = is_synced;
+          keeps_questions = keeps_questions;
+          has_failed = false;
+        } }
     {
         Journal {
             out,
             is_synced,
+            keeps_questions,
             has_failed: false,
+        }
+    }
+
+    // Whether what has arrived is kept.
+    fn keeps(&self, arrived: &Arrived<'_>) -> bool
+        ensures { result ≡ is_kept self.now.keeps_questions arrived.now }
+    {
+        match arrived {
+            Arrived::Message { message, .. } => self.keeps_questions || !asks_only(message.method),
+            Arrived::Refused { .. } => false,
         }
     }
 
@@ -97,6 +117,7 @@ impl<W: Keeper> Journal<W> {
         ensures told { result ≡ kept }
         ensures failed { self.new.has_failed ≡ is_err kept }
         ensures is_synced { self.new.is_synced ≡ self.old.is_synced }
+        ensures keeps_questions { self.new.keeps_questions ≡ self.old.keeps_questions }
         ensures out { self.new.out ≡ self.old.out }
     {
         self.has_failed = kept.is_err();
@@ -105,7 +126,7 @@ impl<W: Keeper> Journal<W> {
 }
 
 impl<W: Keeper> Observer for Journal<W> {
-    ghost held = { λ journal. W.held journal.out };
+    ghost held = { known_by W.held };
 
     ghost has_failed = { λ journal. journal.has_failed };
 
@@ -113,11 +134,17 @@ impl<W: Keeper> Observer for Journal<W> {
 
     ghost told = { answer_text };
 
+    ghost notes = { λ _ _ _ _. ⊤ };
+
     fn arrived(&mut self, arrived: &Arrived<'_>, at: Moment) -> Result<(), Unkept>
         requires { IsBounded arrived.now }
-        ensures kept { KeepsAll (W.held self.old.out) (W.held self.new.out)
+        ensures keeps { KeepsAll (W.held self.old.out) (W.held self.new.out)
+            (kept_of self.old.keeps_questions arrived.now (came_of message_text arrived.now at))
+            result }
+        ensures kept { KeepsAll (known_by W.held self.old) (known_by W.held self.new)
             (came_of message_text arrived.now at) result }
-        ensures lasts { OnOk result (Lasts (self.old.is_synced && is_message arrived.now)
+        ensures lasts { OnOk result
+            (Lasts (self.old.is_synced && is_kept self.old.keeps_questions arrived.now)
             (W.lasting self.new.out) (W.held self.new.out)) }
         ensures failed { self.new.has_failed ≡ (self.old.has_failed || is_err result) }
         ensures for_good { FailsForGood self.old self.new result }
@@ -126,16 +153,19 @@ impl<W: Keeper> Observer for Journal<W> {
             return Err(Unkept);
         }
         let kept = match arrived {
-            Arrived::Message { bytes, .. } => {
+            Arrived::Message { bytes, .. } if self.keeps(arrived) => {
                 keep_message(&mut self.out, self.is_synced, at, bytes)
             }
-            Arrived::Refused { .. } => Ok(()),
+            _ => Ok(()),
         };
         self.told(kept)
     }
 
     fn answering(&mut self, arrived: &Arrived<'_>, answer: &[u8]) -> Result<(), Unkept>
-        ensures kept { KeepsAll (W.held self.old.out) (W.held self.new.out)
+        ensures keeps { KeepsAll (W.held self.old.out) (W.held self.new.out)
+            (kept_of self.old.keeps_questions arrived.now
+            (told_of answer_text arrived.now answer.now)) result }
+        ensures kept { KeepsAll (known_by W.held self.old) (known_by W.held self.new)
             (told_of answer_text arrived.now answer.now) result }
         ensures failed { self.new.has_failed ≡ (self.old.has_failed || is_err result) }
         ensures for_good { FailsForGood self.old self.new result }
@@ -144,13 +174,20 @@ impl<W: Keeper> Observer for Journal<W> {
             return Err(Unkept);
         }
         let kept = match arrived {
-            Arrived::Message { .. } => keep_answer(&mut self.out, answer),
-            Arrived::Refused { .. } => Ok(()),
+            Arrived::Message { .. } if self.keeps(arrived) => keep_answer(&mut self.out, answer),
+            _ => Ok(()),
         };
         self.told(kept)
     }
 
     fn answered(&mut self, _asked: &Asked<'_>, _answer: &[u8]) {}
+}
+
+// Whether by this method only questions are asked.
+fn asks_only(method: &[u8]) -> bool
+    ensures { result ≡ asks_only method.now }
+{
+    method == b"GET".as_slice() || method == b"HEAD".as_slice()
 }
 
 // Keeps the head with which a part begins, and makes it last, where that is wanted.

@@ -1,5 +1,6 @@
 //! What holds of a room's service over all its starts. Each law is the contract of a function that
 //! does nothing.
+ghost use Rattle.dispatch_room_serving.specs.KeptChanges.{ChangesAreTheRoom, QuestionsChangeNothing};
 ghost use Rattle.dispatch_room_serving.specs.Lists.{
   ListIsReplayed,
   ListIsTheRoom,
@@ -13,10 +14,10 @@ ghost use Rattle.dispatch_room_serving.specs.Starts.{
 
 use sqlite::Alter;
 
-/// However often a room's service is started, ends or is stopped at any moment, and is started
-/// again with what that left: all that was exchanged is one run from the first room, and keeps the
-/// promises. Between two starts there is one exchange more where a stop left an event done whose
-/// answer was not written.
+/// All starts of a room's service are one run from the first room, which keeps the promises,
+/// however often it ends or is stopped at any moment, and is started again with what that left.
+/// Between two starts there is one exchange more where a stop left an event done whose answer was
+/// not written.
 pub fn starts_are_one_run<S: Alter>()
     ensures { StartsAreOneRun S.Store }
 {}
@@ -31,10 +32,10 @@ pub fn what_is_served_is_a_start<S: Alter>()
     ensures { ServingIsAStart S.Store }
 {}
 
-/// The list that the service keeps over all starts can be replayed: from the room that the first
-/// found, with the answers that were given, to the room for which the store stands at the end, or
-/// to the one before a last message without a status. It holds where a message that changes a room
-/// changes its digest.
+/// Where a message that changes a room changes its digest, the list of all starts leads from the
+/// first room to the last, or to the one before a last message without a status. It can be replayed
+/// so, with the answers that were given, from the room that the first start found to the one for
+/// which the store stands at the end.
 pub fn the_list_is_the_room_over_all_starts<S: Alter>()
     ensures { ListIsTheRoom S.Store }
 {}
@@ -44,7 +45,18 @@ pub fn what_was_served_kept_its_part<S: Alter>()
     ensures { ServedKeepsItsPart S.Store }
 {}
 
-/// `replay` of the list, to a room that is equal to the first, comes to the room at its end.
+/// `replay` of the list, over a room that is equal to the first, leads to the room at its end.
 pub fn the_list_is_replayed<S: Alter, T: Alter>()
     ensures { ListIsReplayed S.Store T.Store }
+{}
+
+/// A room to which only the messages came that are no questions comes to the same room, and answers
+/// them the same.
+pub fn questions_change_nothing()
+    ensures { QuestionsChangeNothing }
+{}
+
+/// So a list that keeps only these leads to the room, and each status that it keeps is as written.
+pub fn changes_are_the_room()
+    ensures { ChangesAreTheRoom }
 {}

@@ -8,6 +8,7 @@ pub mod journal_files;
 pub mod journal_observers;
 pub mod journals;
 pub mod laws;
+pub mod list_places;
 pub mod log_lines;
 pub mod log_observers;
 pub mod logs;

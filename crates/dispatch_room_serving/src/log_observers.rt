@@ -51,6 +51,10 @@ impl<'a, E: Write, T: Clock, W: Keeper> Observer for LogAndJournal<'a, E, T, W> 
 
     ghost told = { answer_text };
 
+    // The line is written, unless the log is none or given up.
+    ghost notes = { λ old new asked answer. Logs old.log.goes_on new.log.goes_on
+        (E.contents old.log.out.now) (E.contents new.log.out.now) asked answer };
+
     fn arrived(&mut self, arrived: &Arrived<'_>, at: Moment) -> Result<(), Unkept> {
         self.log.begin();
         match &mut self.journal {
@@ -66,13 +70,7 @@ impl<'a, E: Write, T: Clock, W: Keeper> Observer for LogAndJournal<'a, E, T, W> 
         }
     }
 
-    // Beside what each observer ensures: the line is written, unless the log is none or given up.
-    fn answered(&mut self, asked: &Asked<'_>, answer: &[u8])
-        ensures kept { self.new.journal ≡ self.old.journal }
-        ensures logged { Logs self.old.log.goes_on self.new.log.goes_on
-            (E.contents self.old.log.out.now) (E.contents self.new.log.out.now) asked.now
-            answer.now }
-    {
+    fn answered(&mut self, asked: &Asked<'_>, answer: &[u8]) {
         self.log.answered(asked, answer);
     }
 }

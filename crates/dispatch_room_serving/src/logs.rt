@@ -5,7 +5,7 @@ ghost use Rattle.dispatch_room_serving.specs.Logs.{asked_by};
 
 use crate::log_lines::{Asker, LogLine, Request, Visible, path_of, utc};
 use dispatch_room_exit::explainer::Explainer;
-use dispatch_room_journal::statuses::status_in;
+use dispatch_room_journal::answer_statuses::status_in;
 use room_http::arrivals::Arrived;
 use room_http::observers::{Asked, Observer, Unkept};
 use room_http_requests::body_faults::fault_of;
@@ -143,6 +143,10 @@ impl<'a, E: Write, T: Clock> Observer for Log<'a, E, T> {
 
     ghost told = { λ _. [] };
 
+    // The line is written, unless the log is none or given up.
+    ghost notes = { λ old new asked answer. Logs old.goes_on new.goes_on (E.contents old.out.now)
+        (E.contents new.out.now) asked answer };
+
     fn arrived(&mut self, _arrived: &Arrived<'_>, _at: Moment) -> Result<(), Unkept> {
         self.begin();
         Ok(())
@@ -152,11 +156,7 @@ impl<'a, E: Write, T: Clock> Observer for Log<'a, E, T> {
         Ok(())
     }
 
-    // Beside what each observer ensures: the line is written, unless the log is none or given up.
-    fn answered(&mut self, asked: &Asked<'_>, answer: &[u8])
-        ensures logged { Logs self.old.goes_on self.new.goes_on (E.contents self.old.out.now)
-            (E.contents self.new.out.now) asked.now answer.now }
-    {
+    fn answered(&mut self, asked: &Asked<'_>, answer: &[u8]) {
         if self.goes_on {
             self.goes_on = self.put(asked, answer);
             explain_body(self.alloc, self.explainer, asked, answer);

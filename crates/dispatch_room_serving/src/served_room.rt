@@ -8,6 +8,7 @@ ghost use Rattle.dispatch_room_serving.specs.ServedRoom.{Announces, Attends, Ser
 use crate::callers::Callers;
 use crate::connections::serve_each;
 use crate::journal_observers::JournalObserver;
+use crate::list_places::ListPlace;
 use dispatch_room_exit::exit_status::{Done, Failure, refused};
 use dispatch_room_journal::journal_digests::digest_of;
 use dispatch_room_tasks::opened_room::{TaskResult, open_room};
@@ -26,12 +27,15 @@ pub struct Terms {
     pub connections: u64,
     /// Whether the paths of history are.
     pub history: bool,
+    /// Whether serving ends before, once the list was renamed, removed or truncated.
+    pub renews: bool,
 }
 
-/// Serves the room of a database to so many calls: it is opened, the watcher is told where it
-/// begins, the callers begin, and each is served from the room that the one before left, in the
+/// Serves the room of a database to so many calls: it is opened, where it begins is reported to the
+/// observer, the callers begin, and each is served from the room that the one before left, in the
 /// zone of the room's plan, with the paths of history or without. Where no room is opened, none of
-/// them is heard. It is the same whoever watches.
+/// them is heard. It is the same for each observer. Where the terms say so, it ends before, once a
+/// look at the place of the list finds it there no more, or cut.
 pub fn serve_in<S: Alter + Drop, P: Callers, C: Clock, N: JournalObserver>(
     alloc: Global,
     conn: Connection<S>,
@@ -39,6 +43,7 @@ pub fn serve_in<S: Alter + Drop, P: Callers, C: Clock, N: JournalObserver>(
     clock: &mut C,
     journal_observer: &mut N,
     terms: Terms,
+    place: &mut Option<ListPlace<'_>>,
 ) -> TaskResult<Done, S>
     requires outside { conn.in_transaction ≡ false }
     ensures outside { IfOk result (λ worked. worked.1.in_transaction ≡ false) }
@@ -64,7 +69,7 @@ pub fn serve_in<S: Alter + Drop, P: Callers, C: Clock, N: JournalObserver>(
             store = store;
           };
         })
-        terms.connections) }
+        terms.renews terms.connections) }
     ensures unheard { OnErr result ((callers.new ≡ callers.old) × (clock.new ≡ clock.old)) }
     ensures fault { IfErr result (IsUnopened S.Store conn) }
 {
@@ -80,7 +85,8 @@ pub fn serve_in<S: Alter + Drop, P: Callers, C: Clock, N: JournalObserver>(
         &setting,
         clock,
         journal_observer,
-        terms.connections,
+        terms,
+        place,
     );
     Ok((served, room.close()))
 }
@@ -93,7 +99,8 @@ fn begin_and_serve<S: Alter, P: Callers, C: Clock, N: JournalObserver>(
     setting: &Setting,
     clock: &mut C,
     journal_observer: &mut N,
-    connections: u64,
+    terms: Terms,
+    place: &mut Option<ListPlace<'_>>,
 ) -> Result<Done, Failure>
     requires ready { IsReady S.Store room.old }
     ensures ready { IsReady S.Store room.new }
@@ -119,7 +126,7 @@ fn begin_and_serve<S: Alter, P: Callers, C: Clock, N: JournalObserver>(
             store = room.new;
           };
         })
-        connections result }
+        terms.renews terms.connections result }
 {
     if let Err(fault) = announce(room, journal_observer) {
         return Err(fault);
@@ -132,7 +139,8 @@ fn begin_and_serve<S: Alter, P: Callers, C: Clock, N: JournalObserver>(
             setting,
             clock,
             journal_observer,
-            connections,
+            terms,
+            place,
         ),
         Err(fault) => Err(fault),
     }

@@ -1,5 +1,7 @@
 -- What becomes of all who came, as they are admitted, looked at, given and taken back.
-use Rattle.std.proofs.Common.{◌≡◌, ◌∙◌, sym, ap, refl, arith, rules, append_assoc, append-nil, ℕ, ◌+◌, ◌<◌, ◌==◌, List, [], ◌∷◌, ◌++◌, Bool, true, false, map, filter, length, All, Option, None, Some, if◌then◌else◌, nat_lt, option_to_list}
+use Rattle.std.proofs.Common.{◌≡◌, ◌∙◌, sym, ap, refl, arith, rules, append_assoc, append-nil, ℕ, ◌+◌, ◌<◌, ◌==◌, List}
+use Rattle.std.proofs.Common.{[], ◌∷◌, ◌++◌, Bool, true, false, map, filter, length, All, Option, None, Some}
+use Rattle.std.proofs.Common.{if◌then◌else◌, nat_lt, option_to_list}
 use Rattle.std.proofs.lemmas.List.{map-append}
 use Rattle.std.proofs.lemmas.List.Elements.{All-cons, All-head, All-nil, All-tail}
 use Rattle.std.specs.Duration.{as_nanos}
@@ -9,8 +11,10 @@ use Rattle.dispatch_room_sockets.specs.declared.kept_callers.Heard.TheVariants.{
 use Rattle.dispatch_room_sockets.specs.declared.kept_callers.Kept.{Kept}
 use Rattle.dispatch_room_sockets.specs.declared.kept_callers.Verdict.{Verdict}
 use Rattle.dispatch_room_sockets.specs.declared.kept_callers.Verdict.TheVariants.{Closed, Served, Waits}
-use Rattle.dispatch_room_sockets.specs.CallerHistories.{AreInTime, ComesBack, GivesNext, GoesOn, History, Stands, numbers, tally}
-use Rattle.dispatch_room_sockets.specs.Sweeps.{IsAdmitted, IsNoted, IsSwept, Looked, closed_of, judged, numbered, served_of, waiting_of}
+use Rattle.dispatch_room_sockets.specs.CallerHistories.{AreInTime, ComesBack, GivesNext, GoesOn, History, Stands}
+use Rattle.dispatch_room_sockets.specs.CallerHistories.{numbers, tally}
+use Rattle.dispatch_room_sockets.specs.Sweeps.{IsAdmitted, IsNoted, IsSwept, Looked, closed_of, judged, numbered}
+use Rattle.dispatch_room_sockets.specs.Sweeps.{served_of, waiting_of}
 use Rattle.dispatch_room_sockets.specs.Verdicts.{is_closed, is_over, is_served, verdict_on, waits}
 
 pub tally_both : (n : ℕ) (xs ys : List ℕ) → tally n (xs ++ ys) ≡ tally n xs + tally n ys
@@ -34,7 +38,8 @@ module _ {C : Type 0} where
   tally_kept : (n : ℕ) (b : Bool) (k : Kept C) (more : List (Looked C)) (l : Looked C) → l.after ≡ k
       → tally n (numbers (map (λ x. x.after) (if b then l ∷ more else more)))
       ≡ (if b then (if n == k.number then 1 else 0) else 0) + tally n (numbers (map (λ x. x.after) more))
-  tally_kept n true k more l same = ap {B = ℕ} (λ a. (if n == a.number then 1 else 0) + tally n (numbers (map (λ x. x.after) more))) same
+  tally_kept n true k more l same =
+      ap {B = ℕ} (λ a. (if n == a.number then 1 else 0) + tally n (numbers (map (λ x. x.after) more))) same
   tally_kept n false k more l same = omega arith
 
   -- each who was looked at waits on, is served or is closed
@@ -52,7 +57,8 @@ module _ {C : Type 0} where
       let s = tally_kept n (is_served v) l.after (filter (λ x. is_served (judged now x)) more) l refl in
       let c = tally_kept n (is_closed v) l.after (filter (λ x. is_closed (judged now x)) more) l refl in
       let one = one_by_verdict v (if n == l.after.number then 1 else 0) in
-      let number : ◌≡◌ {A = ℕ} (if n == l.before.number then 1 else 0) (if n == l.after.number then 1 else 0) = ap {B = ℕ} (λ m. if n == m then 1 else 0) (sym same) in
+      let number : ◌≡◌ {A = ℕ} (if n == l.before.number then 1 else 0) (if n == l.after.number then 1 else 0) = ap
+      {B = ℕ} (λ m. if n == m then 1 else 0) (sym same) in
       omega (arith, rest, w, s, c, one, number)
 
   pub tally_numbered : (n next : ℕ) (until : Duration) (came : List C)
@@ -69,7 +75,8 @@ module _ {C : Type 0} where
       let all = rest ∙ ap {B = ℕ} (λ m. if nat_lt n m then 1 else 0) count in
       omega (arith, all, step)
     where
-      one_more : (n next : ℕ) → (if n == next then 1 else 0) + (if nat_lt n next then 1 else 0) ≡ (if nat_lt n (next + 1) then 1 else 0)
+      one_more : (n next : ℕ)
+          → (if n == next then 1 else 0) + (if nat_lt n next then 1 else 0) ≡ (if nat_lt n (next + 1) then 1 else 0)
       one_more n next = grind arith
 
   pub admitted_stands : (until : Duration) (line longer ready : List (Kept C)) (next after : ℕ)
@@ -81,7 +88,9 @@ module _ {C : Type 0} where
     once = λ n.
         let old = s.once n in
         let new = tally_numbered n next until a.came in
-        let parts = ap (λ l. tally n (numbers l)) a.wait ∙ ap (tally n) (map-append (λ k. k.number) line (numbered next until a.came)) ∙ tally_both n (numbers line) (numbers (numbered next until a.came)) in
+        let parts = ap (λ l. tally n (numbers l)) a.wait
+        ∙ ap (tally n) (map-append (λ k. k.number) line (numbered next until a.came))
+        ∙ tally_both n (numbers line) (numbers (numbered next until a.came)) in
         let count = ap {B = ℕ} (λ m. if nat_lt n m then 1 else 0) a.count in
         omega (arith, old, new, parts, count);
   }
@@ -98,12 +107,15 @@ module _ {C : Type 0} where
   swept_stands now patience line left ready readied next log logs h s stood = record {
     order = ap (λ t. t ++ numbers (served_of now s.looks)) stood.order
         ∙ append_assoc h.given (numbers ready) (numbers (served_of now s.looks))
-        ∙ ap (λ t. h.given ++ t) (sym (map-append (λ k. k.number) ready (served_of now s.looks)) ∙ ap numbers (sym s.serve));
+        ∙ ap (λ t. h.given ++ t)
+        (sym (map-append (λ k. k.number) ready (served_of now s.looks)) ∙ ap numbers (sym s.serve));
     once = λ n.
         let old = stood.once n in
         let looks = ap (λ l. tally n (numbers l)) s.were ∙ tally_looks n now patience s.looks s.noted in
         let wait = ap (λ l. tally n (numbers l)) s.wait in
-        let serve = ap (λ l. tally n (numbers l)) s.serve ∙ ap (tally n) (map-append (λ k. k.number) ready (served_of now s.looks)) ∙ tally_both n (numbers ready) (numbers (served_of now s.looks)) in
+        let serve = ap (λ l. tally n (numbers l)) s.serve
+        ∙ ap (tally n) (map-append (λ k. k.number) ready (served_of now s.looks))
+        ∙ tally_both n (numbers ready) (numbers (served_of now s.looks)) in
         let gone = tally_both n h.gone (numbers (closed_of now s.looks)) in
         omega (arith, old, looks, wait, serve, gone);
   }
@@ -113,8 +125,11 @@ module _ {C : Type 0} where
   looks_in_time now (l ∷ more) = go (waits (judged now l)) refl (looks_in_time now more)
     where
       go : (b : Bool) → waits (judged now l) ≡ b → AreInTime now (waiting_of now more)
-          → AreInTime now (map (λ x. x.after) (if b then l ∷ filter (λ x. waits (judged now x)) more else filter (λ x. waits (judged now x)) more))
-      go true is rest = All-cons (λ (k : Kept C). as_nanos now < as_nanos k.until) l.after _ (waiting_in_time now l.after.until l.heard is) rest
+          → AreInTime now (map (λ x. x.after)
+          (if b then l ∷ filter (λ x. waits (judged now x)) more else filter (λ x. waits (judged now x)) more))
+      go true is rest =
+          All-cons (λ (k : Kept C). as_nanos now < as_nanos k.until) l.after _
+          (waiting_in_time now l.after.until l.heard is) rest
       go false is rest = rest
 
   pub nobody_given : (line ready : List (Kept C)) (next : ℕ) → GivesNext line ready next line ready next None
@@ -141,8 +156,15 @@ module _ {C : Type 0} where
         record {
           gave = two.1.gave ∙ ap (λ t. t ++ numbers (option_to_list given)) (one.1.gave ∙ append-nil h.given);
           out = two.1.out ∙ ap (λ t. t ++ numbers (option_to_list given)) (one.1.out ∙ append-nil h.out);
-          whole = (one.1.whole.0 ++ two.1.whole.0, two.1.whole.1 ∙ ap (λ t. t ++ two.1.whole.0) one.1.whole.1 ∙ append_assoc h.whole one.1.whole.0 two.1.whole.0);
-          gone = (one.1.gone.0 ++ two.1.gone.0, two.1.gone.1 ∙ ap (λ t. t ++ two.1.gone.0) one.1.gone.1 ∙ append_assoc h.gone one.1.gone.0 two.1.gone.0);
+          whole = (
+            one.1.whole.0 ++ two.1.whole.0,
+            two.1.whole.1 ∙ ap (λ t. t ++ two.1.whole.0) one.1.whole.1
+                ∙ append_assoc h.whole one.1.whole.0 two.1.whole.0,
+          );
+          gone = (
+            one.1.gone.0 ++ two.1.gone.0,
+            two.1.gone.1 ∙ ap (λ t. t ++ two.1.gone.0) one.1.gone.1 ∙ append_assoc h.gone one.1.gone.0 two.1.gone.0,
+          );
         },
         two.2,
       )
@@ -214,7 +236,8 @@ module _ {C : Type 0} where
         order = s.order;
         once = λ n.
             let old = s.once n in
-            let longer = ap (λ l. tally n (numbers l)) is ∙ ap (tally n) (map-append (λ x. x.number) line (k ∷ [])) ∙ tally_both n (numbers line) (k.number ∷ []) in
+            let longer = ap (λ l. tally n (numbers l)) is ∙ ap (tally n) (map-append (λ x. x.number) line (k ∷ []))
+            ∙ tally_both n (numbers line) (k.number ∷ []) in
             let served = ap (tally n) out ∙ tally_both n others (k.number ∷ []) in
             let gone = tally_both n h.gone [] in
             omega (arith, old, longer, served, gone);

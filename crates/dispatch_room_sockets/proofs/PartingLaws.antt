@@ -1,5 +1,6 @@
 -- What was done to part from a peer, step after step.
-use Rattle.std.proofs.Common.{◌≡◌, ◌∙◌, ap, arith, append_assoc, length, length-append, inr, ℕ, ◌+◌, ◌≤◌, List, ◌∷◌, ◌++◌, true, Option, None, Some, refl}
+use Rattle.std.proofs.Common.{◌≡◌, ◌∙◌, ap, arith, append_assoc, length, length-append, inr, ℕ, ◌+◌, ◌≤◌, List, ◌∷◌}
+use Rattle.std.proofs.Common.{◌++◌, true, Option, None, Some, refl}
 use Rattle.std.specs.Io.KnownBytes.{Consumes}
 use Rattle.std.proofs.KnownBytes.{Consumes-trans}
 use Rattle.std.specs.declared.time.Duration.{Duration}
@@ -11,7 +12,8 @@ pub Does-more : (a b c : Option (List Step)) (xs ys : List Step) → Does a b xs
 Does-more None b c xs ys first second = tt
 Does-more (Some done) None c xs ys first second = absurd first
 Does-more (Some done) (Some more) None xs ys first second = second
-Does-more (Some done) (Some more) (Some most) xs ys first second = second ∙ ap (λ t. t ++ ys) first ∙ append_assoc done xs ys
+Does-more (Some done) (Some more) (Some most) xs ys first second =
+    second ∙ ap (λ t. t ++ ys) first ∙ append_assoc done xs ys
 
 pub Throws-more : (a b c : Option (List ℕ)) (few more most : ℕ) → ThrowsAway few a b
     → ThrowsAway more b c → few + more ≤ most → ThrowsAway most a c

@@ -38,5 +38,8 @@ joined piece next rest (m ∷ more) then x stay y =
 
 pub joined_law : AreJoined
 joined_law piece next rest first then x stay y =
-    let whole = joined piece next rest first then x stay y in
-    (whole, λ all left e f split ends end. one_reading_law (piece ++ next) all (first ++ then) left rest e f split ends whole end)
+    let whole = joined piece next rest first then x stay y in (
+      whole,
+      λ all left e f split ends end.
+          one_reading_law (piece ++ next) all (first ++ then) left rest e f split ends whole end,
+    )

@@ -1,5 +1,7 @@
 -- A look at all who are kept, one after another.
-use Rattle.std.proofs.Common.{◌≡◌, ◌∙◌, sym, ap, refl, arith, append_assoc, append-nil, length-append, ℕ, ◌+◌, ◌-◌, ◌<◌, List, [], ◌∷◌, ◌++◌, Bool, true, false, map, filter, length, All, Option, None, Some, if◌then◌else◌}
+use Rattle.std.proofs.Common.{◌≡◌, ◌∙◌, sym, ap, refl, arith, append_assoc, append-nil, length-append, ℕ, ◌+◌, ◌-◌, ◌<◌}
+use Rattle.std.proofs.Common.{List, [], ◌∷◌, ◌++◌, Bool, true, false, map, filter, length, All, Option, None, Some}
+use Rattle.std.proofs.Common.{if◌then◌else◌}
 use Rattle.std.proofs.lemmas.List.{map-append}
 use Rattle.std.proofs.lemmas.List.Elements.{All-push, All-nil, filter-append}
 use Rattle.std.specs.declared.time.Duration.{Duration}
@@ -8,7 +10,8 @@ use Rattle.dispatch_room_sockets.specs.declared.kept_callers.Kept.{Kept}
 use Rattle.dispatch_room_sockets.specs.declared.kept_callers.Verdict.{Verdict}
 use Rattle.dispatch_room_sockets.specs.declared.kept_callers.Verdict.TheVariants.{Closed, Served, Waits}
 use Rattle.dispatch_room_sockets.specs.Growths.{Grows}
-use Rattle.dispatch_room_sockets.specs.Sweeps.{IsAdmitted, IsLookedAt, IsNoted, IsSwept, Looked, judged, numbered, served_of, waiting_of}
+use Rattle.dispatch_room_sockets.specs.Sweeps.{IsAdmitted, IsLookedAt, IsNoted, IsSwept, Looked, judged, numbered}
+use Rattle.dispatch_room_sockets.specs.Sweeps.{served_of, waiting_of}
 use Rattle.dispatch_room_sockets.specs.Verdicts.{is_served, waits}
 
 pub Grows-none : {A : Type 0} (a : Option (List A)) → Grows a a []
@@ -20,7 +23,8 @@ pub Grows-more : {A : Type 0} (a b c : Option (List A)) (xs ys : List A) → Gro
 Grows-more None b c xs ys first second = tt
 Grows-more (Some done) None c xs ys first second = absurd first
 Grows-more (Some done) (Some more) None xs ys first second = absurd second
-Grows-more (Some done) (Some more) (Some most) xs ys first second = second ∙ ap (λ t. t ++ ys) first ∙ append_assoc done xs ys
+Grows-more (Some done) (Some more) (Some most) xs ys first second =
+    second ∙ ap (λ t. t ++ ys) first ∙ append_assoc done xs ys
 
 pub map_push : {A B : Type 0} (f : A → B) (xs : List A) (x : A)
     → map f (xs ++ x ∷ []) ≡ map f xs ++ f x ∷ []
@@ -41,7 +45,10 @@ module _ {C : Type 0} where
       let rest = numbered_push (n + 1) until more c in
       let count : n + 1 + length more ≡ n + length (d ∷ more) = omega arith in
       ap (λ t. record { number = n; caller = d; has_begun = false; until = until } ∷ t)
-      (rest ∙ ap (λ k. numbered (n + 1) until more ++ record { number = k; caller = c; has_begun = false; until = until } ∷ []) count)
+      (rest
+      ∙ ap
+      (λ k. numbered (n + 1) until more ++ record { number = k; caller = c; has_begun = false; until = until } ∷ [])
+      count)
 
   -- so far this many were looked at, and the rest are still to be
   pub record IsSweptTo (now patience : Duration) (rest : ℕ) (line left ready readied : List (Kept C))
@@ -110,7 +117,8 @@ module _ {C : Type 0} where
       → lefts ≡ others ++ (if waits v then a ∷ [] else [])
       → served ≡ readied ++ (if is_served v then a ∷ [] else [])
       → IsSweptTo now patience rest line lefts ready served log logged
-  swept_more now patience rest line left ready readied log logs logged k a others v {lefts} {served} s is looked wait serve =
+  swept_more now patience rest line left ready readied log logs logged k a others v {lefts} {served} s is looked wait
+      serve =
       go s.unseen s.count s.were (sym is ∙ s.wait)
     where
       one : Looked C
@@ -138,7 +146,9 @@ module _ {C : Type 0} where
             serve = serve ∙ ap (λ t. t ++ (if is_served v then a ∷ [] else [])) s.serve
                 ∙ append_assoc ready (served_of now s.looks) (if is_served v then a ∷ [] else [])
                 ∙ ap (λ t. ready ++ t) (sym (map_kept now is_served s.looks one v looked.verdict));
-            grown = rw (map_push (λ l. l.heard) s.looks one) (Grows-more log logs logged (map (λ l. l.heard) s.looks) (looked.heard ∷ []) s.grown looked.grown);
+            grown =
+                rw (map_push (λ l. l.heard) s.looks one)
+                (Grows-more log logs logged (map (λ l. l.heard) s.looks) (looked.heard ∷ []) s.grown looked.grown);
           }
 
   -- while some are still to be looked at, somebody stands in the line

@@ -1,6 +1,6 @@
 -- What stands ahead in a stream.
-use Rattle.std.specs.Prelude.{◌≡◌, ◌⊎◌, ℕ, List, ◌++◌, Bool, true, false}
-use Rattle.room_types.specs.declared.refusals.Refusal.{Refusal}
+use Rattle.std.specs.Prelude.{◌≡◌, ◌⊎◌, ℕ, List, [], ◌++◌, Bool, true, false}
+use Rattle.room_types.specs.declared.refusal_statuses.Refusal.{Refusal}
 use Rattle.room_http_messages.specs.declared.messages.Layout.{Layout}
 use Rattle.room_http_messages.specs.Layouts.{IsWhole}
 use Rattle.room_http_messages.specs.Messages.{IsPart, IsRefused}
@@ -15,14 +15,15 @@ AreRefused bytes = (refusal : Refusal) × (head_only : Bool)
     × ((more : List ℕ) → IsRefused (bytes ++ more) refusal head_only)
 
 -- What the bytes at the front of a stream are that has ended after them, or may go on: a request
--- that is whole and so many bytes long, what is refused or can't be whole any more, or a part.
+-- that is whole and so many bytes long, what is refused or can't be whole any more, or a part. Or
+-- there are none.
 abbrev pub LookaheadIs : List ℕ → Bool → Lookahead → Type 0
 LookaheadIs bytes has_ended (ahead.Whole size) =
     (layout : Layout) × IsWhole bytes layout × (size ≡ layout.body.end)
 LookaheadIs bytes has_ended ahead.Last = AreRefused bytes ⊎ ((has_ended ≡ true) × IsPart bytes)
 LookaheadIs bytes has_ended ahead.Part = (has_ended ≡ false) × IsPart bytes
-LookaheadIs bytes has_ended ahead.Nothing = ⊥
-LookaheadIs bytes has_ended ahead.End = ⊥
+LookaheadIs bytes has_ended ahead.Nothing = (has_ended ≡ false) × (bytes ≡ [])
+LookaheadIs bytes has_ended ahead.End = (has_ended ≡ true) × (bytes ≡ [])
 
 -- what is heard of one in whose stream this stands ahead
 abbrev pub heard_of : Lookahead → Heard
@@ -31,3 +32,11 @@ heard_of ahead.Part = heard.Part
 heard_of (ahead.Whole size) = heard.Whole
 heard_of ahead.Last = heard.Whole
 heard_of ahead.End = heard.Gone
+
+-- more may come of it
+abbrev pub may_grow : Lookahead → Bool
+may_grow ahead.Nothing = true
+may_grow ahead.Part = true
+may_grow (ahead.Whole size) = false
+may_grow ahead.Last = false
+may_grow ahead.End = false

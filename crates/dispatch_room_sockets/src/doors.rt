@@ -5,11 +5,13 @@ use crate::kept_callers::{Heard, is_over};
 use crate::lookaheads::{Lookahead, look_ahead};
 use crate::readiness::is_readable;
 use crate::timeouts::earlier;
+use crate::unserved_bytes::UnservedBytes;
 use libc::types::rlimit;
 use libc::{RLIMIT_NOFILE, getrlimit};
 use mio::event::Events;
 use mio::unix::SourceFd;
 use mio::{Interest, Poll, Token};
+use room_http_messages::limits::INBOX_ROOM;
 use std::alloc::Global;
 use std::io::{Error, ErrorKind, Read};
 use std::net::{TcpListener, TcpStream};
@@ -42,6 +44,7 @@ const MOST_PIECES: u32 = 4096;
 #[derive(Drop)]
 pub struct Client {
     pub(crate) stream: Rc<TcpStream>,
+    pub(crate) unserved: UnservedBytes,
     // What stood ahead when it was looked at last.
     pub(crate) ahead: Lookahead,
     slot: usize,
@@ -53,14 +56,21 @@ pub struct Client {
 
 impl Client {
     // A connection that was not looked at yet.
-    fn new(stream: Rc<TcpStream>, slot: usize) -> Client {
+    fn new(alloc: Global, stream: Rc<TcpStream>, slot: usize) -> Client {
         Client {
             stream,
+            unserved: UnservedBytes::new(alloc),
             ahead: Lookahead::Nothing,
             slot,
             is_fresh: true,
             is_watched: false,
         }
+    }
+
+    /// What stands ahead, by what was read of its stream and can be read now.
+    pub(crate) fn look_ahead(&mut self, room: &mut [u8]) -> Lookahead {
+        let mut stream = self.stream.as_ref();
+        look_ahead(&mut self.unserved, &mut stream, room)
     }
 
     /// From now on it is looked at anew.
@@ -69,8 +79,8 @@ impl Client {
     }
 }
 
-// The first of the descriptors that are left to the room itself: the system gives the lowest that is
-// free. Where it can't be known how many there are, the system says when there are no more.
+// The first of the descriptors that are left to the room itself: the system gives the lowest that
+// is free. Where it can't be known how many there are, the system says when there are no more.
 fn first_spare() -> RawFd {
     let mut limit = rlimit {
         rlim_cur: 0,
@@ -88,6 +98,8 @@ pub struct Door<'a> {
     rt: &'a HostRuntime,
     alloc: Global,
     listener: TcpListener,
+    // What a look reads comes here first.
+    room: Vec<u8>,
     poll: Poll,
     events: Events<Global>,
     // Which wait reported last that something moved in a slot.
@@ -125,6 +137,7 @@ impl<'a> Door<'a> {
             rt,
             alloc,
             listener,
+            room: vec![in alloc; 0; INBOX_ROOM]?,
             poll,
             events: Events::with_capacity(alloc, MOST_EVENTS)?,
             moved: vec![in alloc; 0; SLOTS]?,
@@ -206,7 +219,7 @@ impl<'a> Door<'a> {
 
     // One who was accepted: none where its stream can't be had.
     fn admitted(&mut self, stream: TcpStream) -> Option<Client> {
-        // To ask whether more call is cheaper than to be told that none does.
+        // To ask whether more call costs less than an accept that finds none.
         self.is_called = is_readable(self.listener.as_raw_fd());
         self.is_full = self.is_spare(stream.as_raw_fd());
         stream.set_nonblocking(true).ok()?;
@@ -214,7 +227,7 @@ impl<'a> Door<'a> {
         let slot = self.slot;
         let next = slot.saturating_add(1);
         self.slot = if next < SLOTS { next } else { 0 };
-        Some(Client::new(stream, slot))
+        Some(Client::new(self.alloc, stream, slot))
     }
 
     // Whether the next descriptor is one of those that are left to the room itself.
@@ -263,8 +276,8 @@ impl<'a> Entrance for Door<'a> {
 
     fn look(&mut self, client: &mut Client) -> Heard {
         if client.is_fresh || self.has_moved(client.slot) {
-            client.ahead = look_ahead(client.stream.as_ref());
-            let may_speak = matches!(client.ahead, Lookahead::Nothing | Lookahead::Part);
+            client.ahead = client.look_ahead(self.room.as_mut_slice());
+            let may_speak = client.ahead.may_grow();
             client.is_fresh = may_speak && !client.is_watched;
             if may_speak && self.watches {
                 self.watch(client);

@@ -6,7 +6,8 @@ ghost use Rattle.dispatch_room_sockets.specs.declared.kept_callers.Heard.{Heard 
 use crate::kept_callers::Heard;
 use std::time::Duration;
 
-/// Where those who call come in. Nobody is waited for but by `wait`, and then for all of them.
+/// Where those who call come in. Nobody is waited for but by `wait`, and then for all of them. That
+/// the system reports who moves, and that a wait ends by its moment, is tested.
 pub trait Entrance: Drop {
     /// One who calls.
     type Caller: Drop;
@@ -22,7 +23,7 @@ pub trait Entrance: Drop {
         ensures came { Grows (came self.old) (came self.new) (option_to_list result) }
         ensures heard { heard self.new ≡ heard self.old };
 
-    /// Looks at what one has said, and takes none of it.
+    /// Looks at what one has said, all of which is still to be served.
     fn look(&mut self, caller: &mut Self::Caller) -> Heard
         ensures came { came self.new ≡ came self.old }
         ensures heard { Grows (heard self.old) (heard self.new) (result ∷ []) };
@@ -35,8 +36,8 @@ pub trait Entrance: Drop {
     /// Whether `wait` finds when one moves.
     fn is_watched(&self, caller: &Self::Caller) -> bool;
 
-    /// Waits until someone moves, and so long at most. Who was looked at after it waited for nothing
-    /// is watched, where they may still speak.
+    /// Waits until someone moves, and so long at most. Who was looked at after it waited for
+    /// nothing is watched, where they may still speak.
     fn wait(&mut self, most: Duration)
         ensures came { came self.new ≡ came self.old }
         ensures heard { heard self.new ≡ heard self.old };

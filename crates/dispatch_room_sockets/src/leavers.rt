@@ -20,7 +20,7 @@ const SLACK: u64 = 100;
 pub struct Leaver<C> {
     pub caller: C,
     pub until: Duration,
-    /// Until when it is left alone, since most are gone a moment later: none once it was looked at.
+    /// Until when nobody looks at it, since most are gone a moment later: none once somebody did.
     pub rests: Option<Duration>,
 }
 

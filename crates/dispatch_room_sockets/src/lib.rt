@@ -20,4 +20,5 @@ mod shared_streams;
 pub mod socket_readers;
 pub mod socket_writers;
 pub mod timeouts;
+pub mod unserved_bytes;
 pub mod waiting_callers;

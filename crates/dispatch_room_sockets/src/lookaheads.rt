@@ -1,15 +1,15 @@
-//! What stands ahead in a stream, before any of it is taken.
-ghost use Rattle.std.specs.Prelude.{◌≤◌, length};
+//! What stands ahead in a stream, before any of it is served.
+ghost use Rattle.std.specs.Io.KnownBytes.{Keeps, prepend_known};
+ghost use Rattle.std.specs.Prelude.{◌≡◌, ◌≢◌, ◌≤◌, Bool, length};
 ghost use Rattle.room_http_messages.specs.declared.limits.TheConstants.{INBOX_ROOM};
-ghost use Rattle.dispatch_room_sockets.specs.Lookaheads.{LookaheadIs, heard_of};
-ghost use Rattle.std.specs.Prelude.{◌≡◌};
+ghost use Rattle.dispatch_room_sockets.specs.Lookaheads.{LookaheadIs, heard_of, may_grow};
+ghost use Rattle.dispatch_room_sockets.specs.declared.lookaheads.Lookahead.TheVariants.{End};
 
 use crate::kept_callers::Heard;
-use crate::readiness::has_ended;
+use crate::unserved_bytes::UnservedBytes;
 use room_http_messages::limits::INBOX_ROOM;
 use room_http_messages::message_prefixes::{MessagePrefix, look_at};
-use std::io::ErrorKind;
-use std::net::TcpStream;
+use std::io::Read;
 
 /// What stands ahead in a stream.
 #[derive(Clone, Copy, PartialEq, Eq)]
@@ -26,28 +26,46 @@ pub enum Lookahead {
     End,
 }
 
-/// What stands ahead in a stream that doesn't block. Whether more of a part may come is asked only
-/// where it is one.
-pub(crate) fn look_ahead(stream: &TcpStream) -> Lookahead {
-    let mut bytes = [0; INBOX_ROOM];
-    match stream.peek(&mut bytes) {
-        Ok(0) => Lookahead::End,
-        Ok(count) => match lookahead_of(&bytes[..count], false) {
-            Lookahead::Part => lookahead_of(&bytes[..count], has_ended(stream)),
-            ahead => ahead,
-        },
-        Err(error) => match error.kind() {
-            ErrorKind::WouldBlock | ErrorKind::Interrupted => Lookahead::Nothing,
-            _ => Lookahead::End,
-        },
+/// What stands ahead in a stream that doesn't block, by what was read of it and can be read now, by
+/// way of some room. Once that is more than a part, no more is read.
+pub(crate) fn look_ahead<T: Read>(
+    unserved: &mut UnservedBytes,
+    stream: &mut T,
+    room: &mut [u8],
+) -> Lookahead
+    ensures seen { result ≢ End → (has_ended : Bool) × LookaheadIs unserved.new has_ended result }
+    ensures kept { result ≢ End → Keeps
+        (prepend_known unserved.old (T.remaining stream.old))
+        (prepend_known unserved.new (T.remaining stream.new)) }
+{
+    for _read in 0..INBOX_ROOM {
+        let ahead = lookahead_of(unserved.bytes(), false);
+        if !ahead.may_grow() {
+            return ahead;
+        }
+        match unserved.fill(stream, room) {
+            Ok(Some(0)) => return lookahead_of(unserved.bytes(), true),
+            Ok(Some(_)) => {}
+            Ok(None) => break,
+            Err(_) => return Lookahead::End,
+        }
     }
+    lookahead_of(unserved.bytes(), false)
 }
 
-// What these bytes are, whose stream has ended or may go on. It is said by what reads them.
+// What these bytes are at the front of a stream that has ended after them or may go on. It is said
+// by what reads them.
 fn lookahead_of(bytes: &[u8], has_ended: bool) -> Lookahead
     requires { length bytes.now ≤ INBOX_ROOM }
     ensures { LookaheadIs bytes.now has_ended result }
 {
+    if bytes.is_empty() {
+        return if has_ended {
+            Lookahead::End
+        } else {
+            Lookahead::Nothing
+        };
+    }
     match look_at(bytes) {
         MessagePrefix::Whole(layout) => Lookahead::Whole(layout.body.end),
         MessagePrefix::Refused { .. } => Lookahead::Last,
@@ -57,6 +75,13 @@ fn lookahead_of(bytes: &[u8], has_ended: bool) -> Lookahead
 }
 
 impl Lookahead {
+    /// Whether more may come of it.
+    pub(crate) fn may_grow(self) -> bool
+        ensures { result ≡ may_grow self }
+    {
+        matches!(self, Lookahead::Nothing | Lookahead::Part)
+    }
+
     /// What is heard of one in whose stream this stands ahead.
     pub(crate) fn heard(self) -> Heard
         ensures { result ≡ heard_of self }

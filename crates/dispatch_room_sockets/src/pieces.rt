@@ -1,13 +1,14 @@
 //! A connection is served in pieces: each is whole requests, and between two of them others are
 //! served.
-ghost use Rattle.std.specs.Prelude.{◌≡◌, ◌≤◌, ◌||◌, IfOk, IfSome, None, false, is_err, length};
+ghost use Rattle.std.specs.Prelude.{◌≡◌, ◌≤◌, ◌||◌, if◌then◌else◌, IfOk, IfSome, None, false, is_err, length, true};
+ghost use Rattle.dispatch_room_sockets.specs.CallerHistories.{ComesBack};
 ghost use Rattle.room_http_messages.specs.Streams.{found_end, known_count};
 
 use crate::doors::{Client, Door, PAUSE};
 use crate::entrances::Entrance;
 use crate::kept_callers::{Kept, is_over};
-use crate::lookaheads::{Lookahead, look_ahead};
-use crate::readiness::ready_before;
+use crate::lookaheads::Lookahead;
+use crate::readiness::readable_before;
 use crate::shared_streams::SharedStream;
 use crate::socket_writers::SocketWriter;
 use crate::waiting_callers::Waiting;
@@ -25,7 +26,7 @@ const TURN: u64 = 50;
 const MOST_READS: u32 = 50_000;
 
 /// A piece of a stream, which is read from: it ends where the next request isn't whole, or where
-/// its turn is over. None of the bytes behind a request is taken before that is whole.
+/// its turn is over. None of the bytes of a request is given before that is whole.
 #[derive(Drop)]
 pub struct PieceReader<'a> {
     rt: &'a HostRuntime,
@@ -36,12 +37,11 @@ pub struct PieceReader<'a> {
     alone_until: Duration,
     // Until when it goes on all the same.
     turn_ends: Duration,
-    // How many bytes of a request that is whole are not taken yet.
+    // How many bytes of a request that is whole are not given yet. Of what is refused, or can't be
+    // whole any more, all that comes is given.
     left: usize,
-    // Whether nothing was read yet.
+    // Whether nothing was given yet.
     is_first: bool,
-    // Whether all that comes is taken: it is refused, or can't be whole any more.
-    is_last: bool,
     reads: u32,
     // Whether a read failed.
     failed: bool,
@@ -72,7 +72,6 @@ impl<'a> PieceReader<'a> {
             turn_ends: now.saturating_add(Duration::from_millis(TURN)),
             left: 0,
             is_first: true,
-            is_last: false,
             reads: 0,
             failed: false,
             ended: false,
@@ -80,45 +79,51 @@ impl<'a> PieceReader<'a> {
         }
     }
 
-    // Whether another request begins, or the last of the stream, and how much of it is taken.
-    fn begins(&mut self) -> bool
+    // Whether another request begins, or the last of the stream, and how much of it is given.
+    fn begins(&mut self, room: &mut [u8]) -> bool
         ensures same { (self.new.failed ≡ self.old.failed) × (self.new.ended ≡ self.old.ended)
             × (self.new.reads ≡ self.old.reads) }
     {
         let ahead = if self.is_first {
             self.kept.caller.ahead
         } else {
-            self.next()
+            self.next(room)
         };
-        match ahead {
-            Lookahead::Whole(size) => self.left = size,
-            Lookahead::Last | Lookahead::End => self.is_last = true,
+        self.left = match ahead {
+            Lookahead::Whole(size) => size,
+            Lookahead::Last | Lookahead::End => usize::MAX,
             // Its time is over, where it was given.
-            Lookahead::Part if self.is_first => self.is_last = true,
+            Lookahead::Part if self.is_first => usize::MAX,
             Lookahead::Part | Lookahead::Nothing => return false,
-        }
+        };
         self.is_first = false;
         true
     }
 
-    // What stands ahead after a request. While nobody else moves, it is waited for.
-    fn next(&mut self) -> Lookahead
+    // What stands ahead after a request. Where nothing was read of it, it is waited for while
+    // nobody else moves.
+    fn next(&mut self, room: &mut [u8]) -> Lookahead
         ensures same { (self.new.failed ≡ self.old.failed) × (self.new.ended ≡ self.old.ended)
             × (self.new.reads ≡ self.old.reads) }
     {
         let Ok(now) = self.rt.monotonic() else {
             return Lookahead::Nothing;
         };
-        let most = self.alone_until.saturating_sub(now);
+        let is_empty = self.kept.caller.unserved.is_empty();
+        let most = if is_empty {
+            self.alone_until.saturating_sub(now)
+        } else {
+            Duration::ZERO
+        };
         let stream = self.kept.caller.stream.as_ref();
-        let (ready, is_elsewhere) = ready_before(stream, self.elsewhere, most);
+        let (is_readable, is_elsewhere) = readable_before(stream, self.elsewhere, most);
         if is_elsewhere {
             self.alone_until = now;
         }
-        if !ready.is_readable || self.has_had_its_turn() {
+        if is_empty && !is_readable || self.has_had_its_turn() {
             return Lookahead::Nothing;
         }
-        look_ahead(self.kept.caller.stream.as_ref())
+        self.kept.caller.look_ahead(room)
     }
 
     // Whether others are served before it goes on.
@@ -139,19 +144,16 @@ impl<'a> PieceReader<'a> {
         ensures same { (self.new.failed ≡ self.old.failed) × (self.new.ended ≡ self.old.ended)
             × (self.new.reads ≡ self.old.reads) }
     {
-        let most = if self.is_last {
-            buf.len()
+        let most = buf.len().min(self.left);
+        let client = &mut self.kept.caller;
+        let mut stream = client.stream.as_ref();
+        let count = if client.unserved.is_empty() {
+            stream.read(&mut buf[..most]).map_err(|_| ReadFailed)?
         } else {
-            buf.len().min(self.left)
+            client.unserved.give(&mut buf[..most])
         };
-        let mut stream = self.kept.caller.stream.as_ref();
-        match stream.read(&mut buf[..most]) {
-            Ok(count) => {
-                self.left = self.left.saturating_sub(count);
-                Ok(count)
-            }
-            Err(_) => Err(ReadFailed),
-        }
+        self.left = self.left.saturating_sub(count);
+        Ok(count)
     }
 
     // Gives what comes next: nothing where the piece has ended.
@@ -160,7 +162,7 @@ impl<'a> PieceReader<'a> {
         ensures same { (self.new.failed ≡ self.old.failed) × (self.new.ended ≡ self.old.ended)
             × (self.new.reads ≡ self.old.reads) }
     {
-        if buf.len() == INBOX_ROOM && !self.begins() {
+        if buf.len() == INBOX_ROOM && !self.begins(buf) {
             self.is_paused = true;
             return Ok(0);
         }
@@ -242,12 +244,21 @@ pub fn next_piece<'a>(
 }
 
 /// Takes the sides of a piece back that was served. Where the stream may go on, its next request is
-/// waited for among the others; else it is parted from.
+/// waited for among the others; else it is parted from. Who got no answer is dropped.
 pub fn take_back<'a>(
     waiting: &mut Waiting<Door<'a>>,
     reader: PieceReader<'a>,
     writer: PieceWriter<'a>,
-) {
+)
+    ensures dropped { (if writer.entry.failed then None else writer.entry.until) ≡ None
+        → waiting.new ≡ waiting.old }
+    ensures back { ComesBack reader.entry.kept.number waiting.old.line.items waiting.new.line.items
+        waiting.old.ready.items waiting.old.next }
+    ensures parted { reader.entry.is_paused ≡ false → waiting.new.line.items ≡ waiting.old.line.items }
+    ensures waits { reader.entry.is_paused ≡ true → waiting.new.leavers ≡ waiting.old.leavers }
+    ensures same { (waiting.new.ready.items ≡ waiting.old.ready.items)
+        × (waiting.new.next ≡ waiting.old.next) }
+{
     let Some(until) = writer.answered() else {
         return;
     };

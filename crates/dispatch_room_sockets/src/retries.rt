@@ -13,8 +13,8 @@ use std::time::{Clock, Duration};
 // How often it is tried at most: the moment comes long before.
 const MOST_TRIES: u32 = u32::MAX;
 
-/// Reads some bytes to the front of `buf`, and waits for them until a moment of the clock. The
-/// system is told how long, where that isn't what it was told last.
+/// Reads some bytes to the front of `buf`, and waits for them until a moment of the clock. How long
+/// is set in the system where something else was set last.
 pub(crate) fn read_until<T: Read + OpenStream, C: Clock>(
     stream: &mut T,
     clock: &C,
@@ -47,8 +47,8 @@ pub(crate) fn read_until<T: Read + OpenStream, C: Clock>(
     Err(ReadFailed)
 }
 
-/// Writes some of the first bytes, and waits until a moment of the clock for room for them. The
-/// system is told how long, where that isn't what it was told last.
+/// Writes some of the first bytes, and waits until a moment of the clock for room for them. How
+/// long is set in the system where something else was set last.
 pub(crate) fn write_until<T: Write + OpenStream, C: Clock>(
     stream: &mut T,
     clock: &C,

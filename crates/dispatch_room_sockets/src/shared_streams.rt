@@ -10,7 +10,7 @@ use std::rc::Rc;
 use std::time::Duration;
 
 /// A stream that is written to, while the other side of its connection holds it too. How long a
-/// write waits for room is kept here, so that the system is told only where one has to wait.
+/// write waits for room is kept here, so that it is set in the system only where one has to wait.
 #[derive(Drop)]
 pub struct SharedStream {
     stream: Rc<TcpStream>,

@@ -1,5 +1,6 @@
 //! A socket that is read from.
-ghost use Rattle.std.specs.Prelude.{◌≡◌, ◌≤◌, ◌-◌, ◌+◌, IfOk, IfSome, false, not, is_err, min, if◌then◌else◌, length, ◌==◌, ◌||◌};
+ghost use Rattle.std.specs.Duration.{as_nanos, max_nanos};
+ghost use Rattle.std.specs.Prelude.{◌≡◌, ◌≤◌, ◌<◌, ◌-◌, ◌+◌, IfOk, IfSome, false, not, is_err, min, if◌then◌else◌, length, ◌==◌, ◌||◌};
 ghost use Rattle.std.specs.Io.KnownBytes.{ReadConsumes};
 ghost use Rattle.room_http_messages.specs.Streams.{found_end, known_count, CountsBy};
 ghost use Rattle.room_http_messages.specs.declared.limits.TheConstants.{INBOX_ROOM};
@@ -23,7 +24,7 @@ pub struct SocketReader<'a, T, C> {
     clock: &'a C,
     pace: Pace,
     idle: Duration,
-    // How long a read waits, as the system was told last.
+    // How long a read waits, as it was set last in the system.
     told: Option<Duration>,
     reads: u32,
     // Whether a read failed, where it was not made too: the turn was over.
@@ -58,15 +59,30 @@ impl<'a, T: Read + OpenStream, C: Clock> SocketReader<'a, T, C> {
 }
 
 // Until when a read may wait that has so much room: none where the turn is over, or where the clock
-// can't be read.
+// can't be read. Within a message that is as long as the read before might, and between messages
+// within the turn.
 fn moment<C: Clock>(pace: &mut Pace, clock: &C, room: usize) -> Option<Duration>
     ensures here { IfSome result (λ _. pace.new.here ≡ INBOX_ROOM - room) }
+    ensures goes_on { room < INBOX_ROOM → INBOX_ROOM - room ≡ pace.old.here
+        → IfSome result (λ until. until ≡ pace.old.until) }
+    ensures begins { room < INBOX_ROOM → IfSome result (λ until. until ≡ pace.new.until) }
+    ensures between { INBOX_ROOM ≤ room
+        → IfSome result (λ until. as_nanos until ≤ as_nanos pace.old.ends) }
     ensures kept { (pace.new.waits ≡ pace.old.waits) × (pace.new.ends ≡ pace.old.ends) }
 {
     match clock.monotonic() {
         Ok(now) => pace.next(room, now),
         Err(_) => None,
     }
+}
+
+// Until when it is waited for a piece of what still comes: as long as a connection may idle from
+// now on, but not after a moment.
+fn silent_until(now: Duration, idle: Duration, moment: Duration) -> Duration
+    ensures { as_nanos result ≡
+        min (min (as_nanos now + as_nanos idle) max_nanos) (as_nanos moment) }
+{
+    earlier(now.saturating_add(idle), moment)
 }
 
 impl<'a, T: Read + OpenStream, C: Clock> Source for SocketReader<'a, T, C> {
@@ -142,7 +158,7 @@ impl<'a, T: Read + OpenStream, C: Clock> SocketReader<'a, T, C> {
         let Ok(now) = self.clock.monotonic() else {
             return false;
         };
-        let silent = earlier(now.saturating_add(self.idle), moment);
+        let silent = silent_until(now, self.idle, moment);
         let mut piece = [0; PIECE];
         match read_until(
             &mut self.stream,

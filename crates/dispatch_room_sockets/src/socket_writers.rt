@@ -1,6 +1,6 @@
 //! A socket that is written to.
-ghost use Rattle.std.specs.Prelude.{◌≡◌, ◌≤◌, IfOk, IfSome, IsSome, None, OnOk, Some, if◌then◌else◌, length, nat_lt, true, false, ◌||◌};
-ghost use Rattle.std.specs.Duration.{as_nanos};
+ghost use Rattle.std.specs.Prelude.{◌≡◌, ◌≤◌, ◌+◌, min, IfOk, IfSome, IsSome, None, OnOk, Some, if◌then◌else◌, length, nat_lt, true, false, ◌||◌};
+ghost use Rattle.std.specs.Duration.{as_nanos, max_nanos};
 ghost use Rattle.std.specs.Io.KnownBytes.{WriteAppends};
 ghost use Rattle.room_http_messages.specs.Streams.{took_none};
 
@@ -21,7 +21,7 @@ pub struct SocketWriter<'a, T, C> {
     last: Duration,
     // Until when the last write might wait.
     until: Option<Duration>,
-    // How long a write waits, as the system was told last.
+    // How long a write waits, as it was set last in the system.
     told: Option<Duration>,
     // Whether it left a part of its answer.
     within: bool,
@@ -70,7 +70,7 @@ impl<'a, T: Write + OpenStream, C: Clock> SocketWriter<'a, T, C> {
             return self.until;
         }
         let now = self.clock.monotonic().ok()?;
-        self.until = Some(earlier(now.saturating_add(self.patience), self.last));
+        self.until = Some(answer_until(now, self.patience, self.last));
         self.until
     }
 
@@ -105,6 +105,15 @@ impl<'a, T: Write + OpenStream, C: Clock> SocketWriter<'a, T, C> {
     pub(crate) fn shut(&self) -> bool {
         self.stream.shutdown(Shutdown::Write).is_ok()
     }
+}
+
+// Until when an answer may wait that begins now: as long as its patience, but not after a last
+// moment.
+fn answer_until(now: Duration, patience: Duration, last: Duration) -> Duration
+    ensures { as_nanos result ≡
+        min (min (as_nanos now + as_nanos patience) max_nanos) (as_nanos last) }
+{
+    earlier(now.saturating_add(patience), last)
 }
 
 impl<'a, T: Write + OpenStream, C: Clock> Sink for SocketWriter<'a, T, C> {

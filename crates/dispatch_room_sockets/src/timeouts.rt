@@ -68,8 +68,8 @@ fn left_until(now: Duration, moment: Duration) -> Option<Duration>
     }
 }
 
-// The whole milliseconds of a wait, where it has some: so waits that get one after the other
-// are mostly equal, and the system is told only the first.
+// The whole milliseconds of a wait, where it has some: so waits that get one after the other are
+// mostly equal, and only the first is set in the system.
 fn in_millis(wait: Duration) -> Duration
     ensures whole { 1_000_000 ≤ as_nanos wait
         → as_nanos result ≡ as_nanos wait / 1_000_000 * 1_000_000 }

@@ -1,5 +1,7 @@
 //! Those who wait: each is kept until a request of theirs is whole, and is then given in that
-//! order, so that nobody waits for who has not spoken.
+//! order, so that nobody waits for who has not spoken. Each round asks the system's set without
+//! waiting, also where someone is ready: else who calls would not be heard beside those who ask
+//! without a pause.
 ghost use Rattle.std.specs.Prelude.{◌≡◌, ◌+◌, ◌≤◌, IfOk};
 ghost use Rattle.std.specs.VecDeque.{deque_len, deque_capacity};
 
@@ -127,18 +129,30 @@ impl<E: Entrance> Waiting<E> {
         }
     }
 
-    // Waits until someone moves, so long at most, and looks at all.
+    // Waits until someone moves, so long at most, and looks at all. Who is parted from is seen to
+    // before it waits, so that whoever calls meanwhile doesn't wait for that.
     fn wait(&mut self, pause: Duration)
         ensures given { GivesNext self.old.line.items self.old.ready.items self.old.next
             self.new.line.items self.new.ready.items self.new.next None }
     {
+        self.throw_away();
         self.entrance.wait(pause);
         if let Some(now) = self.entrance.now() {
             self.look(now);
         }
     }
 
-    // Admits those who call now, looks at all, and throws away what those say who are parted from.
+    // Throws away what those have said who are parted from.
+    fn throw_away(&mut self)
+        ensures same { (self.new.line.items ≡ self.old.line.items)
+            × (self.new.ready.items ≡ self.old.ready.items) × (self.new.next ≡ self.old.next) }
+    {
+        if let Some(now) = self.entrance.now() {
+            throw_away_all(&mut self.entrance, &mut self.leavers, now);
+        }
+    }
+
+    // Admits those who call now, and looks at all.
     fn look(&mut self, now: Duration)
         ensures round { IsRound now self.old.keep self.old.patience self.old.line.items
             self.new.line.items self.old.ready.items self.new.ready.items self.old.next
@@ -165,7 +179,6 @@ impl<E: Entrance> Waiting<E> {
             now,
             self.patience,
         );
-        throw_away_all(&mut self.entrance, &mut self.leavers, now);
     }
 
     /// Until when nobody's time is over, from now on.
@@ -202,7 +215,7 @@ impl<E: Entrance> Waiting<E> {
         ensures back { ComesBack kept.number self.old.line.items self.new.line.items
             self.old.ready.items self.old.next }
         ensures same { (self.new.ready.items ≡ self.old.ready.items)
-            × (self.new.next ≡ self.old.next) }
+            × (self.new.leavers ≡ self.old.leavers) × (self.new.next ≡ self.old.next) }
     {
         let Some(now) = self.entrance.now() else {
             return;

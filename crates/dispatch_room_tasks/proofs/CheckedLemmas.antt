@@ -23,11 +23,13 @@ module _ {S : Type 0} (g : Ghosts S) (old new : Held S) (before after : Option (
       → OnOk done (IsSome (read_whole plan.zone))
       → IfErr done (λ f. (f ≡ Network) ⊎ ((f ≡ File) × ¬ IsSome (read_whole plan.zone)))
       → HasChecked g old new before after done
-  room_told plan summary (Ok d) holds text whole rule fault = (whole, record { plan = plan; summary = summary; holds = holds; rule = rule; text = text })
+  room_told plan summary (Ok d) holds text whole rule fault =
+      (whole, record { plan = plan; summary = summary; holds = holds; rule = rule; text = text })
   room_told plan summary (Err f) holds text whole rule fault =
       elim fault [
         | inl network ↦ inl network
-        | inr none ↦ inr (inr (record { told = none.0; plan = plan; summary = summary; holds = holds; no_rule = none.1 }))
+        | inr none ↦
+            inr (inr (record { told = none.0; plan = plan; summary = summary; holds = holds; no_rule = none.1 }))
       ]
 
   pub wrong_told : (wrong : Wrong) (done : Result Done Failure)
@@ -37,6 +39,8 @@ module _ {S : Type 0} (g : Ghosts S) (old new : Held S) (before after : Option (
       → HasChecked g old new before after done
   wrong_told wrong done explains why told =
       elim told [
-        | inl is ↦ subst (HasChecked g old new before after) (sym is) (inr (inl (record { wrong = wrong; told = refl; explains = explains; why = why })))
+        | inl is ↦
+            subst (HasChecked g old new before after) (sym is)
+            (inr (inl (record { wrong = wrong; told = refl; explains = explains; why = why })))
         | inr is ↦ subst (HasChecked g old new before after) (sym is) (inl refl)
       ]

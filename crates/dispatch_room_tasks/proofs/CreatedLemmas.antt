@@ -12,7 +12,8 @@ use Rattle.room_types.specs.declared.fleet.Terminal.{Terminal}
 use Rattle.sqlite.specs.Held.{Held, state}
 use Rattle.sqlite.specs.State.{HasCleanDisk, Survives}
 use Rattle.sqlite_trees.specs.declared.store.Store.{Ghosts}
-use Rattle.std.proofs.Common.{Bool, List, [], ap, cond, filter, length, refl, subst, suc, true, false, vec_len, zero, ℕ, ◌+◌, ◌++◌, ◌∙◌, ◌≡◌, ◌∷◌}
+use Rattle.std.proofs.Common.{Bool, List, [], ap, cond, filter, length, refl, subst, suc, true, false, vec_len, zero, ℕ}
+use Rattle.std.proofs.Common.{◌+◌, ◌++◌, ◌∙◌, ◌≡◌, ◌∷◌}
 
 -- the numbers from 1 to this one
 abbrev pub numbers_to : ℕ → List ℕ
@@ -33,7 +34,8 @@ later_one n false = refl
 
 filter_last : (passes : ℕ → Bool) (x : ℕ) (xs : List ℕ)
     → length (filter passes (xs ++ x ∷ [])) ≡ one_more (length (filter passes xs)) (passes x)
-filter_last passes x [] = elim (passes x) as (λ b. length (cond b (x ∷ []) []) ≡ one_more 0 b) [ true ↦ refl | false ↦ refl ]
+filter_last passes x [] =
+    elim (passes x) as (λ b. length (cond b (x ∷ []) []) ≡ one_more 0 b) [ true ↦ refl | false ↦ refl ]
 filter_last passes x (y ∷ ys) =
     let rest = filter_last passes x ys in
     let more = filter passes (ys ++ x ∷ []) in
@@ -67,7 +69,10 @@ created_in g old store file terminals e same room settled begun survives = recor
   settled = settled;
   stands = λ clean.
       let stood = (room clean).tables (settled clean).is_open in
-      let there = subst (λ (zone : List ℕ). Stands (state g store.conn).now.trees (record { zone = zone; terminals = in_order terminals }) (new_room file.plan)) same stood in
+      let there = subst
+      (λ (zone : List ℕ).
+      Stands (state g store.conn).now.trees (record { zone = zone; terminals = in_order terminals })
+      (new_room file.plan)) same stood in
       rw e at there;
   survives = rw e at survives;
 }

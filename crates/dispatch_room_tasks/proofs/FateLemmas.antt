@@ -1,5 +1,6 @@
 -- What was reported of the lines so far.
-use Rattle.std.proofs.Common.{[], List, None, Option, Some, ap, add-one, append_assoc, drop, drop-cons, false, get_or, length, refl, suc, sym, true, ℕ, ◌+◌, ◌++◌, ◌<◌, ◌∙◌, ◌≡◌, ◌∷◌}
+use Rattle.std.proofs.Common.{[], List, None, Option, Some, ap, add-one, append_assoc, drop, drop-cons, false, get_or}
+use Rattle.std.proofs.Common.{length, refl, suc, sym, true, ℕ, ◌+◌, ◌++◌, ◌<◌, ◌∙◌, ◌≡◌, ◌∷◌}
 use Rattle.std.proofs.KnownBytes.{Appends-nil, Appends-trans}
 use Rattle.std.specs.Io.KnownBytes.{Appends}
 use Rattle.dispatch_room_exit.specs.declared.exit_status.Done.{Done}
@@ -38,7 +39,9 @@ pub telling_more : {before now then : Option (List ℕ)} {made : Done} {number :
 telling_more {before} {now} {then} {made} {number} outcome later more told next wrote same = record {
   said = told.said ++ outcome_text number outcome;
   wrote = Appends-trans before now then told.said (outcome_text number outcome) told.wrote wrote;
-  text = append_assoc told.said (outcome_text number outcome) (text_from (number + 1) later) ∙ ap (λ l. told.said ++ text_from number l) (sym next) ∙ told.text;
+  text =
+      append_assoc told.said (outcome_text number outcome) (text_from (number + 1) later)
+      ∙ ap (λ l. told.said ++ text_from number l) (sym next) ∙ told.text;
   done = sym same ∙ ap (done_after made) (sym next) ∙ told.done;
 }
 
@@ -56,7 +59,8 @@ done_same InPart outcome later e = refl
 
 next_line : (lines : List FleetLine) (at : ℕ) (line form : FleetLine) → at < length lines
     → line ≡ get_or lines at line → line ≡ form → drop at lines ≡ form ∷ drop (at + 1) lines
-next_line lines at line form within is e = rw add-one (drop-cons lines at line within ∙ ap (λ l. l ∷ drop (suc at) lines) (sym is ∙ e))
+next_line lines at line form within is e =
+    rw add-one (drop-cons lines at line within ∙ ap (λ l. l ∷ drop (suc at) lines) (sym is ∙ e))
 
 -- the line at an index comes next: a bad one
 pub bad_next : (lines : List FleetLine) (at : ℕ) (line : FleetLine) (fates : List RowFate)
@@ -71,4 +75,5 @@ pub good_next : (lines : List FleetLine) (at : ℕ) (line : FleetLine) (row : Fl
     → fates ≡ fate ∷ others → outcomes (drop at lines) fates ≡ Some (row, fate)
     ∷ outcomes (drop (at + 1) lines) others
 good_next lines at line row fates others fate within is e f =
-    ap (λ l. outcomes l fates) (next_line lines at line (Row row) within is e) ∙ ap (outcomes (Row row ∷ drop (at + 1) lines)) f
+    ap (λ l. outcomes l fates) (next_line lines at line (Row row) within is e)
+    ∙ ap (outcomes (Row row ∷ drop (at + 1) lines)) f

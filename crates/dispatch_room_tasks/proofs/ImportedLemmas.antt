@@ -22,7 +22,13 @@ pub imported_by : {S : Type 0} (g : Ghosts S) (old new : Store S) (lines : List 
     → HasImported g old new lines before after done terminals room
 imported_by g old new lines before after done terminals room rows was is told r w t made whole said = record {
   fates = is;
-  enrolled = record { count = made.count; within = rw r at made.within; told = rw (r, w) at made.told; stands = rw r at made.stands; left = rw r at made.left };
+  enrolled = record {
+    count = made.count;
+    within = rw r at made.within;
+    told = rw (r, w) at made.told;
+    stands = rw r at made.stands;
+    left = rw r at made.left;
+  };
   whole = subst (λ (l : List FleetRow). OnOk done (made.count ≡ length l)) r whole;
   told = subst (λ (f : List RowFate). HasTold lines f before after done) t said;
 }

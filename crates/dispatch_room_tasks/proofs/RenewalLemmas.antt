@@ -1,5 +1,6 @@
 -- A room that begins by what another one left is that one renewed.
-use Rattle.std.proofs.Common.{IfNone, IfSome, List, None, Option, Some, [], ap, false, inr, is_some, refl, subst, sym, ℕ, ℤ, ◌+◌, ◌<◌, ◌∙◌, ◌≡◌, ◌≤◌, ◌∷◌}
+use Rattle.std.proofs.Common.{IfNone, IfSome, List, None, Option, Some, [], ap, false, inr, is_some, refl, subst, sym}
+use Rattle.std.proofs.Common.{ℕ, ℤ, ◌+◌, ◌<◌, ◌∙◌, ◌≡◌, ◌≤◌, ◌∷◌}
 use Rattle.std.specs.Prelude.{IsSome}
 use Rattle.std.proofs.lemmas.Cmp.{nat_list_cmp_total}
 use Rattle.std.proofs.lemmas.Map.Lookups.{exact_bytes}
@@ -29,7 +30,8 @@ use Rattle.room_store_file.specs.ExaminedFile.{HoldsAll, IsSummaryOf}
 use Rattle.room_store_writes.specs.Houses.{config_of}
 use Rattle.room_store_writes.specs.NewRoom.{StandsWith, in_order, new_room, put_all}
 use Rattle.room_tables.specs.Stands.{Stands}
-use Rattle.dispatch_room_tasks.specs.Renewal.{IsLeftBy, IsLeftSince, IsMomentOf, IsNoStart, IsStart, StandsRenewed, last_moment}
+use Rattle.dispatch_room_tasks.specs.Renewal.{IsLeftBy, IsLeftSince, IsMomentOf, IsNoStart, IsStart, StandsRenewed}
+use Rattle.dispatch_room_tasks.specs.Renewal.{last_moment}
 use Rattle.dispatch_room_tasks.specs.TimesReport.{IsSpanOf}
 use Rattle.dispatch_room_tasks.specs.declared.renewal.Successor.{Successor}
 
@@ -40,8 +42,9 @@ put_one_by_one among [] = refl
 put_one_by_one among (t ∷ ts) = put_one_by_one (put_row token_cmp terminal_key among t) ts
 
 -- terminals that are in order stay so
-still_in_order : (ts : List Terminal) → IsKeyed token_cmp terminal_key ts → in_order ts ≡ ts
-still_in_order ts keyed = put_one_by_one [] ts ∙ made_of token_cmp terminal_key nat_list_cmp_total exact_bytes [] ts refl keyed
+pub still_in_order : (ts : List Terminal) → IsKeyed token_cmp terminal_key ts → in_order ts ≡ ts
+still_in_order ts keyed =
+    put_one_by_one [] ts ∙ made_of token_cmp terminal_key nat_list_cmp_total exact_bytes [] ts refl keyed
 
 no_row : {X : Type 0} (o : Option X) → is_some o ≡ false → o ≡ None
 no_row None e = refl
@@ -77,29 +80,38 @@ stands_renewed left ts cs trees same put stands old day was =
     let all = left.config.terminals.items in
     let since = was.of_day.since in
     let after = renewed since was.room in
-    let formed : IsWellFormed after = well_formed_without since (left_behind since was.room) was.room was.formed (left_stays since was.room was.formed) in
+    let formed : IsWellFormed after = well_formed_without since (left_behind since was.room) was.room was.formed
+    (left_stays since was.room was.formed) in
     let made : apply (new_room plan) cs ≡ after =
     ap (apply (new_room plan)) (put ∙ was.of_day.puts was.formed.order)
-    ∙ made_of_rows (new_room plan) after (new_room_formed plan).order formed.order (new_is_bare plan after was.planned formed) in
+    ∙ made_of_rows (new_room plan) after (new_room_formed plan).order formed.order
+    (new_is_bare plan after was.planned formed) in
     subst (Stands trees (config_of plan all)) made
-    (subst (λ t. Stands trees (config_of plan t) (apply (new_room plan) cs)) (ap in_order same ∙ still_in_order all was.fits.keyed) stands)
+    (subst (λ t. Stands trees (config_of plan t) (apply (new_room plan) cs))
+    (ap in_order same ∙ still_in_order all was.fits.keyed) stands)
 
 -- ---- what is left
 -- by a room of which all was read
 pub left_by : (left : Successor) (trees : Trees) (day : List ℕ) (whole : ReadFile)
     (summary : Summary) → HoldsAll trees whole summary → left.config ≡ whole.config
-    → IsLeftSince whole.config.plan.zone summary.newest day (room_of whole.config.plan.areas whole.rows) left.changes.items
+    → IsLeftSince whole.config.plan.zone summary.newest day (room_of whole.config.plan.areas whole.rows)
+    left.changes.items
     → IsLeftBy trees day left
 left_by left trees day whole summary holds config since =
     let room = room_of whole.config.plan.areas whole.rows in
-    let dated = subst (λ (n : ℕ). IsLeftSince whole.config.plan.zone n day room left.changes.items) (ap (λ (s : Summary). s.newest) holds.amount.2) since in
+    let dated = subst (λ (n : ℕ). IsLeftSince whole.config.plan.zone n day room left.changes.items)
+    (ap (λ (s : Summary). s.newest) holds.amount.2) since in
     record {
       room = room;
       planned = sym (ap (λ (c : Configuration). c.plan.areas) config);
-      stands = subst (λ (c : Configuration). Stands trees (config_of c.plan c.terminals.items) room) (sym config) holds.stands;
+      stands =
+          subst (λ (c : Configuration). Stands trees (config_of c.plan c.terminals.items) room) (sym config)
+          holds.stands;
       formed = holds.amount.0;
       fits = subst (λ (c : Configuration). AreTerminals room c.terminals.items) (sym config) holds.amount.1;
-      of_day = subst (λ (c : Configuration). IsLeftSince c.plan.zone (last_moment room) day room left.changes.items) (sym config) dated;
+      of_day =
+          subst (λ (c : Configuration). IsLeftSince c.plan.zone (last_moment room) day room left.changes.items)
+          (sym config) dated;
     }
 
 -- so the file holds a room of which there is so much
@@ -126,7 +138,10 @@ module _ (o : Option ℕ) (zone : TimeZone) (newest moment : ℕ) (text : List �
       go : (o : Option ℕ) → IfSome o (λ since. (since ≡ moment) × (moment + 172_800 ≤ newest))
           → IfSome o (IsStart zone newest text)
       go None h = tt
-      go (Some since) h = ((span, of_text, subst (IsMomentOf span.0) (sym h.0) is), subst (λ (m : ℕ). m + 172_800 ≤ newest) (sym h.0) h.1)
+      go (Some since) h = (
+        (span, of_text, subst (IsMomentOf span.0) (sym h.0) is),
+        subst (λ (m : ℕ). m + 172_800 ≤ newest) (sym h.0) h.1,
+      )
 
   pub not_started : IfNone o (newest < moment + 172_800) → IfNone o (IsNoStart zone newest text)
   not_started = go o

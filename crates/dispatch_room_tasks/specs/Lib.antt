@@ -10,6 +10,8 @@ pub mod Migration
 pub mod RowOutcomes
 -- what came of the lines of a fleet in a room
 pub mod Enrolment
+-- the report of a division's day over two rooms
+pub mod JoinedReports
 -- the report of a division's day
 pub mod TimesReport
 -- what is reported of a file that is checked
@@ -18,6 +20,10 @@ pub mod Examination
 pub mod ListedTerminals
 -- the terminals of one that were changed
 pub mod ChangedTerminals
+-- the terminals of all that a list names, replaced
+pub mod ReplacedTerminals
+-- a room that gets another plan
+pub mod ReplannedRoom
 -- the letters of random bytes
 pub mod RandomTokens
 -- what a room leaves to a new one, and the new one

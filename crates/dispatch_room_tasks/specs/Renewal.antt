@@ -1,6 +1,7 @@
 -- What a room leaves to a new one, the new one that is made of it, and what is reported of it.
 use Rattle.std.specs.Io.KnownBytes.{Appends}
-use Rattle.std.specs.Prelude.{Bool, Err, IsSome, List, None, Ok, Option, Result, codes, decimal, false, filter, length, map, pos, true, ℕ, ℤ, ◌+◌, ◌++◌, ◌<ℤ◌, ◌<◌, ◌≡◌, ◌≢◌, ◌≤◌, ◌⊎◌}
+use Rattle.std.specs.Prelude.{Bool, Err, IsSome, List, None, Ok, Option, Result, codes, decimal, false, filter, length}
+use Rattle.std.specs.Prelude.{map, pos, true, ℕ, ℤ, ◌+◌, ◌++◌, ◌<ℤ◌, ◌<◌, ◌≡◌, ◌≢◌, ◌≤◌, ◌⊎◌}
 use Rattle.jiff.specs.Placed.{IsPosixZone}
 use Rattle.jiff.specs.Words.{read_whole}
 use Rattle.jiff_tz.specs.declared.timezone.TimeZone.{TimeZone}

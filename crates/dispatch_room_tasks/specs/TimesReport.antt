@@ -1,5 +1,6 @@
 -- The report of a division's day.
-use Rattle.std.specs.Prelude.{IfErr, IfOk, IsSome, List, None, Ok, Result, Some, Vec, [], false, map, pos, true, ℕ, ℤ, ◌≡◌}
+use Rattle.std.specs.Prelude.{IfErr, IfOk, IsSome, List, None, Ok, Result, Some, Vec, [], false, map, pos, true, ℕ, ℤ}
+use Rattle.std.specs.Prelude.{◌≡◌}
 use Rattle.std.specs.Global.{Global}
 use Rattle.jiff.specs.Placed.{IsPosixZone}
 use Rattle.jiff_core.specs.Calendar.{days_from_civil}
@@ -11,7 +12,7 @@ use Rattle.room_place.specs.declared.plans.Area.{Area}
 use Rattle.room_types.specs.declared.answers.Answer.{Answer}
 use Rattle.room_types.specs.declared.answers.Answer.TheVariants as answer
 use Rattle.room_types.specs.declared.fleet.Terminal.{Terminal}
-use Rattle.room_types.specs.declared.refusals.Refusal.{Refusal}
+use Rattle.room_types.specs.declared.refusal_statuses.Refusal.{Refusal}
 use Rattle.room_http_time.specs.Dates.{Date, day_of}
 use Rattle.room_http_time.specs.Days.{IsSpan}
 use Rattle.room_model.specs.DayTimes.{times_line}

@@ -22,7 +22,7 @@ use room_http_time::zones::Zone;
 use room_place::plans::Plan;
 use room_store_check_rows::summaries::Summary;
 use room_store_file::examined_file::{Wrong, examine};
-use room_tables_rows::meta_columns::VERSION;
+use room_tables_rows::meta_sql::VERSION;
 use sqlite::{Alter, Connection};
 use std::alloc::Global;
 use std::io::{self, Write};
@@ -48,8 +48,8 @@ pub fn check_in<S: Alter + Drop, O: Write>(
     (done, conn)
 }
 
-// Prints how much a room has; or says that its days can't be reckoned, as the zone of its plan is no
-// rule.
+// Prints how much a room has; or says that its days can't be reckoned, as the zone of its plan is
+// no rule.
 fn tell_room<O: Write>(plan: &Plan, summary: &Summary, out: &mut O) -> Result<Done, Failure>
     ensures text { OnOk result (Appends (O.contents out.old) (O.contents out.new)
         (summary_text summary.now)) }

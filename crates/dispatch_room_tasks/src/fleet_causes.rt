@@ -4,7 +4,7 @@ use dispatch_room_csv::fleet_file::FleetLine;
 use dispatch_room_csv::fleet_file_faults::explain_bad;
 use dispatch_room_csv::sheets::Sheet;
 use room_types::fleet::{FleetRow, RowFate};
-use room_types::refusals::Refusal;
+use room_types::refusal_statuses::Refusal;
 use std::fmt;
 
 /// Explains each row that is bad or was refused, up to the first good one that has no fate.

@@ -4,15 +4,25 @@
 #![tactic(auto)]
 
 pub mod changed_terminals;
+mod cleared_tables;
 pub mod creation;
+pub mod division_days;
 pub mod enrolment;
 pub mod examination;
 mod fleet_causes;
+pub mod joined_reports;
 pub mod listed_terminals;
 pub mod migration;
 pub mod opened_room;
 pub mod opening_faults;
 pub mod random_tokens;
 pub mod renewal;
+pub mod replaced_terminals;
+mod replacement_causes;
+pub mod replacement_faults;
+pub mod replacement_laws;
+pub mod replanned_room;
+pub mod replanning_faults;
+pub mod replanning_laws;
 mod row_outcomes;
 pub mod times_report;

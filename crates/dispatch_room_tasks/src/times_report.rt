@@ -3,7 +3,7 @@ ghost use Rattle.std.specs.Prelude.{◌≡◌, ◌↔◌, List, false, IfErr, If
 ghost use Rattle.sqlite.specs.Held.{state};
 ghost use Rattle.sqlite.specs.State.{HasCleanDisk};
 ghost use Rattle.room_types.specs.declared.fleet.Terminal.{Terminal};
-ghost use Rattle.room_types.specs.declared.refusals.Refusal.TheVariants.{Memory};
+ghost use Rattle.room_types.specs.declared.refusal_statuses.Refusal.TheVariants.{Memory};
 ghost use Rattle.room_model.specs.Room.{Room};
 ghost use Rattle.room_store.specs.StoredRoom.{IsReady, IsRoom};
 ghost use Rattle.room_http_time.specs.Dates.{day_of};
@@ -21,7 +21,7 @@ use room_store::store::Store;
 use room_types::answers::Answer;
 use room_types::asks::{Ask, Event, Who};
 use room_types::numbers::Moment;
-use room_types::refusals::Refusal;
+use room_types::refusal_statuses::Refusal;
 use sqlite::{Alter, Connection};
 use std::alloc::Global;
 

@@ -1,5 +1,6 @@
 -- The first few of a list: a set in order begins with them.
-use Rattle.std.proofs.Common.{◌≡◌, ℕ, zero, suc, ◌+◌, ◌-◌, ◌≤◌, Bool, true, List, [], ◌∷◌, ◌++◌, length, take, min, Option, Some, None, ◌⊎◌, inl, inr, refl, sym, ap, ◌∙◌, subst, arith}
+use Rattle.std.proofs.Common.{◌≡◌, ℕ, zero, suc, ◌+◌, ◌-◌, ◌≤◌, Bool, true, List, [], ◌∷◌, ◌++◌, length, take, min}
+use Rattle.std.proofs.Common.{Option, Some, None, ◌⊎◌, inl, inr, refl, sym, ap, ◌∙◌, subst, arith}
 use Rattle.std.specs.Prelude.{filter}
 use Rattle.std.proofs.lemmas.List.{length-take}
 use Rattle.room_place.specs.Choice.{comes_after, IsRising, Among, AreDistinct, AreBefore, AreFirst}
@@ -38,7 +39,8 @@ module _ {X : Type 0} where
   no_more [] xs d f = omega arith
   no_more (p ∷ ps) xs d f =
       let there = f p (inl refl) in
-      let rest = no_more ps (without p xs there) d.1 (λ y h. others_stay p xs there y (f y (inr h)) (λ e. d.0 (subst (λ z. Among z ps) e h))) in
+      let rest = no_more ps (without p xs there) d.1
+      (λ y h. others_stay p xs there y (f y (inr h)) (λ e. d.0 (subst (λ z. Among z ps) e h))) in
       omega (arith, rest, one_less p xs there)
 
   all_after_none : (lt : X → X → Bool) (xs : List X) → filter (comes_after lt None) xs ≡ xs
@@ -60,13 +62,15 @@ module _ {X : Type 0} where
 
   pub among_either : (xs ys : List X) (y : X) → Among y (xs ++ ys) → Among y xs ⊎ Among y ys
   among_either [] ys y h = inr h
-  among_either (x ∷ xs) ys y h = elim h [ inl e ↦ inl (inl e) | inr e ↦ elim (among_either xs ys y e) [ inl f ↦ inl (inr f) | inr f ↦ inr f ] ]
+  among_either (x ∷ xs) ys y h =
+      elim h [ inl e ↦ inl (inl e) | inr e ↦ elim (among_either xs ys y e) [ inl f ↦ inl (inr f) | inr f ↦ inr f ] ]
 
 module _ {X : Type 0} (lt : X → X → Bool) (apart : (x y : X) → lt x y ≡ true → lt y x ≡ true → ⊥)
     (steps : (x y z : X) → lt x y ≡ true → lt y z ≡ true → lt x z ≡ true) where
   rising_distinct : (q : List X) (last : Option X) → IsRising lt last q → AreDistinct q
   rising_distinct [] last h = tt
-  rising_distinct (x ∷ q) last h = ((λ g. not_itself lt apart steps x (above lt apart steps x q h.1 x g)), rising_distinct q (Some x) h.1)
+  rising_distinct (x ∷ q) last h =
+      ((λ g. not_itself lt apart steps x (above lt apart steps x q h.1 x g)), rising_distinct q (Some x) h.1)
 
   rising_take : (n : ℕ) (q : List X) (last : Option X) → IsRising lt last q
       → IsRising lt last (take n q)
@@ -80,7 +84,8 @@ module _ {X : Type 0} (lt : X → X → Bool) (apart : (x y : X) → lt x y ≡ 
   split (suc n) y [] last h g = absurd g
   split (suc n) y (x ∷ q) last h g = elim g [
     | inl e ↦ inl (inl e)
-    | inr e ↦ elim (split n y q (Some x) h.1 e) [ inl f ↦ inl (inr f) | inr f ↦ inr (above lt apart steps x q h.1 y e, f) ]
+    | inr e ↦
+        elim (split n y q (Some x) h.1 e) [ inl f ↦ inl (inr f) | inr f ↦ inr (above lt apart steps x q h.1 y e, f) ]
   ]
 
   -- a set in order of some of the elements, where the others come after its first few
@@ -112,7 +117,8 @@ module _ {X : Type 0} (lt : X → X → Bool) (apart : (x y : X) → lt x y ≡ 
 
   not_before : (ps : List X) (y : X) → AreBefore lt ps y → Among y ps → ⊥
   not_before [] y h g = g
-  not_before (p ∷ ps) y h g = elim g [ inl e ↦ not_itself lt apart steps y (ap (λ z. lt z y) e ∙ h.0) | inr e ↦ not_before ps y h.1 e ]
+  not_before (p ∷ ps) y h g =
+      elim g [ inl e ↦ not_itself lt apart steps y (ap (λ z. lt z y) e ∙ h.0) | inr e ↦ not_before ps y h.1 e ]
 
   -- a rising list may begin after what all of it is above
   rising_from : (last : Option X) (qs : List X)
@@ -125,7 +131,8 @@ module _ {X : Type 0} (lt : X → X → Bool) (apart : (x y : X) → lt x y ≡ 
       → ((y : X) → Among y qs → comes_after lt last y ≡ true)
       → ((x y : X) → Among x ps → Among y qs → lt x y ≡ true) → IsRising lt last (ps ++ qs)
   rising_both [] qs last h g f k = rising_from last qs f g
-  rising_both (p ∷ ps) qs last h g f k = (h.0, rising_both ps qs (Some p) h.1 g (λ y m. k p y (inl refl) m) (λ x y m. k x y (inr m)))
+  rising_both (p ∷ ps) qs last h g f k =
+      (h.0, rising_both ps qs (Some p) h.1 g (λ y m. k p y (inl refl) m) (λ x y m. k x y (inr m)))
 
   length_both : (xs ys : List X) → length (xs ++ ys) ≡ length xs + length ys
   length_both [] ys = omega arith
@@ -138,7 +145,10 @@ module _ {X : Type 0} (lt : X → X → Bool) (apart : (x y : X) → lt x y ≡ 
   left_out : (n : ℕ) (xs ps : List X) (y : X) → AreFirst lt n None xs ps → Among y xs
       → AreBefore lt ps y → length ps ≡ n
   left_out n xs ps y h g b =
-      let more : suc (length ps) ≤ length xs = no_more (y ∷ ps) xs (not_before ps y b, rising_distinct ps None h.rising) (λ z k. elim k [ inl e ↦ subst (λ w. Among w xs) (sym e) g | inr e ↦ (h.members z e).0 ]) in
+      let more : suc (length ps)
+      ≤ length xs =
+      no_more (y ∷ ps) xs (not_before ps y b, rising_distinct ps None h.rising)
+      (λ z k. elim k [ inl e ↦ subst (λ w. Among w xs) (sym e) g | inr e ↦ (h.members z e).0 ]) in
       omega (arith, more, counted n xs ps h)
 
   none_more : (qs : List X) → length qs ≡ 0 → (y : X) → AreBefore lt qs y
@@ -149,13 +159,25 @@ module _ {X : Type 0} (lt : X → X → Bool) (apart : (x y : X) → lt x y ≡ 
       → ((x y : X) → Among x xs → Among y ys → lt x y ≡ true) → AreFirst lt n None xs ps
       → AreFirst lt (n - length ps) None ys qs → AreFirst lt n None (xs ++ ys) (ps ++ qs)
   first_then n xs ys ps qs below h g = record {
-    count = length_both ps qs ∙ (omega (arith, counted n xs ps h, counted (n - length ps) ys qs g, length_both xs ys) ∙ ap (λ zs. min n (length zs)) (sym (all_after_none lt (xs ++ ys))));
-    members = λ y k. elim (among_either ps qs y k) [ inl e ↦ (among_left xs ys y (h.members y e).0, refl) | inr e ↦ (among_right xs ys y (g.members y e).0, refl) ];
-    rising = rising_both ps qs None h.rising g.rising (λ y k. refl) (λ x y k m. below x y (h.members x k).0 (g.members y m).0);
+    count =
+        length_both ps qs
+        ∙ (omega (arith, counted n xs ps h, counted (n - length ps) ys qs g, length_both xs ys)
+        ∙ ap (λ zs. min n (length zs)) (sym (all_after_none lt (xs ++ ys))));
+    members =
+        λ y k.
+        elim (among_either ps qs y k) [
+          | inl e ↦ (among_left xs ys y (h.members y e).0, refl)
+          | inr e ↦ (among_right xs ys y (g.members y e).0, refl)
+        ];
+    rising =
+        rising_both ps qs None h.rising g.rising (λ y k. refl)
+        (λ x y k m. below x y (h.members x k).0 (g.members y m).0);
     outside = λ y k e. elim (among_either xs ys y k) [
       | inl f ↦ elim (h.outside y f refl) [
         | inl m ↦ inl (among_left ps qs y m)
-        | inr m ↦ inr (before_both ps qs y m (none_more qs (let full = left_out n xs ps y h f m in omega (arith, full, counted (n - length ps) ys qs g)) y))
+        | inr m ↦
+            inr (before_both ps qs y m (none_more qs
+            (let full = left_out n xs ps y h f m in omega (arith, full, counted (n - length ps) ys qs g)) y))
       ]
       | inr f ↦ elim (g.outside y f refl) [
         | inl m ↦ inl (among_right ps qs y m)

@@ -6,7 +6,7 @@ use Rattle.room_types.specs.Codes.{is_active}
 use Rattle.room_types.specs.declared.answers.Answer.TheVariants.{Proposals}
 use Rattle.room_types.specs.declared.codes.Kind.TheVariants.{Ambulance, Car, Support}
 use Rattle.room_types.specs.declared.decisions.Decision.{Decision}
-use Rattle.room_types.specs.declared.refusals.Refusal.TheVariants.{IncidentNotOpen}
+use Rattle.room_types.specs.declared.refusal_statuses.Refusal.TheVariants.{IncidentNotOpen}
 use Rattle.room_types.specs.declared.slices.DivisionRows.{DivisionRows}
 use Rattle.room_types.specs.declared.tables.Incident.{Incident}
 use Rattle.room_model.proofs.ProposalLaws.{proposed_first}
@@ -29,7 +29,9 @@ pub told : (d n at : ℕ) (plan : List Area) (s : DivisionRows) (i : Incident)
     → where_active (incident_of d n (room_of plan s)) decide ≡ decide i)
     → propose d n at (room_of plan s) ≡ show (Proposals (all_proposed d i at (unplanned s)))
 unfolding propose
-told d n at plan s i there = there (λ j. show (Proposals (all_proposed d j at (room_of plan s)))) ∙ ap (λ ps. show (Proposals ps)) (sym (any_plan d i at plan s))
+told d n at plan s i there =
+    there (λ j. show (Proposals (all_proposed d j at (room_of plan s))))
+    ∙ ap (λ ps. show (Proposals ps)) (sym (any_plan d i at plan s))
 
 -- ---- in words
 module _ (d n at : ℕ) (r : Room) (order : IsInOrder r) (i : Incident) (x : Decision) where
@@ -54,4 +56,6 @@ module _ (d n at : ℕ) (r : Room) (order : IsInOrder r) (i : Incident) (x : Dec
   pub for_incident : incident_of d n r ≡ Some i → propose d n at r ≡ Ok x
       → AreForIncident d i at r x.answer
   unfolding propose
-  for_incident there e = of_incident (same_told (not (is_active i.state)) (ap (λ o. where_active o (λ j. show (Proposals (all_proposed d j at r)))) (sym there) ∙ e))
+  for_incident there e =
+      of_incident (same_told (not (is_active i.state))
+      (ap (λ o. where_active o (λ j. show (Proposals (all_proposed d j at r)))) (sym there) ∙ e))

@@ -1,6 +1,8 @@
 -- Candidates in the order of their rings, and what a search over them finds.
-use Rattle.std.proofs.Common.{add-one, ap, arith, get_or, inl, inr, length, refl, subst, suc, sym, take, zero, ℕ, ◌+◌, ◌<◌, ◌∙◌, ◌∷◌, ◌≡◌, ◌≤◌, ◌⊎◌, List, [], map}
-use Rattle.std.proofs.lemmas.List.Elements.{All-cons, All-contains, All-weaker, Contains-append_left, Contains-append_right, Contains-push}
+use Rattle.std.proofs.Common.{add-one, ap, arith, get_or, inl, inr, length, refl, subst, suc, sym, take, zero, ℕ, ◌+◌}
+use Rattle.std.proofs.Common.{◌<◌, ◌∙◌, ◌∷◌, ◌≡◌, ◌≤◌, ◌⊎◌, List, [], map}
+use Rattle.std.proofs.lemmas.List.Elements.{All-cons, All-contains, All-weaker, Contains-append_left}
+use Rattle.std.proofs.lemmas.List.Elements.{Contains-append_right, Contains-push}
 use Rattle.std.proofs.lemmas.List.Sorted.{Contains-permutation, IsPermutation-sym}
 use Rattle.std.specs.List.{All, Contains}
 use Rattle.std.specs.List.Sorted.{IsNonDecreasingBy, IsPermutation}
@@ -11,29 +13,41 @@ use Rattle.room_place.specs.Choice.{Among}
 use Rattle.room_types_keyed.specs.Keyed.{put_row}
 use Rattle.room_types.specs.declared.tables.Incident.{Incident}
 use Rattle.room_alloc.specs.Nearness.{nearness_cmp, whole}
-use Rattle.room_alloc.specs.NearnessOrder.{exact_nearness}
+use Rattle.room_alloc.specs.ProposalOrder.{exact_nearness}
 use Rattle.room_alloc.specs.Rings.{AreByRing, IsByRing, IsSearched, nearness_of}
-use Rattle.room_alloc.specs.declared.nearness.Candidate.{Candidate}
-use Rattle.room_alloc.specs.declared.nearness.Nearness.{Nearness}
+use Rattle.room_alloc.specs.declared.proposal_order.Candidate.{Candidate}
+use Rattle.room_alloc.specs.declared.proposal_order.Nearness.{Nearness}
 
 -- ---- what is in the set after a put
 pub put_in : (q : List Nearness) (x e : Nearness) → Among e (put_row nearness_cmp whole q x)
     → (e ≡ x) ⊎ Among e q
 put_in [] x e h = elim h [ inl k ↦ inl k | inr k ↦ absurd k ]
-put_in (y ∷ q) x e h = (elim (nearness_cmp x y) as (λ (o : Ordering). Among e (match_ordering o (x ∷ y ∷ q) (x ∷ q) (y ∷ put_row nearness_cmp whole q x)) → (e ≡ x) ⊎ Among e (y ∷ q)) [
-  | Less ↦ λ g. g
-  | Equal ↦ λ g. elim g [ inl k ↦ inl k | inr k ↦ inr (inr k) ]
-  | Greater ↦ λ g. elim g [ inl k ↦ inr (inl k) | inr k ↦ elim (put_in q x e k) [ inl m ↦ inl m | inr m ↦ inr (inr m) ] ]
-]) h
+put_in (y ∷ q) x e h =
+    (elim (nearness_cmp x y) as (λ (o : Ordering).
+    Among e (match_ordering o (x ∷ y ∷ q) (x ∷ q) (y ∷ put_row nearness_cmp whole q x)) → (e ≡ x) ⊎ Among e (y ∷ q)) [
+      | Less ↦ λ g. g
+      | Equal ↦ λ g. elim g [ inl k ↦ inl k | inr k ↦ inr (inr k) ]
+      | Greater ↦
+          λ g. elim g [ inl k ↦ inr (inl k) | inr k ↦ elim (put_in q x e k) [ inl m ↦ inl m | inr m ↦ inr (inr m) ] ]
+    ]) h
 
 pub put_keeps : (q : List Nearness) (x e : Nearness) → (e ≡ x) ⊎ Among e q
     → Among e (put_row nearness_cmp whole q x)
 put_keeps [] x e h = elim h [ inl k ↦ inl k | inr k ↦ absurd k ]
-put_keeps (y ∷ q) x e h = (elim (nearness_cmp x y) as (λ (o : Ordering). nearness_cmp x y ≡ o → Among e (match_ordering o (x ∷ y ∷ q) (x ∷ q) (y ∷ put_row nearness_cmp whole q x))) [
-  | Less ↦ λ f. h
-  | Equal ↦ λ f. elim h [ inl k ↦ inl k | inr k ↦ elim k [ inl m ↦ inl (m ∙ sym (exact_nearness x y f)) | inr m ↦ inr m ] ]
-  | Greater ↦ λ f. elim h [ inl k ↦ inr (put_keeps q x e (inl k)) | inr k ↦ elim k [ inl m ↦ inl m | inr m ↦ inr (put_keeps q x e (inr m)) ] ]
-]) refl
+put_keeps (y ∷ q) x e h =
+    (elim (nearness_cmp x y) as (λ (o : Ordering).
+    nearness_cmp x y ≡ o → Among e (match_ordering o (x ∷ y ∷ q) (x ∷ q) (y ∷ put_row nearness_cmp whole q x))) [
+      | Less ↦ λ f. h
+      | Equal ↦
+          λ f.
+          elim h [ inl k ↦ inl k | inr k ↦ elim k [ inl m ↦ inl (m ∙ sym (exact_nearness x y f)) | inr m ↦ inr m ] ]
+      | Greater ↦
+          λ f.
+          elim h [
+            | inl k ↦ inr (put_keeps q x e (inl k))
+            | inr k ↦ elim k [ inl m ↦ inl m | inr m ↦ inr (put_keeps q x e (inr m)) ]
+          ]
+    ]) refl
 
 -- ---- elements and their places
 module _ {X : Type 0} where
@@ -46,10 +60,13 @@ module _ {X : Type 0} where
 
   all_among : (xs : List X) → All (λ x. Among x xs) xs
   all_among [] = λ k d low. let none : ⊥ = omega arith in absurd none
-  all_among (x ∷ xs) = All-cons (λ y. Among y (x ∷ xs)) x xs (inl refl) (All-weaker (λ y. Among y xs) (λ y. Among y (x ∷ xs)) (λ y a. inr a) xs (all_among xs))
+  all_among (x ∷ xs) =
+      All-cons (λ y. Among y (x ∷ xs)) x xs (inl refl)
+      (All-weaker (λ y. Among y xs) (λ y. Among y (x ∷ xs)) (λ y a. inr a) xs (all_among xs))
 
   among_moved : (xs ys : List X) (x : X) → IsPermutation xs ys → Among x xs → Among x ys
-  among_moved xs ys x moved a = All-contains (λ y. Among y ys) ys x (all_among ys) (Contains-permutation xs ys x moved (contained xs x a))
+  among_moved xs ys x moved a =
+      All-contains (λ y. Among y ys) ys x (all_among ys) (Contains-permutation xs ys x moved (contained xs x a))
 
   pub among_item : (xs : List X) (k : ℕ) (x : X) → k < length xs → x ≡ get_or xs k x → Among x xs
   among_item [] k x low is = absurd (omega (arith, low))
@@ -80,7 +97,10 @@ ring_no c = c.ring
 by_ring : (xs : List Candidate) → IsNonDecreasingBy ring_no xs → IsByRing xs
 by_ring [] h = tt
 by_ring (x ∷ xs) h = (
-  (λ c a. let p = place_of xs c a in subst (λ (z : Candidate). x.ring ≤ z.ring) p.2 (h 0 (suc p.0) c (omega arith) (let low = p.1 in omega (arith, low)))),
+  (λ c a.
+      let p = place_of xs c a in
+      subst (λ (z : Candidate). x.ring ≤ z.ring) p.2
+      (h 0 (suc p.0) c (omega arith) (let low = p.1 in omega (arith, low)))),
   by_ring xs (λ i j d le low. h (suc i) (suc j) d (omega (arith, le)) (omega (arith, low))),
 )
 
@@ -124,10 +144,12 @@ module _ (i : Incident) (xs : List Candidate) (k : ℕ) (x : Candidate) (low : k
 
   pub more_there : ((c : Candidate) → Among c (take k xs) → Among (nearness_of i c) q)
       → (c : Candidate) → Among c (take (k + 1) xs) → Among (nearness_of i c) new
-  more_there f c a = subst (Among (nearness_of i c)) (sym put) (put_keeps q (nearness_of i x) (nearness_of i c) (elim (among_taken xs k x c low is (subst (λ n. Among c (take n xs)) (add-one k) a)) [
-    | inl t ↦ inr (f c t)
-    | inr e ↦ inl (ap (nearness_of i) e)
-  ]))
+  more_there f c a =
+      subst (Among (nearness_of i c)) (sym put) (put_keeps q (nearness_of i x) (nearness_of i c)
+      (elim (among_taken xs k x c low is (subst (λ n. Among c (take n xs)) (add-one k) a)) [
+        | inl t ↦ inr (f c t)
+        | inr e ↦ inl (ap (nearness_of i) e)
+      ]))
 
 -- of one order, and so of the other
 images_moved : (i : Incident) (xs ys : List Candidate)

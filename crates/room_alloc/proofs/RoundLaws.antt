@@ -1,5 +1,6 @@
 -- The candidates round an incident, and those of both marks together.
-use Rattle.std.proofs.Common.{ap, arith, inl, inr, refl, subst, sym, ℕ, ◌+◌, ◌++◌, ◌-◌, ◌∙◌, ◌∷◌, ◌≡◌, ◌⊎◌, Bool, List, None, [], cond, false, length, length-append, map, suc, true}
+use Rattle.std.proofs.Common.{ap, arith, inl, inr, refl, subst, sym, ℕ, ◌+◌, ◌++◌, ◌-◌, ◌∙◌, ◌∷◌, ◌≡◌, ◌⊎◌, Bool, List}
+use Rattle.std.proofs.Common.{None, [], cond, false, length, length-append, map, suc, true}
 use Rattle.std.proofs.lemmas.Cmp.{nat_cmp_total, on_total, then_total}
 use Rattle.std.specs.Cmp.{IsTotalOrder, bool_cmp_total}
 use Rattle.std.specs.Ordering.{bool_cmp, is_lt, nat_cmp, ordering_reverse, ordering_then}
@@ -27,8 +28,9 @@ use Rattle.room_model.specs.Proposals.{candidates, is_before, proposal_cmp, prop
 use Rattle.room_model.specs.Queries.{is_eligible}
 use Rattle.room_model.specs.Room.{IsInOrder}
 use Rattle.room_alloc.specs.Candidates.{AreShort, is_candidate, proposal_by, unplanned}
-use Rattle.room_alloc.specs.Rings.{AreApart, AreOfKind, ArePlaced, IsPlaced, candidate_of, candidates_round, is_marked, proposal_at}
-use Rattle.room_alloc.specs.declared.nearness.Candidate.{Candidate}
+use Rattle.room_alloc.specs.Rings.{AreApart, AreOfKind, ArePlaced, IsPlaced, candidate_of, candidates_round, is_marked}
+use Rattle.room_alloc.specs.Rings.{proposal_at}
+use Rattle.room_alloc.specs.declared.proposal_order.Candidate.{Candidate}
 use Rattle.room_alloc.proofs.CandidateLaws.{candidates_so}
 use Rattle.room_alloc.proofs.FirstLaws.{among_either, among_left, among_right, first_then, same_first}
 
@@ -55,11 +57,19 @@ module _ (d : ℕ) (i : Incident) (short : List Point) (k : Kind) (at : ℕ) whe
   of_kind : (vs : List Vehicle) → ((v : Vehicle) → Among v vs → v.kind ≡ k)
       → AreOfKind k (map (candidate_of d i short) vs)
   of_kind [] f c h = absurd h
-  of_kind (v ∷ vs) f c h = elim h [ inl e ↦ ap (λ (x : Candidate). x.vehicle.kind) e ∙ f v (inl refl) | inr g ↦ of_kind vs (λ u a. f u (inr a)) c g ]
+  of_kind (v ∷ vs) f c h =
+      elim h [
+        | inl e ↦ ap (λ (x : Candidate). x.vehicle.kind) e ∙ f v (inl refl)
+        | inr g ↦ of_kind vs (λ u a. f u (inr a)) c g
+      ]
 
   pub are_of_kind : (vs : List Vehicle) (xs : List Candidate)
       → xs ≡ candidates_round d i short k at vs → AreOfKind k xs
-  are_of_kind vs xs e = subst (AreOfKind k) (sym e) (of_kind (filter (is_candidate d at k) vs) (λ v a. alike v.kind k (right_true (is_eligible d at v) (same_kind v.kind k) (among_filter (is_candidate d at k) vs v a).1)))
+  are_of_kind vs xs e =
+      subst (AreOfKind k) (sym e) (of_kind (filter (is_candidate d at k) vs)
+      (λ v a.
+      alike v.kind k
+      (right_true (is_eligible d at v) (same_kind v.kind k) (among_filter (is_candidate d at k) vs v a).1)))
 
   below : (c : Callsign) (vs : List Vehicle) → IsBelowAll callsign_cmp vehicle_key c vs
       → IsBelowAll callsign_cmp (λ (x : Candidate). x.vehicle.callsign) c
@@ -74,7 +84,9 @@ module _ (d : ℕ) (i : Incident) (short : List Point) (k : Kind) (at : ℕ) whe
 
   pub are_apart : (vs : List Vehicle) (xs : List Candidate) → IsKeyed callsign_cmp vehicle_key vs
       → xs ≡ candidates_round d i short k at vs → AreApart xs
-  are_apart vs xs h e = subst AreApart (sym e) (keyed (filter (is_candidate d at k) vs) (keyed_filter callsign_cmp vehicle_key callsigns_total (is_candidate d at k) vs h))
+  are_apart vs xs h e =
+      subst AreApart (sym e) (keyed (filter (is_candidate d at k) vs)
+      (keyed_filter callsign_cmp vehicle_key callsigns_total (is_candidate d at k) vs h))
 
   as_proposed : (vs : List Vehicle)
       → map (proposal_at i) (map (candidate_of d i short) vs) ≡ map (proposal_by d i short) vs
@@ -88,14 +100,21 @@ module _ (d : ℕ) (i : Incident) (short : List Point) (k : Kind) (at : ℕ) whe
       → AreFirst is_before n None (map (proposal_at i) xs) few
       → few ≡ proposed d i at (unplanned s) k
   proposed_so s n xs few order short_so count all first =
-      let these : map (proposal_at i) xs ≡ candidates d i k at (unplanned s) = ap (λ ys. map (proposal_at i) ys) all ∙ (as_proposed (filter (is_candidate d at k) s.vehicles) ∙ candidates_so d at i k s short short_so) in
+      let these : map (proposal_at i) xs
+      ≡ candidates d i k at (unplanned s) =
+      ap (λ ys. map (proposal_at i) ys) all
+      ∙ (as_proposed (filter (is_candidate d at k) s.vehicles) ∙ candidates_so d at i k s short short_so) in
       one_proposed d i at (unplanned s) k few (proposed d i at (unplanned s) k)
-      (subst (λ m. AreFirst is_before m None (candidates d i k at (unplanned s)) few) count (subst (λ ps. AreFirst is_before n None ps few) these first))
+      (subst (λ m. AreFirst is_before m None (candidates d i k at (unplanned s)) few) count
+      (subst (λ ps. AreFirst is_before n None ps few) these first))
       (proposed_first d i at (unplanned s) k order)
 
 -- ---- those that don't break cover, and then the others
 proposals_total : IsTotalOrder proposal_cmp
-proposals_total = then_total (on_total (λ (p : Proposal). p.breaks) bool_cmp_total) (then_total (on_total (λ (p : Proposal). p.distance) nat_cmp_total) (on_total (λ (p : Proposal). p.callsign) callsigns_total))
+proposals_total =
+    then_total (on_total (λ (p : Proposal). p.breaks) bool_cmp_total)
+    (then_total (on_total (λ (p : Proposal). p.distance) nat_cmp_total)
+    (on_total (λ (p : Proposal). p.callsign) callsigns_total))
 
 less : (o : Ordering) → is_lt o ≡ true → o ≡ Less
 less Less e = refl
@@ -103,15 +122,21 @@ less Equal e = cc
 less Greater e = cc
 
 apart : (x y : Proposal) → is_before x y ≡ true → is_before y x ≡ true → ⊥
-apart x y e f = let turned : proposal_cmp y x ≡ Greater = proposals_total.antisymm y x ∙ ap ordering_reverse (less _ e) in let no = ap is_lt turned in cc
+apart x y e f =
+    let turned : proposal_cmp y x ≡ Greater = proposals_total.antisymm y x ∙ ap ordering_reverse (less _ e) in
+    let no = ap is_lt turned in cc
 
 steps : (x y z : Proposal) → is_before x y ≡ true → is_before y z ≡ true → is_before x z ≡ true
 steps x y z e f = ap is_lt (proposals_total.trans x y z (less _ e) (less _ f))
 
 covered_first : (x y : Proposal) → x.breaks ≡ false → y.breaks ≡ true → is_before x y ≡ true
 covered_first x y e f =
-    ap (λ c. is_lt (ordering_then (bool_cmp c y.breaks) (ordering_then (nat_cmp x.distance y.distance) (callsign_cmp x.callsign y.callsign)))) e
-    ∙ ap (λ c. is_lt (ordering_then (bool_cmp false c) (ordering_then (nat_cmp x.distance y.distance) (callsign_cmp x.callsign y.callsign)))) f
+    ap (λ c.
+    is_lt (ordering_then (bool_cmp c y.breaks)
+    (ordering_then (nat_cmp x.distance y.distance) (callsign_cmp x.callsign y.callsign)))) e
+    ∙ ap (λ c.
+    is_lt (ordering_then (bool_cmp false c)
+    (ordering_then (nat_cmp x.distance y.distance) (callsign_cmp x.callsign y.callsign)))) f
 
 module _ (i : Incident) where
   abbrev marked : Bool → List Candidate → List Proposal
@@ -150,32 +175,41 @@ module _ (i : Incident) where
 
   keeping : (xs : List Candidate) (y : Proposal) → Among y (marked false xs) → y.breaks ≡ false
   keeping [] y h = absurd h
-  keeping (x ∷ xs) y h = all_keeping x (filter (is_marked false) xs) (filter (is_marked true) xs) x.breaks y (keeping xs y) refl h
+  keeping (x ∷ xs) y h =
+      all_keeping x (filter (is_marked false) xs) (filter (is_marked true) xs) x.breaks y (keeping xs y) refl h
 
   breaking : (xs : List Candidate) (y : Proposal) → Among y (marked true xs) → y.breaks ≡ true
   breaking [] y h = absurd h
-  breaking (x ∷ xs) y h = all_breaking x (filter (is_marked false) xs) (filter (is_marked true) xs) x.breaks y (breaking xs y) refl h
+  breaking (x ∷ xs) y h =
+      all_breaking x (filter (is_marked false) xs) (filter (is_marked true) xs) x.breaks y (breaking xs y) refl h
 
   either : (xs : List Candidate) (y : Proposal) → Among y (map (proposal_at i) xs)
       → Among y (marked false xs) ⊎ Among y (marked true xs)
   either [] y h = absurd h
   either (x ∷ xs) y h = elim h [
-    | inl e ↦ subst (λ z. Among z (marked false (x ∷ xs)) ⊎ Among z (marked true (x ∷ xs))) (sym e) (itself x (filter (is_marked false) xs) (filter (is_marked true) xs) x.breaks)
+    | inl e ↦
+        subst (λ z. Among z (marked false (x ∷ xs)) ⊎ Among z (marked true (x ∷ xs))) (sym e)
+        (itself x (filter (is_marked false) xs) (filter (is_marked true) xs) x.breaks)
     | inr g ↦ one_of_both x (filter (is_marked false) xs) (filter (is_marked true) xs) x.breaks y (either xs y g)
   ]
 
   images_among : (b : Bool) (xs : List Candidate) (y : Proposal) → Among y (marked b xs)
       → Among y (map (proposal_at i) xs)
   images_among b [] y h = absurd h
-  images_among b (x ∷ xs) y h = (elim (is_marked b x) as (λ (m : Bool). Among y (map (proposal_at i) (cond m (x ∷ filter (is_marked b) xs) (filter (is_marked b) xs))) → Among y (map (proposal_at i) (x ∷ xs))) [
-    | true ↦ λ g. elim g [ inl e ↦ inl e | inr f ↦ inr (images_among b xs y f) ]
-    | false ↦ λ g. inr (images_among b xs y g)
-  ]) h
+  images_among b (x ∷ xs) y h =
+      (elim (is_marked b x) as (λ (m : Bool).
+      Among y (map (proposal_at i) (cond m (x ∷ filter (is_marked b) xs) (filter (is_marked b) xs)))
+      → Among y (map (proposal_at i) (x ∷ xs))) [
+        | true ↦ λ g. elim g [ inl e ↦ inl e | inr f ↦ inr (images_among b xs y f) ]
+        | false ↦ λ g. inr (images_among b xs y g)
+      ]) h
 
   count_both : (xs : List Candidate)
       → length (marked false xs) + length (marked true xs) ≡ length (map (proposal_at i) xs)
   count_both [] = refl
-  count_both (x ∷ xs) = both_count x (filter (is_marked false) xs) (filter (is_marked true) xs) x.breaks (length (map (proposal_at i) xs)) (count_both xs)
+  count_both (x ∷ xs) =
+      both_count x (filter (is_marked false) xs) (filter (is_marked true) xs) x.breaks (length (map (proposal_at i) xs))
+      (count_both xs)
 
   -- the first few that don't break cover, and then as many of the others as are left
   pub first_of_both : (n : ℕ) (xs : List Candidate) (ps qs : List Proposal)
@@ -184,7 +218,14 @@ module _ (i : Incident) where
       → AreFirst is_before n None (map (proposal_at i) xs) (ps ++ qs)
   first_of_both n xs ps qs h g =
       same_first is_before apart steps n (marked false xs ++ marked true xs) (map (proposal_at i) xs) (ps ++ qs)
-      (λ y a. elim (among_either (marked false xs) (marked true xs) y a) [ inl b ↦ images_among false xs y b | inr b ↦ images_among true xs y b ])
-      (λ y a. elim (either xs y a) [ inl b ↦ among_left (marked false xs) (marked true xs) y b | inr b ↦ among_right (marked false xs) (marked true xs) y b ])
+      (λ y a.
+      elim (among_either (marked false xs) (marked true xs) y a)
+      [ inl b ↦ images_among false xs y b | inr b ↦ images_among true xs y b ])
+      (λ y a.
+      elim (either xs y a) [
+        | inl b ↦ among_left (marked false xs) (marked true xs) y b
+        | inr b ↦ among_right (marked false xs) (marked true xs) y b
+      ])
       (length-append (marked false xs) (marked true xs) ∙ count_both xs)
-      (first_then is_before apart steps n (marked false xs) (marked true xs) ps qs (λ x y a b. covered_first x y (keeping xs x a) (breaking xs y b)) h g)
+      (first_then is_before apart steps n (marked false xs) (marked true xs) ps qs
+      (λ x y a b. covered_first x y (keeping xs x a) (breaking xs y b)) h g)

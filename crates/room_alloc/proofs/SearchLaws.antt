@@ -1,5 +1,6 @@
 -- A search by rings finds the first few.
-use Rattle.std.proofs.Common.{ap, arith, inl, inr, refl, subst, sym, suc, take, zero, ℕ, ◌<◌, ◌∙◌, ◌∷◌, ◌≡◌, ◌≤◌, ◌⊎◌, Bool, List, None, Some, [], drop, false, length, map, min, true}
+use Rattle.std.proofs.Common.{ap, arith, inl, inr, refl, subst, sym, suc, take, zero, ℕ, ◌<◌, ◌∙◌, ◌∷◌, ◌≡◌, ◌≤◌, ◌⊎◌}
+use Rattle.std.proofs.Common.{Bool, List, None, Some, [], drop, false, length, map, min, true}
 use borrow.Author.Tests.{ltb-true}
 use Rattle.std.proofs.lemmas.Bool.{cases_lt}
 use Rattle.std.specs.Cmp.{nat_cmp_is}
@@ -19,10 +20,11 @@ use Rattle.room_types.specs.Texts.{Callsign}
 use Rattle.room_types.specs.declared.codes.Kind.{Kind}
 use Rattle.room_types.specs.declared.tables.Incident.{Incident}
 use Rattle.room_alloc.specs.Nearness.{is_nearer, nearness_cmp, proposal_with, whole}
-use Rattle.room_alloc.specs.NearnessOrder.{nearness_total}
-use Rattle.room_alloc.specs.Rings.{AreApart, AreOfKind, ArePlaced, IsSearched, is_below, is_enough, is_marked, nearness_of, proposal_at}
-use Rattle.room_alloc.specs.declared.nearness.Candidate.{Candidate}
-use Rattle.room_alloc.specs.declared.nearness.Nearness.{Nearness}
+use Rattle.room_alloc.specs.ProposalOrder.{nearness_total}
+use Rattle.room_alloc.specs.Rings.{AreApart, AreOfKind, ArePlaced, IsSearched, is_below, is_enough, is_marked}
+use Rattle.room_alloc.specs.Rings.{nearness_of, proposal_at}
+use Rattle.room_alloc.specs.declared.proposal_order.Candidate.{Candidate}
+use Rattle.room_alloc.specs.declared.proposal_order.Nearness.{Nearness}
 use Rattle.room_alloc.proofs.FirstLaws.{first_of_set}
 
 -- ---- the order by nearness
@@ -32,7 +34,9 @@ less Equal e = cc
 less Greater e = cc
 
 apart : (x y : Nearness) → is_nearer x y ≡ true → is_nearer y x ≡ true → ⊥
-apart x y e f = let turned : nearness_cmp y x ≡ Greater = nearness_total.antisymm y x ∙ ap ordering_reverse (less _ e) in let no = ap is_lt turned in cc
+apart x y e f =
+    let turned : nearness_cmp y x ≡ Greater = nearness_total.antisymm y x ∙ ap ordering_reverse (less _ e) in
+    let no = ap is_lt turned in cc
 
 steps : (x y z : Nearness) → is_nearer x y ≡ true → is_nearer y z ≡ true → is_nearer x z ≡ true
 steps x y z e f = ap is_lt (nearness_total.trans x y z (less _ e) (less _ f))
@@ -47,7 +51,9 @@ rising [] g = tt
 rising (y ∷ q) g = (refl, rising_after y q g.0 g.1)
 
 nearer : (x y : Nearness) → x.distance < y.distance → is_nearer x y ≡ true
-nearer x y h = ap (λ o. is_lt (ordering_then o (callsign_cmp x.callsign y.callsign))) (sym (nat_cmp_is x.distance y.distance Less h))
+nearer x y h =
+    ap (λ o. is_lt (ordering_then o (callsign_cmp x.callsign y.callsign)))
+    (sym (nat_cmp_is x.distance y.distance Less h))
 
 -- ---- where the worst of the first few is nearer than the floor, each of them is before what is no nearer
 kept_before : (n : ℕ) (q : List Nearness) (f : ℕ) (y : Nearness) → IsKeyed nearness_cmp whole q
@@ -81,7 +87,11 @@ record IsOf (i : Incident) (xs : List Candidate) (y : Nearness) : Type 0 where
 found_of : (i : Incident) (xs : List Candidate) (y : Nearness) → Among y (map (nearness_of i) xs)
     → IsOf i xs y
 found_of i [] y h = absurd h
-found_of i (x ∷ xs) y h = elim h [ inl e ↦ record { candidate = x; there = inl refl; same = e } | inr e ↦ let m = found_of i xs y e in record { candidate = m.candidate; there = inr m.there; same = m.same } ]
+found_of i (x ∷ xs) y h =
+    elim h [
+      | inl e ↦ record { candidate = x; there = inl refl; same = e }
+      | inr e ↦ let m = found_of i xs y e in record { candidate = m.candidate; there = inr m.there; same = m.same }
+    ]
 
 abbrev name_of : Candidate → Callsign
 name_of c = c.vehicle.callsign
@@ -94,7 +104,8 @@ not_below i x (y ∷ ys) h a = elim a [
   | inl e ↦
       let same : x.vehicle.callsign ≡ y.vehicle.callsign = ap (λ (n : Nearness). n.callsign) e in
       let tied = callsigns_total.antisymm y.vehicle.callsign y.vehicle.callsign in
-      let below : callsign_cmp y.vehicle.callsign y.vehicle.callsign ≡ Less = subst (λ c. callsign_cmp c y.vehicle.callsign ≡ Less) same h.0 in
+      let below : callsign_cmp y.vehicle.callsign y.vehicle.callsign
+      ≡ Less = subst (λ c. callsign_cmp c y.vehicle.callsign ≡ Less) same h.0 in
       let back = ap ordering_reverse below in
       cc
   | inr b ↦ not_below i x ys h.1 b
@@ -111,7 +122,8 @@ search_first : (n : ℕ) (b : Bool) (i : Incident) (xs : List Candidate) (found 
 search_first n b i xs found placed separate in_order s =
     let marked = filter (is_marked b) xs in
     let past = λ (y : Nearness) (h : Among y (map (nearness_of i) marked)). let m = found_of i marked y h in
-    (elim (s.there m.candidate m.there) as (λ _. Among y found ⊎ ((n ≤ length found) × AreBefore is_nearer (take n found) y)) [
+    (elim (s.there m.candidate
+    m.there) as (λ _. Among y found ⊎ ((n ≤ length found) × AreBefore is_nearer (take n found) y)) [
       | inl g ↦ inl (subst (λ z. Among z found) (sym m.same) g)
       | inr g ↦ inr (enough_before n g.ring found y in_order
           (let far = (placed m.candidate (among_filter (is_marked b) xs m.candidate m.there).0).1 in
@@ -144,7 +156,8 @@ module _ {X Y : Type 0} (f : Y → X) (lt : X → X → Bool) (before : Y → Y 
 
   among_images : (x : X) (ys : List Y) → Among x (map f ys) → (y : Y) × Among y ys × (x ≡ f y)
   among_images x [] h = absurd h
-  among_images x (z ∷ ys) h = elim h [ inl e ↦ (z, inl refl, e) | inr k ↦ let g = among_images x ys k in (g.0, inr g.1, g.2) ]
+  among_images x (z ∷ ys) h =
+      elim h [ inl e ↦ (z, inl refl, e) | inr k ↦ let g = among_images x ys k in (g.0, inr g.1, g.2) ]
 
   rising_images : (z : Y) (ps : List Y) → IsRising before (Some z) ps
       → IsRising lt (Some (f z)) (map f ps)
@@ -162,8 +175,15 @@ module _ {X Y : Type 0} (f : Y → X) (lt : X → X → Bool) (before : Y → Y 
   first_images : (n : ℕ) (ys ps : List Y) → AreFirst before n None ys ps
       → AreFirst lt n None (map f ys) (map f ps)
   first_images n ys ps h = record {
-    count = same_count ps ∙ (h.count ∙ ap (λ m. min n m) (ap length (all_after before ys) ∙ (sym (same_count ys) ∙ ap length (sym (all_after lt (map f ys))))));
-    members = λ x a. let g = among_images x ps a in (subst (λ z. Among z (map f ys)) (sym g.2) (image_among g.0 ys (h.members g.0 g.1).0), refl);
+    count =
+        same_count ps
+        ∙ (h.count
+        ∙ ap (λ m. min n m)
+        (ap length (all_after before ys) ∙ (sym (same_count ys) ∙ ap length (sym (all_after lt (map f ys))))));
+    members =
+        λ x a.
+        let g = among_images x ps a in
+        (subst (λ z. Among z (map f ys)) (sym g.2) (image_among g.0 ys (h.members g.0 g.1).0), refl);
     rising = rising_all ps h.rising;
     outside = λ x a e. let g = among_images x ys a in elim (h.outside g.0 g.1 refl) [
       | inl k ↦ inl (subst (λ z. Among z (map f ps)) (sym g.2) (image_among g.0 ps k))
@@ -187,7 +207,9 @@ mark_of false c e = falses c.breaks e
 
 as_proposal : (b : Bool) (k : Kind) (i : Incident) (c : Candidate) → c.breaks ≡ b
     → c.vehicle.kind ≡ k → proposal_with b k (nearness_of i c) ≡ proposal_at i c
-as_proposal b k i c e f = ap (λ (m : Bool). record (proposal_at i c) { breaks = m; kind = k }) (sym e) ∙ ap (λ (m : Kind). record (proposal_at i c) { kind = m }) (sym f)
+as_proposal b k i c e f =
+    ap (λ (m : Bool). record (proposal_at i c) { breaks = m; kind = k }) (sym e)
+    ∙ ap (λ (m : Kind). record (proposal_at i c) { kind = m }) (sym f)
 
 map_map : {X Y Z : Type 0} (g : Y → Z) (f : X → Y) (xs : List X)
     → map g (map f xs) ≡ map (λ x. g (f x)) xs
@@ -209,4 +231,6 @@ pub nearest_first : (n : ℕ) (b : Bool) (k : Kind) (i : Incident) (xs : List Ca
     (map (proposal_with b k) (take n found))
 nearest_first n b k i xs found placed kinds separate in_order s =
     subst (λ ps. AreFirst is_before n None ps (map (proposal_with b k) (take n found))) (as_proposals b k i xs kinds)
-    (first_images (proposal_with b k) is_before is_nearer (by_nearness b k) n (map (nearness_of i) (filter (is_marked b) xs)) (take n found) (search_first n b i xs found placed separate in_order s))
+    (first_images (proposal_with b k) is_before is_nearer (by_nearness b k) n
+    (map (nearness_of i) (filter (is_marked b) xs)) (take n found)
+    (search_first n b i xs found placed separate in_order s))

@@ -1,5 +1,6 @@
 -- Candidates ring by ring of cells round an incident.
-use Rattle.std.specs.Prelude.{Bool, List, None, Option, Some, [], drop, false, filter, map, nat_lt, not, suc, true, zero, ℕ, ◌<◌, ◌∷◌, ◌≡◌, ◌≤◌, ◌⊎◌}
+use Rattle.std.specs.Prelude.{Bool, List, None, Option, Some, [], drop, false, filter, map, nat_lt, not, suc, true}
+use Rattle.std.specs.Prelude.{zero, ℕ, ◌<◌, ◌∷◌, ◌≡◌, ◌≤◌, ◌⊎◌}
 use Rattle.room_place.specs.Choice.{Among, first}
 use Rattle.room_place.specs.Places.{cell_of, distance, ring_floor, ring_of}
 use Rattle.room_types_keyed.specs.Keyed.{IsKeyed}
@@ -10,8 +11,8 @@ use Rattle.room_types.specs.declared.tables.Incident.{Incident}
 use Rattle.room_types.specs.declared.tables.Point.{Point}
 use Rattle.room_types.specs.declared.tables.Vehicle.{Vehicle}
 use Rattle.room_alloc.specs.Candidates.{has_point, is_candidate}
-use Rattle.room_alloc.specs.declared.nearness.Candidate.{Candidate}
-use Rattle.room_alloc.specs.declared.nearness.Nearness.{Nearness}
+use Rattle.room_alloc.specs.declared.proposal_order.Candidate.{Candidate}
+use Rattle.room_alloc.specs.declared.proposal_order.Nearness.{Nearness}
 
 -- ---- candidates
 abbrev pub candidate_of : ℕ → Incident → List Point → Vehicle → Candidate

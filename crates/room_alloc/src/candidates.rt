@@ -1,13 +1,13 @@
 //! What may be proposed for an incident.
 ghost use Rattle.std.specs.Prelude.{◌≡◌, filter, IfOk, IfErr};
-ghost use Rattle.room_types.specs.declared.refusals.Refusal.TheVariants.{Memory};
+ghost use Rattle.room_types.specs.declared.refusal_statuses.Refusal.TheVariants.{Memory};
 ghost use Rattle.room_alloc.specs.Candidates.{AreShort, has_point, is_candidate, is_point_short, unplanned};
 
 use crate::cover::{holders, is_eligible};
 use room_place::plans::DivisionNumber;
 use room_types::codes::Kind;
 use room_types::numbers::Moment;
-use room_types::refusals::Refusal;
+use room_types::refusal_statuses::Refusal;
 use room_types::rows::Rows;
 use room_types::slices::Slice;
 use room_types::tables::{Point, Vehicle};

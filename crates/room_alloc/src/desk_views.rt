@@ -1,7 +1,7 @@
 //! What a desk is shown of its vehicles, standby points, loans and offers.
 ghost use Rattle.std.specs.Prelude.{◌≡◌, List, IfErr, IfOk, map};
 ghost use Rattle.room_place.specs.declared.plans.Area.{Area};
-ghost use Rattle.room_types.specs.declared.refusals.Refusal.TheVariants.{Memory};
+ghost use Rattle.room_types.specs.declared.refusal_statuses.Refusal.TheVariants.{Memory};
 ghost use Rattle.room_model.specs.Decisions.{Decides};
 ghost use Rattle.room_model.specs.Loans.{show_loans, show_offers};
 ghost use Rattle.room_model.specs.Points.{point_line, show_points};
@@ -13,7 +13,7 @@ use crate::cover::holders;
 use room_types::answers::{Answer, Listed, PointLine, VehicleLine};
 use room_types::decisions::Decision;
 use room_types::numbers::Moment;
-use room_types::refusals::Refusal;
+use room_types::refusal_statuses::Refusal;
 use room_types::slices::Slice;
 use room_types::tables::{Point, Vehicle};
 use std::alloc::Global;
@@ -61,8 +61,8 @@ fn vehicle_line(slice: &Slice, vehicle: &Vehicle) -> VehicleLine
     }
 }
 
-/// The division's points in number order, each with the number of vehicles that hold it now. The
-/// one refusal is `Memory`.
+/// The division's points in number order, each with the number of vehicles that hold it now,
+/// counted in 64 bits. So the one refusal is `Memory`.
 #[tactic(auto, unfolding(room_model::specs::Points::show_points))]
 pub fn points(alloc: Global, slice: &Slice, at: Moment) -> Result<Decision, Refusal>
     ensures { (plan : List Area) → Decides

@@ -11,7 +11,7 @@ use room_place::places::Place;
 use room_types::callsign::Callsign;
 use room_types::decisions::Decision;
 use room_types::numbers::Moment;
-use room_types::refusals::Refusal;
+use room_types::refusal_statuses::Refusal;
 use room_types::slices::Slice;
 use std::alloc::Global;
 

@@ -8,7 +8,7 @@ ghost use Rattle.room_model.specs.Queries.{held, lent};
 ghost use Rattle.room_model.specs.RoomSlices.{room_of};
 
 use room_types::callsign::Callsign;
-use room_types::refusals::Refusal;
+use room_types::refusal_statuses::Refusal;
 use room_types::slices::Slice;
 use room_types::tables::{Loan, Vehicle};
 

@@ -1,7 +1,7 @@
 //! Offers of vehicles to other divisions, and the loans that come of them.
 ghost use Rattle.std.specs.Prelude.{◌≡◌, List, IfErr, MatchResult, None, Some};
 ghost use Rattle.room_place.specs.declared.plans.Area.{Area};
-ghost use Rattle.room_types.specs.declared.refusals.Refusal.TheVariants.{NoSuchOffer};
+ghost use Rattle.room_types.specs.declared.refusal_statuses.Refusal.TheVariants.{NoSuchOffer};
 ghost use Rattle.room_model.specs.Decisions.{Decides};
 ghost use Rattle.room_model.specs.Loans.{accept, decline, give_back, lend, recall, withdraw};
 ghost use Rattle.room_model.specs.Queries.{offered_to};
@@ -14,7 +14,7 @@ use room_types::changes::Change;
 use room_types::codes::Status;
 use room_types::decisions::Decision;
 use room_types::numbers::Moment;
-use room_types::refusals::Refusal;
+use room_types::refusal_statuses::Refusal;
 use room_types::slices::Slice;
 use room_types::tables::{Loan, Offer, Vehicle};
 use std::alloc::Global;

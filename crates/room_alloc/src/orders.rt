@@ -5,7 +5,7 @@ ghost use Rattle.room_types.specs.Needs.{need_of};
 ghost use Rattle.room_types.specs.Slices.{assignment_at, vehicle_at};
 ghost use Rattle.room_types.specs.declared.answers.Answer.TheVariants.{Done};
 ghost use Rattle.room_types.specs.declared.codes.Status.TheVariants as status;
-ghost use Rattle.room_types.specs.declared.refusals.Refusal.TheVariants.{Memory};
+ghost use Rattle.room_types.specs.declared.refusal_statuses.Refusal.TheVariants.{Memory};
 ghost use Rattle.room_model.specs.Decisions.{Decides};
 ghost use Rattle.room_model.specs.Moments.{number_limit};
 ghost use Rattle.room_model.specs.Queries.{open_turn, served};
@@ -21,7 +21,7 @@ use room_types::changes::Change;
 use room_types::codes::{Kind, Status};
 use room_types::decisions::Decision;
 use room_types::numbers::{LastNumber, Moment, Number};
-use room_types::refusals::Refusal;
+use room_types::refusal_statuses::Refusal;
 use room_types::slices::Slice;
 use room_types::tables::{Assignment, Incident, Turn, Vehicle};
 use std::alloc::Global;
@@ -134,7 +134,7 @@ fn assignment(incident: &Incident, vehicle: &Vehicle, order: Number) -> Assignme
 }
 
 /// Stands a mobilised vehicle down: it is returning and without its assignment, and its open turn,
-/// where the slice has one, is ended as stood down.
+/// where the slice has one, which in a well-formed room it has, is ended as stood down.
 ///
 /// Refused as `held` refuses, then as `WrongStatus` where the vehicle is not mobilised.
 #[tactic(auto, unfolding(room_model::specs::Vehicles::stand_down, room_model::specs::Decisions::refuse_if))]

@@ -12,7 +12,7 @@ use room_types::callsign::Callsign;
 use room_types::changes::Change;
 use room_types::decisions::Decision;
 use room_types::numbers::{Cover, Moment, PointNumber};
-use room_types::refusals::Refusal;
+use room_types::refusal_statuses::Refusal;
 use room_types::slices::Slice;
 use room_types::tables::{Point, Vehicle};
 use std::alloc::Global;

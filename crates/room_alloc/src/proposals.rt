@@ -2,7 +2,7 @@
 ghost use Rattle.std.specs.Prelude.{◌≡◌, ◌++◌, List, IfOk, IfErr, None, OnOk, Some, map};
 ghost use Rattle.room_place.specs.Choice.{AreFirst};
 ghost use Rattle.room_place.specs.declared.plans.Area.{Area};
-ghost use Rattle.room_types.specs.declared.refusals.Refusal.TheVariants.{Memory};
+ghost use Rattle.room_types.specs.declared.refusal_statuses.Refusal.TheVariants.{Memory};
 ghost use Rattle.room_types.specs.declared.tables.Incident.{Incident};
 ghost use Rattle.room_model.specs.Decisions.{Decides};
 ghost use Rattle.room_model.specs.Incidents.{lacking};
@@ -15,7 +15,7 @@ ghost use Rattle.room_alloc.specs.ProposalAnswers.{AreForIncident};
 ghost use Rattle.room_alloc.specs.Rings.{AreApart, AreOfKind, ArePlaced, proposal_at};
 
 use crate::candidates::short_points;
-use crate::nearness::Candidate;
+use crate::proposal_order::Candidate;
 use crate::ring_search::{candidates_round, nearest};
 use room_incident::active_incidents::active;
 use room_incident::served_needs::lack;
@@ -23,7 +23,7 @@ use room_types::answers::{Answer, Listed, Proposal};
 use room_types::codes::Kind;
 use room_types::decisions::Decision;
 use room_types::numbers::{Moment, Number};
-use room_types::refusals::Refusal;
+use room_types::refusal_statuses::Refusal;
 use room_types::rows::Rows;
 use room_types::slices::{DivisionRows, Slice};
 use room_types::tables::{Incident, Point};

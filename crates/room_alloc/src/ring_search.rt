@@ -1,22 +1,25 @@
-//! The nearest candidates, searched ring by ring of cells round the incident, so that the
-//! distances of those in later rings need not be known.
+//! The nearest candidates, searched ring by ring of cells round the incident, so that the distances
+//! of those in later rings need not be known. The search ends where all candidates were seen, or
+//! where enough were found and the worst that is kept is strictly nearer than the floor of the
+//! rings that are left: one just as far could stand before it by its callsign. Those that don't
+//! break cover are searched first.
 ghost use Rattle.std.specs.Prelude.{◌≡◌, ◌≤◌, IfErr, IfOk, None, filter, map, take};
 ghost use Rattle.room_place.specs.Choice.{AreFirst};
 ghost use Rattle.room_place.specs.Places.{IsInSquares};
 ghost use Rattle.room_types_keyed.specs.Keyed.{IsKeyed};
-ghost use Rattle.room_types.specs.declared.refusals.Refusal.TheVariants.{Memory};
+ghost use Rattle.room_types.specs.declared.refusal_statuses.Refusal.TheVariants.{Memory};
 ghost use Rattle.room_model.specs.Proposals.{is_before};
 ghost use Rattle.room_alloc.specs.Nearness.{nearness_cmp, proposal_with, whole};
 ghost use Rattle.room_alloc.specs.Rings.{AreApart, AreByRing, AreOfKind, ArePlaced, IsByRing, IsPlaced, IsSearched, candidate_of, candidates_round, is_enough, is_marked, nearness_of, proposal_at};
 
 use crate::candidates::{has_point, is_candidate};
-use crate::nearness::{Candidate, Nearness};
-use room_place::cells::{cell_of, ring_floor, ring_of};
+use crate::proposal_order::{Candidate, Nearness};
+use room_place::grid_cells::{cell_of, ring_floor, ring_of};
 use room_place::places::{Place, distance};
 use room_types::answers::{Listed, Proposal};
 use room_types::codes::Kind;
 use room_types::numbers::Moment;
-use room_types::refusals::Refusal;
+use room_types::refusal_statuses::Refusal;
 use room_types::rows::Rows;
 use room_types::slices::Slice;
 use room_types::tables::{Incident, Point, Vehicle};

@@ -30,12 +30,18 @@ module _ (d p : ℕ) (f : CallForm) (at : ℕ) (r : Room) (formed : IsWellFormed
   by_work : take_call (new_call p f at) r
       ≡ call_in d (new_call p f at) (working d (ask.Call f) at r)
   unfolding kept_call
-  by_work = sym (call_by_working d r formed p f at none placed) ∙ taken_in d (new_call p f at) (working d (ask.Call f) at r) (row_filter pair_cmp call_key pairs_total _ r.calls (p, f.serial) formed.order.calls ∙ not_among _) placed
+  by_work =
+      sym (call_by_working d r formed p f at none placed)
+      ∙ taken_in d (new_call p f at) (working d (ask.Call f) at r)
+      (row_filter pair_cmp call_key pairs_total _ r.calls (p, f.serial) formed.order.calls ∙ not_among _) placed
 
   -- and so by all of its division's
   by_share : take_call (new_call p f at) r ≡ call_in d (new_call p f at) (own d r)
   unfolding kept_call
-  by_share = sym (call_by_share d r formed p f at none placed) ∙ taken_in d (new_call p f at) (own d r) (row_filter pair_cmp call_key pairs_total _ r.calls (p, f.serial) formed.order.calls ∙ not_among _) placed
+  by_share =
+      sym (call_by_share d r formed p f at none placed)
+      ∙ taken_in d (new_call p f at) (own d r)
+      (row_filter pair_cmp call_key pairs_total _ r.calls (p, f.serial) formed.order.calls ∙ not_among _) placed
 
   by_read : (rows : Room) → AreRead d (ask.Call f) at rows r
       → take_call (new_call p f at) r ≡ call_in d (new_call p f at) rows
@@ -50,7 +56,8 @@ pub told_by : (d : ℕ) (new : NewCall) (r : Room) (f : CallForm) (rows : Room) 
     → division_of r.plan f.place ≡ Some d → AreRead d (ask.Call f) new.at rows r
     → take_call new r ≡ call_in d new rows
 told_by d new r f rows formed same none placed read =
-    ap (λ n. take_call n r) same ∙ by_read d new.position f new.at r formed none placed rows read ∙ ap (λ n. call_in d n rows) (sym same)
+    ap (λ n. take_call n r) same ∙ by_read d new.position f new.at r formed none placed rows read
+    ∙ ap (λ n. call_in d n rows) (sym same)
 
 -- and in another room with an equal share it is decided alike
 pub told_apart : (d : ℕ) (new : NewCall) (r other : Room) (f : CallForm) → IsWellFormed r
@@ -58,4 +65,5 @@ pub told_apart : (d : ℕ) (new : NewCall) (r other : Room) (f : CallForm) → I
     → kept_call new.position f.serial r ≡ None → kept_call new.position f.serial other ≡ None
     → division_of r.plan f.place ≡ Some d → take_call new r ≡ take_call new other
 told_apart d new r other f formed good same shares none nor placed =
-    ap (λ n. take_call n r) same ∙ call_equal d new.position f new.at r other formed good shares none nor placed ∙ sym (ap (λ n. take_call n other) same)
+    ap (λ n. take_call n r) same ∙ call_equal d new.position f new.at r other formed good shares none nor placed
+    ∙ sym (ap (λ n. take_call n other) same)

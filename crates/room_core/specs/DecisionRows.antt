@@ -9,7 +9,7 @@ use Rattle.room_model.specs.Room.{Room}
 use Rattle.room_model.specs.Shares.{own}
 use Rattle.room_model.specs.Working.{working}
 use Rattle.room_types.specs.declared.answers.Answer.TheVariants as answer
-use Rattle.room_types.specs.declared.refusals.Refusal.TheVariants as refusal
+use Rattle.room_types.specs.declared.refusal_statuses.Refusal.TheVariants as refusal
 
 -- The rows are those of division d's that the ask reads at this moment, or all of them.
 abbrev pub AreRead : ℕ → Ask → ℕ → Room → Room → Type 0

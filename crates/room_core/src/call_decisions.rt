@@ -1,12 +1,11 @@
 //! A call, decided on the rows of the division that it is placed in.
-ghost use Rattle.std.specs.Prelude.{◌≡◌, None, Ok, Some, not};
+ghost use Rattle.std.specs.Prelude.{◌≡◌, None, Ok, Some};
 ghost use Rattle.room_place.specs.Plans.{division_of};
 ghost use Rattle.room_types.specs.declared.asks.Ask.TheVariants.{Call as CallAsk};
 ghost use Rattle.room_types.specs.declared.asks.CallForm.{CallForm};
-ghost use Rattle.room_types.specs.declared.answers.Answer.TheVariants.{Called, LastSerial};
-ghost use Rattle.room_types.specs.declared.refusals.Refusal.TheVariants.{SerialReused};
-ghost use Rattle.room_model.specs.Calls.{new_call, same_call, take_call};
-ghost use Rattle.room_model.specs.Decisions.{Decides, refuse_if, show};
+ghost use Rattle.room_types.specs.declared.answers.Answer.TheVariants.{LastSerial};
+ghost use Rattle.room_model.specs.Calls.{new_call, take_call};
+ghost use Rattle.room_model.specs.Decisions.{Decides, show};
 ghost use Rattle.room_model.specs.Queries.{kept_call};
 ghost use Rattle.room_model.specs.Room.{Room};
 ghost use Rattle.room_model.specs.Shares.{own};
@@ -19,13 +18,12 @@ use room_types::answers::Answer;
 use room_types::asks::NewCall;
 use room_types::decisions::Decision;
 use room_types::numbers::LastNumber;
-use room_types::refusals::Refusal;
+use room_types::refusal_statuses::Refusal;
 use room_types::slices::Slice;
-use room_types::tables::Call;
 use std::alloc::Global;
 
-/// A call that the room has not kept, placed in the slice's division (the caller sees to both).
-/// Where the slice's rows are those that the call reads, or the division's whole share, the
+/// Decides a call that the room has not kept, placed in the slice's division (the caller sees to
+/// both). Where the slice's rows are those that the call reads, or the division's whole share, the
 /// decision is the room's, in every well-formed room.
 pub fn decide_call(alloc: Global, slice: &Slice, new: &NewCall) -> Result<Decision, Refusal>
     ensures decides { (r : Room) (f : CallForm) → IsWellFormed r
@@ -53,22 +51,4 @@ pub fn decide_last_serial(alloc: Global, serial: LastNumber) -> Decision
     ensures { Ok result ≡ show (LastSerial serial) }
 {
     Decision::show(alloc, Answer::LastSerial(serial))
-}
-
-/// A call whose serial the room has kept. Of the same content it gets its kept answer, and changes
-/// nothing; of another it is refused as `SerialReused`.
-#[tactic(auto, unfolding(room_model::specs::Decisions::refuse_if))]
-pub fn decide_again(alloc: Global, kept: &Call, new: &NewCall) -> Result<Decision, Refusal>
-    ensures { result ≡ refuse_if (not (same_call kept.now new.now)) SerialReused
-        (show (Called kept.now.division kept.now.given kept.now.linked)) }
-{
-    let is_same = kept.place == new.place
-        && kept.class == new.class
-        && kept.needs == new.needs
-        && kept.note == new.note;
-    if !is_same {
-        return Err(Refusal::SerialReused);
-    }
-    let answer = Answer::Called(kept.division, kept.given, kept.linked);
-    Ok(Decision::show(alloc, answer))
 }

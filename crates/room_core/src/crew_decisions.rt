@@ -7,7 +7,6 @@ ghost use Rattle.room_model.specs.Shares.{mine};
 ghost use Rattle.room_model.specs.RoomSlices.{AreCrewRows};
 ghost use Rattle.room_model.specs.WellFormed.{IsWellFormed};
 ghost use Rattle.room_model.specs.Reports.{last_of, order_of, take_report};
-ghost use Rattle.room_core.specs.DecisionRows.{again};
 
 use room_fleet::reports::take_report;
 use room_types::answers::Answer;
@@ -15,8 +14,8 @@ use room_types::asks::Press;
 use room_types::crews::CrewSlice;
 use room_types::decisions::Decision;
 use room_types::numbers::Moment;
-use room_types::refusals::Refusal;
-use room_types::tables::{Assignment, Report, Vehicle};
+use room_types::refusal_statuses::Refusal;
+use room_types::tables::{Assignment, Vehicle};
 use std::alloc::Global;
 
 /// What a vehicle is sent to: its assignment, its post and its status.
@@ -35,24 +34,8 @@ pub fn decide_last(alloc: Global, vehicle: &Vehicle) -> Decision
     Decision::show(alloc, answer)
 }
 
-/// A report whose number the room has kept. Of the same content it gets its kept answer, and
-/// changes nothing; of another it is refused as `NumberReused`.
-#[tactic(auto, unfolding(room_model::specs::Decisions::refuse_if))]
-pub fn decide_report_again(alloc: Global, kept: &Report, press: &Press) -> Result<Decision, Refusal>
-    ensures { result ≡ again kept.now press.now }
-{
-    let is_same = kept.button == press.button
-        && kept.order == press.order
-        && kept.place == press.place;
-    if !is_same {
-        return Err(Refusal::NumberReused);
-    }
-    let answer = Answer::Reported(kept.number, kept.outcome, kept.status);
-    Ok(Decision::show(alloc, answer))
-}
-
-/// A report whose number the room has not kept (the caller sees to that). In every well-formed room
-/// that has these rows of the vehicle the decision is the room's.
+/// Decides a report whose number the room has not kept (the caller sees to that). In every
+/// well-formed room that has these rows of the vehicle the decision is the room's.
 pub fn decide_report(
     alloc: Global,
     slice: &CrewSlice,

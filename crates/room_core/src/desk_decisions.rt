@@ -24,7 +24,7 @@ use room_queue::queues::queue;
 use room_types::asks::Ask;
 use room_types::decisions::Decision;
 use room_types::numbers::Moment;
-use room_types::refusals::Refusal;
+use room_types::refusal_statuses::Refusal;
 use room_types::slices::Slice;
 use std::alloc::Global;
 

@@ -5,3 +5,4 @@
 pub mod call_decisions;
 pub mod crew_decisions;
 pub mod desk_decisions;
+pub mod repeated_messages;

@@ -25,7 +25,9 @@ use Rattle.room_model.proofs.OpenTurns.{open_is, open_there}
 use Rattle.room_model.proofs.Tests.{none_of}
 use Rattle.room_model.specs.Decisions.{Verdict, tell}
 use Rattle.room_model.specs.Queries.{borrowed, held, kept_report, open_turn, vehicle_at}
-use Rattle.room_model.specs.Reports.{back_changes, drop_changes, ends_turn, is_due, is_home, outcome_of, report_acts, report_held, report_in, report_kept, report_made, report_somewhere, take_report, turn_after, turn_changes}
+use Rattle.room_model.specs.Reports.{back_changes, drop_changes, ends_turn, is_due, is_home, outcome_of, report_acts}
+use Rattle.room_model.specs.Reports.{report_held, report_in, report_kept, report_made, report_somewhere, take_report}
+use Rattle.room_model.specs.Reports.{turn_after, turn_changes}
 use Rattle.room_model.specs.Room.{Room}
 use Rattle.room_model.specs.RoomSlices.{AreCrewRows}
 use Rattle.room_model.specs.WellFormed.{IsWellFormed, LoanAgrees, OpenAgrees, TurnAgrees}
@@ -81,7 +83,8 @@ pub acted_so : (x : CrewRows) (y : Rows) (p : Press) (at : ℕ) (changes : List 
     (answer : Answer) → acts y.report.outcome ≡ true → y ≡ reported x p at
     → changes ≡ put_one_by_one x y → answer ≡ answer_of y → decided x p at ≡ tell answer changes
 acted_so x y p at changes answer acting same are told =
-    subst (λ (z : Rows). acts z.report.outcome ≡ true → decided x p at ≡ tell (answer_of z) (put_one_by_one x z)) (sym same) (made_so x p at (outcome_of x.vehicle x.turn p)) acting
+    subst (λ (z : Rows). acts z.report.outcome ≡ true → decided x p at ≡ tell (answer_of z) (put_one_by_one x z))
+    (sym same) (made_so x p at (outcome_of x.vehicle x.turn p)) acting
     ∙ (ap (tell (answer_of y)) (sym are) ∙ ap (λ a. tell a changes) (sym told))
 
 -- ---- a room that has a vehicle's rows decides its report by them
@@ -94,11 +97,15 @@ decided_so x r p at rows = rw (rows.vehicle, rows.turn, rows.loan) refl
 module _ (c : Callsign) (r : Room) (x : CrewRows) (formed : IsWellFormed r)
     (rows : AreCrewRows c r x) where
   named : x.vehicle.callsign ≡ c
-  named = subst (λ o. IfSome o (λ v. v.callsign ≡ c)) rows.vehicle (row_key callsign_cmp vehicle_key callsigns_total exact_callsigns r.vehicles c)
+  named =
+      subst (λ o. IfSome o (λ v. v.callsign ≡ c)) rows.vehicle
+      (row_key callsign_cmp vehicle_key callsigns_total exact_callsigns r.vehicles c)
 
   is_held : held x.vehicle.holder c r ≡ Some x.vehicle
   unfolding held
-  is_held = ap (keep (λ v. v.holder == x.vehicle.holder)) rows.vehicle ∙ ap (λ b. cond b (Some x.vehicle) None) (eq-eqb x.vehicle.holder x.vehicle.holder refl)
+  is_held =
+      ap (keep (λ v. v.holder == x.vehicle.holder)) rows.vehicle
+      ∙ ap (λ b. cond b (Some x.vehicle) None) (eq-eqb x.vehicle.holder x.vehicle.holder refl)
 
   borrower_kept : (v : Vehicle) (l : Option Loan) → LoanAgrees (Some v) l
       → keep (λ k. k.borrower == v.holder) l ≡ l
@@ -107,7 +114,9 @@ module _ (c : Callsign) (r : Room) (x : CrewRows) (formed : IsWellFormed r)
 
   is_borrowed : borrowed x.vehicle.holder c r ≡ x.loan
   unfolding borrowed
-  is_borrowed = borrower_kept x.vehicle _ (subst (λ o. LoanAgrees o (row_at callsign_cmp loan_key r.loans c)) rows.vehicle (formed.loans c)) ∙ rows.loan
+  is_borrowed =
+      borrower_kept x.vehicle _
+      (subst (λ o. LoanAgrees o (row_at callsign_cmp loan_key r.loans c)) rows.vehicle (formed.loans c)) ∙ rows.loan
 
   abbrev turn_of : ℕ → Option Turn
   turn_of m = row_at numbered_cmp turn_key r.turns (c, m)
@@ -127,14 +136,18 @@ module _ (c : Callsign) (r : Room) (x : CrewRows) (formed : IsWellFormed r)
   open_found (Some t) e =
       let there = open_there x.vehicle.holder c r formed.order t e in
       let last = open_last t.order t there.0 there.1 in
-      ap (keep (λ y. is_none y.ended)) (subst (λ m. turn_of m ≡ Some t) last.0 there.0) ∙ ap (λ m. cond (is_none m) (Some t) None) there.1
+      ap (keep (λ y. is_none y.ended)) (subst (λ m. turn_of m ≡ Some t) last.0 there.0)
+      ∙ ap (λ m. cond (is_none m) (Some t) None) there.1
   open_found None e = none_kept (turn_of x.vehicle.last_order) refl
     where
       none_kept : (o : Option Turn) → turn_of x.vehicle.last_order ≡ o
           → keep (λ t. is_none t.ended) o ≡ None
       none_kept None there = refl
       none_kept (Some t) there = (elim (is_none t.ended) as (λ b. is_none t.ended ≡ b → cond b (Some t) None ≡ None) [
-        | true ↦ λ f. absurd (open_is x.vehicle.holder c r formed.order None e x.vehicle.last_order t there (none_of t.ended f) (open_last x.vehicle.last_order t there (none_of t.ended f)).1)
+        | true ↦
+            λ f.
+            absurd (open_is x.vehicle.holder c r formed.order None e x.vehicle.last_order t there (none_of t.ended f)
+            (open_last x.vehicle.last_order t there (none_of t.ended f)).1)
         | false ↦ λ f. refl
       ]) refl
 

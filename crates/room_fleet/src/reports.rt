@@ -6,7 +6,7 @@ ghost use Rattle.room_types.specs.declared.answers.Answer.TheVariants as answer;
 ghost use Rattle.room_types.specs.declared.asks.Press.{Press};
 ghost use Rattle.room_types.specs.declared.changes.Change.TheVariants.{PutReport, PutTurn, PutVehicle};
 ghost use Rattle.room_types.specs.declared.crews.CrewRows.{CrewRows};
-ghost use Rattle.room_types.specs.declared.refusals.Refusal.TheVariants.{Memory};
+ghost use Rattle.room_types.specs.declared.refusal_statuses.Refusal.TheVariants.{Memory};
 ghost use Rattle.room_model.specs.Decisions.{Decides};
 ghost use Rattle.room_model.specs.Moments.{first_of};
 ghost use Rattle.room_model.specs.Queries.{kept_report};
@@ -24,7 +24,7 @@ use room_types::codes::{Button, Outcome, Status};
 use room_types::crews::{CrewRows, CrewSlice};
 use room_types::decisions::Decision;
 use room_types::numbers::{LastNumber, Moment};
-use room_types::refusals::Refusal;
+use room_types::refusal_statuses::Refusal;
 use room_types::tables::{Loan, Report, Turn, Vehicle};
 use std::alloc::Global;
 
@@ -131,7 +131,7 @@ pub struct Reported {
     pub turn: Option<Turn>,
     /// None where there was none, and where the vehicle went back to its lender.
     pub loan: Option<Loan>,
-    /// What is kept of the report itself, with its outcome and the status that its crew is told.
+    /// What is kept of the report itself, with its outcome and the status in its answer.
     pub report: Report,
 }
 

@@ -7,7 +7,7 @@ use room_types::changes::Change;
 use room_types::codes::Status;
 use room_types::decisions::Decision;
 use room_types::numbers::Moment;
-use room_types::refusals::Refusal;
+use room_types::refusal_statuses::Refusal;
 use room_types::tables::Vehicle;
 use std::alloc::Global;
 

@@ -6,8 +6,8 @@ use Rattle.room_types.specs.declared.asks.Ask.TheVariants as ask
 use Rattle.room_types.specs.declared.asks.Event.{Event}
 use Rattle.room_types.specs.declared.asks.Who.{Who}
 use Rattle.room_types.specs.declared.fleet.Terminal.{Terminal}
-use Rattle.room_types.specs.declared.refusals.Refusal.{Refusal}
-use Rattle.room_types.specs.declared.refusals.Refusal.TheVariants.{WrongRole}
+use Rattle.room_types.specs.declared.refusal_statuses.Refusal.{Refusal}
+use Rattle.room_types.specs.declared.refusal_statuses.Refusal.TheVariants.{WrongRole}
 use Rattle.room_model.specs.Room.{Room}
 use Rattle.room_model.specs.Step.{is_for}
 use Rattle.room_http_messages.specs.Messages.{WholeMessage, terminal_of}
@@ -36,10 +36,12 @@ no_times (Some a) day is = cc
 times_are_desks : (t : Target) (body : List ℕ) (day : Date)
     → request_by t body ≡ Some (request.Times day) → role_of t ≡ role.Desk
 unfolding request_by
-times_are_desks target.Call body day is = absurd (no_times (option_and_then (ask_with_body target.Call) (fields_of body)) day is)
+times_are_desks target.Call body day is =
+    absurd (no_times (option_and_then (ask_with_body target.Call) (fields_of body)) day is)
 times_are_desks target.Order body day is = absurd (cc)
 times_are_desks target.Last body day is = absurd (cc)
-times_are_desks target.Report body day is = absurd (no_times (option_and_then (ask_with_body target.Report) (fields_of body)) day is)
+times_are_desks target.Report body day is =
+    absurd (no_times (option_and_then (ask_with_body target.Report) (fields_of body)) day is)
 times_are_desks t body day is = refl
 
 pub request_addressed : (setting : Setting) (t : Target) (body : List ℕ) (given : Request) (asks : Ask)
@@ -61,14 +63,19 @@ pub asks_for : (setting : Setting) (terminals : List Terminal) (m : WholeMessage
     → is_of (role_of t) who ≡ true
     → request_by t body ≡ Some given → IsAskFor setting given asks
     → AsksFor setting terminals m at (Ok (record { who = who; ask = asks; at = at }))
-asks_for setting terminals m at method bytes body field t who given asks method_is target_is body_is field_is routed_is named_is may wants is =
+asks_for setting terminals m at method bytes body field t who given asks method_is target_is body_is field_is routed_is
+    named_is may wants is =
     let found : Result Event Refusal = Ok (record { who = who; ask = asks; at = at }) in
     let path : routed setting.history m.head.method m.head.target ≡ Ok t =
     ap (λ x. routed setting.history x m.head.target) (sym method_is)
     ∙ ap (λ x. routed setting.history method x) (sym target_is) ∙ routed_is in
     let shows : named terminals (terminal_of m.head) ≡ Some who = ap (named terminals) (sym field_is) ∙ named_is in
     let wanting : request_by t m.body ≡ Some given = ap (request_by t) (sym body_is) ∙ wants in
-    let by_body : AsksBy setting at who (request_by t m.body) found = subst (λ (g : Option Request). AsksBy setting at who g found) (sym wanting) (asks, is, refl) in
-    let by_role : AsksAs setting t m.body at (Some who) found = subst (λ (b : Bool). MatchBool b (AsksBy setting at who (request_by t m.body) found) (found ≡ Err WrongRole)) (sym may) by_body in
-    let by_terminal : AsksAt setting terminals m at (Ok t) found = subst (λ (w : Option Who). AsksAs setting t m.body at w found) (sym shows) by_role in
+    let by_body : AsksBy setting at who (request_by t m.body) found = subst
+    (λ (g : Option Request). AsksBy setting at who g found) (sym wanting) (asks, is, refl) in
+    let by_role : AsksAs setting t m.body at (Some who) found = subst
+    (λ (b : Bool). MatchBool b (AsksBy setting at who (request_by t m.body) found) (found ≡ Err WrongRole)) (sym may)
+    by_body in
+    let by_terminal : AsksAt setting terminals m at (Ok t) found = subst
+    (λ (w : Option Who). AsksAs setting t m.body at w found) (sym shows) by_role in
     subst (λ (r : Result Target Refusal). AsksAt setting terminals m at r found) (sym path) by_terminal

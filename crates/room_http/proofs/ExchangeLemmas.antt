@@ -1,5 +1,6 @@
 -- An exchange in another setting of the same zone's text and history, and one for an event at any moment.
-use Rattle.std.proofs.Common.{◌≡◌, ◌≤◌, arith, refl, subst, ℕ, List, [], ◌∷◌, Bool, true, false, Option, Some, None, Result, Ok, Err}
+use Rattle.std.proofs.Common.{◌≡◌, ◌≤◌, arith, refl, subst, ℕ, List, [], ◌∷◌, Bool, true, false, Option, Some, None}
+use Rattle.std.proofs.Common.{Result, Ok, Err}
 use Rattle.std.specs.Prelude.{MatchBool, pos}
 use Rattle.jiff.specs.Placed.{IsPosixZone}
 use Rattle.jiff_core.specs.Calendar.{days_from_civil}
@@ -7,8 +8,8 @@ use Rattle.room_types.specs.declared.asks.Ask.{Ask}
 use Rattle.room_types.specs.declared.asks.Event.{Event}
 use Rattle.room_types.specs.declared.asks.Who.{Who}
 use Rattle.room_types.specs.declared.fleet.Terminal.{Terminal}
-use Rattle.room_types.specs.declared.refusals.Refusal.{Refusal}
-use Rattle.room_types.specs.declared.refusals.Refusal.TheVariants.{WrongRole}
+use Rattle.room_types.specs.declared.refusal_statuses.Refusal.{Refusal}
+use Rattle.room_types.specs.declared.refusal_statuses.Refusal.TheVariants.{WrongRole}
 use Rattle.room_model.specs.Room.{Room}
 use Rattle.room_model.specs.Step.{answer_to}
 use Rattle.room_model.specs.Rooms.{machine}
@@ -34,7 +35,11 @@ module _ (text : List ℕ) (a b : Setting) (in_a : IsSetting text b.history a)
     (in_b : IsPosixZone text (zone_of b.zone)) where
   ask_in : (given : Request) (asks : Ask) → IsAskFor a given asks → IsAskFor b given asks
   ask_in (request.Ask q) asks is = is
-  ask_in (request.Times day) asks is = (is.0, one_zone_law text a.zone b.zone in_a.zone in_b (days_from_civil (pos day.year) day.month day.day) is.0 is.1, is.2)
+  ask_in (request.Times day) asks is = (
+    is.0,
+    one_zone_law text a.zone b.zone in_a.zone in_b (days_from_civil (pos day.year) day.month day.day) is.0 is.1,
+    is.2,
+  )
 
   by_in : (at : ℕ) (who : Who) (given : Option Request) (found : Result Event Refusal)
       → AsksBy a at who given found → AsksBy b at who given found
@@ -50,7 +55,8 @@ module _ (text : List ℕ) (a b : Setting) (in_a : IsSetting text b.history a)
   as_in : (target : Target) (body : List ℕ) (at : ℕ) (who : Option Who)
       (found : Result Event Refusal) → AsksAs a target body at who found → AsksAs b target body at who found
   as_in target body at None found asks = asks
-  as_in target body at (Some who) found asks = role_in (is_of (role_of target) who) at who (request_by target body) found asks
+  as_in target body at (Some who) found asks =
+      role_in (is_of (role_of target) who) at who (request_by target body) found asks
 
   pub found_in : (terminals : List Terminal) (x : Timed) (found : Result Event Refusal)
       → Finds a terminals x found → Finds b terminals x found
@@ -58,7 +64,8 @@ module _ (text : List ℕ) (a b : Setting) (in_a : IsSetting text b.history a)
       at_in (routed b.history m.head.method m.head.target)
       (subst (λ history. AsksAt a terminals m at (routed history m.head.method m.head.target) found) in_a.history asks)
     where
-      at_in : (target : Result Target Refusal) → AsksAt a terminals m at target found → AsksAt b terminals m at target found
+      at_in : (target : Result Target Refusal) → AsksAt a terminals m at target found
+          → AsksAt b terminals m at target found
       at_in (Ok target) asks = as_in target m.body at (named terminals (terminal_of m.head)) found asks
       at_in (Err r) asks = asks
   found_in terminals (refused r head_only, at) found asks = asks
@@ -78,5 +85,6 @@ pub exchange_of : (setting : Setting) (terminals : List Terminal) (x : Timed) (e
     → (done : Exchange) × (done.arrival ≡ x) × (done.found ≡ Ok event)
     × AreAnswered setting terminals (done ∷ []) room
 exchange_of setting terminals x event room within finds =
-    let reply = always_there_law (answer_to event room) x.1 (is_head_only x.0) (is_closing x.0) (omega (arith, within)) in
+    let reply = always_there_law (answer_to event room) x.1 (is_head_only x.0) (is_closing x.0)
+    (omega (arith, within)) in
     (record { arrival = x; found = Ok event; bytes = reply.0 }, refl, refl, (finds, reply.1, tt))

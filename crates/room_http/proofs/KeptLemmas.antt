@@ -1,12 +1,13 @@
 -- Lemmas on what a observer keeps.
-use Rattle.std.proofs.Common.{◌≡◌, ◌∙◌, ◌≤◌, ap, sym, refl, inl, inr, ℕ, List, [], ◌∷◌, ◌++◌, map, append-nil, append_assoc, Bool, false, Option, Some, None, Result, Ok, Err, All}
+use Rattle.std.proofs.Common.{◌≡◌, ◌∙◌, ◌≤◌, ap, sym, refl, inl, inr, ℕ, List, [], ◌∷◌, ◌++◌, map, append-nil}
+use Rattle.std.proofs.Common.{append_assoc, Bool, false, Option, Some, None, Result, Ok, Err, All}
 use Rattle.std.proofs.lemmas.List.{map-append}
 use Rattle.std.proofs.lemmas.List.Elements.{All-nil, All-push}
 use Rattle.std.proofs.lemmas.List.Folds.{concat-append}
 use Rattle.std.specs.List.{concat}
 use Rattle.std.specs.Io.KnownBytes.{Appends, Keeps}
 use Rattle.room_types.specs.declared.fleet.Terminal.{Terminal}
-use Rattle.room_types.specs.declared.refusals.Refusal.{Refusal}
+use Rattle.room_types.specs.declared.refusal_statuses.Refusal.{Refusal}
 use Rattle.room_model.specs.Room.{Room}
 use Rattle.room_http_answers.specs.ReplyMessages.{fixed_bytes}
 use Rattle.room_http_messages.proofs.StreamLemmas.{Appends-more, Appends-none}
@@ -17,9 +18,11 @@ use Rattle.room_model.specs.Rooms.{IsWant, Step}
 use Rattle.room_http.specs.declared.arrivals.Arrived.{Arrived}
 use Rattle.room_http.specs.declared.arrivals.Arrived.TheVariants.{Message, Refused}
 use Rattle.room_http.specs.declared.session.ServeEnd.{ServeEnd}
-use Rattle.room_http.specs.declared.session.ServeEnd.TheVariants.{Closed, Cut, ReadFault, WriteFault, ClockFault, Unkept, ReadsSpent, Memory}
+use Rattle.room_http.specs.declared.session.ServeEnd.TheVariants.{Closed, Cut, ReadFault, WriteFault, ClockFault}
+use Rattle.room_http.specs.declared.session.ServeEnd.TheVariants.{Unkept, ReadsSpent, Memory}
 use Rattle.room_http.specs.Arrivals.{Arrival, message, refused, is_closing, is_head_only, Begins, HasNext, IsShown}
-use Rattle.room_http.specs.Kept.{Acts, ActsOnEach, AreKept, AreReplies, DoesNothing, Grow, IsBegun, IsCome, IsRecord, KeepsEach, KeepsOne, Tapes, Unmoved, answer_kept, came_of, told_of}
+use Rattle.room_http.specs.Kept.{Acts, ActsOnEach, AreKept, AreReplies, DoesNothing, Grow, IsBegun, IsCome, IsRecord}
+use Rattle.room_http.specs.Kept.{KeepsEach, KeepsOne, Tapes, Unmoved, answer_kept, came_of, told_of}
 use Rattle.room_http.specs.Talk.{Timed, IsFront, IsReplyTo}
 use Rattle.room_http.specs.Course.{Course}
 use Rattle.room_http.proofs.ServeLemmas.{last_of, still_begins}
@@ -31,8 +34,13 @@ pub nothing_done : (given gives kept held : Option (List ℕ)) (was_none : Bool)
     → HasNoMoment given gives was_none []
     → DoesNothing (record { given = given; kept = kept; held = held })
     (record { given = gives; kept = kept; held = held })
-nothing_done given gives kept held was_none (inl none) = ([], inl refl, record { given = none.1; kept = Appends-none kept; held = Appends-none held })
-nothing_done given gives kept held was_none (inr late) = (late.0 ∷ [], inr (late.0, late.1, refl), record { given = late.2; kept = Appends-none kept; held = Appends-none held })
+nothing_done given gives kept held was_none (inl none) =
+    ([], inl refl, record { given = none.1; kept = Appends-none kept; held = Appends-none held })
+nothing_done given gives kept held was_none (inr late) = (
+  late.0 ∷ [],
+  inr (late.0, late.1, refl),
+  record { given = late.2; kept = Appends-none kept; held = Appends-none held },
+)
 
 -- one arrival more
 AreReplies-push : (step : Step) (setting : Setting) (terminals : List Terminal) (room mid after : Room)
@@ -70,11 +78,13 @@ module _ (came : ℕ → List ℕ → List ℕ) (told : List ℕ → List ℕ) w
     abbrev Here : Option (List ℕ) → Option (List ℕ) → Option (List ℕ) → Option (List ℕ)
         → Result (Unit {0}) ServeEnd → Type 0
     Here kept keeps held holds =
-        KeepsOne came told lasts unmoved moved (record { given = given; kept = kept; held = held }) (record { given = gives; kept = keeps; held = holds }) at o
+        KeepsOne came told lasts unmoved moved (record { given = given; kept = kept; held = held })
+        (record { given = gives; kept = keeps; held = holds }) at o
 
     is_record : (answer : List ℕ) → IsRecord came told (o, at) answer
         (coming ++ told_of told arrived answer)
-    is_record answer = (coming, come arrived o at within shown, ap (λ t. coming ++ t) (answer_is arrived o answer shown))
+    is_record answer =
+        (coming, come arrived o at within shown, ap (λ t. coming ++ t) (answer_is arrived o answer shown))
 
     -- it could not be kept as it came
     pub kept_none : (kept keeps held : Option (List ℕ)) → lasts → unmoved
@@ -116,7 +126,22 @@ module _ (came : ℕ → List ℕ → List ℕ) (told : List ℕ → List ℕ) w
       kept_part kept comes keeps held first cut = (
         coming ++ cut.0,
         [],
-        inr (answer, acted, stays, inl ((coming, cut.0, come arrived o at within shown, (cut.1.0, sym (answer_is arrived o answer shown) ∙ cut.1.1), refl, refl), refl)),
+        inr (
+          answer,
+          acted,
+          stays,
+          inl (
+            (
+              coming,
+              cut.0,
+              come arrived o at within shown,
+              (cut.1.0, sym (answer_is arrived o answer shown) ∙ cut.1.1),
+              refl,
+              refl,
+            ),
+            refl,
+          ),
+        ),
         record {
           given = moment;
           kept = Appends-more kept comes keeps coming cut.0 first cut.2;
@@ -228,14 +253,23 @@ module _ (came : ℕ → List ℕ → List ℕ) (told : List ℕ → List ℕ) w
     Noted-ends remains new trusted stood stands outs answers before end lasts same = record {
       text = before.text;
       kept = before.kept;
-      ends = inl (refl, same, before.moved, (λ stream known. let begins = before.begins stream known in (begins.0, begins.2, tt)), ([], inl refl, rw append-nil before.grew));
+      ends =
+          inl (
+            refl,
+            same,
+            before.moved,
+            (λ stream known. let begins = before.begins stream known in (begins.0, begins.2, tt)),
+            ([], inl refl, rw append-nil before.grew),
+          );
     }
 
     -- one more arrival
     module _ (early_left remains : Option (List ℕ)) (mid : Tapes) (early late : Type 0)
         (stood stays stands : List Terminal → Room → Type 0) (earlier : late → early)
         (outs : List Timed) (answers : List (List ℕ))
-        (noted : Noted step setting left old early_left mid early stood stays outs answers) (same : Keeps early_left remains) (new : Tapes) (after : Option (List ℕ)) (o : Arrival) (pass : Passes remains after o) (at : ℕ)
+        (noted : Noted step setting left old early_left mid early stood stays outs answers)
+        (same : Keeps early_left remains) (new : Tapes) (after : Option (List ℕ)) (o : Arrival)
+        (pass : Passes remains after o) (at : ℕ)
         (lasts later : Type 0) (both : later → lasts) where
       before : Noted step setting left old remains mid early stood stays outs answers
       before = Noted-kept early_left remains mid early stood stays outs answers noted same
@@ -258,8 +292,11 @@ module _ (came : ℕ → List ℕ → List ℕ) (told : List ℕ → List ℕ) w
           → Now (outs ++ (o, at) ∷ []) (answers ++ answer ∷ [])
       one_moves answer acts trust terminals room standing =
           let first = before.moved (earlier trust) terminals room standing in
-          let second = acts trust terminals first.0 first.2 in
-          (second.0, AreReplies-push step setting terminals room first.0 second.0 outs answers (o, at) answer first.1 second.1, second.2)
+          let second = acts trust terminals first.0 first.2 in (
+            second.0,
+            AreReplies-push step setting terminals room first.0 second.0 outs answers (o, at) answer first.1 second.1,
+            second.2,
+          )
 
       begins_more : (stream : List ℕ) → left ≡ Some stream
           → (next : List ℕ) × (after ≡ Some next)
@@ -288,13 +325,16 @@ module _ (came : ℕ → List ℕ → List ℕ) (told : List ℕ → List ℕ) w
       grow_next : (text bytes : List ℕ) → Grow mid new (at ∷ []) text bytes
           → Grow old new (map (λ x. x.1) (outs ++ (o, at) ∷ [])) (before.text ++ text)
           (concat answers ++ bytes)
-      grow_next text bytes more = rw (map-append (λ (x : Timed). x.1) outs ((o, at) ∷ [])) (grow_more (at ∷ []) text bytes more)
+      grow_next text bytes more =
+          rw (map-append (λ (x : Timed). x.1) outs ((o, at) ∷ [])) (grow_more (at ∷ []) text bytes more)
 
       grow_one : (text answer : List ℕ) → Grow mid new (at ∷ []) text answer
           → Grow old new (map (λ x. x.1) (outs ++ (o, at) ∷ [])) (before.text ++ text)
           (concat (answers ++ answer ∷ []))
       grow_one text answer more =
-          let all : concat (answers ++ answer ∷ []) ≡ concat answers ++ answer = concat-append answers (answer ∷ []) ∙ ap (λ t. concat answers ++ t) (append-nil answer) in
+          let all : concat (answers ++ answer ∷ [])
+          ≡ concat answers ++ answer =
+          concat-append answers (answer ∷ []) ∙ ap (λ t. concat answers ++ t) (append-nil answer) in
           rw all (grow_next text answer more)
 
       -- it was answered, and stays open

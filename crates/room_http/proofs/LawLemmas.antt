@@ -1,5 +1,6 @@
 -- A stream has one list of messages, and arrivals at their moments get one answer each.
-use Rattle.std.proofs.Common.{◌≡◌, ◌∙◌, sym, ap, subst, refl, arith, ℕ, ℤ, List, [], ◌∷◌, ◌++◌, Bool, true, false, Option, Some, None, Result, Ok, Err}
+use Rattle.std.proofs.Common.{◌≡◌, ◌∙◌, sym, ap, subst, refl, arith, ℕ, ℤ, List, [], ◌∷◌, ◌++◌, Bool, true, false}
+use Rattle.std.proofs.Common.{Option, Some, None, Result, Ok, Err}
 use Rattle.std.specs.Prelude.{MatchBool, pos}
 use Rattle.jiff_core.specs.Calendar.{days_from_civil}
 use Rattle.room_types.specs.declared.asks.Ask.{Ask}
@@ -7,8 +8,8 @@ use Rattle.room_types.specs.declared.asks.Ask.TheVariants as ask
 use Rattle.room_types.specs.declared.asks.Event.{Event}
 use Rattle.room_types.specs.declared.asks.Who.{Who}
 use Rattle.room_types.specs.declared.fleet.Terminal.{Terminal}
-use Rattle.room_types.specs.declared.refusals.Refusal.{Refusal}
-use Rattle.room_types.specs.declared.refusals.Refusal.TheVariants.{WrongRole}
+use Rattle.room_types.specs.declared.refusal_statuses.Refusal.{Refusal}
+use Rattle.room_types.specs.declared.refusal_statuses.Refusal.TheVariants.{WrongRole}
 use Rattle.room_model.specs.Room.{Room}
 use Rattle.room_http_messages.specs.declared.read_faults.Unread.TheVariants.{Refused}
 use Rattle.room_http_messages.specs.Messages.{WholeMessage, terminal_of}
@@ -39,23 +40,33 @@ pub one_stream_law : IsOneStream
 one_stream_law stream [] many rest left x y fewer = tt
 one_stream_law stream (o ∷ few) [] rest left x y fewer = absurd (omega arith)
 one_stream_law stream (message m ∷ few) (message n ∷ many) rest left x y fewer =
-    let same = one_message_law stream m n x.0 y.0 x.1 y.1 in
-    (same.0, one_stream_law x.0 few many rest left x.3 (subst (λ (s : List ℕ). Begins s many left) (sym same.1) y.3) (omega arith))
-one_stream_law stream (message m ∷ few) (refused r head_only ∷ many) rest left x y fewer = absurd (no_end_law stream m x.0 (Refused r head_only) x.1 y.1.0)
-one_stream_law stream (refused r head_only ∷ few) (message n ∷ many) rest left x y fewer = absurd (no_end_law stream n y.0 (Refused r head_only) y.1 x.1.0)
-one_stream_law stream (refused r head_only ∷ few) (refused s without ∷ many) rest left x y fewer = (tt, none_more few many (x.2 refl))
+    let same = one_message_law stream m n x.0 y.0 x.1 y.1 in (
+      same.0,
+      one_stream_law x.0 few many rest left x.3 (subst (λ (s : List ℕ). Begins s many left) (sym same.1) y.3)
+          (omega arith),
+    )
+one_stream_law stream (message m ∷ few) (refused r head_only ∷ many) rest left x y fewer =
+    absurd (no_end_law stream m x.0 (Refused r head_only) x.1 y.1.0)
+one_stream_law stream (refused r head_only ∷ few) (message n ∷ many) rest left x y fewer =
+    absurd (no_end_law stream n y.0 (Refused r head_only) y.1 x.1.0)
+one_stream_law stream (refused r head_only ∷ few) (refused s without ∷ many) rest left x y fewer =
+    (tt, none_more few many (x.2 refl))
 
 one_ask : (setting : Setting) (given : Request) (a b : Ask) → IsAskFor setting given a
     → IsAskFor setting given b → a ≡ b
 one_ask setting (request.Ask x) a b is also = is ∙ sym also
 one_ask setting (request.Times day) a b is also =
-    is.2 ∙ ap (λ (span : ℤ × ℤ). ask.Times span.0 span.1) (one_span_law (zone_of setting.zone) (days_from_civil (pos day.year) day.month day.day) is.0 also.0 is.1 also.1) ∙ sym also.2
+    is.2
+    ∙ ap (λ (span : ℤ × ℤ). ask.Times span.0 span.1)
+    (one_span_law (zone_of setting.zone) (days_from_civil (pos day.year) day.month day.day) is.0 also.0 is.1 also.1)
+    ∙ sym also.2
 
 one_by : (setting : Setting) (at : ℕ) (who : Who) (given : Option Request) (f g : Result Event Refusal)
     → AsksBy setting at who given f → AsksBy setting at who given g → f ≡ g
 one_by setting at who None f g is also = is ∙ sym also
 one_by setting at who (Some w) f g is also =
-    is.2 ∙ ap (λ (a : Ask). Ok (record { who = who; ask = a; at = at })) (one_ask setting w is.0 also.0 is.1 also.1) ∙ sym also.2
+    is.2 ∙ ap (λ (a : Ask). Ok (record { who = who; ask = a; at = at })) (one_ask setting w is.0 also.0 is.1 also.1)
+    ∙ sym also.2
 
 one_role : (may : Bool) (setting : Setting) (at : ℕ) (who : Who) (given : Option Request)
     (f g : Result Event Refusal)
@@ -67,17 +78,20 @@ one_role false setting at who given f g is also = is ∙ sym also
 one_as : (setting : Setting) (t : Target) (body : List ℕ) (at : ℕ) (who : Option Who)
     (f g : Result Event Refusal) → AsksAs setting t body at who f → AsksAs setting t body at who g → f ≡ g
 one_as setting t body at None f g is also = is ∙ sym also
-one_as setting t body at (Some who) f g is also = one_role (is_of (role_of t) who) setting at who (request_by t body) f g is also
+one_as setting t body at (Some who) f g is also =
+    one_role (is_of (role_of t) who) setting at who (request_by t body) f g is also
 
 one_at : (setting : Setting) (terminals : List Terminal) (m : WholeMessage) (at : ℕ)
     (r : Result Target Refusal) (f g : Result Event Refusal)
     → AsksAt setting terminals m at r f → AsksAt setting terminals m at r g → f ≡ g
-one_at setting terminals m at (Ok t) f g is also = one_as setting t m.body at (named terminals (terminal_of m.head)) f g is also
+one_at setting terminals m at (Ok t) f g is also =
+    one_as setting t m.body at (named terminals (terminal_of m.head)) f g is also
 one_at setting terminals m at (Err r) f g is also = is ∙ sym also
 
 one_find : (setting : Setting) (terminals : List Terminal) (x : Timed) (f g : Result Event Refusal)
     → Finds setting terminals x f → Finds setting terminals x g → f ≡ g
-one_find setting terminals (message m, at) f g is also = one_at setting terminals m at (routed setting.history m.head.method m.head.target) f g is also
+one_find setting terminals (message m, at) f g is also =
+    one_at setting terminals m at (routed setting.history m.head.method m.head.target) f g is also
 one_find setting terminals (refused r head_only, at) f g is also = is ∙ sym also
 
 one_reply_to : (step : Step) (setting : Setting) (terminals : List Terminal) (room : Room) (x : Timed)
@@ -86,7 +100,9 @@ one_reply_to : (step : Step) (setting : Setting) (terminals : List Terminal) (ro
     → IsReplyTo step setting terminals room x other others → (after ≡ other) × (bytes ≡ others)
 one_reply_to step setting terminals room x after other bytes others is also =
     let same = one_find setting terminals x is.0 also.0 is.1 also.1 in
-    let again = subst (λ (f : Result Event Refusal). IsReply (replied step f room).1 x.1 (is_head_only x.0) (is_closing x.0) bytes) same is.3 in (
+    let again = subst
+    (λ (f : Result Event Refusal). IsReply (replied step f room).1 x.1 (is_head_only x.0) (is_closing x.0) bytes) same
+    is.3 in (
       is.2 ∙ ap (λ (f : Result Event Refusal). (replied step f room).0) same ∙ sym also.2,
       one_reply_law (replied step also.0 room).1 x.1 (is_head_only x.0) (is_closing x.0) bytes others again also.3,
     )
@@ -112,7 +128,11 @@ one_course_law setting terminals room after (o ∷ outs) (a ∷ answers) [] repl
 one_course_law setting terminals room after (o ∷ outs) (a ∷ answers) (x ∷ xs) replies answered is =
     let head : x.arrival ≡ o = cc in
     let tail : arrivals_of xs ≡ outs = cc in
-    let told = subst (λ (y : Timed). IsReplyTo machine setting terminals room y (replied machine x.found room).0 x.bytes) head (x.found, answered.0, refl, answered.1) in
-    let same = one_reply_to machine setting terminals room o (replied machine x.found room).0 replies.0 x.bytes a told replies.1 in
-    let more = one_course_law setting terminals replies.0 after outs answers xs replies.2 (subst (AreAnswered setting terminals xs) same.0 answered.2) tail in
+    let told = subst
+    (λ (y : Timed). IsReplyTo machine setting terminals room y (replied machine x.found room).0 x.bytes) head
+    (x.found, answered.0, refl, answered.1) in
+    let same = one_reply_to machine setting terminals room o (replied machine x.found room).0 replies.0 x.bytes a told
+    replies.1 in
+    let more = one_course_law setting terminals replies.0 after outs answers xs replies.2
+    (subst (AreAnswered setting terminals xs) same.0 answered.2) tail in
     ap (λ b. b ∷ answers_of xs) same.1 ∙ ap (λ bs. a ∷ bs) more

@@ -1,5 +1,6 @@
 -- Every run of a connection keeps the promises.
-use Rattle.std.proofs.Common.{◌≡◌, ◌∙◌, ap, append_assoc, inl, inr, refl, subst, sym, ℕ, List, [], ◌∷◌, ◌++◌, Bool, true, Some, Result, Ok, Err}
+use Rattle.std.proofs.Common.{◌≡◌, ◌∙◌, ap, append_assoc, inl, inr, refl, subst, sym, ℕ, List, [], ◌∷◌, ◌++◌, Bool}
+use Rattle.std.proofs.Common.{true, Some, Result, Ok, Err}
 use Rattle.std.specs.Prelude.{cond, false, is_ok, ⊤}
 use Rattle.room_place.specs.Choice.{Among}
 use Rattle.room_types.specs.Texts.{Callsign}
@@ -9,8 +10,8 @@ use Rattle.room_types.specs.declared.asks.Ask.TheVariants.{Call, Report}
 use Rattle.room_types.specs.declared.asks.CallForm.{CallForm}
 use Rattle.room_types.specs.declared.asks.Event.{Event}
 use Rattle.room_types.specs.declared.fleet.Terminal.{Terminal}
-use Rattle.room_types.specs.declared.refusals.Refusal.{Refusal}
-use Rattle.room_types.specs.declared.refusals.Refusal.TheVariants.{SerialReused}
+use Rattle.room_types.specs.declared.refusal_statuses.Refusal.{Refusal}
+use Rattle.room_types.specs.declared.refusal_statuses.Refusal.TheVariants.{SerialReused}
 use Rattle.room_model.proofs.AssignedOnce.{of_one_order, one_assignment, one_open_turn}
 use Rattle.room_model.proofs.CrewLaws.{mine_answer, mine_equal}
 use Rattle.room_model.proofs.KeptEvents.{addressed_run, run_kept}
@@ -34,7 +35,8 @@ use Rattle.room_http.specs.declared.settings.Setting.{Setting}
 use Rattle.room_model.specs.Rooms.{machine}
 use Rattle.room_http.specs.Arrivals.{is_closing, is_head_only}
 use Rattle.room_http.specs.Promises.{ActsOnce, IsDeskAlike, AreSentOnce, Promises, StaysOutside}
-use Rattle.room_http.specs.Runs.{AreAnswered, AreTold, Exchange, IsRun, IsTold, answers_of, arrivals_of, asker, event_then, events_of, is_by_desk, room_by, with_desk}
+use Rattle.room_http.specs.Runs.{AreAnswered, AreTold, Exchange, IsRun, IsTold, answers_of, arrivals_of, asker}
+use Rattle.room_http.specs.Runs.{event_then, events_of, is_by_desk, room_by, with_desk}
 use Rattle.room_http.specs.Talk.{Finds, Timed, replied}
 use Rattle.room_http.proofs.RunLemmas.{found_asked_by, room_push, room_split, run_first}
 
@@ -57,7 +59,8 @@ module _ (known : Room) where
   addressed_in : (before rest : List Exchange) (x : Exchange) (event : Event)
       → x.found ≡ Ok event → AreAddressed (events_of (before ++ x ∷ rest)) known
       → IsAddressed event known
-  addressed_in [] rest x event is all = (subst (λ (found : Result Event Refusal). AreAddressed (event_then found (events_of rest)) known) is all).0
+  addressed_in [] rest x event is all =
+      (subst (λ (found : Result Event Refusal). AreAddressed (event_then found (events_of rest)) known) is all).0
   addressed_in (y ∷ before) rest x event is all = go y.found (addressed_in before rest x event is) all
     where
       go : (found : Result Event Refusal)
@@ -83,8 +86,10 @@ asked_in : (setting : Setting) (terminals : List Terminal) (xs : List Exchange) 
     → (asker terminals x.arrival.0 ≡ Some event.who) × (event.at ≡ x.arrival.1)
 asked_in setting terminals [] room are x event there is = absurd there
 asked_in setting terminals (y ∷ xs) room are x event (inl same) is =
-    found_asked_by setting terminals x.arrival (Ok event) (rw is at (subst (λ (z : Exchange). Finds setting terminals z.arrival z.found) (sym same) are.0))
-asked_in setting terminals (y ∷ xs) room are x event (inr there) is = asked_in setting terminals xs (replied machine y.found room).0 are.2 x event there is
+    found_asked_by setting terminals x.arrival (Ok event)
+    (rw is at (subst (λ (z : Exchange). Finds setting terminals z.arrival z.found) (sym same) are.0))
+asked_in setting terminals (y ∷ xs) room are x event (inr there) is =
+    asked_in setting terminals xs (replied machine y.found room).0 are.2 x event there is
 
 -- ---- what a desk is answered
 told_apart : (d : ℕ) (b : Bool) (x : Exchange) (xs : List Exchange)
@@ -98,13 +103,16 @@ desk_answered : (setting : Setting) (terminals : List Terminal) (d : ℕ) (xs : 
     (room : Room) → AreAnswered setting terminals xs room
     → AreTold (with_desk d xs) (told d (events_of xs) room)
 desk_answered setting terminals d [] room are = tt
-desk_answered setting terminals d (x ∷ xs) room are = go x.found are.1 (desk_answered setting terminals d xs (replied machine x.found room).0 are.2)
+desk_answered setting terminals d (x ∷ xs) room are =
+    go x.found are.1 (desk_answered setting terminals d xs (replied machine x.found room).0 are.2)
   where
     go : (found : Result Event Refusal) → IsTold x (replied machine found room).1
         → AreTold (with_desk d xs) (told d (events_of xs) (replied machine found room).0)
         → AreTold (cond (is_by_desk d found) (x ∷ with_desk d xs) (with_desk d xs))
         (told d (event_then found (events_of xs)) room)
-    go (Ok event) first rest = told_apart d (is_desk d event.who) x (with_desk d xs) (answer_to event room) (told d (events_of xs) (room_after event room)) first rest
+    go (Ok event) first rest =
+        told_apart d (is_desk d event.who) x (with_desk d xs) (answer_to event room)
+        (told d (events_of xs) (room_after event room)) first rest
     go (Err r) first rest = rest
 
 -- equal answers to equal arrivals are equal bytes
@@ -118,7 +126,8 @@ told_alike (x ∷ xs) (y ∷ ys) (answer ∷ answers) are also same =
     let first : x.arrival ≡ y.arrival = cc in
     let rest : arrivals_of xs ≡ arrivals_of ys = cc in
     let again = subst (λ (o : Timed). IsReply answer o.1 (is_head_only o.0) (is_closing o.0) x.bytes) first are.0 in
-    let bytes = one_reply_law answer y.arrival.1 (is_head_only y.arrival.0) (is_closing y.arrival.0) x.bytes y.bytes again also.0 in
+    let bytes = one_reply_law answer y.arrival.1 (is_head_only y.arrival.0) (is_closing y.arrival.0) x.bytes y.bytes
+    again also.0 in
     λ i. bytes i ∷ told_alike xs ys answers are.1 also.1 rest i
 
 -- ---- the promises
@@ -126,7 +135,8 @@ sent_once_in : (room : Room) → IsWellFormed room → AreSentOnce room
 sent_once_in room formed = record {
   assigned_once = one_assignment room formed;
   turned_once = one_open_turn room formed;
-  together = λ a t here there unended same. let is = of_one_order room formed a t here there unended same in (is.0, is.1);
+  together =
+      λ a t here there unended same. let is = of_one_order room formed a t here there unended same in (is.0, is.1);
 }
 
 module _ (setting : Setting) (terminals : List Terminal) (xs : List Exchange) (room : Room)
@@ -134,19 +144,24 @@ module _ (setting : Setting) (terminals : List Terminal) (xs : List Exchange) (r
   -- every room on the way is well-formed
   formed_at : (before rest : List Exchange) → xs ≡ before ++ rest
       → IsWellFormed (room_by before room)
-  formed_at before rest split = run_kept (events_of before) room formed (addressed_early room before rest (subst (λ l. AreAddressed (events_of l) room) split run.addressed))
+  formed_at before rest split =
+      run_kept (events_of before) room formed
+      (addressed_early room before rest (subst (λ l. AreAddressed (events_of l) room) split run.addressed))
 
   told_in : (before rest : List Exchange) (x : Exchange) (found : Result Event Refusal)
       → xs ≡ before ++ x ∷ rest → x.found ≡ found
       → IsTold x (replied machine found (room_by before room)).1
   told_in before rest x found split is =
       subst (λ (found : Result Event Refusal). IsTold x (replied machine found (room_by before room)).1) is
-      (told_at setting terminals before rest x room (subst (λ l. AreAnswered setting terminals l room) split run.answered))
+      (told_at setting terminals before rest x room
+      (subst (λ l. AreAnswered setting terminals l room) split run.answered))
 
   room_on : (before : List Exchange) (x : Exchange) (found : Result Event Refusal)
       → x.found ≡ found → room_by (before ++ x ∷ []) room
       ≡ (replied machine found (room_by before room)).0
-  room_on before x found is = room_push before x room ∙ ap (λ (found : Result Event Refusal). (replied machine found (room_by before room)).0) is
+  room_on before x found is =
+      room_push before x room
+      ∙ ap (λ (found : Result Event Refusal). (replied machine found (room_by before room)).0) is
 
   -- the room before an arrival is in order, and knows who asks
   known_at : (before rest : List Exchange) (x : Exchange) (event : Event)
@@ -154,7 +169,8 @@ module _ (setting : Setting) (terminals : List Terminal) (xs : List Exchange) (r
       → IsInOrder (room_by before room) × IsAddressed event (room_by before room)
   known_at before rest x event split is = (
     (formed_at before (x ∷ rest) split).order,
-    addressed_run (events_of before) room event (addressed_in room before rest x event is (subst (λ l. AreAddressed (events_of l) room) split run.addressed)),
+    addressed_run (events_of before) room event
+        (addressed_in room before rest x event is (subst (λ l. AreAddressed (events_of l) room) split run.addressed)),
   )
 
   -- the room after an event, and those of others
@@ -163,7 +179,9 @@ module _ (setting : Setting) (terminals : List Terminal) (xs : List Exchange) (r
       ≡ room_run (events_of between) (room_after event (room_by before room))
   after before between first event is =
       room_split before (first ∷ between) room ∙ run_first first.found (events_of between) (room_by before room)
-      ∙ ap (λ (found : Result Event Refusal). room_run (events_of between) (replied machine found (room_by before room)).0) is
+      ∙ ap
+      (λ (found : Result Event Refusal). room_run (events_of between) (replied machine found (room_by before room)).0)
+      is
 
   alike : (d : ℕ) (zone_there : Setting) (terminals_there : List Terminal) (ys : List Exchange)
       (other : Room) → IsWellFormed other → IsRun zone_there terminals_there ys other
@@ -176,7 +194,9 @@ module _ (setting : Setting) (terminals : List Terminal) (xs : List Exchange) (r
       let here = desk_answered setting terminals d xs room run.answered in
       let there = desk_answered zone_there terminals_there d ys other runs.answered in
       record {
-        told = told_alike (with_desk d xs) (with_desk d ys) (told d (events_of ys) other) (subst (AreTold (with_desk d xs)) answers here) there;
+        told =
+            told_alike (with_desk d xs) (with_desk d ys) (told d (events_of ys) other)
+            (subst (AreTold (with_desk d xs)) answers here) there;
         shares = equal_shares d (events_of xs) (events_of ys) room other meets meet same handed;
       }
 
@@ -187,8 +207,10 @@ module _ (setting : Setting) (terminals : List Terminal) (xs : List Exchange) (r
       × (mine c (room_by (before ++ x ∷ []) room) ≡ mine c (room_after (by_crew c ask at) other))
   crew before rest x c ask at other split is in_order same =
       let order = (formed_at before (x ∷ rest) split).order in (
-        subst (IsTold x) (ap answer_of (mine_answer c ask at (room_by before room) other order in_order same)) (told_in before rest x (Ok (by_crew c ask at)) split is),
-        ap (mine c) (room_on before x (Ok (by_crew c ask at)) is) ∙ mine_equal c ask at (room_by before room) other order in_order same,
+        subst (IsTold x) (ap answer_of (mine_answer c ask at (room_by before room) other order in_order same))
+            (told_in before rest x (Ok (by_crew c ask at)) split is),
+        ap (mine c) (room_on before x (Ok (by_crew c ask at)) is)
+            ∙ mine_equal c ask at (room_by before room) other order in_order same,
       )
 
   -- what is only answered when it comes again is told so, and changes nothing
@@ -203,9 +225,14 @@ module _ (setting : Setting) (terminals : List Terminal) (xs : List Exchange) (r
   told_again sent before between rest first again at later answer split is is_again law =
       let s = room_by before room in
       let early = before ++ first ∷ between in
-      let split_first : xs ≡ before ++ first ∷ (between ++ again ∷ rest) = split ∙ append_assoc before (first ∷ between) (again ∷ rest) in
-      let only : OnlyAnswers (sent later) (room_by early room) answer = subst (λ now. OnlyAnswers (sent later) now answer) (sym (after before between first (sent at) is)) law in (
-        (told_in before (between ++ again ∷ rest) first (Ok (sent at)) split_first is, subst (IsTold again) only.1 (told_in early rest again (Ok (sent later)) split is_again)),
+      let split_first : xs
+      ≡ before ++ first ∷ (between ++ again ∷ rest) = split ∙ append_assoc before (first ∷ between) (again ∷ rest) in
+      let only : OnlyAnswers (sent later) (room_by early room) answer = subst
+      (λ now. OnlyAnswers (sent later) now answer) (sym (after before between first (sent at) is)) law in (
+        (
+          told_in before (between ++ again ∷ rest) first (Ok (sent at)) split_first is,
+          subst (IsTold again) only.1 (told_in early rest again (Ok (sent later)) split is_again),
+        ),
         room_on early again (Ok (sent later)) is_again ∙ only.0,
       )
 
@@ -218,8 +245,10 @@ module _ (setting : Setting) (terminals : List Terminal) (xs : List Exchange) (r
       → ActsOnce xs room sent lasts
   once sent lasts law before between rest first again at later split is is_again ok =
       let s = room_by before room in
-      let is_on = known_at before (between ++ again ∷ rest) first (sent at) (split ∙ append_assoc before (first ∷ between) (again ∷ rest)) is in
-      let told = told_again sent before between rest first again at later (answer_to (sent at) s) split is is_again (law at later s (events_of between) is_on.0 is_on.1 ok) in
+      let is_on = known_at before (between ++ again ∷ rest) first (sent at)
+      (split ∙ append_assoc before (first ∷ between) (again ∷ rest)) is in
+      let told = told_again sent before between rest first again at later (answer_to (sent at) s) split is is_again
+      (law at later s (events_of between) is_on.0 is_on.1 ok) in
       (told.0.0, told.0.1, told.1)
 
   serial : (position : ℕ) (form : CallForm)
@@ -227,16 +256,24 @@ module _ (setting : Setting) (terminals : List Terminal) (xs : List Exchange) (r
   serial position form =
       let sent = by_position position (Call form) in
       once sent (λ answer. answer ≡ Err SerialReused) (λ at later s between in_order known refused.
-      subst (OnlyAnswers (sent later) (room_run between (room_after (sent at) s))) (sym refused) (serial_again position form at s between in_order refused later))
+      subst (OnlyAnswers (sent later) (room_run between (room_after (sent at) s))) (sym refused)
+      (serial_again position form at s between in_order refused later))
 
   outside : (position : ℕ) (form : CallForm) → StaysOutside xs room position form
   outside position form before between rest first again at later split is is_again refused =
       let sent = by_position position (Call form) in
       let s = room_by before room in
       let now = after before between first (sent at) is in
-      let is_on = known_at before (between ++ again ∷ rest) first (sent at) (split ∙ append_assoc before (first ∷ between) (again ∷ rest)) is in
-      let law = subst (λ now_s. OnlyAnswers (sent later) (room_run (events_of between) (room_after (sent at) s)) (Err (outside_again (kept_call position form.serial now_s)))) (sym now) (outside_still position form at s (events_of between) is_on.0 refused later) in
-      let told = told_again sent before between rest first again at later (Err (outside_again (kept_call position form.serial (room_by (before ++ first ∷ between) room)))) split is is_again law in
+      let is_on = known_at before (between ++ again ∷ rest) first (sent at)
+      (split ∙ append_assoc before (first ∷ between) (again ∷ rest)) is in
+      let law = subst
+      (λ now_s.
+      OnlyAnswers (sent later) (room_run (events_of between) (room_after (sent at) s))
+      (Err (outside_again (kept_call position form.serial now_s)))) (sym now)
+      (outside_still position form at s (events_of between) is_on.0 refused later) in
+      let told = told_again sent before between rest first again at later
+      (Err (outside_again (kept_call position form.serial (room_by (before ++ first ∷ between) room)))) split is
+      is_again law in
       (told.0.1, told.1)
 
   pub promises_kept : Promises terminals xs room
@@ -246,15 +283,27 @@ module _ (setting : Setting) (terminals : List Terminal) (xs : List Exchange) (r
         asked_by = asked_in setting terminals xs room run.answered;
         share = λ d. run_share d (events_of xs) room meets;
         desk_told = λ d. desk_answered setting terminals d xs room run.answered;
-        desk_apart = λ d. subst (AreTold (with_desk d xs)) (run_told d (events_of xs) room meets) (desk_answered setting terminals d xs room run.answered);
+        desk_apart =
+            λ d.
+            subst (AreTold (with_desk d xs)) (run_told d (events_of xs) room meets)
+            (desk_answered setting terminals d xs room run.answered);
         desk_alike = alike;
-        desk_by_itself = λ d unlent nobody. run_everyday d (events_of xs) room (unlent_run (events_of xs) room formed run.addressed unlent nobody).0;
+        desk_by_itself =
+            λ d unlent nobody.
+            run_everyday d (events_of xs) room (unlent_run (events_of xs) room formed run.addressed unlent nobody).0;
         crew_alike = crew;
-        refused_alike = λ before rest x r split is. (told_in before rest x (Err r) split is, room_on before x (Err r) is);
+        refused_alike =
+            λ before rest x r split is. (told_in before rest x (Err r) split is, room_on before x (Err r) is);
         formed = formed_at;
         sent_once = λ before rest split. sent_once_in (room_by before room) (formed_at before rest split);
-        report_once = λ c press. once (by_crew c (Report press)) (λ answer. ⊤) (λ at later s between in_order known ok. report_told_again c press at s between in_order known later);
-        call_once = λ position form. once (by_position position (Call form)) (λ answer. is_ok answer ≡ true) (λ at later s between in_order known ok. call_repeated position form at s between in_order ok later);
+        report_once =
+            λ c press.
+            once (by_crew c (Report press)) (λ answer. ⊤)
+            (λ at later s between in_order known ok. report_told_again c press at s between in_order known later);
+        call_once =
+            λ position form.
+            once (by_position position (Call form)) (λ answer. is_ok answer ≡ true)
+            (λ at later s between in_order known ok. call_repeated position form at s between in_order ok later);
         serial_once = serial;
         call_outside = outside;
       }

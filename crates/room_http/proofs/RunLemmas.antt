@@ -1,13 +1,14 @@
 -- A talk with the dispatch machine is a run of events that the room knows.
-use Rattle.std.proofs.Common.{◌≡◌, ◌∙◌, ap, refl, subst, sym, ℕ, List, [], ◌∷◌, ◌++◌, Bool, true, Option, Some, None, Result, Ok, Err}
+use Rattle.std.proofs.Common.{◌≡◌, ◌∙◌, ap, refl, subst, sym, ℕ, List, [], ◌∷◌, ◌++◌, Bool, true, Option, Some, None}
+use Rattle.std.proofs.Common.{Result, Ok, Err}
 use Rattle.std.specs.Prelude.{MatchBool, false, option_and_then}
 use Rattle.room_types.specs.Texts.{Token}
 use Rattle.room_types.specs.declared.asks.Ask.{Ask}
 use Rattle.room_types.specs.declared.asks.Event.{Event}
 use Rattle.room_types.specs.declared.asks.Who.{Who}
 use Rattle.room_types.specs.declared.fleet.Terminal.{Terminal}
-use Rattle.room_types.specs.declared.refusals.Refusal.{Refusal}
-use Rattle.room_types.specs.declared.refusals.Refusal.TheVariants.{BadBody, NoTerminal, WrongRole}
+use Rattle.room_types.specs.declared.refusal_statuses.Refusal.{Refusal}
+use Rattle.room_types.specs.declared.refusal_statuses.Refusal.TheVariants.{BadBody, NoTerminal, WrongRole}
 use Rattle.room_model.specs.Enrol.{AreTerminals}
 use Rattle.room_model.specs.Events.{AreAddressed, IsNumbered}
 use Rattle.room_model.specs.Room.{Room}
@@ -25,7 +26,8 @@ use Rattle.room_http.specs.declared.settings.Setting.{Setting}
 use Rattle.room_model.specs.Rooms.{machine, who_at}
 use Rattle.room_http.specs.Arrivals.{message, refused}
 use Rattle.room_http.specs.MessageEvents.{AsksAs, AsksAt, AsksBy, AsksFor, IsAskFor, named, token_of}
-use Rattle.room_http.specs.Runs.{AreAnswered, Exchange, IsRun, IsRunOf, arrivals_of, asker, bytes_of, event_then, events_of, room_by}
+use Rattle.room_http.specs.Runs.{AreAnswered, Exchange, IsRun, IsRunOf, arrivals_of, asker, bytes_of, event_then}
+use Rattle.room_http.specs.Runs.{events_of, room_by}
 use Rattle.room_http.specs.Talk.{Finds, IsTalk, Timed, replied}
 use Rattle.room_http.proofs.AskLemmas.{request_addressed}
 use Rattle.room_http.proofs.TerminalLemmas.{found_known}
@@ -33,7 +35,8 @@ use Rattle.room_http.proofs.TerminalLemmas.{found_known}
 -- ---- what a message asks for: what holds of refusals, and of events that are found step by step
 module _ (setting : Setting) (terminals : List Terminal) (m : WholeMessage) (at : ℕ)
     (Holds : Result Event Refusal → Type 0) (refusals : (r : Refusal) → Holds (Err r))
-    (events : (t : Target) (who : Who) (given : Request) (asks : Ask) → named terminals (terminal_of m.head) ≡ Some who → is_of (role_of t) who ≡ true
+    (events : (t : Target) (who : Who) (given : Request) (asks : Ask) → named terminals (terminal_of m.head) ≡ Some who
+    → is_of (role_of t) who ≡ true
     → request_by t m.body ≡ Some given → IsAskFor setting given asks
     → Holds (Ok (record { who = who; ask = asks; at = at }))) where
   by_body : (t : Target) (who : Who) (given : Option Request) (found : Result Event Refusal)
@@ -70,7 +73,8 @@ IsAskedBy terminals o (Err r) = Unit {0}
 pub found_asked_by : (setting : Setting) (terminals : List Terminal) (o : Timed)
     (found : Result Event Refusal) → Finds setting terminals o found → IsAskedBy terminals o found
 found_asked_by setting terminals (message m, at) found finds =
-    by_steps setting terminals m at (IsAskedBy terminals (message m, at)) (λ r. tt) (λ t who given asks shows may wants is. (shows, refl)) found finds
+    by_steps setting terminals m at (IsAskedBy terminals (message m, at)) (λ r. tt)
+    (λ t who given asks shows may wants is. (shows, refl)) found finds
 found_asked_by setting terminals (refused r head_only, at) found finds = rw finds tt
 
 -- ---- what is asked is addressed
@@ -96,7 +100,8 @@ module _ (setting : Setting) (terminals : List Terminal) (room : Room)
       → IsKnownEvent room found
   found_event (message m, at) found finds =
       by_steps setting terminals m at (IsKnownEvent room) (λ r. tt) (λ t who given asks shows may wants is. (
-        request_addressed setting t m.body given asks who room wants is may (named_known (token_of (terminal_of m.head)) who shows),
+        request_addressed setting t m.body given asks who room wants is may
+            (named_known (token_of (terminal_of m.head)) who shows),
         request_numbered setting t m.body given asks wants is,
       )) found finds
   found_event (refused r head_only, at) found finds = rw finds tt
@@ -111,7 +116,8 @@ module _ (setting : Setting) (terminals : List Terminal) (room : Room)
       → AreAddressed (events_of xs) room
   all_addressed [] now are = tt
   all_addressed (x ∷ xs) now are =
-      known_first x.found (events_of xs) (found_event x.arrival x.found are.0) (all_addressed xs (replied machine x.found now).0 are.2)
+      known_first x.found (events_of xs) (found_event x.arrival x.found are.0)
+      (all_addressed xs (replied machine x.found now).0 are.2)
 
 -- ---- one run after another
 -- the room after what was found and then more
@@ -141,17 +147,20 @@ module _ (setting : Setting) (terminals : List Terminal) where
   answered_join (x ∷ before) rest room first second = (
     first.0,
     first.1,
-    answered_join before rest (replied machine x.found room).0 first.2 (subst (AreAnswered setting terminals rest) (run_first x.found (events_of before) room) second),
+    answered_join before rest (replied machine x.found room).0 first.2
+        (subst (AreAnswered setting terminals rest) (run_first x.found (events_of before) room) second),
   )
 
   pub run_of : (room : Room) (xs : List Exchange) → AreTerminals room terminals
       → AreAnswered setting terminals xs room → IsRun setting terminals xs room
-  run_of room xs fit answered = record { addressed = all_addressed setting terminals room fit xs room answered; answered = answered }
+  run_of room xs fit answered =
+      record { addressed = all_addressed setting terminals room fit xs room answered; answered = answered }
 
   pub run_join : (room : Room) (xs ys : List Exchange) → AreTerminals room terminals
       → IsRun setting terminals xs room → IsRun setting terminals ys (room_by xs room)
       → IsRun setting terminals (xs ++ ys) room
-  run_join room xs ys fit first second = run_of room (xs ++ ys) fit (answered_join xs ys room first.answered second.answered)
+  run_join room xs ys fit first second =
+      run_of room (xs ++ ys) fit (answered_join xs ys room first.answered second.answered)
 
 -- ---- a talk
 module _ (setting : Setting) (terminals : List Terminal) where
@@ -166,10 +175,12 @@ module _ (setting : Setting) (terminals : List Terminal) where
   exchanged : (room : Room) (outs : List Timed) (after : Room) (bytes : List ℕ)
       → IsTalk machine setting terminals room outs after bytes
       → (xs : List Exchange) × Exchanged outs after bytes xs room
-  exchanged room [] after bytes talk = ([], record { answered = tt; arrivals = refl; leads = sym talk.0; told = sym talk.1 })
+  exchanged room [] after bytes talk =
+      ([], record { answered = tt; arrivals = refl; leads = sym talk.0; told = sym talk.1 })
   exchanged room (o ∷ more) after bytes (next, first, others, joins, (found, finds, is, replies), talk) =
       let x : Exchange = record { arrival = o; found = found; bytes = first } in
-      let rest = exchanged (replied machine found room).0 more after others (subst (λ r. IsTalk machine setting terminals r more after others) is talk) in (
+      let rest = exchanged (replied machine found room).0 more after others
+      (subst (λ r. IsTalk machine setting terminals r more after others) is talk) in (
         x ∷ rest.0,
         record {
           answered = (finds, replies, rest.1.answered);

@@ -1,22 +1,25 @@
 -- Lemmas on a connection that is served.
-use Rattle.std.proofs.Common.{◌≡◌, ◌∙◌, ◌≤◌, ◌-◌, arith, subst, sym, refl, ℕ, List, [], ◌∷◌, ◌++◌, map, append-nil, inl, inr, Bool, true, false, Option, Some, None, Result, Ok, Err, All}
+use Rattle.std.proofs.Common.{◌≡◌, ◌∙◌, ◌≤◌, ◌-◌, arith, subst, sym, refl, ℕ, List, [], ◌∷◌, ◌++◌, map, append-nil, inl}
+use Rattle.std.proofs.Common.{inr, Bool, true, false, Option, Some, None, Result, Ok, Err, All}
 use Rattle.std.proofs.lemmas.List.{length-map, map-append}
 use Rattle.std.proofs.lemmas.List.Elements.{All-nil, All-push}
 use Rattle.std.specs.Prelude.{⊤}
 use Rattle.std.specs.Io.KnownBytes.{prepend_known, Keeps, Appends}
 use Rattle.room_types.specs.declared.fleet.Terminal.{Terminal}
-use Rattle.room_types.specs.declared.refusals.Refusal.{Refusal}
+use Rattle.room_types.specs.declared.refusal_statuses.Refusal.{Refusal}
 use Rattle.room_model.specs.Room.{Room}
 use Rattle.room_http_messages.specs.declared.messages.Layout.{Layout}
 use Rattle.room_http_messages.specs.declared.read_faults.Unread.{Unread}
-use Rattle.room_http_messages.specs.declared.read_faults.Unread.TheVariants.{End, Cut as UnreadCut, ReadFault as Fault, ReadsSpent as Spent, Refused}
+use Rattle.room_http_messages.specs.declared.read_faults.Unread.TheVariants.{End, Cut as UnreadCut, ReadFault as Fault}
+use Rattle.room_http_messages.specs.declared.read_faults.Unread.TheVariants.{ReadsSpent as Spent, Refused}
 use Rattle.room_http_messages.specs.Messages.{IsCut, IsPart}
 use Rattle.room_http_messages.specs.Readings.{SaysOf}
 use Rattle.room_http_messages.specs.Streams.{CountsBy}
 use Rattle.room_http_messages.proofs.StreamLemmas.{Appends-more, Appends-none}
 use Rattle.room_http_time.specs.declared.moments.TheConstants.{LAST_MOMENT}
 use Rattle.room_http.specs.declared.session.ServeEnd.{ServeEnd}
-use Rattle.room_http.specs.declared.session.ServeEnd.TheVariants.{Closed, Cut, ReadFault, WriteFault, ClockFault, Unkept, ReadsSpent, Memory}
+use Rattle.room_http.specs.declared.session.ServeEnd.TheVariants.{Closed, Cut, ReadFault, WriteFault, ClockFault}
+use Rattle.room_http.specs.declared.session.ServeEnd.TheVariants.{Unkept, ReadsSpent, Memory}
 use Rattle.room_http_answers.specs.ReplyMessages.{fixed_bytes}
 use Rattle.room_http.specs.ArrivalAnswers.{Answers, EndsAnswering}
 use Rattle.room_http_time.specs.ClockMoments.{HasNoMoment}
@@ -25,7 +28,8 @@ use Rattle.room_http.specs.declared.settings.Setting.{Setting}
 use Rattle.room_model.specs.Rooms.{Step}
 use Rattle.room_http.specs.Course.{Course}
 use Rattle.room_http.specs.ConnectionReads.{EndsAs}
-use Rattle.room_http.specs.Session.{Sides, Finish, Answered, Unserved, Unwritten, Broken, LeavesPart, MissesNone, ServeIs}
+use Rattle.room_http.specs.Session.{Sides, Finish, Answered, Unserved, Unwritten, Broken, LeavesPart, MissesNone}
+use Rattle.room_http.specs.Session.{ServeIs}
 use Rattle.room_http.specs.Talk.{Timed, IsCaused, IsFront, BreaksOff, Stays, Talks, Wants}
 use Rattle.room_http.proofs.StreamLemmas.{Passes, Begins-push, nothing_left}
 use Rattle.room_http.proofs.TalkLemmas.{Talks-append, Talks-as, Talks-none}
@@ -56,8 +60,10 @@ last_of Memory x = Some x
 -- the clock gave no moment, some moments later
 no_moment_later : (a b c : Option (List ℕ)) (was_none : Bool) (moments : List ℕ)
     → Appends a b moments → HasNoMoment b c was_none [] → HasNoMoment a c was_none moments
-no_moment_later a b c was_none moments first (inl none) = inl (none.0, rw append-nil at (Appends-more a b c moments [] first none.1))
-no_moment_later a b c was_none moments first (inr late) = inr (late.0, late.1, Appends-more a b c moments (late.0 ∷ []) first late.2)
+no_moment_later a b c was_none moments first (inl none) =
+    inl (none.0, rw append-nil at (Appends-more a b c moments [] first none.1))
+no_moment_later a b c was_none moments first (inr late) =
+    inr (late.0, late.1, Appends-more a b c moments (late.0 ∷ []) first late.2)
 
 -- the stream that is left goes on
 pub still_begins : (stream : List ℕ) (outs : List Timed) (left after : Option (List ℕ))
@@ -153,7 +159,8 @@ module _ (step : Step) (setting : Setting) (old : Sides) where
   module _ (early : Type 0) (stood stays : List Terminal → Room → Type 0)
       (begun held given : Option (List ℕ)) (outs : List Timed)
       (first : Going step setting old begun held given early stood stays outs)
-      (kept : List ℕ) (remains : Option (List ℕ)) (same : Keeps begun (prepend_known kept remains)) (granted : ℕ) (read_failed read_ended : Bool) where
+      (kept : List ℕ) (remains : Option (List ℕ)) (same : Keeps begun (prepend_known kept remains)) (granted : ℕ)
+      (read_failed read_ended : Bool) where
     reached : Going step setting old (prepend_known kept remains) held given early stood stays outs
     reached = Going-kept early stood stays begun held given outs (prepend_known kept remains) first same
 
@@ -166,28 +173,48 @@ module _ (step : Step) (setting : Setting) (old : Sides) where
     stops_missing_none (Err (Refused r head_only)) e says is = absurd is
     stops_missing_none (Err End) e says is = rw is tt
     stops_missing_none (Err UnreadCut) e says is = rw is tt
-    stops_missing_none (Err Fault) e says is = rw is (leaves_part early stood stays (prepend_known kept remains) held given outs kept remains refl reached says.0)
-    stops_missing_none (Err Spent) e says is = rw is (leaves_part early stood stays (prepend_known kept remains) held given outs kept remains refl reached says.0)
+    stops_missing_none (Err Fault) e says is =
+        rw is
+        (leaves_part early stood stays (prepend_known kept remains) held given outs kept remains refl reached says.0)
+    stops_missing_none (Err Spent) e says is =
+        rw is
+        (leaves_part early stood stays (prepend_known kept remains) held given outs kept remains refl reached says.0)
 
     module _ (reads : Option ℕ) (write_failed was_none observer_failed : Bool)
         (wants : Timed → List Terminal → Room → Type 0) (failed : Type 0)
         (answers : List (List ℕ)) (budget : ℕ)
         (count : CountsBy (budget - granted) old.reads reads) where
       abbrev new : Finish
-      new = record { reads = reads; held = held; given = given; read_failed = read_failed; read_ended = read_ended; write_failed = write_failed; was_none = was_none; observer_failed = observer_failed }
+      new = record {
+        reads = reads;
+        held = held;
+        given = given;
+        read_failed = read_failed;
+        read_ended = read_ended;
+        write_failed = write_failed;
+        was_none = was_none;
+        observer_failed = observer_failed;
+      }
 
       answered : (follows : List ℕ → Type 0)
           → ((rest : List ℕ) → prepend_known kept remains ≡ Some rest → follows rest)
           → Answered step setting old new early stood stays outs follows
-      answered follows then = Going-ends early stood stays (prepend_known kept remains) held given outs reads read_failed read_ended write_failed was_none observer_failed follows reached then
+      answered follows then =
+          Going-ends early stood stays (prepend_known kept remains) held given outs reads read_failed read_ended
+          write_failed was_none observer_failed follows reached then
 
       pub stops : (read : Result Layout Unread) (e : ServeEnd) → Says read → EndsAs read e
           → ServeIs step setting old new early stood stays wants failed
           (record { outs = outs; answers = answers; last = None }) budget e
       stops (Ok layout) e says is = absurd is
       stops (Err (Refused r head_only)) e says is = absurd is
-      stops (Err End) e says is = rw is (inl ((refl, answered (λ rest. rest ≡ []) (λ rest known. nothing_left kept remains rest says.2 known ∙ says.0)), says.1))
-      stops (Err UnreadCut) e says is = rw is ((refl, answered IsCut (λ rest known. rw (nothing_left kept remains rest says.2 known) says.0)), says.1)
+      stops (Err End) e says is =
+          rw is (inl (
+            (refl, answered (λ rest. rest ≡ []) (λ rest known. nothing_left kept remains rest says.2 known ∙ says.0)),
+            says.1,
+          ))
+      stops (Err UnreadCut) e says is =
+          rw is ((refl, answered IsCut (λ rest known. rw (nothing_left kept remains rest says.2 known) says.0)), says.1)
       stops (Err Fault) e says is = rw is ((refl, answered (λ rest. ⊤) (λ rest known. tt)), says.1)
       stops (Err Spent) e says is =
           let all : budget - granted ≡ budget = omega (arith, says.1) in
@@ -197,16 +224,22 @@ module _ (step : Step) (setting : Setting) (old : Sides) where
   module _ (was early : Type 0) (stood stays : List Terminal → Room → Type 0)
       (lefts : List Terminal → List Room → Type 0) (begun left held given : Option (List ℕ))
       (outs : List Timed)
-      (first : Going step setting old begun held given early stood (Stays was stays lefts) outs) (same : Keeps begun left) (new : Finish) (is_kept late failed : Type 0) (stands : List Terminal → Room → Type 0) (leaves : List Terminal → List Room → Type 0)
-      (earlier : late → early) (kept : late → was → is_kept) (after : Option (List ℕ)) (o : Arrival) (pass : Passes left after o) where
+      (first : Going step setting old begun held given early stood (Stays was stays lefts) outs)
+      (same : Keeps begun left) (new : Finish) (is_kept late failed : Type 0) (stands : List Terminal → Room → Type 0)
+      (leaves : List Terminal → List Room → Type 0)
+      (earlier : late → early) (kept : late → was → is_kept) (after : Option (List ℕ)) (o : Arrival)
+      (pass : Passes left after o) where
     before : Going step setting old left held given early stood (Stays was stays lefts) outs
     before = Going-kept early stood (Stays was stays lefts) begun held given outs left first same
 
     abbrev AnswersHere : ℕ → Result (Unit {0}) ServeEnd → Type 0
-    AnswersHere at = Answers step setting held new.held given new.given new.write_failed new.was_none new.observer_failed late stays (Stays is_kept stands leaves) (Wants step setting is_kept stands leaves) failed at o
+    AnswersHere at =
+        Answers step setting held new.held given new.given new.write_failed new.was_none new.observer_failed late stays
+        (Stays is_kept stands leaves) (Wants step setting is_kept stands leaves) failed at o
 
     abbrev ServeHere : Course → ℕ → ServeEnd → Type 0
-    ServeHere = ServeIs step setting old new late stood (Stays was stands leaves) (Wants step setting was stands leaves) failed
+    ServeHere =
+        ServeIs step setting old new late stood (Stays was stands leaves) (Wants step setting was stands leaves) failed
 
     still : late → (terminals : List Terminal) (room : Room)
         → Stays is_kept stands leaves terminals room → Stays was stands leaves terminals room
@@ -235,7 +268,8 @@ module _ (step : Step) (setting : Setting) (old : Sides) where
     moments_more : (at : ℕ) → Appends given new.given (at ∷ [])
         → Appends old.given new.given (map (λ x. x.1) (outs ++ (o, at) ∷ []))
     moments_more at moment =
-        rw (map-append (λ (x : Timed). x.1) outs ((o, at) ∷ [])) (Appends-more old.given given new.given (map (λ x. x.1) outs) (at ∷ []) before.moments moment)
+        rw (map-append (λ (x : Timed). x.1) outs ((o, at) ∷ []))
+        (Appends-more old.given given new.given (map (λ x. x.1) outs) (at ∷ []) before.moments moment)
 
     timed_more : (at : ℕ) → at ≤ LAST_MOMENT → All (λ x. x.1 ≤ LAST_MOMENT) (outs ++ (o, at) ∷ [])
     timed_more at within = All-push (λ (x : Timed). x.1 ≤ LAST_MOMENT) outs (o, at) before.timed within
@@ -247,8 +281,10 @@ module _ (step : Step) (setting : Setting) (old : Sides) where
         → Talks step setting late stays held new.held more says
         → Talks step setting late stood old.held new.held (outs ++ more) less
     talk_more more says less tells talk =
-        Talks-append step setting early late stood (Stays was stays lefts) old.held held new.held outs more less earlier before.talk
-        (Talks-as step setting late stays (Stays was stays lefts) held new.held more says less (λ terminals room it. it.0) tells talk)
+        Talks-append step setting early late stood (Stays was stays lefts) old.held held new.held outs more less earlier
+        before.talk
+        (Talks-as step setting late stays (Stays was stays lefts) held new.held more says less
+        (λ terminals room it. it.0) tells talk)
 
     talk_kept : (says less : List Terminal → Room → List ℕ → Type 0)
         → (late → (terminals : List Terminal) (room : Room) (tail : List ℕ)
@@ -263,7 +299,9 @@ module _ (step : Step) (setting : Setting) (old : Sides) where
     more_said : (more : List Timed) (tells : List ℕ → Type 0)
         → Talks step setting late stays held new.held more (Said is_kept tells)
         → Talks step setting late stood old.held new.held (outs ++ more) (Said was tells)
-    more_said more tells talk = talk_more more (Said is_kept tells) (Said was tells) (λ trust terminals room tail it. (still trust terminals room it.0, it.1)) talk
+    more_said more tells talk =
+        talk_more more (Said is_kept tells) (Said was tells)
+        (λ trust terminals room tail it. (still trust terminals room it.0, it.1)) talk
 
     -- one more was answered, and stays open
     pub Going-more : (at : ℕ) → AnswersHere at (Ok tt) → is_closing o ≡ false
@@ -307,8 +345,12 @@ module _ (step : Step) (setting : Setting) (old : Sides) where
       timed = (timed_more at within, moments_more at moment);
       refusal = r;
       want = want;
-      talk = talk_kept (λ terminals room tail. Wants step setting is_kept stands leaves (o, at) terminals room × more tail (fixed_bytes r (is_head_only o)))
-          (λ terminals room tail. Wants step setting was stands leaves (o, at) terminals room × more tail (fixed_bytes r (is_head_only o))) (λ trust terminals room tail it. (still_wants trust (o, at) terminals room it.0, it.1)) talk;
+      talk =
+          talk_kept (λ terminals room tail.
+          Wants step setting is_kept stands leaves (o, at) terminals room × more tail (fixed_bytes r (is_head_only o)))
+          (λ terminals room tail.
+          Wants step setting was stands leaves (o, at) terminals room × more tail (fixed_bytes r (is_head_only o)))
+          (λ trust terminals room tail it. (still_wants trust (o, at) terminals room it.0, it.1)) talk;
     }
 
     broken : (at : ℕ) → at ≤ LAST_MOMENT → Appends given new.given (at ∷ [])
@@ -319,7 +361,9 @@ module _ (step : Step) (setting : Setting) (old : Sides) where
     broken at within moment talk = record {
       begins = λ stream known. let begins = begins_more at stream known in (begins.0, begins.2, tt);
       timed = (timed_more at within, moments_more at moment);
-      talk = talk_kept (λ terminals room tail. BreaksOff step setting terminals (Stays is_kept stands leaves) room (o, at) tail)
+      talk =
+          talk_kept
+          (λ terminals room tail. BreaksOff step setting terminals (Stays is_kept stands leaves) room (o, at) tail)
           (λ terminals room tail. BreaksOff step setting terminals (Stays was stands leaves) room (o, at) tail)
           (λ trust terminals room tail it. (it.0, it.1, it.2, still trust terminals it.0 it.3, it.4)) talk;
     }
@@ -336,7 +380,9 @@ module _ (step : Step) (setting : Setting) (old : Sides) where
       begins = has_next;
       next = λ stream known. let begins = begins_more at stream known in (begins.0, begins.2, tt);
       timed = (timed_more at within, moments_more at moment);
-      talk = talk_kept (λ terminals room tail. says terminals room × (tail ≡ [])) (λ terminals room tail. less terminals room × (tail ≡ []))
+      talk =
+          talk_kept (λ terminals room tail. says terminals room × (tail ≡ []))
+          (λ terminals room tail. less terminals room × (tail ≡ []))
           (λ trust terminals room tail it. (tells trust terminals room it.0, it.1)) talk;
     }
 
@@ -346,7 +392,12 @@ module _ (step : Step) (setting : Setting) (old : Sides) where
     -- serving ended with one more
     pub ends : (told : List (List ℕ)) (budget at : ℕ) (e : ServeEnd) → AnswersHere at (Err e)
         → ServeHere (record { outs = outs; answers = told; last = last_of e (o, at) }) budget e
-    ends told budget at Closed answers = inr (inr ((o, at), refl, wanted at answers.1.0 (λ tail fixed. tail ≡ fixed) answers.0.0 answers.0.1 answers.1.1 answers.1.2))
+    ends told budget at Closed answers =
+        inr (inr (
+          (o, at),
+          refl,
+          wanted at answers.1.0 (λ tail fixed. tail ≡ fixed) answers.0.0 answers.0.1 answers.1.1 answers.1.2,
+        ))
     ends told budget at WriteFault answers = (
       (
         (o, at),
@@ -363,9 +414,13 @@ module _ (step : Step) (setting : Setting) (old : Sides) where
         (o, at),
         refl,
         elim answers.2 [
-          | inl talk ↦ inl (unwritten at (Stays is_kept stands leaves) (Stays was stands leaves) still answers.0.0 answers.0.1 talk)
+          | inl talk ↦
+              inl
+              (unwritten at (Stays is_kept stands leaves) (Stays was stands leaves) still answers.0.0 answers.0.1 talk)
           | inr talk ↦
-              inr (unwritten at (Acted is_kept at) (Acted was at) (λ trust terminals room it. (it.0, it.1, it.2, still trust terminals it.0 it.3, it.4)) answers.0.0 answers.0.1 talk)
+              inr (unwritten at (Acted is_kept at) (Acted was at)
+              (λ trust terminals room it. (it.0, it.1, it.2, still trust terminals it.0 it.3, it.4)) answers.0.0
+              answers.0.1 talk)
         ],
       ),
       answers.1,
@@ -378,7 +433,9 @@ module _ (step : Step) (setting : Setting) (old : Sides) where
           begins = has_next;
           timed = before.timed;
           clock = no_moment_later old.given given new.given new.was_none (map (λ x. x.1) outs) before.moments answers.0;
-          talk = talk_kept (Said is_kept (λ tail. tail ≡ [])) (Said was (λ tail. tail ≡ [])) (λ trust terminals room tail it. (still trust terminals room it.0, it.1)) answers.1;
+          talk =
+              talk_kept (Said is_kept (λ tail. tail ≡ [])) (Said was (λ tail. tail ≡ []))
+              (λ trust terminals room tail it. (still trust terminals room it.0, it.1)) answers.1;
         },
       ),
     )

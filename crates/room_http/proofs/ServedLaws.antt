@@ -1,10 +1,11 @@
 -- What was served is a run that keeps the promises.
-use Rattle.std.proofs.Common.{◌≡◌, ◌∙◌, ap, append-nil, inl, inr, refl, subst, sym, ℕ, List, [], ◌∷◌, ◌++◌, Bool, map, Option, Some, Result, Ok, Err}
+use Rattle.std.proofs.Common.{◌≡◌, ◌∙◌, ap, append-nil, inl, inr, refl, subst, sym, ℕ, List, [], ◌∷◌, ◌++◌, Bool, map}
+use Rattle.std.proofs.Common.{Option, Some, Result, Ok, Err}
 use Rattle.std.proofs.lemmas.List.{map-append}
 use Rattle.std.specs.Prelude.{⊤, ◌⊎◌}
 use Rattle.std.specs.Io.KnownBytes.{Appends}
 use Rattle.room_types.specs.declared.fleet.Terminal.{Terminal}
-use Rattle.room_types.specs.declared.refusals.Refusal.{Refusal}
+use Rattle.room_types.specs.declared.refusal_statuses.Refusal.{Refusal}
 use Rattle.room_model.specs.Enrol.{AreTerminals}
 use Rattle.room_model.specs.Room.{Room}
 use Rattle.room_model.specs.WellFormed.{IsWellFormed}
@@ -12,7 +13,8 @@ use Rattle.room_http.specs.declared.settings.Setting.{Setting}
 use Rattle.room_http_time.specs.ClockMoments.{HasNoMoment}
 use Rattle.room_model.specs.Rooms.{IsWant, Step, machine}
 use Rattle.room_http.specs.declared.session.ServeEnd.{ServeEnd}
-use Rattle.room_http.specs.declared.session.ServeEnd.TheVariants.{Closed, Cut, ReadFault, WriteFault, ClockFault, Unkept, ReadsSpent, Memory}
+use Rattle.room_http.specs.declared.session.ServeEnd.TheVariants.{Closed, Cut, ReadFault, WriteFault, ClockFault}
+use Rattle.room_http.specs.declared.session.ServeEnd.TheVariants.{Unkept, ReadsSpent, Memory}
 use Rattle.room_http_messages.specs.Messages.{IsCut}
 use Rattle.room_http_answers.specs.ReplyMessages.{fixed_bytes}
 use Rattle.room_http.specs.ArrivalAnswers.{Answers}
@@ -31,7 +33,10 @@ module _ (setting : Setting) (are : List Timed → Type 0) (was_kept : Type 0)
   -- the room after these arrivals, and what a stop leaves of it
   abbrev IsLeft : List Timed → List Terminal → Room → Type 0
   IsLeft outs terminals room =
-      stands terminals room × (was_kept → leaves terminals (room ∷ []) ⊎ ((x : Timed) × are (outs ++ x ∷ []) × LeavesNext machine setting leaves x terminals room))
+      stands terminals room
+      × (was_kept
+      → leaves terminals (room ∷ [])
+      ⊎ ((x : Timed) × are (outs ++ x ∷ []) × LeavesNext machine setting leaves x terminals room))
 
   alone : (outs : List Timed) (terminals : List Terminal) (room : Room)
       → Stays was_kept stands leaves terminals room → IsLeft outs terminals room
@@ -40,7 +45,8 @@ module _ (setting : Setting) (are : List Timed → Type 0) (was_kept : Type 0)
   wanting : (outs : List Timed) (x : Timed) → are (outs ++ x ∷ [])
       → (terminals : List Terminal) (room : Room)
       → Wants machine setting was_kept stands leaves x terminals room → IsLeft outs terminals room
-  wanting outs x first terminals room wants = (wants.0, λ was. elim (wants.1 was) [ inl one ↦ inl one | inr next ↦ inr (x, first, next) ])
+  wanting outs x first terminals room wants =
+      (wants.0, λ was. elim (wants.1 was) [ inl one ↦ inl one | inr next ↦ inr (x, first, next) ])
 
 module _ (setting : Setting) (are : List Timed → Type 0) (held holds : Option (List ℕ))
     (was_kept : Type 0) (stands : List Terminal → Room → Type 0)
@@ -71,7 +77,9 @@ module _ (setting : Setting) (are : List Timed → Type 0) (held holds : Option 
         → Served setting are held holds was_kept stands leaves terminals room
     whole outs after bytes tail arrivals talk stay wants appends =
         let of = talk_run setting terminals room outs after bytes fit talk in
-        served_by of.0 (bytes ++ tail) of.1.run (subst are (sym of.1.arrivals) arrivals) (subst (λ os. LeftHere os terminals (room_by of.0 room)) (sym of.1.arrivals) (subst (LeftHere outs terminals) (sym of.1.leads) stay)) appends
+        served_by of.0 (bytes ++ tail) of.1.run (subst are (sym of.1.arrivals) arrivals)
+        (subst (λ os. LeftHere os terminals (room_by of.0 room)) (sym of.1.arrivals)
+        (subst (LeftHere outs terminals) (sym of.1.leads) stay)) appends
         (inl (tail, wants, ap (λ b. b ++ tail) (sym of.1.told)))
 
     -- the last answer was not written wholly
@@ -83,11 +91,18 @@ module _ (setting : Setting) (are : List Timed → Type 0) (held holds : Option 
     short outs x now bytes tail arrivals talk (after, answer, (found, finds, is, replies), stay, front) appends =
         let of = talk_run setting terminals room outs now bytes fit talk in
         let last : Exchange = record { arrival = x; found = found; bytes = answer } in
-        let outs_are : arrivals_of (of.0 ++ last ∷ []) ≡ outs ++ x ∷ [] = map-append (λ (y : Exchange). y.arrival) of.0 (last ∷ []) ∙ ap (λ os. os ++ x ∷ []) of.1.arrivals in
-        let leads : room_by (of.0 ++ last ∷ []) room ≡ after = room_push of.0 last room ∙ ap (λ r. (replied machine found r).0) of.1.leads ∙ sym is in
-        let told : IsTold last (replied machine found (room_by of.0 room)).1 = subst (λ r. IsTold last (replied machine found r).1) (sym of.1.leads) replies in
-        served_by (of.0 ++ last ∷ []) (bytes ++ tail) (run_of setting terminals room (of.0 ++ last ∷ []) fit (answered_join setting terminals of.0 (last ∷ []) room of.1.run.answered (finds, told, tt)))
-        (subst are (sym outs_are) arrivals) (subst (LeftHere (arrivals_of (of.0 ++ last ∷ [])) terminals) (sym leads) (alone setting are was_kept stands leaves (arrivals_of (of.0 ++ last ∷ [])) terminals after stay)) appends
+        let outs_are : arrivals_of (of.0 ++ last ∷ [])
+        ≡ outs ++ x ∷ [] =
+        map-append (λ (y : Exchange). y.arrival) of.0 (last ∷ []) ∙ ap (λ os. os ++ x ∷ []) of.1.arrivals in
+        let leads : room_by (of.0 ++ last ∷ []) room
+        ≡ after = room_push of.0 last room ∙ ap (λ r. (replied machine found r).0) of.1.leads ∙ sym is in
+        let told : IsTold last (replied machine found (room_by of.0 room)).1 = subst
+        (λ r. IsTold last (replied machine found r).1) (sym of.1.leads) replies in
+        served_by (of.0 ++ last ∷ []) (bytes ++ tail) (run_of setting terminals room (of.0 ++ last ∷ []) fit
+        (answered_join setting terminals of.0 (last ∷ []) room of.1.run.answered (finds, told, tt)))
+        (subst are (sym outs_are) arrivals)
+        (subst (LeftHere (arrivals_of (of.0 ++ last ∷ [])) terminals) (sym leads)
+        (alone setting are was_kept stands leaves (arrivals_of (of.0 ++ last ∷ [])) terminals after stay)) appends
         (inr (of.0, last, tail, refl, front, ap (λ b. b ++ tail) (sym of.1.told)))
 
   module _ (trusted : Type 0) (stood : List Terminal → Room → Type 0)
@@ -103,7 +118,8 @@ module _ (setting : Setting) (are : List Timed → Type 0) (held holds : Option 
         → KeepsPromises setting are held holds trusted was_kept stood stands leaves
     kept_whole outs says tells arrivals left wants talk trust terminals room standing formed =
         let t = talk trust terminals room standing in
-        whole terminals room (fit terminals room standing) formed outs t.0 t.1 t.2 arrivals t.3 (left terminals t.0 t.4.0) (wants t.2 t.4.1) t.5
+        whole terminals room (fit terminals room standing) formed outs t.0 t.1 t.2 arrivals t.3
+        (left terminals t.0 t.4.0) (wants t.2 t.4.1) t.5
 
     kept_short : (outs : List Timed) (x : Timed) → are (outs ++ x ∷ [])
         → Talks machine setting trusted stood held holds outs
@@ -123,8 +139,10 @@ pub none_served : (setting : Setting) (are : List Timed → Type 0) (held : Opti
     → stood terminals room → leaves terminals (room ∷ []))
     → are [] → KeepsPromises setting are held held trusted was_kept stood stood leaves
 none_served setting are held was_kept trusted stood leaves fit leaves_it none =
-    kept_whole setting are held held was_kept stood leaves trusted stood fit [] (Stays was_kept stood leaves) (λ tail. tail ≡ []) none (alone setting are was_kept stood leaves []) (λ tail is. inl is)
-    (Talks-none machine setting trusted stood (Stays was_kept stood leaves) held (λ terminals room standing. (standing, λ was. leaves_it terminals room was standing)))
+    kept_whole setting are held held was_kept stood leaves trusted stood fit [] (Stays was_kept stood leaves)
+    (λ tail. tail ≡ []) none (alone setting are was_kept stood leaves []) (λ tail is. inl is)
+    (Talks-none machine setting trusted stood (Stays was_kept stood leaves) held
+    (λ terminals room standing. (standing, λ was. leaves_it terminals room was standing)))
 
 -- what is caused is a want
 pub want_of : (failed : Type 0) (r : Refusal) → IsCaused failed r → IsWant r
@@ -148,20 +166,25 @@ silent : (setting : Setting) (trusted : Type 0) (stood stays : List Terminal →
     → Talks machine setting trusted stood held holds outs
     (λ terminals after tail. BreaksOff machine setting terminals stays after x tail)
 silent setting trusted stood stays held holds outs x talk =
-    Talks-as machine setting trusted stood stood held holds outs (λ terminals after tail. BreaksOff machine setting terminals stays after x [] × (tail ≡ []))
+    Talks-as machine setting trusted stood stood held holds outs
+    (λ terminals after tail. BreaksOff machine setting terminals stays after x [] × (tail ≡ []))
     (λ terminals after tail. BreaksOff machine setting terminals stays after x tail) (λ terminals room it. it)
     (λ trust terminals room tail it. subst (BreaksOff machine setting terminals stays room x) (sym it.1) it.0) talk
 
 -- ---- one arrival
 module _ (setting : Setting) (held holds given gives : Option (List ℕ))
-    (write_failed was_none observer_failed : Bool) (was_kept trusted failed : Type 0) (stood stands : List Terminal → Room → Type 0)
+    (write_failed was_none observer_failed : Bool) (was_kept trusted failed : Type 0)
+    (stood stands : List Terminal → Room → Type 0)
     (leaves : List Terminal → List Room → Type 0)
-    (fit : (terminals : List Terminal) (room : Room) → stood terminals room → AreTerminals room terminals) (at : ℕ) (o : Arrival) where
+    (fit : (terminals : List Terminal) (room : Room) → stood terminals room → AreTerminals room terminals) (at : ℕ)
+    (o : Arrival) where
   abbrev KeptOne : Type 0
   KeptOne = KeepsPromises setting (IsAtMost o given gives) held holds trusted was_kept stood stands leaves
 
   abbrev AnswersHere : Step → Result (Unit {0}) ServeEnd → Type 0
-  AnswersHere step result = Answers step setting held holds given gives write_failed was_none observer_failed trusted stood (Stays was_kept stands leaves) (Wants step setting was_kept stands leaves) failed at o result
+  AnswersHere step result =
+      Answers step setting held holds given gives write_failed was_none observer_failed trusted stood
+      (Stays was_kept stands leaves) (Wants step setting was_kept stands leaves) failed at o result
 
   none_answered : (says : List Terminal → Room → Type 0) (tells : List ℕ → Type 0)
       → ((terminals : List Terminal) (room : Room) → says terminals room
@@ -169,27 +192,40 @@ module _ (setting : Setting) (held holds given gives : Option (List ℕ))
       → ((tail : List ℕ) → tells tail → IsWantTail tail)
       → Talks machine setting trusted stood held holds []
       (λ terminals after tail. says terminals after × tells tail) → KeptOne
-  none_answered says tells left wants talk = kept_whole setting (IsAtMost o given gives) held holds was_kept stands leaves trusted stood fit [] says tells tt left wants talk
+  none_answered says tells left wants talk =
+      kept_whole setting (IsAtMost o given gives) held holds was_kept stands leaves trusted stood fit [] says tells tt
+      left wants talk
 
   kept_one : (result : Result (Unit {0}) ServeEnd) → AnswersHere machine result → KeptOne
   kept_one (Ok done) a =
-      kept_whole setting (IsAtMost o given gives) held holds was_kept stands leaves trusted stood fit ((o, at) ∷ []) (Stays was_kept stands leaves) (λ tail. tail ≡ []) (refl, ([], a.0.1))
+      kept_whole setting (IsAtMost o given gives) held holds was_kept stands leaves trusted stood fit ((o, at) ∷ [])
+      (Stays was_kept stands leaves) (λ tail. tail ≡ []) (refl, ([], a.0.1))
       (alone setting (IsAtMost o given gives) was_kept stands leaves ((o, at) ∷ [])) (λ tail is. inl is) a.2
   kept_one (Err Closed) a =
-      none_answered (Wants machine setting was_kept stands leaves (o, at)) (λ tail. tail ≡ fixed_bytes a.1.0 (is_head_only o)) (wanting setting (IsAtMost o given gives) was_kept stands leaves [] (o, at) (refl, ([], a.0.1)))
+      none_answered (Wants machine setting was_kept stands leaves (o, at))
+      (λ tail. tail ≡ fixed_bytes a.1.0 (is_head_only o))
+      (wanting setting (IsAtMost o given gives) was_kept stands leaves [] (o, at) (refl, ([], a.0.1)))
       (all_of failed a.1.0 (is_head_only o) a.1.1) a.1.2
   kept_one (Err WriteFault) a = elim a.2 [
-    | inl talk ↦ kept_short setting (IsAtMost o given gives) held holds was_kept stands leaves trusted stood fit [] (o, at) (refl, ([], a.0.1)) talk
+    | inl talk ↦
+        kept_short setting (IsAtMost o given gives) held holds was_kept stands leaves trusted stood fit [] (o, at)
+        (refl, ([], a.0.1)) talk
     | inr want ↦
-        none_answered (Wants machine setting was_kept stands leaves (o, at)) (λ tail. IsFront tail (fixed_bytes want.0 (is_head_only o))) (wanting setting (IsAtMost o given gives) was_kept stands leaves [] (o, at) (refl, ([], a.0.1)))
+        none_answered (Wants machine setting was_kept stands leaves (o, at))
+        (λ tail. IsFront tail (fixed_bytes want.0 (is_head_only o)))
+        (wanting setting (IsAtMost o given gives) was_kept stands leaves [] (o, at) (refl, ([], a.0.1)))
         (some_of failed want.0 (is_head_only o) want.1) want.2
   ]
   kept_one (Err ClockFault) a =
-      none_answered (Stays was_kept stands leaves) (λ tail. tail ≡ []) (alone setting (IsAtMost o given gives) was_kept stands leaves []) (λ tail is. inl is) a.1
+      none_answered (Stays was_kept stands leaves) (λ tail. tail ≡ [])
+      (alone setting (IsAtMost o given gives) was_kept stands leaves []) (λ tail is. inl is) a.1
   kept_one (Err Unkept) a = elim a.2 [
-    | inl talk ↦ none_answered (Stays was_kept stands leaves) (λ tail. tail ≡ []) (alone setting (IsAtMost o given gives) was_kept stands leaves []) (λ tail is. inl is) talk
+    | inl talk ↦
+        none_answered (Stays was_kept stands leaves) (λ tail. tail ≡ [])
+        (alone setting (IsAtMost o given gives) was_kept stands leaves []) (λ tail is. inl is) talk
     | inr talk ↦
-        kept_short setting (IsAtMost o given gives) held holds was_kept stands leaves trusted stood fit [] (o, at) (refl, ([], a.0.1))
+        kept_short setting (IsAtMost o given gives) held holds was_kept stands leaves trusted stood fit [] (o, at)
+        (refl, ([], a.0.1))
         (silent setting trusted stood (Stays was_kept stands leaves) held holds [] (o, at) talk)
   ]
   kept_one (Err Cut) a = absurd a
@@ -208,7 +244,8 @@ firsts : (left given gives : Option (List ℕ)) (outs : List Timed) (follows : L
     → (rest : List ℕ) × Begins stream (map (λ x. x.0) outs) rest × follows rest)
     → AreGiven given gives outs
     → AreFirst left given gives outs
-firsts left given gives outs follows begins moments = (λ stream known. let b = begins stream known in (b.0, b.1), moments)
+firsts left given gives outs follows begins moments =
+    (λ stream known. let b = begins stream known in (b.0, b.1), moments)
 
 no_more : (given gives : Option (List ℕ)) (outs : List Timed)
     → Appends given gives (map (λ x. x.1) outs) → AreGiven given gives outs
@@ -225,7 +262,8 @@ no_moment given gives was_none outs (inr late) = (late.0 ∷ [], late.2)
 
 module _ (setting : Setting) (old : Sides) (new : Finish) (was_kept trusted has_failed : Type 0)
     (stood stands : List Terminal → Room → Type 0) (leaves : List Terminal → List Room → Type 0)
-    (fit : (terminals : List Terminal) (room : Room) → stood terminals room → AreTerminals room terminals) (course : Course) where
+    (fit : (terminals : List Terminal) (room : Room) → stood terminals room → AreTerminals room terminals)
+    (course : Course) where
   abbrev AreFirstHere : List Timed → Type 0
   AreFirstHere = AreFirstIn course old.left old.given new.given
 
@@ -233,7 +271,8 @@ module _ (setting : Setting) (old : Sides) (new : Finish) (was_kept trusted has_
   StaysHere = Stays was_kept stands leaves
 
   abbrev ServeHere : Step → ℕ → ServeEnd → Type 0
-  ServeHere step = ServeIs step setting old new trusted stood StaysHere (Wants step setting was_kept stands leaves) has_failed course
+  ServeHere step =
+      ServeIs step setting old new trusted stood StaysHere (Wants step setting was_kept stands leaves) has_failed course
 
   abbrev Kept : Type 0
   Kept = KeepsPromises setting AreFirstHere old.held new.held trusted was_kept stood stands leaves
@@ -243,25 +282,31 @@ module _ (setting : Setting) (old : Sides) (new : Finish) (was_kept trusted has_
       → ((stream : List ℕ) → old.left ≡ Some stream
       → (rest : List ℕ) × Begins stream (map (λ x. x.0) course.outs) rest × follows rest)
       → AreGiven old.given new.given course.outs → AreFirstHere course.outs
-  answered_first follows begins moments = (inl refl, firsts old.left old.given new.given course.outs follows begins moments)
+  answered_first follows begins moments =
+      (inl refl, firsts old.left old.given new.given course.outs follows begins moments)
 
   with_last : (x : Timed) → course.last ≡ Some x
       → ((stream : List ℕ) → old.left ≡ Some stream
       → (rest : List ℕ) × Begins stream (map (λ x. x.0) (course.outs ++ x ∷ [])) rest × ⊤)
       → Appends old.given new.given (map (λ x. x.1) (course.outs ++ x ∷ []))
       → AreFirstHere (course.outs ++ x ∷ [])
-  with_last x last begins moments =
-      (inr (x, last, refl), firsts old.left old.given new.given (course.outs ++ x ∷ []) (λ rest. ⊤) begins (no_more old.given new.given (course.outs ++ x ∷ []) moments))
+  with_last x last begins moments = (
+    inr (x, last, refl),
+    firsts old.left old.given new.given (course.outs ++ x ∷ []) (λ rest. ⊤) begins
+        (no_more old.given new.given (course.outs ++ x ∷ []) moments),
+  )
 
   kept_all : AreFirstHere course.outs
       → Talks machine setting trusted stood old.held new.held course.outs
       (λ terminals after tail. StaysHere terminals after × (tail ≡ [])) → Kept
   kept_all first talk =
-      kept_whole setting AreFirstHere old.held new.held was_kept stands leaves trusted stood fit course.outs StaysHere (λ tail. tail ≡ []) first (alone setting AreFirstHere was_kept stands leaves course.outs) (λ tail is. inl is) talk
+      kept_whole setting AreFirstHere old.held new.held was_kept stands leaves trusted stood fit course.outs StaysHere
+      (λ tail. tail ≡ []) first (alone setting AreFirstHere was_kept stands leaves course.outs) (λ tail is. inl is) talk
 
   kept_answered : (follows : List ℕ → Type 0)
       → Answered machine setting old new trusted stood StaysHere course.outs follows → Kept
-  kept_answered follows a = kept_all (answered_first follows a.begins (no_more old.given new.given course.outs a.timed.1)) a.talk
+  kept_answered follows a =
+      kept_all (answered_first follows a.begins (no_more old.given new.given course.outs a.timed.1)) a.talk
 
   kept_unserved : (x : Timed) (so_much : List ℕ → List ℕ → Type 0) → course.last ≡ Some x
       → ((failed : Type 0) (r : Refusal) (head_only : Bool) → IsCaused failed r → (tail : List ℕ)
@@ -269,29 +314,35 @@ module _ (setting : Setting) (old : Sides) (new : Finish) (was_kept trusted has_
       → Unserved machine setting old new trusted stood StaysHere
       (Wants machine setting was_kept stands leaves) has_failed course.outs x so_much → Kept
   kept_unserved x so_much last wants u =
-      kept_whole setting AreFirstHere old.held new.held was_kept stands leaves trusted stood fit course.outs (Wants machine setting was_kept stands leaves x) (λ tail. so_much tail (fixed_bytes u.refusal (is_head_only x.0)))
+      kept_whole setting AreFirstHere old.held new.held was_kept stands leaves trusted stood fit course.outs
+      (Wants machine setting was_kept stands leaves x) (λ tail. so_much tail (fixed_bytes u.refusal (is_head_only x.0)))
       (answered_first (HasNext x.0) u.begins (one_more old.given new.given course.outs x u.timed.1))
       (wanting setting AreFirstHere was_kept stands leaves course.outs x (with_last x last u.next u.timed.1))
       (wants has_failed u.refusal (is_head_only x.0) u.want) u.talk
 
   kept_untimed : (o : Arrival)
       → Untimed machine setting old new trusted stood StaysHere course.outs o → Kept
-  kept_untimed o u = kept_all (answered_first (HasNext o) u.begins (no_moment old.given new.given new.was_none course.outs u.clock)) u.talk
+  kept_untimed o u =
+      kept_all (answered_first (HasNext o) u.begins (no_moment old.given new.given new.was_none course.outs u.clock))
+      u.talk
 
   kept_broken : (x : Timed) → course.last ≡ Some x
       → Broken machine setting old new trusted stood StaysHere course.outs x → Kept
   kept_broken x last b =
-      kept_short setting AreFirstHere old.held new.held was_kept stands leaves trusted stood fit course.outs x (with_last x last b.begins b.timed.1) b.talk
+      kept_short setting AreFirstHere old.held new.held was_kept stands leaves trusted stood fit course.outs x
+      (with_last x last b.begins b.timed.1) b.talk
 
   kept_unwritten : (x : Timed)
       → Unwritten machine setting old new trusted stood StaysHere course.outs x StaysHere → Kept
-  kept_unwritten x u = kept_all (answered_first (HasNext x.0) u.begins (one_more old.given new.given course.outs x u.timed.1)) u.talk
+  kept_unwritten x u =
+      kept_all (answered_first (HasNext x.0) u.begins (one_more old.given new.given course.outs x u.timed.1)) u.talk
 
   kept_acted : (x : Timed) → course.last ≡ Some x
       → Unwritten machine setting old new trusted stood StaysHere course.outs x
       (HasActed machine setting old new trusted stood StaysHere x) → Kept
   kept_acted x last u =
-      kept_short setting AreFirstHere old.held new.held was_kept stands leaves trusted stood fit course.outs x (with_last x last u.next u.timed.1)
+      kept_short setting AreFirstHere old.held new.held was_kept stands leaves trusted stood fit course.outs x
+      (with_last x last u.next u.timed.1)
       (silent setting trusted stood StaysHere old.held new.held course.outs x u.talk)
 
   -- however serving ended

@@ -1,11 +1,13 @@
 -- Lemmas on what is read of a stream.
-use Rattle.std.proofs.Common.{◌≡◌, ◌∙◌, ap, sym, subst, refl, arith, ℕ, ◌+◌, ◌-◌, ◌<◌, ◌≤◌, List, [], ◌∷◌, ◌++◌, drop, length, take, length-append, length-drop, length-take-le, map, append-nil, append_assoc, Bool, false, Option, Some, None, Result, Ok, Err, All}
+use Rattle.std.proofs.Common.{◌≡◌, ◌∙◌, ap, sym, subst, refl, arith, ℕ, ◌+◌, ◌-◌, ◌<◌, ◌≤◌, List, [], ◌∷◌, ◌++◌, drop}
+use Rattle.std.proofs.Common.{length, take, length-append, length-drop, length-take-le, map, append-nil, append_assoc}
+use Rattle.std.proofs.Common.{Bool, false, Option, Some, None, Result, Ok, Err, All}
 use Rattle.std.proofs.lemmas.List.{take_at}
 use Rattle.std.proofs.lemmas.List.Elements.{All-head, All-tail}
 use Rattle.std.specs.Prelude.{IfOk}
 use Rattle.std.specs.Io.KnownBytes.{prepend_known, Keeps, IsAtEnd}
 use Rattle.httparse.specs.Grammar.{print_request}
-use Rattle.room_types.specs.declared.refusals.Refusal.{Refusal}
+use Rattle.room_types.specs.declared.refusal_statuses.Refusal.{Refusal}
 use Rattle.room_http_messages.specs.declared.limits.TheConstants.{INBOX_ROOM}
 use Rattle.room_http_messages.specs.declared.messages.Layout.{Layout}
 use Rattle.room_http_messages.specs.Layouts.{IsLayout, IsWhole}
@@ -16,7 +18,8 @@ use Rattle.room_http_messages.specs.declared.read_faults.Unread.TheVariants.{End
 use Rattle.room_http_messages.specs.Readings.{SaysOf}
 use Rattle.room_http.specs.declared.arrivals.Arrived.{Arrived}
 use Rattle.room_http.specs.declared.arrivals.Arrived.TheVariants.{Message, Refused as Shut}
-use Rattle.room_http.specs.Arrivals.{Arrival, message, refused, is_closing, BeginsWith, Begins, IsAlone, IsBounded, IsShown}
+use Rattle.room_http.specs.Arrivals.{Arrival, message, refused, is_closing, BeginsWith, Begins, IsAlone, IsBounded}
+use Rattle.room_http.specs.Arrivals.{IsShown}
 use Rattle.room_http.specs.ConnectionReads.{IsReadAs, kept_after}
 
 pub CountsBy-none : (known : Option ℕ) → CountsBy 0 known known
@@ -61,8 +64,12 @@ pub message_passes : (kept after : List ℕ) (left : Option (List ℕ)) (m : Who
 message_passes kept after None m n has is = record { passes = λ rest known. absurd (cc) }
 message_passes kept after (Some left) m n has is = record {
   passes = λ rest known.
-      let same : kept ++ left ≡ rest = cc in
-      (drop n kept ++ left, subst (λ (s : List ℕ). HasMessage s m (drop n kept ++ left)) same (message-append kept left m (drop n kept) has), rw is refl);
+      let same : kept ++ left ≡ rest = cc in (
+        drop n kept ++ left,
+        subst (λ (s : List ℕ). HasMessage s m (drop n kept ++ left)) same
+            (message-append kept left m (drop n kept) has),
+        rw is refl,
+      );
 }
 
 -- the bytes of the message at the front are that message and nothing more
@@ -75,7 +82,8 @@ message_alone kept bytes layout m has is within same fits =
     let rest = drop n kept in
     let size : length (print_request m.head ++ m.body) ≡ n = length-append (print_request m.head) m.body ∙ sym is.end in
     let whole : take n bytes ≡ print_request m.head ++ (m.body ++ []) =
-    ap (take n) (same ∙ has.begins.reads.1 ∙ sym (append_assoc (print_request m.head) m.body rest)) ∙ take_at (print_request m.head ++ m.body) rest n size
+    ap (take n) (same ∙ has.begins.reads.1 ∙ sym (append_assoc (print_request m.head) m.body rest))
+    ∙ take_at (print_request m.head ++ m.body) rest n size
     ∙ ap (λ t. print_request m.head ++ t) (sym (append-nil m.body)) in
     let many : length (take n bytes) ≡ n = length-take-le n bytes (rw same within) in
     record {
@@ -104,9 +112,11 @@ pub read_passes : (kept : List ℕ) (left : Option (List ℕ)) (granted : ℕ) (
     (read : Result Layout Unread) (o : Arrival) → SaysOf kept granted failed ended left read
     → IsReadAs kept read o
     → Passes (prepend_known kept left) (prepend_known (kept_after kept read) left) o
-read_passes kept left granted failed ended (Ok layout) (message m) says is = message_passes kept (drop layout.body.end kept) left m layout.body.end is refl
+read_passes kept left granted failed ended (Ok layout) (message m) says is =
+    message_passes kept (drop layout.body.end kept) left m layout.body.end is refl
 read_passes kept left granted failed ended (Ok layout) (refused r head_only) says is = absurd is
-read_passes kept left granted failed ended (Err (Refused r head_only)) o says is = rw is (refusal_passes kept left r head_only says.0)
+read_passes kept left granted failed ended (Err (Refused r head_only)) o says is =
+    rw is (refusal_passes kept left r head_only says.0)
 read_passes kept left granted failed ended (Err End) o says is = absurd is
 read_passes kept left granted failed ended (Err Cut) o says is = absurd is
 read_passes kept left granted failed ended (Err ReadFault) o says is = absurd is
@@ -155,8 +165,13 @@ pub Begins-push : (stream : List ℕ) (outs : List (Arrival × ℕ)) (rest : Lis
     → Begins stream (map (λ y. y.0) (outs ++ x ∷ [])) next
 Begins-push stream [] rest x next begins stay has = (next, rw begins has, λ _. refl, refl)
 Begins-push stream (y ∷ more) rest x next begins stay has =
-    let open_ = All-head (λ (z : Arrival × ℕ). is_closing z.0 ≡ false) y more stay in
-    (begins.0, begins.1, λ ends. absurd (cc), Begins-push begins.0 more rest x next begins.3 (All-tail (λ (z : Arrival × ℕ). is_closing z.0 ≡ false) y more stay) has)
+    let open_ = All-head (λ (z : Arrival × ℕ). is_closing z.0 ≡ false) y more stay in (
+      begins.0,
+      begins.1,
+      λ ends. absurd (cc),
+      Begins-push begins.0 more rest x next begins.3
+          (All-tail (λ (z : Arrival × ℕ). is_closing z.0 ≡ false) y more stay) has,
+    )
 
 -- the bytes to come, with none in the inbox
 pub Keeps-prepend : (bytes : List ℕ) (left : Option (List ℕ)) → bytes ≡ []
@@ -168,4 +183,5 @@ Keeps-prepend bytes (Some left) none = rw none refl
 pub reads_by : (budget before after : ℕ) (a b c : Option ℕ) → before ≤ budget → after ≤ before
     → CountsBy (budget - before) a b → CountsBy (before - after) b c
     → CountsBy (budget - after) a c
-reads_by budget before after a b c within fewer first second = CountsBy-trans (budget - before) (before - after) (budget - after) a b c first second (omega arith)
+reads_by budget before after a b c within fewer first second =
+    CountsBy-trans (budget - before) (before - after) (budget - after) a b c first second (omega arith)

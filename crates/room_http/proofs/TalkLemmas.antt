@@ -41,7 +41,8 @@ module _ (step : Step) (setting : Setting) where
       → stands terminals room)
       → Talks step setting trusted stood held held []
       (λ terminals after tail. stands terminals after × (tail ≡ []))
-  Talks-none trusted stood stands held is = λ _ terminals room standing. (room, [], [], (refl, refl), (is terminals room standing, refl), Appends-none held)
+  Talks-none trusted stood stands held is =
+      λ _ terminals room standing. (room, [], [], (refl, refl), (is terminals room standing, refl), Appends-none held)
 
   -- a talk of which less is known before, and less is said
   pub Talks-as : (trusted : Type 0) (stood knows : List Terminal → Room → Type 0)

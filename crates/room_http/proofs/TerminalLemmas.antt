@@ -32,7 +32,8 @@ found_known room terminals token who fit is = go (terminal_at token terminals) r
     here : (t : Terminal) → terminal_at token terminals ≡ Some t → (w : Who) → t.who ≡ w
         → terminal_at token terminals ≡ Some (record { token = token; who = w })
     here t found w same =
-        let key : token ≡ t.token = row_key token_cmp terminal_key callsigns_total exact_callsigns terminals token t found in
+        let key : token
+        ≡ t.token = row_key token_cmp terminal_key callsigns_total exact_callsigns terminals token t found in
         found ∙ (λ i. Some (record { token = sym key i; who = same i }))
 
     known : (t : Terminal) → terminal_at token terminals ≡ Some t → (w : Who) → t.who ≡ w

@@ -4,8 +4,8 @@ use Rattle.room_types.specs.declared.asks.Ask.{Ask}
 use Rattle.room_types.specs.declared.asks.Event.{Event}
 use Rattle.room_types.specs.declared.asks.Who.{Who}
 use Rattle.room_types.specs.declared.fleet.Terminal.{Terminal}
-use Rattle.room_types.specs.declared.refusals.Refusal.{Refusal}
-use Rattle.room_types.specs.declared.refusals.Refusal.TheVariants.{BadBody, Memory, NoTerminal, Storage}
+use Rattle.room_types.specs.declared.refusal_statuses.Refusal.{Refusal}
+use Rattle.room_types.specs.declared.refusal_statuses.Refusal.TheVariants.{BadBody, Memory, NoTerminal, Storage}
 use Rattle.room_model.specs.Room.{Room}
 use Rattle.room_model.specs.Step.{IsAddressed}
 use Rattle.room_http_requests.specs.declared.request_asks.Request.{Request}

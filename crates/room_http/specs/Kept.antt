@@ -3,7 +3,7 @@ use Rattle.std.specs.Prelude.{◌≡◌, ◌⊎◌, ◌<◌, ◌≤◌, ⊤, ℕ
 use Rattle.std.specs.Io.KnownBytes.{Appends}
 use Rattle.std.specs.List.{concat}
 use Rattle.room_types.specs.declared.fleet.Terminal.{Terminal}
-use Rattle.room_types.specs.declared.refusals.Refusal.{Refusal}
+use Rattle.room_types.specs.declared.refusal_statuses.Refusal.{Refusal}
 use Rattle.room_model.specs.Room.{Room}
 use Rattle.room_http_answers.specs.ReplyMessages.{fixed_bytes}
 use Rattle.room_http_time.specs.declared.moments.TheConstants.{LAST_MOMENT}

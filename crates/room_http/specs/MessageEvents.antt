@@ -1,5 +1,6 @@
 -- The event that a message asks for, or the first refusal on the way to it.
-use Rattle.std.specs.Prelude.{◌≡◌, ℕ, List, Option, Some, None, Result, Ok, Err, option_and_then, if◌then◌else◌, MatchBool, ℤ, pos}
+use Rattle.std.specs.Prelude.{◌≡◌, ℕ, List, Option, Some, None, Result, Ok, Err, option_and_then, if◌then◌else◌}
+use Rattle.std.specs.Prelude.{MatchBool, ℤ, pos}
 use Rattle.jiff_core.specs.Calendar.{days_from_civil}
 use Rattle.room_types.specs.Texts.{is_token, Token}
 use Rattle.room_types.specs.declared.asks.Ask.{Ask}
@@ -7,8 +8,8 @@ use Rattle.room_types.specs.declared.asks.Ask.TheVariants as ask
 use Rattle.room_types.specs.declared.asks.Event.{Event}
 use Rattle.room_types.specs.declared.asks.Who.{Who}
 use Rattle.room_types.specs.declared.fleet.Terminal.{Terminal}
-use Rattle.room_types.specs.declared.refusals.Refusal.{Refusal}
-use Rattle.room_types.specs.declared.refusals.Refusal.TheVariants.{BadBody, NoTerminal, WrongRole}
+use Rattle.room_types.specs.declared.refusal_statuses.Refusal.{Refusal}
+use Rattle.room_types.specs.declared.refusal_statuses.Refusal.TheVariants.{BadBody, NoTerminal, WrongRole}
 use Rattle.room_http_messages.specs.Messages.{WholeMessage, terminal_of}
 use Rattle.room_http_requests.specs.Targets.{routed}
 use Rattle.room_http_requests.specs.declared.targets.Target.{Target}

@@ -11,8 +11,8 @@ use Rattle.room_types.specs.declared.asks.CallForm.{CallForm}
 use Rattle.room_types.specs.declared.asks.Event.{Event}
 use Rattle.room_types.specs.declared.asks.Press.{Press}
 use Rattle.room_types.specs.declared.fleet.Terminal.{Terminal}
-use Rattle.room_types.specs.declared.refusals.Refusal.{Refusal}
-use Rattle.room_types.specs.declared.refusals.Refusal.TheVariants.{OutsideArea, SerialReused}
+use Rattle.room_types.specs.declared.refusal_statuses.Refusal.{Refusal}
+use Rattle.room_types.specs.declared.refusal_statuses.Refusal.TheVariants.{OutsideArea, SerialReused}
 use Rattle.room_types.specs.declared.tables.Assignment.{Assignment}
 use Rattle.room_types.specs.declared.tables.Turn.{Turn}
 use Rattle.room_model.specs.Alone.{alone, told_alone}
@@ -26,7 +26,8 @@ use Rattle.room_model.specs.Shares.{mine, own}
 use Rattle.room_model.specs.Step.{answer_to, room_after}
 use Rattle.room_model.specs.WellFormed.{IsWellFormed}
 use Rattle.room_http.specs.declared.settings.Setting.{Setting}
-use Rattle.room_http.specs.Runs.{AreTold, Exchange, IsRun, IsTold, answers_of, arrivals_of, asker, events_of, room_by, with_desk}
+use Rattle.room_http.specs.Runs.{AreTold, Exchange, IsRun, IsTold, answers_of, arrivals_of, asker, events_of, room_by}
+use Rattle.room_http.specs.Runs.{with_desk}
 
 -- no vehicle is sent to two incidents
 pub record AreSentOnce (room : Room) : Type 0 where

@@ -1,11 +1,12 @@
 -- A talk with the dispatch machine, as a run: what each arrival asked for, and what it was
 -- answered.
-use Rattle.std.specs.Prelude.{◌≡◌, ⊤, ℕ, List, [], ◌∷◌, Bool, false, filter, flat_map, map, Option, None, Result, Ok, Err}
+use Rattle.std.specs.Prelude.{◌≡◌, ⊤, ℕ, List, [], ◌∷◌, Bool, false, filter, flat_map, map, Option, None, Result, Ok}
+use Rattle.std.specs.Prelude.{Err}
 use Rattle.room_types.specs.declared.answers.Answer.{Answer}
 use Rattle.room_types.specs.declared.asks.Event.{Event}
 use Rattle.room_types.specs.declared.asks.Who.{Who}
 use Rattle.room_types.specs.declared.fleet.Terminal.{Terminal}
-use Rattle.room_types.specs.declared.refusals.Refusal.{Refusal}
+use Rattle.room_types.specs.declared.refusal_statuses.Refusal.{Refusal}
 use Rattle.room_model.specs.Events.{AreAddressed}
 use Rattle.room_model.specs.Room.{Room}
 use Rattle.room_model.specs.Run.{is_desk, room_run}

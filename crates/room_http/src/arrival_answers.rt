@@ -120,6 +120,7 @@ fn tell<W: Sink, N: Observer>(
     ensures written { WritesAll W.held W.has_failed writer.old writer.new answer.now result }
     ensures kept { N.held observer.new ≡ N.held observer.old }
     ensures failed { N.has_failed observer.new ≡ N.has_failed observer.old }
+    ensures noted { N.notes observer.old observer.new asked.now answer.now }
 {
     let written = write_all(writer, answer);
     observer.answered(asked, answer);

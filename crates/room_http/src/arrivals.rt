@@ -3,10 +3,9 @@ ghost use Rattle.std.specs.Prelude.{◌≡◌};
 ghost use Rattle.room_http.specs.Arrivals.{Arrival, IsShown, is_head_only, is_closing as closes_after};
 
 use room_http_messages::messages::Message;
-use room_types::refusals::Refusal;
+use room_types::refusal_statuses::Refusal;
 
-/// What is to be answered: a message and its bytes as they came, or what is refused in the place of
-/// one.
+/// What is to be answered: a message and its bytes as they came, or what is refused instead of one.
 #[derive(Clone, Copy)]
 pub enum Arrived<'inbox> {
     Message {

@@ -10,7 +10,7 @@ use room_http_answers::reply_messages::render;
 use room_http_requests::routes::Routes;
 use room_model::digests::{Digested, Head, Miss};
 use room_types::numbers::Moment;
-use room_types::refusals::Refusal;
+use room_types::refusal_statuses::Refusal;
 use std::alloc::Global;
 
 /// The bytes of the answer to what has arrived, where the room comes by it to the digest of this

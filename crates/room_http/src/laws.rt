@@ -13,7 +13,7 @@ ghost use Rattle.room_http.specs.Promises.{Promises};
 ghost use Rattle.room_http.specs.Runs.{Exchange, IsRun, IsRunOf, answers_of, arrivals_of, room_by};
 ghost use Rattle.room_http.specs.Talk.{IsTalk, Timed};
 
-/// A stream has the same messages however it was cut into pieces: two readings of it differ only in
+/// A stream has the same messages however it was cut into pieces. Two readings of it differ only in
 /// how far they went, and, where it is refused, perhaps in the refusal.
 pub fn one_stream()
     ensures { IsOneStream }
@@ -24,7 +24,7 @@ pub fn one_talk()
     ensures { IsOneTalk }
 {}
 
-/// A talk with the dispatch machine is a run: its messages ask for events that the room knows, they
+/// A talk with the dispatch machine is a run. Its messages ask for events that the room knows, they
 /// lead to the room after it, and each gets what the room answers at its turn.
 pub fn a_talk_is_a_run()
     ensures { (setting : Setting) (terminals : List Terminal) (room : Room) (outs : List Timed)
@@ -33,7 +33,7 @@ pub fn a_talk_is_a_run()
         (xs : List Exchange) × IsRunOf setting terminals outs after bytes xs room }
 {}
 
-/// A run goes on where another one ended: over any connections, one after another, the two are one.
+/// A run goes on where another one ended. Over any connections, one after another, the two are one.
 pub fn a_run_goes_on()
     ensures run { (setting : Setting) (terminals : List Terminal) (room : Room)
         (xs ys : List Exchange) →
@@ -44,7 +44,7 @@ pub fn a_run_goes_on()
         room_by (xs ++ ys) room ≡ room_by ys (room_by xs room) }
 {}
 
-/// Every run keeps the promises: a division sees of the others what it is handed, no vehicle is
+/// Every run keeps the promises. A division sees of the others what it is handed, no vehicle is
 /// sent to two incidents, and what is sent again acts once.
 pub fn a_run_keeps_the_promises()
     ensures { (setting : Setting) (terminals : List Terminal) (xs : List Exchange) (room : Room) →
@@ -52,7 +52,7 @@ pub fn a_run_keeps_the_promises()
         Promises terminals xs room }
 {}
 
-/// The answers that are kept of a course are those of its run: what is answered to equal arrivals
+/// The answers that are kept of a course are those of its run. What is answered to equal arrivals
 /// at equal moments, one after another, is the same, each answer by itself.
 pub fn one_course()
     ensures { (setting : Setting) (terminals : List Terminal) (room after : Room)

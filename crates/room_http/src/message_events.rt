@@ -16,7 +16,7 @@ use room_http_time::days::Day;
 use room_model::rooms::Room;
 use room_types::asks::{Ask, Event, Who};
 use room_types::numbers::Moment;
-use room_types::refusals::Refusal;
+use room_types::refusal_statuses::Refusal;
 use room_types::token::Token;
 use std::alloc::Global;
 

@@ -1,7 +1,8 @@
-//! Who is told of what is served, and may keep it.
-ghost use Rattle.std.specs.Prelude.{◌≡◌, ◌||◌, ℕ, List, [], Bool, false, is_err, Option, None};
+//! Observers of what is served, which may keep it.
+ghost use Rattle.std.specs.Prelude.{◌≡◌, ◌||◌, ℕ, List, [], Bool, false, is_err, Option, None, ⊤};
 ghost use Rattle.room_http.specs.Arrivals.{IsBounded};
 ghost use Rattle.room_http.specs.Kept.{KeepsAll, came_of, told_of};
+ghost use Rattle.room_http.specs.declared.observers.Asked.{Asked};
 
 use crate::arrivals::Arrived;
 use room_types::asks::Who;
@@ -11,14 +12,14 @@ use room_types::numbers::Moment;
 #[derive(Clone, Copy)]
 pub struct Unkept;
 
-/// Who is told of each arrival and its answer, as a log and a journal are. It is told and not
-/// asked, so it changes no answer; but where it can't keep what it is told, serving ends. What is
-/// refused in the place of a message is reported too, and is not kept.
+/// An observer of each arrival and its answer, as a log and a journal are. It is never asked, so it
+/// changes no answer; but where it can't keep what is reported to it, serving ends. What is refused
+/// instead of a message is reported too, and is not kept.
 pub trait Observer {
     // The bytes that it keeps, where they are known.
     ghost held: { Self → Option (List ℕ) };
 
-    // Whether something that it was told could not be kept.
+    // Whether something that was reported to it could not be kept.
     ghost has_failed: { Self → Bool };
 
     // What it keeps of a message: its moment, and its bytes as they came.
@@ -27,6 +28,9 @@ pub trait Observer {
     // What it keeps of the answer's bytes.
     ghost told: { List ℕ → List ℕ };
 
+    // What it is before and after it was told what was asked, and the bytes of the answer.
+    ghost notes: { Self → Self → Asked → List ℕ → Type 0 };
+
     /// Something has arrived. The room acts on it next.
     fn arrived(&mut self, arrived: &Arrived<'_>, at: Moment) -> Result<(), Unkept>
         requires { IsBounded arrived.now }
@@ -34,8 +38,8 @@ pub trait Observer {
             result }
         ensures failed { has_failed self.new ≡ (has_failed self.old || is_err result) };
 
-    /// This is its answer, which is written next. Where memory or storage was wanting, this is not
-    /// called.
+    /// This is its answer, which is written next. Where memory was refused or storage failed, this
+    /// is not called.
     fn answering(&mut self, arrived: &Arrived<'_>, answer: &[u8]) -> Result<(), Unkept>
         ensures kept { KeepsAll (held self.old) (held self.new)
             (told_of told arrived.now answer.now) result }
@@ -44,7 +48,8 @@ pub trait Observer {
     /// It was answered, and the bytes of its answer were written, or as many of them as were taken.
     fn answered(&mut self, asked: &Asked<'_>, answer: &[u8])
         ensures kept { held self.new ≡ held self.old }
-        ensures failed { has_failed self.new ≡ has_failed self.old };
+        ensures failed { has_failed self.new ≡ has_failed self.old }
+        ensures noted { notes self.old self.new asked.now answer.now };
 }
 
 /// What was asked.
@@ -57,7 +62,7 @@ pub struct Asked<'a> {
     pub who: Option<Who>,
 }
 
-/// Nobody is told.
+/// Nobody observes.
 #[derive(Clone, Copy)]
 pub struct Nobody;
 
@@ -69,6 +74,8 @@ impl Observer for Nobody {
     ghost came = { λ _ _. [] };
 
     ghost told = { λ _. [] };
+
+    ghost notes = { λ _ _ _ _. ⊤ };
 
     fn arrived(&mut self, _arrived: &Arrived<'_>, _at: Moment) -> Result<(), Unkept> {
         Ok(())

@@ -1,6 +1,6 @@
 //! The answer to what has arrived, and what becomes of the room.
 ghost use Rattle.std.specs.Prelude.{◌≡◌, Err, IfErr, IfOk};
-ghost use Rattle.room_types.specs.declared.refusals.Refusal.TheVariants as refusals;
+ghost use Rattle.room_types.specs.declared.refusal_statuses.Refusal.TheVariants as refusals;
 ghost use Rattle.room_http_answers.specs.ReplyMessages.{IsReply};
 ghost use Rattle.room_http.specs.Replies.{KeepsReply, Replies};
 
@@ -12,7 +12,7 @@ use room_http_requests::routes::Routes;
 use room_model::rooms::Room;
 use room_types::asks::Who;
 use room_types::numbers::Moment;
-use room_types::refusals::Refusal;
+use room_types::refusal_statuses::Refusal;
 use std::alloc::Global;
 
 /// The bytes of the answer to what has arrived. The room has acted on it once they are there. A

@@ -51,9 +51,9 @@ pub enum ServeEnd {
 /// something fails. It makes at most `budget` reads, and reads the clock once for each message,
 /// after the message is whole or refused. Where the room is the dispatch machine's, what is served
 /// keeps the room's promises, and a stop leaves the room after every answer that was written. So it
-/// is whoever is told of it. A witness that keeps what it is told keeps each message before the
-/// room acts on it, and its answer before it is written. The routes are made where they aren't yet,
-/// and kept for the next stream: to make them takes longer than to answer.
+/// is for each observer. One that keeps what is reported to it keeps each message before the room
+/// acts on it, and its answer before it is written. The routes are made where they aren't yet, and
+/// kept for the next stream: to make them takes longer than to answer.
 pub fn serve<R: Source, W: Sink, M: Room, C: Clock, N: Observer>(
     alloc: Global,
     routes: &mut Option<Routes>,

@@ -6,7 +6,8 @@ use Rattle.room_http_answers.specs.ReplyMessages.{IsDateOf, reply_bytes}
 use Rattle.room_http_answers.specs.Laws.{IsOneReply}
 
 IsDateOf-one : (at : ℕ) (s t : List ℕ) → IsDateOf at s → IsDateOf at t → s ≡ t
-IsDateOf-one at s t (d, d_at, s_is) (e, e_at, t_is) = s_is ∙ ap imf_fixdate (unix_secs_injective d e (d_at ∙ sym e_at)) ∙ sym t_is
+IsDateOf-one at s t (d, d_at, s_is) (e, e_at, t_is) =
+    s_is ∙ ap imf_fixdate (unix_secs_injective d e (d_at ∙ sym e_at)) ∙ sym t_is
 
 pub one_reply_law : IsOneReply
 one_reply_law answer at head_only closing bytes others (s, s_of, bytes_are) (t, t_of, others_are) =

@@ -1,8 +1,10 @@
 -- Each moment before the year 10000 has a date.
-use Rattle.std.proofs.Common.{◌≡◌, ◌∙◌, sym, ap, refl, arith, ℕ, zero, suc, ◌+◌, ◌-◌, ◌*◌, ◌/◌, ◌%◌, ◌<◌, ◌≤◌, ◌⊎◌, inl, inr}
+use Rattle.std.proofs.Common.{◌≡◌, ◌∙◌, sym, ap, refl, arith, ℕ, zero, suc, ◌+◌, ◌-◌, ◌*◌, ◌/◌, ◌%◌, ◌<◌, ◌≤◌, ◌⊎◌, inl}
+use Rattle.std.proofs.Common.{inr}
 use Rattle.std.proofs.lemmas.Bool.{cases_order}
 use Rattle.std.proofs.lemmas.Bool.Decides.{nat_tests}
-use Rattle.httpdate.specs.Calendar.{IsCivilDate, days_from_civil, days_in_month, days_in_year, days_of_months, days_of_years, weekday}
+use Rattle.httpdate.specs.Calendar.{IsCivilDate, days_from_civil, days_in_month, days_in_year, days_of_months}
+use Rattle.httpdate.specs.Calendar.{days_of_years, weekday}
 use Rattle.httpdate.specs.Date.{date_text, unix_secs}
 use Rattle.httpdate.specs.declared.date.HttpDate.{HttpDate}
 use Rattle.httpdate.proofs.CalendarLemmas.{days_of_months_all, days_of_months_more, days_of_years_closed}
@@ -69,12 +71,17 @@ next_year y m d n is from last december bound =
     let same : m ≡ 12 = omega (arith, december, is.1.1) in
     let more = days_of_months_more y m is.1.0 in
     let months : days_of_months y m ≡ days_in_year y = ap (days_of_months y) same ∙ days_of_months_all y in
-    let after : days_of_years (suc y - 1970) ≡ suc n = omega (arith, from, more, last, is.2.0, is.2.1, years_more y is.0.0, months) in
+    let after : days_of_years (suc y - 1970)
+    ≡ suc n = omega (arith, from, more, last, is.2.0, is.2.1, years_more y is.0.0, months) in
     record {
       year = suc y;
       month = 1;
       day = 1;
-      is = ((omega (arith, is.0.0), before_end y is.0.1 (omega (arith, after, bound))), (omega arith, omega arith), (omega arith, month_begins (suc y) 1));
+      is = (
+        (omega (arith, is.0.0), before_end y is.0.1 (omega (arith, after, bound))),
+        (omega arith, omega arith),
+        (omega arith, month_begins (suc y) 1),
+      );
       from = omega (arith, after);
     }
 
@@ -84,7 +91,8 @@ next_day n bound at = elim (cases_order (suc at.day) (days_in_month at.year at.m
   | inr other ↦ elim other [
     | inl within ↦ in_month at.year at.month at.day n at.is at.from (omega (arith, within))
     | inr last ↦ elim (cases_order at.month 12) [
-      | inl december ↦ next_year at.year at.month at.day n at.is at.from (omega (arith, last)) (omega (arith, december)) bound
+      | inl december ↦
+          next_year at.year at.month at.day n at.is at.from (omega (arith, last)) (omega (arith, december)) bound
       | inr month ↦ elim month [
         | inl within ↦ next_month at.year at.month at.day n at.is at.from (omega (arith, last)) within
         | inr beyond ↦ absurd (omega (arith, beyond, at.is.1.1))

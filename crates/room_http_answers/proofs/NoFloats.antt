@@ -9,11 +9,13 @@ use Rattle.room_types.specs.declared.answers.Answer.TheVariants as answer
 use Rattle.room_types.specs.declared.answers.History.{History}
 use Rattle.room_types.specs.declared.answers.TimesLine.{TimesLine}
 use Rattle.room_types.specs.declared.answers.VehicleLine.{VehicleLine}
-use Rattle.room_types.specs.declared.refusals.Refusal.{Refusal}
+use Rattle.room_types.specs.declared.refusal_statuses.Refusal.{Refusal}
 use Rattle.room_types.specs.declared.tables.Turn.{Turn}
 use Rattle.room_types.specs.Codes.{merged_into}
 use Rattle.room_http_answers.specs.JsonShapes.{whole, or_null}
-use Rattle.room_http_answers.specs.Contents.{assignment_json, call_json, entry_json, history_json, incident_json, json_of, loan_json, offer_json, point_json, proposal_json, times_line_json, turn_json, vehicle_json}
+use Rattle.room_http_answers.specs.Contents.{assignment_json, call_json, entry_json, history_json, incident_json}
+use Rattle.room_http_answers.specs.Contents.{json_of, loan_json, offer_json, point_json, proposal_json, times_line_json}
+use Rattle.room_http_answers.specs.Contents.{turn_json, vehicle_json}
 
 -- a list of what has none
 has_float-list : {T : Type 0} → (json : T → Data) (xs : List T)
@@ -67,8 +69,13 @@ has_float-json (Ok (answer.Points lines)) = rw (has_float-list point_json lines 
 has_float-json (Ok (answer.Loans loans)) = rw (has_float-list loan_json loans (λ l. refl))
 has_float-json (Ok (answer.Offers offers)) = rw (has_float-list offer_json offers (λ l. refl))
 has_float-json (Ok (answer.Times times)) =
-    rw (has_float-integer times.from, has_float-integer times.to, has_float-list times_line_json times.lines has_float-times_line)
-has_float-json (Ok (answer.Order assignment post status)) = rw (has_float-option assignment_json assignment (λ a. refl), has_float-option whole post (λ n. refl))
+    rw (
+      has_float-integer times.from,
+      has_float-integer times.to,
+      has_float-list times_line_json times.lines has_float-times_line,
+    )
+has_float-json (Ok (answer.Order assignment post status)) =
+    rw (has_float-option assignment_json assignment (λ a. refl), has_float-option whole post (λ n. refl))
 has_float-json (Ok (answer.Reported report outcome status)) = refl
 has_float-json (Ok (answer.LastReport report order)) = refl
 has_float-json (Ok (answer.LastSerial serial)) = refl

@@ -5,7 +5,7 @@ use Rattle.serde_json.specs.Find.{of_integer}
 use Rattle.serde_json.specs.Written.{compact_text}
 use Rattle.room_place.specs.declared.places.Place.{Place}
 use Rattle.room_types.specs.Codes.{kind_number, merged_into, outcome_name, state_number, status_number}
-use Rattle.room_types.specs.Refusals.{refusal_name, refusal_number}
+use Rattle.room_types.specs.RefusalStatuses.{refusal_name, refusal_number}
 use Rattle.room_types.specs.declared.answers.Answer.{Answer}
 use Rattle.room_types.specs.declared.answers.Answer.TheVariants as answer
 use Rattle.room_types.specs.declared.answers.Entry.{Entry}
@@ -18,7 +18,7 @@ use Rattle.room_types.specs.declared.answers.Times.{Times}
 use Rattle.room_types.specs.declared.answers.TimesLine.{TimesLine}
 use Rattle.room_types.specs.declared.answers.VehicleLine.{VehicleLine}
 use Rattle.room_types.specs.declared.needs.Counts.{Counts}
-use Rattle.room_types.specs.declared.refusals.Refusal.{Refusal}
+use Rattle.room_types.specs.declared.refusal_statuses.Refusal.{Refusal}
 use Rattle.room_types.specs.declared.tables.Assignment.{Assignment}
 use Rattle.room_types.specs.declared.tables.Call.{Call}
 use Rattle.room_types.specs.declared.tables.Loan.{Loan}

@@ -1,7 +1,7 @@
 -- What follows only from an answer and its moment.
 use Rattle.std.specs.Prelude.{◌≡◌, ◌<◌, ℕ, List, Bool, Result}
 use Rattle.room_types.specs.declared.answers.Answer.{Answer}
-use Rattle.room_types.specs.declared.refusals.Refusal.{Refusal}
+use Rattle.room_types.specs.declared.refusal_statuses.Refusal.{Refusal}
 use Rattle.room_http_answers.specs.ReplyMessages.{IsReply}
 
 -- equal answers at equal moments have equal bytes

@@ -1,14 +1,15 @@
 -- The bytes of an answer: a message of HTTP/1.1 (RFC 9112, section 2.1).
-use Rattle.std.specs.Prelude.{◌≡◌, ℕ, List, [], ◌++◌, length, codes, decimal, Bool, true, if◌then◌else◌, Option, None, Some, Result, Ok, Err}
+use Rattle.std.specs.Prelude.{◌≡◌, ℕ, List, [], ◌++◌, length, codes, decimal, Bool, true, if◌then◌else◌, Option, None}
+use Rattle.std.specs.Prelude.{Some, Result, Ok, Err}
 use Rattle.http.specs.StatusCode.{status_text}
 use Rattle.httpdate.specs.Date.{unix_secs, date_text}
 use Rattle.httpdate.specs.declared.date.HttpDate.{HttpDate}
-use Rattle.room_types.specs.Refusals.{refusal_status}
+use Rattle.room_types.specs.RefusalStatuses.{refusal_status}
 use Rattle.room_types.specs.declared.answers.Answer.{Answer}
-use Rattle.room_types.specs.declared.refusals.Allow.{Allow}
-use Rattle.room_types.specs.declared.refusals.Allow.TheVariants.{GetHead, Post}
-use Rattle.room_types.specs.declared.refusals.Refusal.{Refusal}
-use Rattle.room_types.specs.declared.refusals.Refusal.TheVariants.{WrongMethod}
+use Rattle.room_types.specs.declared.refusal_statuses.Allow.{Allow}
+use Rattle.room_types.specs.declared.refusal_statuses.Allow.TheVariants.{GetHead, Post}
+use Rattle.room_types.specs.declared.refusal_statuses.Refusal.{Refusal}
+use Rattle.room_types.specs.declared.refusal_statuses.Refusal.TheVariants.{WrongMethod}
 use Rattle.room_http_answers.specs.Contents.{content}
 
 -- 200 OK, or what the refusal has

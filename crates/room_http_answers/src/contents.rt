@@ -6,7 +6,7 @@ ghost use Rattle.room_http_answers.specs.Contents.{answer_json, refusal_json, js
 use crate::json::ToJson;
 use crate::objects::{begin, end, member, pair, single};
 use room_types::answers::Answer;
-use room_types::refusals::Refusal;
+use room_types::refusal_statuses::Refusal;
 use serde::{Described, Serialize, Serializer};
 use std::alloc::{AllocError, Global};
 
@@ -82,7 +82,7 @@ impl Serialize for Told<'_> {
     }
 }
 
-/// The content of the message that gives an answer or a refusal. Only memory can be wanting, since
+/// The content of the message that gives an answer or a refusal. Only memory can be refused, since
 /// no answer has a key or a number that JSON doesn't take.
 #[tactic(auto, unfolding(crate::specs::Contents::content))]
 pub fn content(alloc: Global, answer: &Result<Answer, Refusal>) -> Result<Vec<u8>, AllocError>

@@ -1,8 +1,8 @@
-//! The answers that are written beforehand, for when memory or the database is wanting.
+//! The answers that are written beforehand, for when memory is refused or the database fails.
 ghost use Rattle.std.specs.Prelude.{◌≡◌, ◌⊎◌};
 ghost use Rattle.room_http_answers.specs.ReplyMessages.{fixed_bytes};
 
-use room_types::refusals::Refusal;
+use room_types::refusal_statuses::Refusal;
 
 fn memory(head_only: bool) -> &'static [u8]
     ensures { result.now ≡ fixed_bytes Refusal.Memory head_only }

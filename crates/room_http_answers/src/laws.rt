@@ -7,7 +7,8 @@ pub fn one_reply()
     ensures { IsOneReply }
 {}
 
-/// It has bytes at each moment before the year 10000, the last that a date of HTTP can express.
+/// An answer has bytes at each moment before the year 10000, the last that a date of HTTP can
+/// express.
 pub fn a_reply_is_there()
     ensures { IsAlwaysThere }
 {}

@@ -1,15 +1,14 @@
-//! Answers as messages of HTTP/1.1.
-ghost use Rattle.std.specs.Prelude.{◌≡◌, ◌++◌, [], codes, if◌then◌else◌, IfErr, IfOk, IfSome, OnOk, string_bytes};
-ghost use Rattle.http.specs.StatusCode.{status_text};
-ghost use Rattle.httpdate.specs.Date.{unix_secs};
-ghost use Rattle.room_http_answers.specs.ReplyMessages.{IsReply, allow_field, closing_field, field, line, methods, status_of};
+//! Answers as messages of HTTP/1.1. The content is made first, as the head gives its length; then
+//! the message gets room for all of it, so that it is put together once.
+ghost use Rattle.std.specs.Prelude.{◌≡◌, ◌++◌, IfErr, IfOk, IfSome, OnOk, string_bytes};
+ghost use Rattle.room_http_answers.specs.ReplyMessages.{IsReply, allow_field, closing_field, field, methods, status_of};
 
 use crate::contents::content;
 use http::StatusCode;
 use httpdate::HttpDate;
 use room_types::answers::Answer;
 use room_types::numbers::Moment;
-use room_types::refusals::{Allow, Refusal};
+use room_types::refusal_statuses::{Allow, Refusal};
 use std::alloc::{AllocError, Global};
 use std::fmt::Display;
 
@@ -23,23 +22,8 @@ fn status_of(answer: &Result<Answer, Refusal>) -> StatusCode
     StatusCode::from_u16(code).unwrap()
 }
 
-fn date_of(at: Moment) -> HttpDate
-    ensures { unix_secs result ≡ at }
-{
-    HttpDate::from_unix_secs(at.get() as u64).unwrap()
-}
-
 /// Room for the head of an answer, which has fewer bytes.
 const HEAD_ROOM: usize = 256;
-
-/// Adds the line of the status.
-#[tactic(auto, unfolding(crate::specs::ReplyMessages::line))]
-fn put_status(head: &mut String, status: StatusCode) -> Result<(), AllocError>
-    ensures { OnOk result (string_bytes head.new ≡ string_bytes head.old ++ line
-        (codes "HTTP/1.1 " ++ status_text status)) }
-{
-    write!(head, "HTTP/1.1 {status}\r\n")
-}
 
 /// Adds a field of the head.
 fn put_field<T: Display + Drop>(head: &mut String, name: &str, value: T) -> Result<(), AllocError>
@@ -80,13 +64,6 @@ fn put_closing(head: &mut String, closing: bool) -> Result<(), AllocError>
     }
 }
 
-/// What of the content is sent.
-fn sent_content(content: &[u8], head_only: bool) -> &[u8]
-    ensures { result.now ≡ (if head_only then [] else content.now) }
-{
-    if head_only { &[] } else { content }
-}
-
 /// The message that gives an answer or a refusal at a moment: without its content after a HEAD
 /// request, and with the option `close` where the connection closes after it. `Memory` is the only
 /// refusal.
@@ -102,10 +79,12 @@ pub fn render(
 {
     let content = content(alloc, answer)?;
     let content = content.as_slice();
-    let shown = sent_content(content, head_only);
+    let shown = if head_only { &[] } else { content };
+    let date = HttpDate::from_unix_secs(at.get() as u64).unwrap();
+    let status = status_of(answer);
     let mut head = String::with_capacity(alloc, shown.len().saturating_add(HEAD_ROOM))?;
-    put_status(&mut head, status_of(answer))?;
-    put_field(&mut head, "Date", date_of(at))?;
+    write!(head, "HTTP/1.1 {status}\r\n")?;
+    put_field(&mut head, "Date", date)?;
     put_field(&mut head, "Content-Type", "application/json")?;
     put_field(&mut head, "Content-Length", content.len())?;
     put_allow(&mut head, answer)?;

@@ -1,5 +1,6 @@
 -- Lemmas on the room of an inbox, of which the first bytes are used.
-use Rattle.std.proofs.Common.{◌≡◌, ◌∙◌, refl, ap, sym, ℕ, ◌+◌, ◌-◌, ◌<◌, ◌≤◌, ◌||◌, Bool, true, false, Ok, List, ◌++◌, length, take, drop, arith, length-take-le, length-drop}
+use Rattle.std.proofs.Common.{◌≡◌, ◌∙◌, refl, ap, sym, ℕ, ◌+◌, ◌-◌, ◌<◌, ◌≤◌, ◌||◌, Bool, true, false, Ok, List, ◌++◌}
+use Rattle.std.proofs.Common.{length, take, drop, arith, length-take-le, length-drop}
 use Rattle.std.specs.List.{copy_within}
 use Rattle.std.proofs.lemmas.List.{take_at, drop_at, drop-take, take-append-le}
 use Rattle.std.proofs.lemmas.Bool.{lt-ltb}
@@ -15,12 +16,17 @@ used-read room piece used k n within fits =
     let after = piece ++ post_of used k room in
     let len : length front ≡ used = length-take-le used room within in
     take-add used n (front ++ after)
-    ∙ (rw (take_at front after used len, drop_at front after used len, take-append-le n piece (post_of used k room) fits) refl)
+    ∙ (rw (
+      take_at front after used len,
+      drop_at front after used len,
+      take-append-le n piece (post_of used k room) fits,
+    ) refl)
 
 -- the used ones stay as they are
 pub used-kept : (room piece : List ℕ) (used k : ℕ) → used ≤ length room
     → take used (put_mid used k room piece) ≡ take used room
-used-kept room piece used k within = take_at (take used room) (piece ++ post_of used k room) used (length-take-le used room within)
+used-kept room piece used k within =
+    take_at (take used room) (piece ++ post_of used k room) used (length-take-le used room within)
 
 -- what is left after the first bytes go
 pub used-removed : (room : List ℕ) (gone used : ℕ) → gone ≤ used → used ≤ length room
@@ -28,7 +34,8 @@ pub used-removed : (room : List ℕ) (gone used : ℕ) → gone ≤ used → use
 used-removed room gone used ordered within =
     let kept = used - gone in
     let sum : used ≡ gone + kept = omega arith in
-    let len : length (take kept (drop gone room)) ≡ kept = length-take-le kept (drop gone room) (rw length-drop (omega arith)) in
+    let len : length (take kept (drop gone room))
+    ≡ kept = length-take-le kept (drop gone room) (rw length-drop (omega arith)) in
     take_at (take kept (drop gone room)) (drop (0 + kept) room) kept len
     ∙ sym (ap (λ j. drop gone (take j room)) sum ∙ drop-take gone kept room)
 

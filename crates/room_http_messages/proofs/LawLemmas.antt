@@ -1,17 +1,19 @@
 -- What the stream decides by itself.
-use Rattle.std.proofs.Common.{◌≡◌, ◌∙◌, sym, ap, subst, refl, arith, ℕ, ◌+◌, ◌-◌, ◌<◌, ◌≤◌, List, [], ◌∷◌, ◌++◌, length, take, drop, append-nil, length-append, ◌⊎◌, inl, inr, Bool, false, None, All}
+use Rattle.std.proofs.Common.{◌≡◌, ◌∙◌, sym, ap, subst, refl, arith, ℕ, ◌+◌, ◌-◌, ◌<◌, ◌≤◌, List, [], ◌∷◌, ◌++◌, length}
+use Rattle.std.proofs.Common.{take, drop, append-nil, length-append, ◌⊎◌, inl, inr, Bool, false, None, All}
 use Rattle.std.proofs.lemmas.List.{take_at, drop_at, take-append-drop}
 use Rattle.std.proofs.lemmas.Bool.{cases_lt}
 use Rattle.std.proofs.lemmas.List.Elements.{All-head, All-tail}
 use Rattle.std.proofs.Math.Seq.{take-append-add}
 use Rattle.httparse.specs.Grammar.{RequestHead, print_request, HasNoRequest}
 use Rattle.httparse.proofs.GrammarLemmas.{request_unique}
-use Rattle.room_types.specs.declared.refusals.Refusal.{Refusal}
+use Rattle.room_types.specs.declared.refusal_statuses.Refusal.{Refusal}
 use Rattle.room_http_messages.specs.declared.limits.TheConstants.{HEAD_LIMIT, FIELD_LIMIT}
 use Rattle.room_http_messages.specs.declared.read_faults.Unread.{Unread}
 use Rattle.room_http_messages.specs.declared.read_faults.Unread.TheVariants.{End, Cut, ReadFault, ReadsSpent, Refused}
 use Rattle.room_http_messages.specs.Laws.{IsOneMessage, IsNoEnd, IsOneSplit, IsOneReading}
-use Rattle.room_http_messages.specs.Messages.{WholeMessage, window, HasHead, HasMessage, IsRefused, no_head, too_long, by_rule, IsPart, in_head, in_body, EndsWith, Splits, closes}
+use Rattle.room_http_messages.specs.Messages.{WholeMessage, window, HasHead, HasMessage, IsRefused, no_head, too_long}
+use Rattle.room_http_messages.specs.Messages.{by_rule, IsPart, in_head, in_body, EndsWith, Splits, closes}
 use Rattle.room_http_messages.proofs.LookLemmas.{head_not_empty}
 use Rattle.room_http_messages.specs.Rules.{head_fields, fault_of, body_length}
 
@@ -45,9 +47,13 @@ in_window : (stream : List ℕ) (h : RequestHead) (rest : List ℕ) → HasHead 
     → ¬ (HasNoRequest (window stream))
 unfolding window
 in_window stream h rest has none =
-    let over : HEAD_LIMIT ≡ length (print_request h) + (HEAD_LIMIT - length (print_request h)) = omega (arith, has.fits) in
-    none h (take (HEAD_LIMIT - length (print_request h)) rest)
-    (has.reads.0, ap (take HEAD_LIMIT) has.reads.1 ∙ ap (λ n. take n (print_request h ++ rest)) over ∙ take-append-add (print_request h) rest (HEAD_LIMIT - length (print_request h)))
+    let over : HEAD_LIMIT
+    ≡ length (print_request h) + (HEAD_LIMIT - length (print_request h)) = omega (arith, has.fits) in
+    none h (take (HEAD_LIMIT - length (print_request h)) rest) (
+      has.reads.0,
+      ap (take HEAD_LIMIT) has.reads.1 ∙ ap (λ n. take n (print_request h ++ rest)) over
+          ∙ take-append-add (print_request h) rest (HEAD_LIMIT - length (print_request h)),
+    )
 
 -- what stands in the head's place begins the stream
 window_begins : (stream : List ℕ) → window stream ++ drop HEAD_LIMIT stream ≡ stream
@@ -60,10 +66,12 @@ not_refused stream m rest r head_only x (no_head none) =
     let few : length m.head.fields ≤ FIELD_LIMIT = x.begins.few in
     let many = none (drop HEAD_LIMIT stream) m.head (m.body ++ rest) (rw (window_begins stream) x.begins.reads) in
     omega (arith, few, many)
-not_refused stream m rest r head_only x (too_long long part) = in_window stream m.head (m.body ++ rest) x.begins part.none
+not_refused stream m rest r head_only x (too_long long part) =
+    in_window stream m.head (m.body ++ rest) x.begins part.none
 not_refused stream m rest r head_only x (by_rule h left fault has broken) =
     let head = (request_unique stream m.head h (m.body ++ rest) left x.begins.reads has.reads).0 in
-    let sound : fault_of h.minor (head_fields h) ≡ None = ap (λ k. fault_of k.minor (head_fields k)) (sym head) ∙ x.sound in
+    let sound : fault_of h.minor (head_fields h)
+    ≡ None = ap (λ k. fault_of k.minor (head_fields k)) (sym head) ∙ x.sound in
     cc
 
 not_part : (stream : List ℕ) (m : WholeMessage) (rest : List ℕ) → HasMessage stream m rest
@@ -87,7 +95,8 @@ one_split_law stream [] many rest left x y fewer = (many, refl, rw (← x) y)
 one_split_law stream (m ∷ few) [] rest left x y fewer = absurd (omega arith)
 one_split_law stream (m ∷ few) (n ∷ many) rest left x y fewer =
     let same = one_message_law stream m n x.0 y.0 x.1 y.1 in
-    let tail = one_split_law x.0 few many rest left x.3 (subst (λ (s : List ℕ). Splits s many left) (sym same.1) y.3) (omega arith) in
+    let tail = one_split_law x.0 few many rest left x.3 (subst (λ (s : List ℕ). Splits s many left) (sym same.1) y.3)
+    (omega arith) in
     (tail.0, ap (λ k. k ∷ many) (sym same.0) ∙ ap (λ t. m ∷ t) tail.1, tail.2)
 
 -- a reading that ends has all the messages
@@ -118,5 +127,9 @@ pub Splits-push : (stream : List ℕ) (messages : List WholeMessage) (rest : Lis
     → HasMessage rest m next → Splits stream (messages ++ m ∷ []) next
 Splits-push stream [] rest m next x stays y = (next, rw x y, λ _. refl, refl)
 Splits-push stream (n ∷ more) rest m next x stay y =
-    let stays = All-head (λ k. closes k.head ≡ false) n more stay in
-    (x.0, x.1, λ ends. absurd (cc), Splits-push x.0 more rest m next x.3 (All-tail (λ k. closes k.head ≡ false) n more stay) y)
+    let stays = All-head (λ k. closes k.head ≡ false) n more stay in (
+      x.0,
+      x.1,
+      λ ends. absurd (cc),
+      Splits-push x.0 more rest m next x.3 (All-tail (λ k. closes k.head ≡ false) n more stay) y,
+    )

@@ -1,5 +1,8 @@
 -- Lemmas on the first bytes of a stream.
-use Rattle.std.proofs.Common.{◌≡◌, ◌∙◌, sym, ap, subst, refl, inl, inr, ℕ, ◌+◌, ◌-◌, ◌<◌, ◌≤◌, List, [], ◌∷◌, ◌++◌, length, take, drop, map, min, arith, append_assoc, append-nil, take_all, length-append, length-drop, length-take, length-take-le, Some, None, Bool, false, ◌⊎◌, Option, IfSome}
+use Rattle.std.proofs.Common.{◌≡◌, ◌∙◌, sym, ap, subst, refl, inl, inr, ℕ, ◌+◌, ◌-◌, ◌<◌, ◌≤◌, List, [], ◌∷◌, ◌++◌}
+use Rattle.std.proofs.Common.{length, take, drop, map, min, arith, append_assoc, append-nil, take_all, length-append}
+use Rattle.std.proofs.Common.{length-drop, length-take, length-take-le, Some, None, Bool, false, ◌⊎◌, Option, IfSome}
+use Rattle.std.proofs.Common.{codes}
 use Rattle.std.specs.List.{slice_range}
 use Rattle.std.specs.Option.{option_map}
 use Rattle.std.proofs.lemmas.List.{take-append-drop, take-append-le, length-map, drop-append-le, drop-drop}
@@ -10,12 +13,15 @@ use Rattle.httparse.specs.declared.spans.Span.{Span}
 use Rattle.httparse.specs.declared.spans.HeaderSpan.{HeaderSpan}
 use Rattle.httparse.specs.declared.spans.RequestSpans.{RequestSpans}
 use Rattle.httparse.specs.Spans.{span_bytes, header_bytes, IsWithin, IsRequestAt, IsRequestWithin, RequestOverflows}
-use Rattle.room_types.specs.declared.refusals.Refusal.{Refusal}
-use Rattle.room_types.specs.declared.refusals.Refusal.TheVariants.{BadMessage, HeadTooLong}
+use Rattle.room_types.specs.declared.refusal_statuses.Refusal.{Refusal}
+use Rattle.room_types.specs.declared.refusal_statuses.Refusal.TheVariants.{BadMessage, HeadTooLong}
 use Rattle.room_http_messages.specs.declared.limits.TheConstants.{HEAD_LIMIT, FIELD_LIMIT}
 use Rattle.room_http_messages.specs.declared.messages.Layout.{Layout}
-use Rattle.room_http_messages.specs.Messages.{window, HasHead, HasPartHead, IsRefused, no_head, too_long, by_rule, IsPart, in_head, in_body, is_head}
-use Rattle.room_http_messages.specs.Layouts.{LaysOut, IsWhole}
+use Rattle.room_http_messages.specs.Messages.{window, HasHead, HasPartHead, IsRefused, no_head, too_long, by_rule}
+use Rattle.room_http_messages.specs.Messages.{IsPart, in_head, in_body, is_head}
+use Rattle.room_http_messages.specs.HeadFields.{Fields, values_of, only_value}
+use Rattle.room_http_messages.specs.ConnectionOptions.{is_closing}
+use Rattle.room_http_messages.specs.Layouts.{IsWhole}
 use Rattle.room_http_messages.specs.Rules.{head_fields, fault_of, body_length}
 
 -- ---- the bytes in a head's place
@@ -24,7 +30,9 @@ take_min : (n : ℕ) (bytes : List ℕ) (m : ℕ) → m ≡ min (length bytes) n
 take_min n bytes m is = go (cases_lt (length bytes) n)
   where
     go : (length bytes < n) ⊎ (n ≤ length bytes) → take m bytes ≡ take n bytes
-    go (inl below) = let e : m ≡ length bytes = omega arith in let h : length bytes ≤ n = omega arith in rw (e, take-length bytes) (sym (take_all n bytes h))
+    go (inl below) =
+        let e : m ≡ length bytes = omega arith in
+        let h : length bytes ≤ n = omega arith in rw (e, take-length bytes) (sym (take_all n bytes h))
     go (inr above) = let e : m ≡ n = omega arith in rw e
 
 take_more_of : (n : ℕ) (bytes more : List ℕ)
@@ -36,8 +44,10 @@ take_more_of n bytes more = go (cases_lt (length bytes) n)
     go (inl below) =
         let h : length bytes ≤ n = omega arith in
         let e : n ≡ length bytes + (n - length bytes) = omega arith in
-        let g = take-append-add bytes more (n - length bytes) in
-        (take (n - length bytes) more, rw (← e) at g ∙ ap (λ t. t ++ take (n - length bytes) more) (sym (take_all n bytes h)))
+        let g = take-append-add bytes more (n - length bytes) in (
+          take (n - length bytes) more,
+          rw (← e) at g ∙ ap (λ t. t ++ take (n - length bytes) more) (sym (take_all n bytes h)),
+        )
     go (inr above) = ([], take-append-le n bytes more above ∙ sym (append-nil (take n bytes)))
 
 -- the code's window
@@ -69,7 +79,8 @@ no_head_always bytes none more =
 pub too_long_always : (bytes : List ℕ) → HEAD_LIMIT ≤ length bytes → HasPartHead bytes
     → (more : List ℕ) → IsRefused (bytes ++ more) HeadTooLong false
 too_long_always bytes full part more =
-    too_long (rw length-append (omega arith)) (record { none = rw (window-full bytes more full) part.none; may = rw (window-full bytes more full) part.may })
+    too_long (rw length-append (omega arith))
+    (record { none = rw (window-full bytes more full) part.none; may = rw (window-full bytes more full) part.may })
 
 -- one byte more is worth another look
 pub part_of_head : (bytes : List ℕ) → length bytes < HEAD_LIMIT → HasPartHead bytes
@@ -168,10 +179,24 @@ pub part_of_body : (bytes w tail : List ℕ) (size : ℕ) (headers : List Header
 part_of_body bytes w tail size headers r h f fault size_is more cut =
     let head = head_of (bytes ++ more) w (tail ++ more) headers r h (Found-append bytes w tail more headers r h f) in
     let length_is : size ≡ body_length (head_fields h) = rw f.at.fields at size_is in
-    let long : r.len ≤ length (bytes ++ more) = rw (f.split, append_assoc, length-append) (omega (arith, f.within.section.len_fits)) in
-    in_body h (drop r.len (bytes ++ more)) head (fault_is w headers r h _ f.at fault) (rw (length-drop, ← length_is) (omega arith))
+    let long : r.len
+    ≤ length (bytes ++ more) = rw (f.split, append_assoc, length-append) (omega (arith, f.within.section.len_fits)) in
+    in_body h (drop r.len (bytes ++ more)) head (fault_is w headers r h _ f.at fault)
+    (rw (length-drop, ← length_is) (omega arith))
 
 -- ---- the whole message
+
+-- the layout of a head that the parser found, and of the size bytes after it
+pub record LaysOut (bytes : List ℕ) (head : RequestSpans) (fields : Fields) (size : ℕ)
+    (layout : Layout) : Type 0 where
+  pub method : layout.method ≡ head.method
+  pub target : layout.target ≡ head.path
+  pub content : layout.body ≡ record { start = head.len; end = head.len + size }
+  pub terminal : option_map (span_bytes bytes) layout.terminal
+      ≡ only_value (values_of (codes "x-terminal") fields)
+  pub terminal_in : IfSome layout.terminal (IsWithin (length bytes))
+  pub head_only : layout.head_only ≡ is_head (span_bytes bytes head.method)
+  pub closing : layout.closing ≡ is_closing head.version fields
 
 -- a head has at least the spaces of its first line
 pub head_not_empty : (h : RequestHead) → 0 < length (print_request h)
@@ -232,7 +257,8 @@ whole bytes w tail size headers r h layout f fault size_is fits laid =
         method = rw laid.method (span_in bytes w tail r.method f.split method ∙ f.at.method);
         target = rw laid.target (span_in bytes w tail r.path f.split target ∙ f.at.path);
         content = rw laid.content refl;
-        terminal = terminal_in bytes w tail layout.terminal f.split laid.terminal_in ∙ (rw f.at.fields at laid.terminal);
+        terminal =
+            terminal_in bytes w tail layout.terminal f.split laid.terminal_in ∙ (rw f.at.fields at laid.terminal);
         head_only = laid.head_only ∙ ap is_head f.at.method;
         closing = rw (f.at.version, f.at.fields) at laid.closing;
         end = rw laid.content (omega (arith, len, f.at.len));

@@ -1,14 +1,17 @@
 -- Lemmas on reads.
-use Rattle.std.proofs.Common.{◌≡◌, ◌∙◌, ap, refl, arith, ℕ, ◌+◌, ◌-◌, ◌<◌, List, [], ◌∷◌, ◌++◌, length, append-nil, append_assoc, subst, drop, Bool, true, false, Option, Some, None, Result, Ok, Err}
+use Rattle.std.proofs.Common.{◌≡◌, ◌∙◌, ap, refl, sym, arith, ℕ, ◌+◌, ◌-◌, ◌<◌, ◌≤◌, List, [], ◌∷◌, ◌++◌, length}
+use Rattle.std.proofs.Common.{append-nil, append_assoc, subst, drop, take, Bool, true, false, Option, Some, None}
+use Rattle.std.proofs.Common.{Result, Ok, Err}
 use Rattle.std.specs.Io.KnownBytes.{prepend_known, Keeps, Consumes, IsAtEnd}
-use Rattle.std.proofs.lemmas.List.{nil_from_length, drop-append-le}
+use Rattle.std.proofs.lemmas.List.{drop-append-le}
 use Rattle.httparse.specs.Grammar.{print_request}
 use Rattle.room_http_messages.specs.declared.read_faults.Unread.{Unread}
 use Rattle.room_http_messages.specs.declared.read_faults.Unread.TheVariants.{End, Cut, ReadFault, ReadsSpent, Refused}
+use Rattle.room_http_messages.specs.declared.limits.TheConstants.{INBOX_ROOM}
 use Rattle.room_http_messages.specs.declared.messages.Layout.{Layout}
 use Rattle.room_http_messages.specs.Messages.{WholeMessage, HasMessage, IsPart}
-use Rattle.room_http_messages.specs.Readings.{StopsAs, SaysOf, FirstIs, end_of}
-use Rattle.room_http_messages.specs.Streams.{CountsBy, Fills, Reads}
+use Rattle.room_http_messages.specs.Readings.{StopsAs, SaysOf, FirstIs}
+use Rattle.room_http_messages.specs.Streams.{CountsBy, Reads}
 use Rattle.room_http_messages.proofs.StreamLemmas.{Keeps-refl, Keeps-trans}
 
 CountsBy-none : (known : Option ℕ) → CountsBy 0 known known
@@ -32,6 +35,12 @@ same_stream None new before more after is taken = tt
 same_stream (Some old) None before more after is taken = taken
 same_stream (Some old) (Some new) before more after is taken = rw (is, taken) (append_assoc before more new)
 
+kept_stream : (old new : Option (List ℕ)) (bytes : List ℕ) → Keeps old new
+    → Keeps (prepend_known bytes old) (prepend_known bytes new)
+kept_stream None new bytes kept = tt
+kept_stream (Some old) None bytes kept = kept
+kept_stream (Some old) (Some new) bytes kept = ap (λ t. bytes ++ t) kept
+
 module _ {R : Type 0} (left : R → Option (List ℕ)) (reads : R → Option ℕ) where
   pub Reads-none : (r : R) (bytes : List ℕ) (budget : ℕ)
       → Reads left reads r r bytes bytes budget budget
@@ -49,35 +58,46 @@ module _ {R : Type 0} (left : R → Option (List ℕ)) (reads : R → Option ℕ
   Reads-trans {s = s} {t = t} {u = u} first second = record {
     same = Keeps-trans _ _ _ first.same second.same;
     spent = omega (arith, first.spent, second.spent);
-    count = CountsBy-trans (s - t) (t - u) (s - u) _ _ _ first.count second.count (omega (arith, first.spent, second.spent));
+    count =
+        CountsBy-trans (s - t) (t - u) (s - u) _ _ _ first.count second.count
+        (omega (arith, first.spent, second.spent));
     room = omega (arith, first.room, second.room);
   }
 
-  pub Reads-one : {E : Type 0} (failed ended : R → Bool) (old new : R) (before after : List ℕ)
-      (n t u : ℕ)
-      → Fills {E = E} left reads failed ended old new before after (Ok n) → 0 < t → u ≡ t - 1
+  -- a read that put bytes behind those that were kept
+  pub Reads-more : (old new : R) (before after more : List ℕ) (t u : ℕ) → length after ≤ INBOX_ROOM
+      → CountsBy 1 (reads old) (reads new) → after ≡ before ++ more
+      → Consumes (left old) (left new) more → 0 < t → u ≡ t - 1
       → Reads left reads old new before after t u
-  Reads-one failed ended old new before after n t u f some is =
+  Reads-more old new before after more t u fits counted is taken some less =
       let one : t - u ≡ 1 = omega arith in
       record {
-        same = same_stream (left old) (left new) before f.bytes.0 after f.bytes.2 f.bytes.3;
+        same = same_stream (left old) (left new) before more after is taken;
         spent = omega arith;
-        count = rw one f.count;
-        room = omega (arith, f.fits);
+        count = rw one counted;
+        room = omega (arith, fits);
       }
 
--- a read that found the end ends the stream
-pub stops_at_end : (before bytes more : List ℕ) (budget : ℕ) (failed ended : Bool)
-    (left : Option (List ℕ))
-    → length more ≡ 0 → bytes ≡ before ++ more → IsPart before → failed ≡ false → ended ≡ true
-    → IsAtEnd left
-    → StopsAs bytes budget failed ended left (end_of bytes)
-stops_at_end before bytes more budget failed ended left none is part sound found end =
-    go bytes (is ∙ ap (λ t. before ++ t) (nil_from_length more none) ∙ append-nil before)
-  where
-    go : (bytes : List ℕ) → bytes ≡ before → StopsAs bytes budget failed ended left (end_of bytes)
-    go [] same = (refl, found, end, sound)
-    go (byte ∷ rest) same = ((omega arith, rw same part), found, end, sound)
+  -- a read that gave nothing
+  pub Reads-nothing : (old new : R) (before after : List ℕ) (t u : ℕ) → length after ≤ INBOX_ROOM
+      → CountsBy 1 (reads old) (reads new) → after ≡ before
+      → Keeps (left old) (left new) → 0 < t → u ≡ t - 1
+      → Reads left reads old new before after t u
+  Reads-nothing old new before after t u fits counted is kept some less =
+      let one : t - u ≡ 1 = omega arith in
+      record {
+        same = rw is (kept_stream (left old) (left new) before kept);
+        spent = omega arith;
+        count = rw one counted;
+        room = omega (arith, fits);
+      }
+
+-- nothing was taken
+pub Keeps-taken : (old new : Option (List ℕ)) (piece : List ℕ) (n : ℕ) → n ≡ 0
+    → Consumes old new (take n piece) → Keeps old new
+Keeps-taken None new piece n none taken = tt
+Keeps-taken (Some old) None piece n none taken = absurd taken
+Keeps-taken (Some old) (Some new) piece n none taken = sym (rw none at taken)
 
 -- a part of a message that is short of so many bytes is one still with more
 pub part-append : (count : ℕ) (bytes after piece : List ℕ) → after ≡ bytes ++ piece

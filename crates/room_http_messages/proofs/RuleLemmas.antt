@@ -1,5 +1,6 @@
 -- Lemmas on numerals.
-use Rattle.std.proofs.Common.{◌≡◌, ℕ, ◌+◌, ◌-◌, ◌*◌, ◌<◌, ◌≤◌, List, [], ◌∷◌, length, take, get_or, true, min, arith, nat_lt, false}
+use Rattle.std.proofs.Common.{◌≡◌, ℕ, ◌+◌, ◌-◌, ◌*◌, ◌<◌, ◌≤◌, List, [], ◌∷◌, length, take, get_or, true, min, arith}
+use Rattle.std.proofs.Common.{nat_lt, false}
 use Rattle.std.specs.List.{list_all}
 use Rattle.std.specs.Char.{is_ascii_digit, digit_value}
 use Rattle.std.specs.Str.Parse.{digits_value}
@@ -22,7 +23,8 @@ pub bounded_more : (xs : List ℕ) (i n d m : ℕ) → i < length xs
 bounded_more xs i n d m below before digit next =
     let push : digits_value 10 (take (i + 1) xs) ≡ digits_value 10 (take i xs) * 10 + digit_value (get_or xs i 0) =
     rw (take_more xs i 0 below, digits_value_push 10 (take i xs) (get_or xs i 0)) in
-    go (digits_value 10 (take i xs)) (digits_value 10 (take (i + 1) xs)) (digit_value (get_or xs i 0)) push before digit next
+    go (digits_value 10 (take i xs)) (digits_value 10 (take (i + 1) xs)) (digit_value (get_or xs i 0)) push before digit
+    next
   where
     go : (a b e : ℕ) → b ≡ a * 10 + e → n ≡ min a 1025 → d ≡ e → m ≡ min (n * 10 + d) 1025
         → m ≡ min b 1025

@@ -1,5 +1,7 @@
 -- Lemmas on streams.
-use Rattle.std.proofs.Common.{◌≡◌, ◌∙◌, refl, min, ◌==◌, ◌⊎◌, inl, inr, ◌≤◌, ℕ, ◌+◌, List, [], ◌++◌, sym, ap, append-nil, append_assoc, ne_eqb, ◌||◌, Ok, take, drop, ◌-◌, take_all, length-drop, Bool, true, false, Option, Some, None, arith, ◌<◌, length}
+use Rattle.std.proofs.Common.{◌≡◌, ◌∙◌, refl, min, ◌==◌, ◌⊎◌, inl, inr, ◌≤◌, ℕ, ◌+◌, List, [], ◌++◌, sym, ap}
+use Rattle.std.proofs.Common.{append-nil, append_assoc, ne_eqb, ◌||◌, Ok, take, drop, ◌-◌, take_all, length-drop, Bool}
+use Rattle.std.proofs.Common.{true, false, Option, Some, None, arith, ◌<◌, length}
 use Rattle.std.specs.Io.KnownBytes.{Keeps, Appends}
 use Rattle.std.proofs.lemmas.Bool.{lt-ltb, cases_lt}
 use Rattle.room_http_messages.specs.Streams.{took_none, CountsBy, known_count}
@@ -30,7 +32,8 @@ pub Appends-more : (a b c : Option (List ℕ)) (xs ys : List ℕ) → Appends a 
 Appends-more None b c xs ys first second = tt
 Appends-more (Some held) None c xs ys first second = absurd first
 Appends-more (Some held) (Some more) None xs ys first second = second
-Appends-more (Some held) (Some more) (Some most) xs ys first second = second ∙ ap (λ t. t ++ ys) first ∙ append_assoc held xs ys
+Appends-more (Some held) (Some more) (Some most) xs ys first second =
+    second ∙ ap (λ t. t ++ ys) first ∙ append_assoc held xs ys
 
 pub took_some : (before after : Bool) (n size : ℕ) → before ≡ false
     → after ≡ (before || took_none {E = Unit {0}} (Ok n) size) → (n ≡ 0 → ⊥) → after ≡ false

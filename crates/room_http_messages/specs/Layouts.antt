@@ -1,7 +1,6 @@
 -- Where the parts of a message are in the bytes that begin with it.
-use Rattle.std.specs.Prelude.{◌≡◌, ℕ, ◌+◌, ◌<◌, ◌≤◌, List, ◌++◌, length, drop, codes, IfSome}
+use Rattle.std.specs.Prelude.{◌≡◌, ℕ, ◌+◌, ◌<◌, ◌≤◌, List, ◌++◌, length, drop, IfSome}
 use Rattle.std.specs.Option.{option_map}
-use Rattle.httparse.specs.declared.spans.RequestSpans.{RequestSpans}
 use Rattle.httparse.specs.Grammar.{print_request}
 use Rattle.httparse.specs.Spans.{IsWithin, span_bytes}
 use Rattle.room_http_messages.specs.declared.limits.TheConstants.{INBOX_ROOM}
@@ -9,8 +8,6 @@ use Rattle.room_http_messages.specs.declared.messages.Layout.{Layout}
 use Rattle.room_http_messages.specs.declared.messages.Message.{Message}
 use Rattle.room_http_messages.specs.declared.message_prefixes.MessagePrefix.{MessagePrefix}
 use Rattle.room_http_messages.specs.declared.message_prefixes.MessagePrefix.TheVariants.{Whole, Refused, Wants}
-use Rattle.room_http_messages.specs.HeadFields.{Fields, values_of, only_value}
-use Rattle.room_http_messages.specs.ConnectionOptions.{is_closing}
 use Rattle.room_http_messages.specs.Messages.{WholeMessage, is_head, closes, terminal_of, HasMessage, IsRefused, IsPart}
 
 -- the parts of a message that is in the bytes
@@ -30,18 +27,6 @@ pub record LiesWithin (n : ℕ) (layout : Layout) : Type 0 where
   pub target : IsWithin n layout.target
   pub content : IsWithin n layout.body
   pub terminal : IfSome layout.terminal (IsWithin n)
-
--- the layout of a head that the parser found, and of the size bytes after it
-pub record LaysOut (bytes : List ℕ) (head : RequestSpans) (fields : Fields) (size : ℕ)
-    (layout : Layout) : Type 0 where
-  pub method : layout.method ≡ head.method
-  pub target : layout.target ≡ head.path
-  pub content : layout.body ≡ record { start = head.len; end = head.len + size }
-  pub terminal : option_map (span_bytes bytes) layout.terminal
-      ≡ only_value (values_of (codes "x-terminal") fields)
-  pub terminal_in : IfSome layout.terminal (IsWithin (length bytes))
-  pub head_only : layout.head_only ≡ is_head (span_bytes bytes head.method)
-  pub closing : layout.closing ≡ is_closing head.version fields
 
 -- what is shown of a message
 pub record Shows (shown : Message) (m : WholeMessage) : Type 0 where

@@ -1,5 +1,6 @@
 -- What one call of `read_message` gives, and how it leaves the reader and the inbox.
-use Rattle.std.specs.Prelude.{◌≡◌, ℕ, ◌+◌, List, [], ◌∷◌, ◌++◌, drop, Bool, true, false, Option, Some, Result, Ok, Err, MatchResult}
+use Rattle.std.specs.Prelude.{◌≡◌, ℕ, ◌+◌, List, [], ◌++◌, drop, Bool, true, false, Option, Some, Result, Ok, Err}
+use Rattle.std.specs.Prelude.{MatchResult}
 use Rattle.std.specs.Io.KnownBytes.{IsAtEnd, prepend_known}
 use Rattle.room_http_messages.specs.declared.messages.Layout.{Layout}
 use Rattle.room_http_messages.specs.declared.read_faults.Unread.{Unread}
@@ -7,11 +8,6 @@ use Rattle.room_http_messages.specs.declared.read_faults.Unread.TheVariants.{End
 use Rattle.room_http_messages.specs.Layouts.{IsLayout, IsWhole}
 use Rattle.room_http_messages.specs.Messages.{WholeMessage, HasMessage, IsCut, IsPart, IsRefused, EndsWith}
 use Rattle.room_http_messages.specs.Streams.{Reads}
-
--- a stream that ends with these bytes ends between messages, or within one
-abbrev pub end_of : List ℕ → Unread
-end_of [] = End
-end_of (byte ∷ more) = Cut
 
 -- Why reading stopped: what holds of the bytes in the inbox, of the budget and of the reader. Where
 -- a read failed or the budget are used up, the bytes that were read are less than a message.

@@ -1,6 +1,7 @@
 -- What reads and writes do to what is left of a stream, and to what was written.
-use Rattle.std.specs.Prelude.{◌≡◌, ℕ, ◌+◌, ◌*◌, ◌-◌, ◌≤◌, ◌||◌, ◌&&◌, List, ◌++◌, length, Bool, true, false, nat_lt, ◌==◌, if◌then◌else◌, Option, Some, None, Result, Ok, Err, is_err, MatchResult, OnOk, OnErr}
-use Rattle.std.specs.Io.KnownBytes.{prepend_known, Keeps, Consumes, Appends, IsAtEnd}
+use Rattle.std.specs.Prelude.{◌≡◌, ℕ, ◌+◌, ◌*◌, ◌-◌, ◌≤◌, ◌&&◌, List, ◌++◌, length, Bool, true, false, nat_lt, ◌==◌}
+use Rattle.std.specs.Prelude.{if◌then◌else◌, Option, Some, None, Result, Ok, Err, OnOk, OnErr}
+use Rattle.std.specs.Io.KnownBytes.{prepend_known, Keeps, Appends}
 use Rattle.room_http_messages.specs.declared.limits.TheConstants.{INBOX_ROOM}
 
 -- a read found the end: it gave nothing, and had room
@@ -17,20 +18,6 @@ CountsBy k (Some n) (Some m) = m ≡ n + k
 -- a count in 32 bits, which is known below the greatest
 unfoldable pub known_count : ℕ → Option ℕ
 known_count n = if n == 4294967295 then None else Some n
-
--- one read of the stream to the back of the bytes that were kept: what it gave, and whether it
--- failed or found the end
-pub record Fills {R E : Type 0} (left : R → Option (List ℕ)) (reads : R → Option ℕ)
-    (has_failed has_ended : R → Bool)
-    (old new : R) (before after : List ℕ) (result : Result ℕ E) : Type 0 where
-  pub fits : length after ≤ INBOX_ROOM
-  pub count : CountsBy 1 (reads old) (reads new)
-  pub failed : has_failed new ≡ (has_failed old || is_err result)
-  pub bytes : MatchResult result
-      (λ n. (more : List ℕ) × (length more ≡ n) × (after ≡ before ++ more)
-      × Consumes (left old) (left new) more
-      × (n ≡ 0 → (has_ended new ≡ true) × IsAtEnd (left new)))
-      (λ _. (after ≡ before) × Keeps (left old) (left new))
 
 -- Any number of reads: the bytes that were kept, and then what is left, stay the same stream, where
 -- the bytes are known. Each read took a turn, and gave no more than the inbox has room for.

@@ -1,11 +1,10 @@
 //! The options of the Connection fields (RFC 9110, section 7.6.1).
-ghost use Rattle.std.specs.Prelude.{◌≡◌, ◌≤◌, ◌||◌, ◌==◌, map, length, reverse};
+ghost use Rattle.std.specs.Prelude.{◌≡◌, map, reverse};
 ghost use Rattle.httparse.specs.Grammar.{skip_ows};
-ghost use Rattle.httparse.specs.Spans.{header_bytes, IsHeaderWithin};
-ghost use Rattle.room_http_messages.specs.ConnectionOptions.{asks_for_close, has_option, is_close_field, is_closing, is_option};
+ghost use Rattle.httparse.specs.Spans.{header_bytes};
+ghost use Rattle.room_http_messages.specs.ConnectionOptions.{has_option, is_closing, is_option};
 ghost use Rattle.room_http_messages.specs.HeadFields.{AreWithin};
 
-use crate::head_fields::has_name;
 use httparse::spans::HeaderSpan;
 
 /// The bytes from the first that is no space or tab.
@@ -45,33 +44,21 @@ fn has_option(list: &[u8], option: &[u8]) -> bool
         .any(|member| is_option(member, option))
 }
 
-/// Whether a field is a Connection field with the option `close`.
-#[tactic(auto, unfolding(crate::specs::ConnectionOptions::is_close_field))]
-fn is_close_field(buf: &[u8], header: HeaderSpan) -> bool
-    requires { IsHeaderWithin (length buf.now) header }
-    ensures { result ≡ is_close_field (header_bytes buf.now header) }
-{
-    has_name(buf, header, b"connection") && has_option(header.value.of(buf), b"close")
-}
-
-/// Whether a Connection field has the option `close`.
-fn asks_for_close(buf: &[u8], headers: &[HeaderSpan]) -> bool
-    requires { AreWithin buf.now headers.now }
-    ensures { result ≡ asks_for_close (map (header_bytes buf.now) headers.now) }
-{
-    for header in headers {
-        if is_close_field(buf, *header) {
-            return true;
-        }
-    }
-    false
-}
-
 /// Whether the connection closes after the answer to a request: always where it is of HTTP/1.0,
-/// and where the client asks for it (RFC 9112, section 9.6).
+/// and where a Connection field has the option `close` (RFC 9112, section 9.6).
 pub fn is_closing(buf: &[u8], headers: &[HeaderSpan], minor: u8) -> bool
     requires { AreWithin buf.now headers.now }
     ensures { result ≡ is_closing minor (map (header_bytes buf.now) headers.now) }
 {
-    minor == 0 || asks_for_close(buf, headers)
+    if minor == 0 {
+        return true;
+    }
+    for header in headers {
+        if header.name.of(buf).eq_ignore_ascii_case(b"connection")
+            && has_option(header.value.of(buf), b"close")
+        {
+            return true;
+        }
+    }
+    false
 }

@@ -1,8 +1,8 @@
 //! The fields of a head by their names (RFC 9110, section 5.1: names are the same in any case).
 ghost use Rattle.std.specs.Prelude.{◌≡◌, map, length, IfSome};
 ghost use Rattle.std.specs.Option.{option_map};
-ghost use Rattle.httparse.specs.Spans.{header_bytes, span_bytes, IsHeaderWithin, IsWithin};
-ghost use Rattle.room_http_messages.specs.HeadFields.{AreWithin, FoundIs, is_named, found_with, is_there, only_value, values_of};
+ghost use Rattle.httparse.specs.Spans.{header_bytes, span_bytes, IsWithin};
+ghost use Rattle.room_http_messages.specs.HeadFields.{AreWithin, FoundIs, found_with, is_there, only_value, values_of};
 
 use httparse::spans::{HeaderSpan, Span};
 
@@ -29,22 +29,14 @@ impl Found {
     }
 }
 
-/// Whether a field has a name, in any case.
-pub fn has_name(buf: &[u8], header: HeaderSpan, name: &[u8]) -> bool
-    requires { IsHeaderWithin (length buf.now) header }
-    ensures { result ≡ is_named name.now (header_bytes buf.now header) }
-{
-    header.name.of(buf).eq_ignore_ascii_case(name)
-}
-
-/// What the fields of a head hold under a name.
+/// What the fields of a head hold under a name, in any case.
 pub fn find_field(buf: &[u8], headers: &[HeaderSpan], name: &[u8]) -> Found
     requires { AreWithin buf.now headers.now }
     ensures { FoundIs buf.now (values_of name.now (map (header_bytes buf.now) headers.now)) result }
 {
     let mut found = Found::Nowhere;
     for header in headers {
-        if has_name(buf, *header, name) {
+        if header.name.of(buf).eq_ignore_ascii_case(name) {
             found = found.with(header.value);
         }
     }

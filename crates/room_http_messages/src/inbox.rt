@@ -1,13 +1,14 @@
 //! The bytes of a stream that were read and that no message has taken yet.
-ghost use Rattle.std.specs.Prelude.{◌≡◌, ◌≤◌, ◌<◌, ℕ, List, [], length, drop, take, vec_len, IfOk};
+ghost use Rattle.std.specs.Prelude.{◌≡◌, ◌≤◌, ◌<◌, ℕ, List, [], length, drop, take, vec_len, IfOk, false};
 ghost use Rattle.room_http_messages.specs.declared.limits.TheConstants.{INBOX_ROOM};
 ghost use Rattle.room_http_messages.specs.Layouts.{IsLayout, LiesWithin, Shows};
-ghost use Rattle.room_http_messages.specs.Messages.{WholeMessage};
-ghost use Rattle.room_http_messages.specs.Streams.{Fills};
+ghost use Rattle.room_http_messages.specs.Messages.{IsPart, WholeMessage};
+ghost use Rattle.room_http_messages.specs.Readings.{ReadsOnce};
 
 use crate::limits::INBOX_ROOM;
 use crate::messages::{Layout, Message};
-use crate::sources::{ReadFailed, Source};
+use crate::read_faults::Unread;
+use crate::sources::Source;
 use std::alloc::{AllocError, Global};
 use std::marker::Model;
 
@@ -46,19 +47,28 @@ impl Inbox {
         &self.room.as_slice()[..self.len]
     }
 
-    /// One read into the room that is left.
-    pub fn fill<R: Source>(&mut self, reader: &mut R) -> Result<usize, ReadFailed>
-        requires { length self.old < INBOX_ROOM }
-        ensures { Fills R.left R.reads R.has_failed R.has_ended reader.old reader.new self.old
-            self.new result }
+    /// One read into the room that is left, which takes one of the budget. The inbox holds a part
+    /// of a message.
+    pub fn read_once<R: Source>(&mut self, reader: &mut R, budget: &mut u32) -> Result<(), Unread>
+        requires sound { R.has_failed reader.old ≡ false }
+        requires room { length self.old < INBOX_ROOM }
+        requires part { IsPart self.old }
+        ensures { ReadsOnce R.left R.reads R.has_failed R.has_ended reader.old reader.new self.old
+            self.new budget.old budget.new result }
     {
+        if *budget == 0 {
+            return Err(Unread::ReadsSpent);
+        }
+        *budget -= 1;
         let len = self.len;
         match reader.read(&mut self.room.as_mut_slice()[len..]) {
+            Ok(0) if len == 0 => Err(Unread::End),
+            Ok(0) => Err(Unread::Cut),
             Ok(count) => {
                 self.len = len + count;
-                Ok(count)
+                Ok(())
             }
-            Err(failed) => Err(failed),
+            Err(_) => Err(Unread::ReadFault),
         }
     }
 

@@ -12,7 +12,7 @@ pub fn no_end()
     ensures { IsNoEnd }
 {}
 
-/// A stream splits into messages in one way: two readings differ only in how far they went.
+/// A stream splits into messages in one way. Two readings differ only in how far they went.
 pub fn one_split()
     ensures { IsOneSplit }
 {}

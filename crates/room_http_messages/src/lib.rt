@@ -6,6 +6,7 @@
 
 pub mod connection;
 pub mod head_fields;
+pub mod head_rules;
 pub mod inbox;
 pub mod laws;
 pub mod limits;
@@ -13,7 +14,6 @@ pub mod message_prefixes;
 pub mod message_reader;
 pub mod messages;
 pub mod read_faults;
-pub mod rules;
 pub mod sinks;
 pub mod sources;
 pub mod standard_wires;

@@ -1,6 +1,6 @@
 //! Why no further message was read.
 
-use room_types::refusals::Refusal;
+use room_types::refusal_statuses::Refusal;
 
 /// Why no message was read.
 #[derive(Clone, Copy, PartialEq, Eq)]

@@ -1,5 +1,6 @@
 -- How the values in memory are seen as data: their numbers of parts, and what is read from them.
-use Rattle.std.proofs.Common.{◌≡◌, ◌≢◌, ◌∙◌, ℕ, ◌==◌, List, [], ◌∷◌, length, refl, sym, ap, arith, eq-eqb, Bool, true, false, cond}
+use Rattle.std.proofs.Common.{◌≡◌, ◌≢◌, ◌∙◌, ℕ, ◌==◌, List, [], ◌∷◌, length, refl, sym, ap, arith, eq-eqb, Bool, true}
+use Rattle.std.proofs.Common.{false, cond}
 use Rattle.std.specs.List.{find}
 use Rattle.std.specs.Prelude.{String, Option, Some, None, IsUtf8, bytes_eq}
 use Rattle.std.specs.declared.alloc.Global.{Global}
@@ -71,7 +72,9 @@ find_passes test (x ∷ xs) y found = found_passes test x y (find test xs) (test
 has_name : (name : List ℕ) (button : Button) → button_of name ≡ Some button
     → button_name button ≡ name
 unfolding button_of
-has_name name button found = (bytes_eq-Decides (button_name button) name).0 (find_passes (λ b. bytes_eq (button_name b) name) buttons button found)
+has_name name button found =
+    (bytes_eq-Decides (button_name button) name).0
+    (find_passes (λ b. bytes_eq (button_name b) name) buttons button found)
 
 -- where a name decodes to none, none is found by it
 none_is : (name : List ℕ) (found : Option Button) → button_of name ≡ found

@@ -47,7 +47,8 @@ pub not_read : {E : Type 0} (parsed : Result ℕ E) (e : E) (least greatest : �
     → None ≡ whole_of least greatest text
 not_read parsed e least greatest text fits numeral failed gives =
     let digits : are_digits text ≡ true = (and_parts _ _ numeral).1 in
-    let unread : ¬ ((0 < length text) × (digits_value 10 text < 2 ^ 32)) = rw failed at (parse_digits numerals 32 text parsed gives digits) in
+    let unread : ¬ ((0 < length text) × (digits_value 10 text < 2 ^ 32)) = rw failed at
+    (parse_digits numerals 32 text parsed gives digits) in
     rw numeral (elim (cases_lt (digits_value 10 text) (2 ^ 32)) [
       | inl less ↦ absurd (unread (some_digit text numeral, less))
       | inr more ↦ sym (above least greatest _ (omega arith))

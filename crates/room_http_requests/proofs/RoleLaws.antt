@@ -16,7 +16,8 @@ use Rattle.room_model.specs.Events.{IsNumbered}
 use Rattle.room_model.specs.Room.{Room}
 use Rattle.room_model.specs.Step.{is_crews, is_desks, is_for, is_positions}
 use Rattle.room_http_requests.specs.RequestAsks.{request_by}
-use Rattle.room_http_requests.specs.Bodies.{and_then, call_form, exactly, duty, lend, merge, mobilise, needs_change, point_form, ask_with_body, press, standby}
+use Rattle.room_http_requests.specs.Bodies.{and_then, call_form, exactly, duty, lend, merge, mobilise, needs_change}
+use Rattle.room_http_requests.specs.Bodies.{point_form, ask_with_body, press, standby}
 use Rattle.room_http_requests.specs.BodyFields.{fields_of, has_members, number_at, number_in}
 use Rattle.room_http_requests.specs.Roles.{is_known, is_of, role_of}
 use Rattle.room_http_requests.specs.declared.request_asks.Request.{Request}
@@ -110,24 +111,40 @@ press_numbered fields =
 
 posted_is : (t : Target) (fields : Data) → IfSome (ask_with_body t fields) (IsAskOf t)
 unfolding mobilise needs_change merge standby duty lend point_form
-posted_is target.Call fields = some_map (IsAskOf target.Call) (call_form fields) ask.Call (some_any (λ form. IsAskOf target.Call (ask.Call form)) _ (λ form. (refl, tt)))
-posted_is (target.Mobilise n) fields = some_exactly (IsAskOf (target.Mobilise n)) _ _ _ (some_next (IsAskOf (target.Mobilise n)) _ _ (λ vehicle. (refl, tt)))
-posted_is (target.Needs n) fields = some_exactly (IsAskOf (target.Needs n)) _ _ _ (some_next (IsAskOf (target.Needs n)) _ _ (λ needs. (refl, tt)))
-posted_is (target.Merge n) fields = some_exactly (IsAskOf (target.Merge n)) _ _ _ (some_next (IsAskOf (target.Merge n)) _ _ (λ into. (refl, tt)))
+posted_is target.Call fields =
+    some_map (IsAskOf target.Call) (call_form fields) ask.Call
+    (some_any (λ form. IsAskOf target.Call (ask.Call form)) _ (λ form. (refl, tt)))
+posted_is (target.Mobilise n) fields =
+    some_exactly (IsAskOf (target.Mobilise n)) _ _ _
+    (some_next (IsAskOf (target.Mobilise n)) _ _ (λ vehicle. (refl, tt)))
+posted_is (target.Needs n) fields =
+    some_exactly (IsAskOf (target.Needs n)) _ _ _ (some_next (IsAskOf (target.Needs n)) _ _ (λ needs. (refl, tt)))
+posted_is (target.Merge n) fields =
+    some_exactly (IsAskOf (target.Merge n)) _ _ _ (some_next (IsAskOf (target.Merge n)) _ _ (λ into. (refl, tt)))
 posted_is (target.Close n) fields = some_exactly (IsAskOf (target.Close n)) _ _ _ (refl, tt)
 posted_is (target.StandDown c) fields = some_exactly (IsAskOf (target.StandDown c)) _ _ _ (refl, tt)
-posted_is (target.Standby c) fields = some_exactly (IsAskOf (target.Standby c)) _ _ _ (some_next (IsAskOf (target.Standby c)) _ _ (λ point. (refl, tt)))
-posted_is (target.Duty c) fields = some_exactly (IsAskOf (target.Duty c)) _ _ _ (some_next (IsAskOf (target.Duty c)) _ _ (λ place. some_next (IsAskOf (target.Duty c)) _ _ (λ until. (refl, tt))))
+posted_is (target.Standby c) fields =
+    some_exactly (IsAskOf (target.Standby c)) _ _ _ (some_next (IsAskOf (target.Standby c)) _ _ (λ point. (refl, tt)))
+posted_is (target.Duty c) fields =
+    some_exactly (IsAskOf (target.Duty c)) _ _ _
+    (some_next (IsAskOf (target.Duty c)) _ _ (λ place. some_next (IsAskOf (target.Duty c)) _ _ (λ until. (refl, tt))))
 posted_is (target.Off c) fields = some_exactly (IsAskOf (target.Off c)) _ _ _ (refl, tt)
-posted_is (target.Lend c) fields = some_exactly (IsAskOf (target.Lend c)) _ _ _ (some_next (IsAskOf (target.Lend c)) _ _ (λ to. some_next (IsAskOf (target.Lend c)) _ _ (λ until. (refl, tt))))
+posted_is (target.Lend c) fields =
+    some_exactly (IsAskOf (target.Lend c)) _ _ _
+    (some_next (IsAskOf (target.Lend c)) _ _ (λ to. some_next (IsAskOf (target.Lend c)) _ _ (λ until. (refl, tt))))
 posted_is (target.Withdraw c) fields = some_exactly (IsAskOf (target.Withdraw c)) _ _ _ (refl, tt)
 posted_is (target.Decline c) fields = some_exactly (IsAskOf (target.Decline c)) _ _ _ (refl, tt)
 posted_is (target.Accept c) fields = some_exactly (IsAskOf (target.Accept c)) _ _ _ (refl, tt)
 posted_is (target.Recall c) fields = some_exactly (IsAskOf (target.Recall c)) _ _ _ (refl, tt)
 posted_is (target.GiveBack c) fields = some_exactly (IsAskOf (target.GiveBack c)) _ _ _ (refl, tt)
 posted_is (target.Clear c n) fields = some_exactly (IsAskOf (target.Clear c n)) _ _ _ (refl, tt)
-posted_is (target.SetPoint n) fields = some_exactly (IsAskOf (target.SetPoint n)) _ _ _ (some_next (IsAskOf (target.SetPoint n)) _ _ (λ place. some_next (IsAskOf (target.SetPoint n)) _ _ (λ cover. (refl, tt))))
-posted_is target.Report fields = some_map (IsAskOf target.Report) (press fields) ask.Report (some_more (λ p. IsAskOf target.Report (ask.Report p)) (λ p. 1 ≤ p.number) _ (press_numbered fields) (λ p least. (refl, least)))
+posted_is (target.SetPoint n) fields =
+    some_exactly (IsAskOf (target.SetPoint n)) _ _ _ (some_next (IsAskOf (target.SetPoint n)) _ _
+    (λ place. some_next (IsAskOf (target.SetPoint n)) _ _ (λ cover. (refl, tt))))
+posted_is target.Report fields =
+    some_map (IsAskOf target.Report) (press fields) ask.Report
+    (some_more (λ p. IsAskOf target.Report (ask.Report p)) (λ p. 1 ≤ p.number) _ (press_numbered fields)
+    (λ p least. (refl, least)))
 posted_is other fields = tt
 
 fields_role : (t : Target) (fields : Option Data)
@@ -148,7 +165,9 @@ request_is target.Offers body = (refl, tt)
 request_is (target.Times day) body = tt
 request_is target.Order body = (refl, tt)
 request_is target.Last body = (refl, tt)
-request_is t body = some_map (IsRequestOf t) (option_and_then (ask_with_body t) (fields_of body)) request.Ask (fields_role t (fields_of body))
+request_is t body =
+    some_map (IsRequestOf t) (option_and_then (ask_with_body t) (fields_of body)) request.Ask
+    (fields_role t (fields_of body))
 
 -- what is asked is of its target's role
 pub asked_is : (t : Target) (body : List ℕ) (a : Ask) → request_by t body ≡ Some (request.Ask a)

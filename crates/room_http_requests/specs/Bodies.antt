@@ -8,7 +8,8 @@ use Rattle.room_types.specs.declared.asks.CallForm.{CallForm}
 use Rattle.room_types.specs.declared.asks.Press.{Press}
 use Rattle.room_http_requests.specs.declared.targets.Target.{Target}
 use Rattle.room_http_requests.specs.declared.targets.Target.TheVariants as target
-use Rattle.room_http_requests.specs.BodyFields.{button_at, callsign_at, has_members, needs_at, note_at, number_at, place_at, point_at}
+use Rattle.room_http_requests.specs.BodyFields.{button_at, callsign_at, has_members, needs_at, note_at, number_at}
+use Rattle.room_http_requests.specs.BodyFields.{place_at, point_at}
 
 -- what is found next, of what was found
 unfoldable pub and_then : {A B : Type 0} → Option A → (A → Option B) → Option B

@@ -1,5 +1,6 @@
 -- The fields of a body: an object of JSON, and the values under its names.
-use Rattle.std.specs.Prelude.{ℕ, List, [], ◌∷◌, length, Bool, false, bytes_eq, nat_le, is_some, ◌==◌, ◌+◌, if◌then◌else◌, Option, Some, None, option_map, option_and_then}
+use Rattle.std.specs.Prelude.{ℕ, List, [], ◌∷◌, length, Bool, false, bytes_eq, nat_le, is_some, ◌==◌, ◌+◌}
+use Rattle.std.specs.Prelude.{if◌then◌else◌, Option, Some, None, option_map, option_and_then}
 use Rattle.std.specs.Result.{result_ok}
 use Rattle.std.specs.List.{find}
 use Rattle.std.specs.Str.Lossy.{utf8_valid_len}

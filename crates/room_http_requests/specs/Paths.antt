@@ -1,6 +1,7 @@
 -- The paths of the room: their patterns, the methods that they take, and how a target is looked up
 -- among them.
-use Rattle.std.specs.Prelude.{ℕ, List, [], codes, Bool, false, true, ◌||◌, bytes_eq, is_none, Result, Ok, Err, Option, option_map}
+use Rattle.std.specs.Prelude.{ℕ, List, [], codes, Bool, false, true, ◌||◌, bytes_eq, is_none, Result, Ok, Err, Option}
+use Rattle.std.specs.Prelude.{option_map}
 use Rattle.std.specs.List.{fold}
 use Rattle.matchit.specs.Order.{placed}
 use Rattle.matchit.specs.Route.{Scan, parse_route}
@@ -8,10 +9,14 @@ use Rattle.matchit.specs.Router.{RouteOf, nearest, route_from}
 use Rattle.matchit.specs.Rows.{RowsOf}
 use Rattle.matchit.specs.Seek.{first}
 use Rattle.matchit.specs.declared.error.InsertError.{InsertError}
-use Rattle.room_types.specs.declared.refusals.Allow.{Allow}
-use Rattle.room_types.specs.declared.refusals.Allow.TheVariants.{GetHead, Post}
+use Rattle.room_types.specs.declared.refusal_statuses.Allow.{Allow}
+use Rattle.room_types.specs.declared.refusal_statuses.Allow.TheVariants.{GetHead, Post}
 use Rattle.room_http_requests.specs.declared.paths.Path.{Path}
-use Rattle.room_http_requests.specs.declared.paths.Path.TheVariants.{Call, Incidents, Incident, Propose, Mobilise, Needs, Merge, Close, Vehicles, StandDown, Standby, Duty, Off, Lend, Withdraw, Decline, Accept, Recall, GiveBack, Queue, Clear, Points, SetPoint, Loans, Offers, Times, Order, Report, Last}
+use Rattle.room_http_requests.specs.declared.paths.Path.TheVariants.{Call, Incidents, Incident, Propose, Mobilise}
+use Rattle.room_http_requests.specs.declared.paths.Path.TheVariants.{Needs, Merge, Close, Vehicles, StandDown, Standby}
+use Rattle.room_http_requests.specs.declared.paths.Path.TheVariants.{Duty, Off, Lend, Withdraw, Decline, Accept, Recall}
+use Rattle.room_http_requests.specs.declared.paths.Path.TheVariants.{GiveBack, Queue, Clear, Points, SetPoint, Loans}
+use Rattle.room_http_requests.specs.declared.paths.Path.TheVariants.{Offers, Times, Order, Report, Last}
 use Rattle.room_http_requests.specs.declared.paths.TheConstants.{PATHS}
 
 -- the pattern of a path

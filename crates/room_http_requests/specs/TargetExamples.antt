@@ -1,13 +1,18 @@
 -- Which targets name which paths, in examples: each path with its parameters, and targets that miss
 -- them narrowly.
 use Rattle.std.specs.Prelude.{Bool, ◌≡◌, ℕ, List, [], ◌∷◌, codes, map, Some, None, Result, Ok, Err}
-use Rattle.room_types.specs.declared.refusals.Allow.TheVariants.{GetHead, Post}
-use Rattle.room_types.specs.declared.refusals.Refusal.{Refusal}
-use Rattle.room_types.specs.declared.refusals.Refusal.TheVariants.{NoPath, WrongMethod}
+use Rattle.room_types.specs.declared.refusal_statuses.Allow.TheVariants.{GetHead, Post}
+use Rattle.room_types.specs.declared.refusal_statuses.Refusal.{Refusal}
+use Rattle.room_types.specs.declared.refusal_statuses.Refusal.TheVariants.{NoPath, WrongMethod}
 use Rattle.room_http_time.specs.Dates.{Date}
 use Rattle.room_http_requests.specs.Targets.{routed, target_of}
 use Rattle.room_http_requests.specs.declared.targets.Target.{Target}
-use Rattle.room_http_requests.specs.declared.targets.Target.TheVariants.{Call, Incidents, Incident, Propose, Mobilise, Needs, Merge, Close, Vehicles, StandDown, Standby, Duty, Off, Lend, Withdraw, Decline, Accept, Recall, GiveBack, Queue, Clear, Points, SetPoint, Loans, Offers, Times, Order, Report, Last}
+use Rattle.room_http_requests.specs.declared.targets.Target.TheVariants.{Call, Incidents, Incident, Propose, Mobilise}
+use Rattle.room_http_requests.specs.declared.targets.Target.TheVariants.{Needs, Merge, Close, Vehicles, StandDown}
+use Rattle.room_http_requests.specs.declared.targets.Target.TheVariants.{Standby, Duty, Off, Lend, Withdraw, Decline}
+use Rattle.room_http_requests.specs.declared.targets.Target.TheVariants.{Accept, Recall, GiveBack, Queue, Clear, Points}
+use Rattle.room_http_requests.specs.declared.targets.Target.TheVariants.{SetPoint, Loans, Offers, Times, Order, Report}
+use Rattle.room_http_requests.specs.declared.targets.Target.TheVariants.{Last}
 
 abbrev pub date : ℕ → ℕ → ℕ → Date
 date year month day = record { year = year; month = month; day = day }

@@ -1,7 +1,8 @@
 -- What a target names: a path, with the parameters that stand in it.
-use Rattle.std.specs.Prelude.{Bool, not, ◌||◌, ℕ, List, Option, Some, None, option_map, option_and_then, Result, Ok, Err, if◌then◌else◌}
-use Rattle.room_types.specs.declared.refusals.Refusal.{Refusal}
-use Rattle.room_types.specs.declared.refusals.Refusal.TheVariants.{NoPath, WrongMethod}
+use Rattle.std.specs.Prelude.{Bool, not, ◌||◌, ℕ, List, Option, Some, None, option_map, option_and_then, Result, Ok}
+use Rattle.std.specs.Prelude.{Err, if◌then◌else◌}
+use Rattle.room_types.specs.declared.refusal_statuses.Refusal.{Refusal}
+use Rattle.room_types.specs.declared.refusal_statuses.Refusal.TheVariants.{NoPath, WrongMethod}
 use Rattle.room_types_keyed.specs.Keyed.{keep}
 use Rattle.room_http_time.specs.Dates.{day_of}
 use Rattle.room_http_requests.specs.Parameters.{callsign_of, number_of, point_number_of, segment_at, text_of}
@@ -9,7 +10,12 @@ use Rattle.room_http_requests.specs.Paths.{allow_of, is_allowed, is_of_history, 
 use Rattle.room_http_requests.specs.declared.paths.Path.{Path}
 use Rattle.room_http_requests.specs.declared.paths.Path.TheVariants as path
 use Rattle.room_http_requests.specs.declared.targets.Target.{Target}
-use Rattle.room_http_requests.specs.declared.targets.Target.TheVariants.{Call, Incidents, Incident, Propose, Mobilise, Needs, Merge, Close, Vehicles, StandDown, Standby, Duty, Off, Lend, Withdraw, Decline, Accept, Recall, GiveBack, Queue, Clear, Points, SetPoint, Loans, Offers, Times, Order, Report, Last}
+use Rattle.room_http_requests.specs.declared.targets.Target.TheVariants.{Call, Incidents, Incident, Propose, Mobilise}
+use Rattle.room_http_requests.specs.declared.targets.Target.TheVariants.{Needs, Merge, Close, Vehicles, StandDown}
+use Rattle.room_http_requests.specs.declared.targets.Target.TheVariants.{Standby, Duty, Off, Lend, Withdraw, Decline}
+use Rattle.room_http_requests.specs.declared.targets.Target.TheVariants.{Accept, Recall, GiveBack, Queue, Clear, Points}
+use Rattle.room_http_requests.specs.declared.targets.Target.TheVariants.{SetPoint, Loans, Offers, Times, Order, Report}
+use Rattle.room_http_requests.specs.declared.targets.Target.TheVariants.{Last}
 
 -- the path of a target, without its parameters
 abbrev pub path_of : Target → Path
@@ -42,6 +48,19 @@ path_of (Times day) = path.Times
 path_of Order = path.Order
 path_of Report = path.Report
 path_of Last = path.Last
+
+-- how many members the body of a target has; one that takes no body has none
+abbrev pub members_of : Target → ℕ
+members_of Call = 5
+members_of Report = 4
+members_of (Duty callsign) = 2
+members_of (Lend callsign) = 2
+members_of (SetPoint number) = 2
+members_of (Mobilise number) = 1
+members_of (Needs number) = 1
+members_of (Merge number) = 1
+members_of (Standby callsign) = 1
+members_of other = 0
 
 -- the report that a callsign and a number name
 abbrev pub cleared : List ℕ → List ℕ → Option Target

@@ -1,11 +1,12 @@
 //! What is wrong with a body that is refused, in words.
 
-use crate::body_fields::{button, callsign, fields_of, needs, note, number, place, point};
+use crate::body_fields::{button, callsign, fields_of, needs, number, place, point};
 use crate::targets::Target;
 use room_place::bounded_numbers::Bounded;
 use room_place::plans::DivisionNumber;
+use room_types::note::Note;
 use room_types::numbers::{Class, Cover, LastNumber, Moment, Number};
-use room_types::refusals::Refusal;
+use room_types::refusal_statuses::Refusal;
 use serde_json::Value;
 use std::alloc::Global;
 use std::fmt;
@@ -65,19 +66,19 @@ fn fault_in(target: &Target, fields: &Value) -> Option<BodyFault> {
     let Some(members) = fields.as_object() else {
         return Some(BodyFault::NoObject);
     };
-    let (wanted, fault) = match *target {
-        Target::Call => (5, call_fault(fields)),
-        Target::Mobilise(_) => (1, vehicle_fault(fields)),
-        Target::Needs(_) => (1, needs_fault(fields)),
-        Target::Merge(_) => (1, number_fault(fields, "into")),
-        Target::Standby(_) => (1, point_fault(fields)),
-        Target::Duty(_) => (2, place_fault(fields).or(until_fault(fields))),
-        Target::Lend(_) => (2, division_fault(fields).or(until_fault(fields))),
-        Target::SetPoint(_) => (2, place_fault(fields).or(cover_fault(fields))),
-        Target::Report => (4, press_fault(fields)),
-        _ => (0, None),
+    let fault = match *target {
+        Target::Call => call_fault(fields),
+        Target::Mobilise(_) => vehicle_fault(fields),
+        Target::Needs(_) => needs_fault(fields),
+        Target::Merge(_) => number_fault(fields, "into"),
+        Target::Standby(_) => point_fault(fields),
+        Target::Duty(_) => place_fault(fields).or(until_fault(fields)),
+        Target::Lend(_) => division_fault(fields).or(until_fault(fields)),
+        Target::SetPoint(_) => place_fault(fields).or(cover_fault(fields)),
+        Target::Report => press_fault(fields),
+        _ => None,
     };
-    fault.or(if members.len() > wanted {
+    fault.or(if members.len() > target.members() {
         Some(BodyFault::More)
     } else {
         None
@@ -143,7 +144,8 @@ fn needs_fault(fields: &Value) -> Option<BodyFault> {
 }
 
 fn note_fault(fields: &Value) -> Option<BodyFault> {
-    let is_good = note(fields, "note").is_some();
+    let text = fields.get("note").and_then(Value::as_str);
+    let is_good = text.and_then(Note::new).is_some();
     unless(is_good, fields, "note", "a text of at most 120 bytes")
 }
 

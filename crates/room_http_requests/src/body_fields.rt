@@ -1,18 +1,17 @@
 //! The fields of a body: an object of JSON, and the values under its names.
-ghost use Rattle.std.specs.Prelude.{◌≡◌, ◌≤◌, option_map, IfOk, MatchResult, Some, None, ◌⊎◌};
+ghost use Rattle.std.specs.Prelude.{◌≡◌, ◌≤◌, IfOk, MatchResult, Some, None, ◌⊎◌};
 ghost use Rattle.serde_json.specs.Data.{object, no_members};
 ghost use Rattle.serde_json.specs.View.{view};
-ghost use Rattle.room_types.specs.declared.refusals.Refusal.TheVariants.{BadBody, Memory};
-ghost use Rattle.room_http_requests.specs.BodyFields.{button_at, callsign_at, fields_of, has_members, needs_at, needs_of, note_at, number_at, number_in, place_at, point_at, text_at};
+ghost use Rattle.room_types.specs.declared.refusal_statuses.Refusal.TheVariants.{BadBody, Memory};
+ghost use Rattle.room_http_requests.specs.BodyFields.{button_at, callsign_at, fields_of, has_members, needs_at, needs_of, number_at, number_in, place_at, point_at};
 
 use room_place::bounded_numbers::Bounded;
 use room_place::places::Place;
 use room_types::callsign::Callsign;
 use room_types::codes::Button;
 use room_types::needs::{Counts, Needs};
-use room_types::note::Note;
 use room_types::numbers::{Need, PointNumber};
-use room_types::refusals::Refusal;
+use room_types::refusal_statuses::Refusal;
 use serde_json::{Map, Value};
 use std::alloc::Global;
 
@@ -70,44 +69,28 @@ pub(crate) fn number<const LEAST: u32, const GREATEST: u32>(
     number_in(fields.get(name)?)
 }
 
-/// The text under a name.
-#[tactic(auto, unfolding(crate::specs::BodyFields::text_at))]
-fn text<'v>(fields: &'v Value, name: &str) -> Option<&'v str>
-    ensures { option_map (λ text. text.now) result ≡ text_at name.now (view fields.now) }
-{
-    fields.get(name)?.as_str()
-}
-
 /// The place that a reference under a name names.
-#[tactic(auto, unfolding(crate::specs::BodyFields::place_at))]
+#[tactic(auto, unfolding(crate::specs::BodyFields::place_at, crate::specs::BodyFields::text_at))]
 pub(crate) fn place(fields: &Value, name: &str) -> Option<Place>
     ensures { result ≡ place_at name.now (view fields.now) }
 {
-    Place::parse(text(fields, name)?).ok()
+    Place::parse(fields.get(name)?.as_str()?).ok()
 }
 
 /// The callsign under a name.
-#[tactic(auto, unfolding(crate::specs::BodyFields::callsign_at))]
+#[tactic(auto, unfolding(crate::specs::BodyFields::callsign_at, crate::specs::BodyFields::text_at))]
 pub(crate) fn callsign(fields: &Value, name: &str) -> Option<Callsign>
     ensures { result ≡ callsign_at name.now (view fields.now) }
 {
-    Callsign::parse(text(fields, name)?)
-}
-
-/// The note under a name.
-#[tactic(auto, unfolding(crate::specs::BodyFields::note_at))]
-pub(crate) fn note(fields: &Value, name: &str) -> Option<Note>
-    ensures { result ≡ note_at name.now (view fields.now) }
-{
-    Note::new(text(fields, name)?)
+    Callsign::parse(fields.get(name)?.as_str()?)
 }
 
 /// The button whose name stands under a name.
-#[tactic(auto, unfolding(crate::specs::BodyFields::button_at))]
+#[tactic(auto, unfolding(crate::specs::BodyFields::button_at, crate::specs::BodyFields::text_at))]
 pub(crate) fn button(fields: &Value, name: &str) -> Option<Button>
     ensures { result ≡ button_at name.now (view fields.now) }
 {
-    Button::parse(text(fields, name)?)
+    Button::parse(fields.get(name)?.as_str()?)
 }
 
 /// The needs under a name: an array of three numbers, for at least one vehicle.

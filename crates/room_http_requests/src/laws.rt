@@ -2,7 +2,7 @@
 
 ghost use Rattle.room_http_requests.specs.TargetExamples.{AreRouted, Name, NameNothing, history_requests, incident_names, other_names, requests, stray_days, stray_incidents, stray_numbers, stray_paths, stray_points, stray_vehicles, vehicle_names};
 ghost use Rattle.std.specs.Prelude.{◌≡◌, ℕ, ℤ, List, Some, true, false, Err, IfSome};
-ghost use Rattle.room_types.specs.declared.refusals.Refusal.TheVariants.{NoPath};
+ghost use Rattle.room_types.specs.declared.refusal_statuses.Refusal.TheVariants.{NoPath};
 ghost use Rattle.room_http_requests.specs.Paths.{is_of_history};
 ghost use Rattle.room_http_requests.specs.Targets.{path_of, routed, target_of};
 ghost use Rattle.room_types.specs.declared.asks.Ask.{Ask};

@@ -1,6 +1,6 @@
 //! The parameters in a target: its segments, and the numbers that they write.
 ghost use Rattle.std.specs.Prelude.{◌≡◌, option_map};
-ghost use Rattle.room_http_requests.specs.Parameters.{are_ascii, are_digits, is_numeral, segment_at, text_of, whole_of};
+ghost use Rattle.room_http_requests.specs.Parameters.{are_digits, is_numeral, segment_at, text_of, whole_of};
 
 use room_place::bounded_numbers::Bounded;
 
@@ -8,17 +8,11 @@ use room_place::bounded_numbers::Bounded;
 pub(crate) fn text_of(target: &[u8]) -> Option<&str>
     ensures { option_map (λ text. text.now) result ≡ text_of target.now }
 {
-    if are_ascii(target) {
+    if target.iter().all(|byte| byte.is_ascii()) {
         Some(str::from_utf8(target).unwrap())
     } else {
         None
     }
-}
-
-fn are_ascii(bytes: &[u8]) -> bool
-    ensures { result ≡ are_ascii bytes.now }
-{
-    bytes.iter().all(|byte| *byte < 128)
 }
 
 /// A segment of a target, counted from what stands before its first slash: empty where there is

@@ -2,7 +2,7 @@
 ghost use Rattle.std.specs.Prelude.{◌≡◌};
 ghost use Rattle.room_http_requests.specs.Paths.{pattern_of, allow_of, is_of_history};
 
-use room_types::refusals::Allow;
+use room_types::refusal_statuses::Allow;
 
 /// A path, without its parameters.
 #[derive(Clone, Copy, PartialEq, Eq)]

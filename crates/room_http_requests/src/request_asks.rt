@@ -1,14 +1,14 @@
 //! What a request asks for.
 ghost use Rattle.std.specs.Prelude.{◌≡◌, ◌⊎◌, MatchResult, None, Some};
-ghost use Rattle.room_types.specs.declared.refusals.Refusal.TheVariants.{BadBody, Memory};
-ghost use Rattle.room_http_requests.specs.RequestAsks.{ask_without_body, request_by};
+ghost use Rattle.room_types.specs.declared.refusal_statuses.Refusal.TheVariants.{BadBody, Memory};
+ghost use Rattle.room_http_requests.specs.RequestAsks.{request_by};
 
 use crate::bodies::ask_with_body;
 use crate::body_fields::fields_of;
 use crate::targets::Target;
 use room_http_time::days::Day;
 use room_types::asks::Ask;
-use room_types::refusals::Refusal;
+use room_types::refusal_statuses::Refusal;
 use std::alloc::Global;
 
 /// What a request wants of the room.
@@ -17,26 +17,6 @@ pub enum Request {
     Ask(Ask),
     /// The times of a day, whose first and last instants the plan's time zone gives.
     Times(Day),
-}
-
-/// What a target that takes no body wants: none for one that takes a body.
-fn ask_without_body(target: &Target) -> Option<Request>
-    ensures { result ≡ ask_without_body target.now }
-{
-    match *target {
-        Target::Incidents => Some(Request::Ask(Ask::Incidents)),
-        Target::Incident(number) => Some(Request::Ask(Ask::Incident(number))),
-        Target::Propose(number) => Some(Request::Ask(Ask::Propose(number))),
-        Target::Vehicles => Some(Request::Ask(Ask::Vehicles)),
-        Target::Queue => Some(Request::Ask(Ask::Queue)),
-        Target::Points => Some(Request::Ask(Ask::Points)),
-        Target::Loans => Some(Request::Ask(Ask::Loans)),
-        Target::Offers => Some(Request::Ask(Ask::Offers)),
-        Target::Times(day) => Some(Request::Times(day)),
-        Target::Order => Some(Request::Ask(Ask::Order)),
-        Target::Last => Some(Request::Ask(Ask::Last)),
-        _ => None,
-    }
 }
 
 /// What a request wants, by its target and its body.
@@ -50,15 +30,21 @@ pub fn ask_of(alloc: Global, target: &Target, body: &[u8]) -> Result<Request, Re
         (λ refusal. (refusal ≡ Memory) ⊎
         ((refusal ≡ BadBody) × (request_by target.now body.now ≡ None))) }
 {
-    if let Some(request) = ask_without_body(target) {
-        return Ok(request);
-    }
-    let fields = match fields_of(alloc, body) {
-        Ok(fields) => fields,
-        Err(refusal) => return Err(refusal),
-    };
-    match ask_with_body(target, &fields) {
-        Some(ask) => Ok(Request::Ask(ask)),
-        None => Err(Refusal::BadBody),
+    match *target {
+        Target::Incidents => Ok(Request::Ask(Ask::Incidents)),
+        Target::Incident(number) => Ok(Request::Ask(Ask::Incident(number))),
+        Target::Propose(number) => Ok(Request::Ask(Ask::Propose(number))),
+        Target::Vehicles => Ok(Request::Ask(Ask::Vehicles)),
+        Target::Queue => Ok(Request::Ask(Ask::Queue)),
+        Target::Points => Ok(Request::Ask(Ask::Points)),
+        Target::Loans => Ok(Request::Ask(Ask::Loans)),
+        Target::Offers => Ok(Request::Ask(Ask::Offers)),
+        Target::Times(day) => Ok(Request::Times(day)),
+        Target::Order => Ok(Request::Ask(Ask::Order)),
+        Target::Last => Ok(Request::Ask(Ask::Last)),
+        _ => match ask_with_body(target, &fields_of(alloc, body)?) {
+            Some(ask) => Ok(Request::Ask(ask)),
+            None => Err(Refusal::BadBody),
+        },
     }
 }

@@ -1,14 +1,14 @@
 //! The paths in a router, and the one that a request names.
 ghost use Rattle.std.specs.Prelude.{◌≡◌, true, OnOk, IfErr};
-ghost use Rattle.room_http_requests.specs.Paths.{table, with_path, is_free_for, path_at, is_allowed};
-ghost use Rattle.room_http_requests.specs.Targets.{target_of, routed};
-ghost use Rattle.room_types.specs.declared.refusals.Refusal.TheVariants.{Memory};
+ghost use Rattle.room_http_requests.specs.Paths.{table, with_path, is_free_for, is_allowed};
+ghost use Rattle.room_http_requests.specs.Targets.{routed};
+ghost use Rattle.room_types.specs.declared.refusal_statuses.Refusal.TheVariants.{Memory};
 
 use crate::parameters::text_of;
 use crate::paths::{PATHS, Path};
-use crate::targets::{Target, named_by};
+use crate::targets::Target;
 use matchit::{InsertError, Router};
-use room_types::refusals::{Allow, Refusal};
+use room_types::refusal_statuses::{Allow, Refusal};
 use std::alloc::Global;
 
 /// All paths of the room, ready to be looked up.
@@ -45,43 +45,27 @@ impl Routes {
         Ok(Routes { router })
     }
 
-    /// The path that a target names, without its parameters.
-    #[tactic(auto, unfolding(crate::specs::Paths::path_at))]
-    fn path_at(&self, target: &str) -> Option<Path>
-        ensures { result ≡ path_at target.now }
-    {
-        match self.router.at(target) {
-            Ok(found) => Some(*found.value),
-            Err(_) => None,
-        }
-    }
-
-    /// What a target names: none where it is no path of the room, or a parameter is not of its
-    /// form.
-    #[tactic(auto, unfolding(crate::specs::Targets::target_of))]
-    fn target_of(&self, target: &[u8]) -> Option<Target>
-        ensures { result ≡ target_of target.now }
-    {
-        let target = text_of(target)?;
-        let path = self.path_at(target)?;
-        named_by(path, target)
-    }
-
     /// What a request names by its method and target.
     ///
     /// Refused as `NoPath` where the target is no path of the room, or one of history where that is
-    /// not served, or a parameter is not of its form or range, then as `WrongMethod` where the path doesn't take the method. Methods are
-    /// compared with case, and HEAD is taken where GET is.
+    /// not served, or a parameter is not of its form or range, then as `WrongMethod` where the path
+    /// doesn't take the method. Methods are compared with case, and HEAD is taken where GET is.
     pub fn route(&self, history: bool, method: &[u8], target: &[u8]) -> Result<Target, Refusal>
         ensures { result ≡ routed history method.now target.now }
     {
-        let Some(target) = self.target_of(target) else {
+        let Some(text) = text_of(target) else {
             return Err(Refusal::NoPath);
         };
-        let path = target.path();
+        let path = match self.router.at(text) {
+            Ok(found) => *found.value,
+            Err(_) => return Err(Refusal::NoPath),
+        };
         if !history && path.is_of_history() {
             return Err(Refusal::NoPath);
         }
+        let Some(target) = Target::parse(path, text) else {
+            return Err(Refusal::NoPath);
+        };
         let allow = path.allow();
         if is_allowed(allow, method) {
             Ok(target)

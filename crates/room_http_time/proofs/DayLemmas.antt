@@ -1,11 +1,14 @@
 -- Days lie well within the calendar that jiff has, and so their midnights within its instants.
 use Rattle.std.proofs.Common.{FitsSigned, arith, w64, ℕ, ℤ, neg_ℤ, pos, ◌+ℤ◌, ◌*ℤ◌, ◌<◌, ◌≡◌, ◌∙◌, ap}
-use Rattle.jiff.specs.Words.{ambiguous_at, civil_nanos, compatible_offset, epoch_day, instant_of, time_nanos, IsTimestampNanos}
+use Rattle.jiff.specs.Words.{ambiguous_at, civil_nanos, compatible_offset, epoch_day, instant_of, time_nanos}
+use Rattle.jiff.specs.Words.{IsTimestampNanos}
 use Rattle.jiff_core.specs.Calendar.{day_count, days_from_civil, IsCivilDate}
 use Rattle.jiff_core.specs.declared.civil.date.Date.{Date}
 use Rattle.jiff_core.specs.declared.civil.datetime.DateTime.{DateTime}
 use Rattle.jiff_core.specs.declared.offset.Offset.{Offset}
-use Rattle.jiff_core.proofs.CalendarLemmas.{day_count-day_of_year, day_count-later_year, day_count-lt_year, day_count-min, day_count-year_bounds, days_from_civil-day_count, days_in_year_bounds}
+use Rattle.jiff_core.proofs.CalendarLemmas.{day_count-day_of_year, day_count-later_year, day_count-lt_year}
+use Rattle.jiff_core.proofs.CalendarLemmas.{day_count-min, day_count-year_bounds, days_from_civil-day_count}
+use Rattle.jiff_core.proofs.CalendarLemmas.{days_in_year_bounds}
 use Rattle.jiff_core.proofs.DateTimeLemmas.{civil_nanos-parts}
 use Rattle.jiff_core.proofs.SignedLemmas.{signed_arith}
 use Rattle.jiff_tz.specs.declared.timezone.TimeZone.{TimeZone}
@@ -14,8 +17,11 @@ use Rattle.room_http_time.specs.Days.{IsDay, IsInner, IsMidnight}
 civil_date : (year month day : ℕ) → IsDay year month day → IsCivilDate (pos year) month day
 civil_date year month day h =
     let since = h.since in
-    let until = h.until in
-    ((omega (arith, signed_arith), omega (arith, signed_arith)), (h.month_least, h.month_greatest), (h.day_least, h.day_greatest))
+    let until = h.until in (
+      (omega (arith, signed_arith), omega (arith, signed_arith)),
+      (h.month_least, h.month_greatest),
+      (h.day_least, h.day_greatest),
+    )
 
 -- fewer days come before it than before the year 9999
 below_last_year : (year month day : ℕ) → IsDay year month day
@@ -24,7 +30,8 @@ below_last_year year month day h =
     let until = h.until in
     omega (
       arith,
-      day_count-lt_year (pos year) month day (pos 9999) 1 1 (civil_date year month day h) (omega arith) (omega (arith, signed_arith)),
+      day_count-lt_year (pos year) month day (pos 9999) 1 1 (civil_date year month day h) (omega arith)
+          (omega (arith, signed_arith)),
       day_count-year_bounds (pos 9999) (omega (arith, signed_arith), omega (arith, signed_arith)),
       days_in_year_bounds (pos 9999),
     )
@@ -49,8 +56,10 @@ pub inner_days : (at : ℤ) (year month day : ℕ) → at ≡ days_from_civil (p
 inner_days at year month day e h =
     let count = days_from_civil-day_count (pos year) month day in
     let below = below_last_year year month day h in
-    let above = above_first_year year month day h in
-    ((omega (arith, signed_arith), omega (arith, signed_arith)), (omega (arith, signed_arith), omega (arith, signed_arith)))
+    let above = above_first_year year month day h in (
+      (omega (arith, signed_arith), omega (arith, signed_arith)),
+      (omega (arith, signed_arith), omega (arith, signed_arith)),
+    )
 
 add-zero_z : (z : ℤ) → z +ℤ pos 0 ≡ z
 add-zero_z z = omega (arith, signed_arith)

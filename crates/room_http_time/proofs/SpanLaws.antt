@@ -10,7 +10,9 @@ use Rattle.room_http_time.specs.Laws.{IsOneSpan}
 midnight-one : (zone : TimeZone) (day second other : ℤ) → IsMidnight zone day second
     → IsMidnight zone day other → second ≡ other
 midnight-one zone day second other (at, nanos, is) (there, nanos_there, is_other) =
-    is ∙ ap (λ (d : DateTime). int_div (picked_instant zone d) (pos 1_000_000_000)) (same_datetime at there (nanos ∙ sym nanos_there)) ∙ sym is_other
+    is
+    ∙ ap (λ (d : DateTime). int_div (picked_instant zone d) (pos 1_000_000_000))
+    (same_datetime at there (nanos ∙ sym nanos_there)) ∙ sym is_other
 
 pub one_span_law : IsOneSpan
 one_span_law zone day span other (from, to) (other_from, other_to) =

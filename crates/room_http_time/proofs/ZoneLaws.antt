@@ -50,7 +50,9 @@ same-offsets std other (Some c) (Some d) at same e =
     let offset = same-offset c.offset d.offset (λ i. (view i).seconds) in
     let start = same-time c.rule.start d.rule.start (λ i. (view i).start) in
     let finish = same-time c.rule.end d.rule.end (λ i. (view i).finish) in
-    λ i. ambiguous_by (same i) (offset i) (rule_nanos at.date.year (start i) (pos 0), rule_nanos at.date.year (finish i) (pos 0)) (civil_nanos at)
+    λ i.
+    ambiguous_by (same i) (offset i)
+    (rule_nanos at.date.year (start i) (pos 0), rule_nanos at.date.year (finish i) (pos 0)) (civil_nanos at)
 
 -- the instant that is picked goes by what the text says
 same-instant : (a b : Rule) (at : DateTime) → tz_view a ≡ tz_view b

@@ -19,7 +19,8 @@ pub linked_covers : (d : ℕ) (new : NewCall) (i j : Incident) (k : Call) (x : D
     → is_active i.state ≡ true → i.division ≡ d → j ≡ with_call new i
     → k ≡ call_row d i.number true new → x.changes ≡ PutIncident j ∷ PutCall k ∷ [] → Covers new x
 linked_covers d new i j k x active owned linked made are =
-    let puts = are ∙ ap (λ y. PutIncident y ∷ PutCall k ∷ []) linked ∙ ap (λ y. PutIncident (with_call new i) ∷ PutCall y ∷ []) made in
+    let puts = are ∙ ap (λ y. PutIncident y ∷ PutCall k ∷ []) linked
+    ∙ ap (λ y. PutIncident (with_call new i) ∷ PutCall y ∷ []) made in
     record {
       incident = with_call new i;
       call = call_row d i.number true new;
@@ -38,7 +39,8 @@ pub opened_covers : (d n : ℕ) (new : NewCall) (v : Division) (i : Incident) (k
     (x : Decision) → i ≡ new_incident d n new → k ≡ call_row d n false new
     → x.changes ≡ PutDivision v ∷ PutIncident i ∷ PutCall k ∷ [] → Covers new x
 opened_covers d n new v i k x opened made are =
-    let puts = are ∙ ap (λ y. PutDivision v ∷ PutIncident y ∷ PutCall k ∷ []) opened ∙ ap (λ y. PutDivision v ∷ PutIncident (new_incident d n new) ∷ PutCall y ∷ []) made in
+    let puts = are ∙ ap (λ y. PutDivision v ∷ PutIncident y ∷ PutCall k ∷ []) opened
+    ∙ ap (λ y. PutDivision v ∷ PutIncident (new_incident d n new) ∷ PutCall y ∷ []) made in
     record {
       incident = new_incident d n new;
       call = call_row d n false new;

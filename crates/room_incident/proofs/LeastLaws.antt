@@ -1,15 +1,17 @@
 -- What stands first by an order in which two may tie.
-use Rattle.std.proofs.Common.{Bool, List, None, Option, Some, [], ap, cond, false, inl, inr, refl, subst, sym, true, ◌∙◌, ◌∷◌, ◌≡◌, ◌⊎◌}
+use Rattle.std.proofs.Common.{Bool, List, None, Option, Some, [], ap, cond, false, inl, inr, refl, subst, sym, true}
+use Rattle.std.proofs.Common.{◌∙◌, ◌∷◌, ◌≡◌, ◌⊎◌}
 use Rattle.std.specs.Prelude.{filter}
 use Rattle.room_place.specs.Choice.{Among, least, least_from}
 
 pub into_filter : {X : Type 0} (p : X → Bool) (xs : List X) (y : X) → Among y xs → p y ≡ true
     → Among y (filter p xs)
 into_filter p [] y h e = absurd h
-into_filter {X} p (x ∷ xs) y h e = (elim (p x) as (λ (b : Bool). p x ≡ b → Among y (cond b (x ∷ filter p xs) (filter p xs))) [
-  | true ↦ λ f. elim h [ inl k ↦ inl k | inr k ↦ inr (into_filter p xs y k e) ]
-  | false ↦ λ f. elim h [ inl k ↦ let passes = ap p k in absurd (cc) | inr k ↦ into_filter p xs y k e ]
-]) refl
+into_filter {X} p (x ∷ xs) y h e =
+    (elim (p x) as (λ (b : Bool). p x ≡ b → Among y (cond b (x ∷ filter p xs) (filter p xs))) [
+      | true ↦ λ f. elim h [ inl k ↦ inl k | inr k ↦ inr (into_filter p xs y k e) ]
+      | false ↦ λ f. elim h [ inl k ↦ let passes = ap p k in absurd (cc) | inr k ↦ into_filter p xs y k e ]
+    ]) refl
 
 module _ {X : Type 0} (lt : X → X → Bool) (turned : (x y : X) → lt x y ≡ true → lt y x ≡ false)
     (passed : (x y z : X) → lt y x ≡ false → lt z y ≡ false → lt z x ≡ false) where
@@ -37,12 +39,24 @@ module _ {X : Type 0} (lt : X → X → Bool) (turned : (x y : X) → lt x y ≡
   }
 
   finds : (ys : List X) (o : Option X) (x : X) → least_from lt o ys ≡ Some x → IsFound o ys x
-  finds [] o x e = record { from = inl e; old = λ z f. let same : x ≡ z = cc in ap (lt z) same ∙ itself _ z refl; all = λ y h. absurd h }
+  finds [] o x e = record {
+    from = inl e;
+    old = λ z f. let same : x ≡ z = cc in ap (lt z) same ∙ itself _ z refl;
+    all = λ y h. absurd h;
+  }
   finds (y ∷ ys) None x e = found_again None y y x ys (finds ys (Some y) x e) (inl refl) (itself _ y refl) (λ z g. cc)
-  finds (y ∷ ys) (Some w) x e = (elim (lt y w) as (λ (b : Bool). lt y w ≡ b → least_from lt (cond b (Some y) (Some w)) ys ≡ Some x → IsFound (Some w) (y ∷ ys) x) [
-    | true ↦ λ q g. found_again (Some w) y y x ys (finds ys (Some y) x g) (inl refl) (itself _ y refl) (λ z k. let same : w ≡ z = cc in subst (λ v. lt v y ≡ false) same (turned y w q))
-    | false ↦ λ q g. found_again (Some w) w y x ys (finds ys (Some w) x g) (inr refl) q (λ z k. let same : w ≡ z = cc in subst (λ v. lt v w ≡ false) same (itself _ w refl))
-  ]) refl e
+  finds (y ∷ ys) (Some w) x e =
+      (elim (lt y w) as (λ (b : Bool).
+      lt y w ≡ b → least_from lt (cond b (Some y) (Some w)) ys ≡ Some x → IsFound (Some w) (y ∷ ys) x) [
+        | true ↦
+            λ q g.
+            found_again (Some w) y y x ys (finds ys (Some y) x g) (inl refl) (itself _ y refl)
+            (λ z k. let same : w ≡ z = cc in subst (λ v. lt v y ≡ false) same (turned y w q))
+        | false ↦
+            λ q g.
+            found_again (Some w) w y x ys (finds ys (Some w) x g) (inr refl) q
+            (λ z k. let same : w ≡ z = cc in subst (λ v. lt v w ≡ false) same (itself _ w refl))
+      ]) refl e
 
   none_least : (ys : List X) (y : X) → least_from lt (Some y) ys ≡ None → ⊥
   none_least [] y e = cc

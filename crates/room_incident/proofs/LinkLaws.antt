@@ -1,5 +1,6 @@
 -- The incident that a call is linked to.
-use Rattle.std.proofs.Common.{Bool, Bor, List, None, Option, Some, [], ap, arith, cond, false, refl, sym, true, ℕ, ◌∙◌, ◌∷◌, ◌≡◌}
+use Rattle.std.proofs.Common.{Bool, Bor, List, None, Option, Some, [], ap, arith, cond, false, refl, sym, true, ℕ, ◌∙◌}
+use Rattle.std.proofs.Common.{◌∷◌, ◌≡◌}
 use Rattle.std.proofs.lemmas.Bool.{eqb-true}
 use Rattle.std.proofs.lemmas.Bool.Decides.{nat_tests}
 use Rattle.std.specs.List.{list_all}
@@ -53,16 +54,23 @@ module _ (d : ℕ) (p : Place) (at : ℕ) where
 
   least_is_target : (xs : List Incident) (o : Option Incident)
       → least (is_nearer p) (filter (is_candidate d p at) xs) ≡ o → IsLinkTarget d p at xs o
-  least_is_target xs None e = λ i among. (elim (is_candidate d p at i) as (λ (b : Bool). is_candidate d p at i ≡ b → b ≡ false) [
-    | true ↦ λ passes. absurd (none_among (is_nearer p) (turned p) (passed p) _ i e (into_filter (is_candidate d p at) xs i among passes))
-    | false ↦ λ fails. refl
-  ]) refl
+  least_is_target xs None e =
+      λ i among. (elim (is_candidate d p at i) as (λ (b : Bool). is_candidate d p at i ≡ b → b ≡ false) [
+        | true ↦
+            λ passes.
+            absurd
+            (none_among (is_nearer p) (turned p) (passed p) _ i e (into_filter (is_candidate d p at) xs i among passes))
+        | false ↦ λ fails. refl
+      ]) refl
   least_is_target xs (Some t) e =
       let found = among_filter (is_candidate d p at) xs t (least_among (is_nearer p) (turned p) (passed p) _ t e) in
       record {
         among = found.0;
         candidate = found.1;
-        nearest = λ i among passes. least_below (is_nearer p) (turned p) (passed p) _ t e i (into_filter (is_candidate d p at) xs i among passes);
+        nearest =
+            λ i among passes.
+            least_below (is_nearer p) (turned p) (passed p) _ t e i
+            (into_filter (is_candidate d p at) xs i among passes);
       }
 
   pub target_is : (xs : List Incident) (o : Option Incident)
@@ -74,8 +82,11 @@ module _ (d : ℕ) (p : Place) (at : ℕ) where
       → least (is_nearer p) (filter (is_candidate d p at) xs) ≡ Some t
       → (is_active t.state ≡ true) × (t.division ≡ d)
   target_passes xs t e =
-      let passes = (among_filter (is_candidate d p at) xs t (least_among (is_nearer p) (turned p) (passed p) _ t e)).1 in
-      (left_true (is_active t.state) _ (right_true (t.division == d) _ passes), eqb-true _ _ (left_true (t.division == d) _ passes))
+      let passes = (among_filter (is_candidate d p at) xs t
+      (least_among (is_nearer p) (turned p) (passed p) _ t e)).1 in (
+        left_true (is_active t.state) _ (right_true (t.division == d) _ passes),
+        eqb-true _ _ (left_true (t.division == d) _ passes),
+      )
 
   target_is_ours : (xs : List Incident) (t : Incident)
       → Some t ≡ least (is_nearer p) (filter (is_open_near p at) xs)

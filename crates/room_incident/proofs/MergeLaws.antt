@@ -1,5 +1,6 @@
 -- What two incidents are joined to.
-use Rattle.std.proofs.Common.{List, None, Option, Some, [], ap, arith, inl, inr, map, refl, subst, sym, ℕ, ◌∙◌, ◌∷◌, ◌≡◌, ◌≤◌}
+use Rattle.std.proofs.Common.{List, None, Option, Some, [], ap, arith, inl, inr, map, refl, subst, sym, ℕ, ◌∙◌, ◌∷◌}
+use Rattle.std.proofs.Common.{◌≡◌, ◌≤◌}
 use Rattle.room_place.specs.Choice.{Among}
 use Rattle.room_types.specs.Needs.{larger, need_of}
 use Rattle.room_types.specs.declared.changes.Change.{Change}
@@ -53,7 +54,8 @@ pub joins_so : (n m target into merged : Incident) (cs : List Call) (x : Decisio
     → x.changes ≡ PutIncident into ∷ PutIncident merged ∷ map (moved_call target.number) cs
     → Joins n m x
 joins_so n m target into merged cs x joins is_m are =
-    let puts = are ∙ ap (λ j. PutIncident j ∷ PutIncident merged ∷ map (moved_call target.number) cs) joins ∙ ap (λ (t : Incident). PutIncident (joined n m) ∷ PutIncident merged ∷ map (moved_call t.number) cs) is_m in
+    let puts = are ∙ ap (λ j. PutIncident j ∷ PutIncident merged ∷ map (moved_call target.number) cs) joins
+    ∙ ap (λ (t : Incident). PutIncident (joined n m) ∷ PutIncident merged ∷ map (moved_call t.number) cs) is_m in
     record {
       into = joined n m;
       put = subst (Among (PutIncident (joined n m))) (sym puts) (inl refl);

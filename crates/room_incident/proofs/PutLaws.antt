@@ -14,7 +14,8 @@ put_after a b c cs are is = ap (λ (x : Decision). x.changes) is ∙ ap (λ xs. 
 -- with these changes in place of another's
 pub changed_is : (a b : Decision) (cs : List Change) → a.changes ≡ cs → a.answer ≡ b.answer
     → a ≡ record b { changes = cs }
-changed_is a b cs are same = ap (λ ys. record a { changes = ys }) are ∙ ap (λ y. record b { changes = cs; answer = y }) same
+changed_is a b cs are same =
+    ap (λ ys. record a { changes = ys }) are ∙ ap (λ y. record b { changes = cs; answer = y }) same
 
 abbrev incident_of : Change → Option Incident
 incident_of (PutIncident i) = Some i

@@ -13,7 +13,9 @@ use Rattle.room_types.specs.declared.tables.Incident.{Incident}
 
 found_key : (xs : List Incident) (d n : ℕ) (i : Incident)
     → Some i ≡ row_at pair_cmp incident_key xs (d, n) → incident_key i ≡ (d, n)
-found_key xs d n i e = subst (λ o. IfSome o (λ x. incident_key x ≡ (d, n))) (sym e) (row_key pair_cmp incident_key pairs_total exact_pair xs (d, n))
+found_key xs d n i e =
+    subst (λ o. IfSome o (λ x. incident_key x ≡ (d, n))) (sym e)
+    (row_key pair_cmp incident_key pairs_total exact_pair xs (d, n))
 
 pub found_division : (xs : List Incident) (d n : ℕ) (i : Incident)
     → Some i ≡ row_at pair_cmp incident_key xs (d, n) → i.division ≡ d

@@ -1,5 +1,6 @@
 -- What is counted of a room's turns is what the room says.
-use Rattle.std.proofs.Common.{Bool, List, None, Option, Some, [], ap, arith, eq-eqb, false, inl, inr, length, refl, sym, true, ℕ, ◌-◌, ◌∙◌, ◌∷◌, ◌≡◌, ◌≤◌}
+use Rattle.std.proofs.Common.{Bool, List, None, Option, Some, [], ap, arith, eq-eqb, false, inl, inr, length, refl, sym}
+use Rattle.std.proofs.Common.{true, ℕ, ◌-◌, ◌∙◌, ◌∷◌, ◌≡◌, ◌≤◌}
 use Rattle.std.proofs.lemmas.Bool.Decides.{nat_tests}
 use Rattle.std.specs.List.{list_any}
 use Rattle.std.specs.Prelude.{IsSome, filter, is_none, ◌||◌}
@@ -50,7 +51,8 @@ or_false false b e = (refl, e)
 
 is_ended : (d n : ℕ) (t : Turn) → t.division ≡ d → t.incident ≡ n → is_open_for d n t ≡ false
     → IsSome t.ended
-is_ended d n t division incident e = ended_one t.ended (sym (rw (eq-eqb t.division d division, eq-eqb t.incident n incident) refl) ∙ e)
+is_ended d n t division incident e =
+    ended_one t.ended (sym (rw (eq-eqb t.division d division, eq-eqb t.incident n incident) refl) ∙ e)
 
 none_open : (d n : ℕ) (turns : List Turn) → list_any (is_open_for d n) turns ≡ false → (t : Turn)
     → Among t turns → t.division ≡ d → t.incident ≡ n → IsSome t.ended

@@ -1,5 +1,6 @@
 -- What one number more does to the tallies of incidents, and what they count.
-use Rattle.std.proofs.Common.{Bool, List, [], ap, arith, cond, eq-eqb, false, get_or, length, map, not, refl, set, suc, sym, take, true, zero, ℕ, ◌+◌, ◌++◌, ◌<◌, ◌&&◌, ◌∙◌, ◌∷◌, ◌≡◌, ◌≤◌, ◌||◌}
+use Rattle.std.proofs.Common.{Bool, List, [], ap, arith, cond, eq-eqb, false, get_or, length, map, not, refl, set, suc}
+use Rattle.std.proofs.Common.{sym, take, true, zero, ℕ, ◌+◌, ◌++◌, ◌<◌, ◌&&◌, ◌∙◌, ◌∷◌, ◌≡◌, ◌≤◌, ◌||◌}
 use Rattle.std.proofs.lemmas.List.{get_or-map, length-take, map-append}
 use Rattle.std.proofs.lemmas.Bool.Decides.{nat_tests}
 use Rattle.std.proofs.lemmas.List.Filters.{length-filter_both, length-filter_more}
@@ -57,14 +58,16 @@ module _ {R K : Type 0} (cmp : K → K → Ordering) (key : R → K) (total : Is
   pub none_added : (xs : List R) (k : K) (i : ℕ) → IsKeyed cmp key xs → IsGapFor cmp key xs k i
       → map f xs ≡ map (added k) xs
   none_added [] k i keyed gap = refl
-  none_added (x ∷ xs) k zero keyed gap = below_none k (x ∷ xs) (below_from_less cmp key total k x xs (before (key x) k gap) keyed)
+  none_added (x ∷ xs) k zero keyed gap =
+      below_none k (x ∷ xs) (below_from_less cmp key total k x xs (before (key x) k gap) keyed)
   none_added (x ∷ xs) k (suc i) keyed gap = rw (past (key x) k gap.0, none_added xs k i keyed.1 gap.1) refl
 
   -- and where one has it, only its tally is greater
   pub one_added : (xs : List R) (k : K) (i d : ℕ) → IsKeyed cmp key xs → IsAt cmp key xs k i
       → set (map f xs) i (suc (get_or (map f xs) i d)) ≡ map (added k) xs
   one_added [] k i d keyed at = absurd at
-  one_added (x ∷ xs) k zero d keyed at = rw (same (key x) k at, level_none (key x) k xs (same (key x) k at) keyed.0) refl
+  one_added (x ∷ xs) k zero d keyed at =
+      rw (same (key x) k at, level_none (key x) k xs (same (key x) k at) keyed.0) refl
   one_added (x ∷ xs) k (suc i) d keyed at = rw (past (key x) k at.0, one_added xs k i d keyed.1 at.1) refl
 
 cond_more : (b : Bool) (n : ℕ) → n + cond b 1 0 ≡ cond b (suc n) n
@@ -97,7 +100,9 @@ same_number : (m n : ℕ) → is_eq (nat_cmp m n) ≡ (m == n)
 same_number m n = grind (arith, nat_tests)
 
 own_pair : (d n m : ℕ) → is_eq (pair_cmp (d, n) (d, m)) ≡ (n == m)
-own_pair d n m = then_eq (nat_cmp d d) (nat_cmp n m) ∙ ((λ i. same_number d d i && same_number n m i) ∙ ap (λ b. b && (n == m)) (eq-eqb d d refl))
+own_pair d n m =
+    then_eq (nat_cmp d d) (nat_cmp n m)
+    ∙ ((λ i. same_number d d i && same_number n m i) ∙ ap (λ b. b && (n == m)) (eq-eqb d d refl))
 
 tally_one : {X : Type 0} (own : X → Bool) (num : X → ℕ) (p : ℕ → Bool) (x : X) (xs : List X)
     (b c : Bool) → b ≡ own x → c ≡ p (num x)
@@ -125,7 +130,9 @@ pub calls_tallied : (d : ℕ) (i : Incident) (calls : List Call) → i.division 
     ≡ length (filter (λ c. c.division == d && c.incident == i.number) calls)
 calls_tallied d i calls own =
     tallied (λ c. c.division == d) (λ c. c.incident) (λ n. is_eq (pair_cmp (d, n) (incident_key i))) calls
-    ∙ ap (λ (l : List Call). length l) (filter_as _ _ calls (λ c. ap (λ b. (c.division == d) && b) (ap (λ e. is_eq (pair_cmp (d, c.incident) (e, i.number))) own ∙ own_pair d c.incident i.number)))
+    ∙ ap (λ (l : List Call). length l) (filter_as _ _ calls (λ c.
+    ap (λ b. (c.division == d) && b)
+    (ap (λ e. is_eq (pair_cmp (d, c.incident) (e, i.number))) own ∙ own_pair d c.incident i.number)))
 
 and_across : (a b c : Bool) → (a && b) && c ≡ a && (c && b)
 and_across true true true = refl
@@ -143,7 +150,10 @@ pub turns_tallied : (d : ℕ) (k : Kind) (i : Incident) (turns : List Turn) → 
     ≡ length (filter (λ t. t.division == d && (t.incident == i.number && (same_kind t.kind k && counts t))) turns)
 turns_tallied d k i turns own =
     tallied (serves_here d k) (λ t. t.incident) (λ n. is_eq (pair_cmp (d, n) (incident_key i))) turns
-    ∙ ap (λ (l : List Turn). length l) (filter_as _ _ turns (λ t. ap (λ b. serves_here d k t && b) (ap (λ e. is_eq (pair_cmp (d, t.incident) (e, i.number))) own ∙ own_pair d t.incident i.number) ∙ and_deep (t.division == d) (same_kind t.kind k) (counts t) (t.incident == i.number)))
+    ∙ ap (λ (l : List Turn). length l) (filter_as _ _ turns (λ t.
+    ap (λ b. serves_here d k t && b)
+    (ap (λ e. is_eq (pair_cmp (d, t.incident) (e, i.number))) own ∙ own_pair d t.incident i.number)
+    ∙ and_deep (t.division == d) (same_kind t.kind k) (counts t) (t.incident == i.number)))
 
 -- where none is active, none of those that pass is
 pub none_active : (p : Incident → Bool) (xs : List Incident)
@@ -210,5 +220,8 @@ pub tally_within : (d : ℕ) (numbers : List ℕ) (j : ℕ) (rows : List Inciden
     (at v f : ℕ) → tallies ≡ map (times d (take j numbers)) rows → at < length rows
     → v ≡ get_or tallies at f → v ≤ j
 tally_within d numbers j rows tallies at v f so_far inside is =
-    let most : get_or (map (times d (take j numbers)) rows) at f ≤ length (take j numbers) = all_within (times d (take j numbers)) _ (λ i. at_most (λ n. is_eq (pair_cmp (d, n) (incident_key i))) (take j numbers)) rows at f inside in
+    let most : get_or (map (times d (take j numbers)) rows) at f
+    ≤ length (take j numbers) =
+    all_within (times d (take j numbers)) _
+    (λ i. at_most (λ n. is_eq (pair_cmp (d, n) (incident_key i))) (take j numbers)) rows at f inside in
     omega (arith, most, is ∙ ap (λ l. get_or l at f) so_far, length-take j numbers, min_within j (length numbers))

@@ -1,5 +1,6 @@
 -- A division's incidents have numbers of their own, and those of a day are the room's.
-use Rattle.std.proofs.Common.{Bool, List, [], ap, arith, cond, get_or, length, map, refl, subst, suc, false, sym, true, zero, ℕ, ℤ, ◌+◌, ◌∙◌, ◌∷◌, ◌<◌, ◌≡◌, ◌≤◌}
+use Rattle.std.proofs.Common.{Bool, List, [], ap, arith, cond, get_or, length, map, refl, subst, suc, false, sym, true}
+use Rattle.std.proofs.Common.{zero, ℕ, ℤ, ◌+◌, ◌∙◌, ◌∷◌, ◌<◌, ◌≡◌, ◌≤◌}
 use Rattle.std.proofs.lemmas.Bool.{eqb-true}
 use Rattle.std.proofs.lemmas.Cmp.{nat_cmp_total, ranked, tied_itself}
 use Rattle.std.specs.List.{list_all}
@@ -31,7 +32,8 @@ module _ (d : ℕ) (from to : ℤ) where
       → list_all (owns_incident d) xs ≡ true
       → filter (is_opened_between from to) xs ≡ incidents_opened d from to r
   unfolding incidents_opened
-  opened_so r xs same owned = sym (opened_are xs owned) ∙ ap (filter (λ i. i.division == d && is_opened_between from to i)) (sym same)
+  opened_so r xs same owned =
+      sym (opened_are xs owned) ∙ ap (filter (λ i. i.division == d && is_opened_between from to i)) (sym same)
 
   pub times_so : (r : Room) (xs : List Incident) → r.incidents ≡ xs
       → list_all (owns_incident d) xs ≡ true
@@ -54,7 +56,8 @@ module _ (d : ℕ) (from to : ℤ) where
       ∙ (ap (λ (z : ℤ). map times_line (filter (is_opened_between z t) xs)) from_is
       ∙ (ap (λ (z : ℤ). map times_line (filter (is_opened_between from z) xs)) to_is
       ∙ ap (map times_line) (opened_so r xs same owned))) in
-      rw (from_is, to_is, counted_all, counted_prompt) (ap (λ (ls : List TimesLine). show (answer.Times (times_of from to ls))) all)
+      rw (from_is, to_is, counted_all, counted_prompt)
+      (ap (λ (ls : List TimesLine). show (answer.Times (times_of from to ls))) all)
 
 -- ---- numbers of their own
 number_less : (d n m : ℕ) → pair_cmp (d, n) (d, m) ≡ Less → nat_cmp n m ≡ Less
@@ -76,7 +79,8 @@ module _ (d : ℕ) where
       let y_is : y.division ≡ d = eqb-true _ _ (left_true (y.division == d) _ owned) in
       let z_is : z.division ≡ d = eqb-true _ _ (left_true (z.division == d) _ rest) in
       let below : pair_cmp (d, y.number) (d, z.number) ≡ Less =
-      subst (λ k. pair_cmp (k, y.number) (d, z.number) ≡ Less) y_is (subst (λ k. pair_cmp (y.division, y.number) (k, z.number) ≡ Less) z_is keyed.0.0) in
+      subst (λ k. pair_cmp (k, y.number) (d, z.number) ≡ Less) y_is
+      (subst (λ k. pair_cmp (y.division, y.number) (k, z.number) ≡ Less) z_is keyed.0.0) in
       let next = climbs_from z zs rest keyed.1 i x within e in
       let first : y.number < z.number = pair_less d y.number z.number below in
       omega (arith, next, first)
@@ -97,7 +101,8 @@ module _ (d : ℕ) where
         let z_is : z.division ≡ d = eqb-true _ _ (left_true (z.division == d) _ owned) in
         let first = number_less d n z.number (subst (λ k. pair_cmp (d, n) (k, z.number) ≡ Less) z_is h.0) in
         let rest = lines_below n zs (right_true (z.division == d) _ owned) h.1 in
-        elim (p z) as (λ (b : Bool). IsBelowAll nat_cmp line_number n (map times_line (cond b (z ∷ filter p zs) (filter p zs)))) [
+        elim (p
+        z) as (λ (b : Bool). IsBelowAll nat_cmp line_number n (map times_line (cond b (z ∷ filter p zs) (filter p zs)))) [
           | true ↦ (first, rest)
           | false ↦ rest
         ]
@@ -109,9 +114,11 @@ module _ (d : ℕ) where
     lines_rise (x ∷ xs) owned keyed =
         let x_is : x.division ≡ d = eqb-true _ _ (left_true (x.division == d) _ owned) in
         let others = right_true (x.division == d) _ owned in
-        let below = lines_below x.number xs others (subst (λ k. IsBelowAll pair_cmp incident_key (k, x.number) xs) x_is keyed.0) in
+        let below = lines_below x.number xs others
+        (subst (λ k. IsBelowAll pair_cmp incident_key (k, x.number) xs) x_is keyed.0) in
         let rest = lines_rise xs others keyed.1 in
-        elim (p x) as (λ (b : Bool). IsKeyed nat_cmp line_number (map times_line (cond b (x ∷ filter p xs) (filter p xs)))) [
+        elim (p
+        x) as (λ (b : Bool). IsKeyed nat_cmp line_number (map times_line (cond b (x ∷ filter p xs) (filter p xs)))) [
           | true ↦ (below, rest)
           | false ↦ rest
         ]

@@ -10,7 +10,7 @@ use Rattle.room_types.specs.declared.tables.Call.{Call}
 use Rattle.room_types.specs.declared.tables.Incident.{Incident}
 use Rattle.room_types.specs.declared.tables.Turn.{Turn}
 use Rattle.room_model.specs.Queries.{counts}
-use Rattle.room_incident.specs.declared.tallies.Tallies.{Tallies}
+use Rattle.room_incident.specs.declared.incident_tallies.Tallies.{Tallies}
 
 -- how many of the division's numbers are the incident's
 abbrev pub times : ℕ → List ℕ → Incident → ℕ

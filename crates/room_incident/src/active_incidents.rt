@@ -7,7 +7,7 @@ ghost use Rattle.room_model.specs.Queries.{incident_of};
 ghost use Rattle.room_model.specs.RoomSlices.{room_of};
 
 use room_types::numbers::Number;
-use room_types::refusals::Refusal;
+use room_types::refusal_statuses::Refusal;
 use room_types::slices::Slice;
 use room_types::tables::Incident;
 

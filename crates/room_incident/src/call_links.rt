@@ -8,7 +8,7 @@ ghost use Rattle.room_model.specs.RoomSlices.{room_of};
 ghost use Rattle.room_incident.specs.CallLinks.{IsLinkTarget, is_open_near};
 
 use room_place::places::{Place, distance};
-use room_types::links::{LINK_METRES, LINK_SECONDS};
+use room_types::link_limits::{LINK_METRES, LINK_SECONDS};
 use room_types::numbers::Moment;
 use room_types::rows::Rows;
 use room_types::slices::Slice;

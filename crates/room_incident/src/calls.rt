@@ -18,7 +18,7 @@ use room_types::changes::Change;
 use room_types::codes::State;
 use room_types::decisions::Decision;
 use room_types::numbers::{LastNumber, Number};
-use room_types::refusals::Refusal;
+use room_types::refusal_statuses::Refusal;
 use room_types::slices::Slice;
 use room_types::tables::{Call, Division, Incident};
 use std::alloc::Global;

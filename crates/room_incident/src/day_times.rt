@@ -5,14 +5,14 @@ ghost use Rattle.std.specs.Ordering.{nat_cmp};
 ghost use Rattle.room_types_keyed.specs.Keyed.{IsKeyed};
 ghost use Rattle.room_types.specs.Keys.{owns_incident};
 ghost use Rattle.room_types.specs.declared.answers.Answer.TheVariants as answer;
-ghost use Rattle.room_types.specs.declared.refusals.Refusal.TheVariants.{Memory};
+ghost use Rattle.room_types.specs.declared.refusal_statuses.Refusal.TheVariants.{Memory};
 ghost use Rattle.room_model.specs.DayTimes.{is_prompt, show_times, times_line};
 ghost use Rattle.room_model.specs.Decisions.{show};
 ghost use Rattle.room_model.specs.Room.{Room};
 ghost use Rattle.room_incident.specs.DayIncidents.{AreOneDivisions, is_opened_between, line_number};
 
 use room_types::answers::{Listed, Times, TimesLine};
-use room_types::refusals::Refusal;
+use room_types::refusal_statuses::Refusal;
 use room_types::rows::Rows;
 use room_types::tables::Incident;
 use std::alloc::Global;

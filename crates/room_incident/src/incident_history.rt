@@ -1,7 +1,7 @@
 //! What came of one incident: its calls, its turns, and how many vehicles serve it.
 ghost use Rattle.std.specs.Prelude.{◌≡◌, List, IfErr, IfOk};
 ghost use Rattle.room_place.specs.declared.plans.Area.{Area};
-ghost use Rattle.room_types.specs.declared.refusals.Refusal.TheVariants.{Memory};
+ghost use Rattle.room_types.specs.declared.refusal_statuses.Refusal.TheVariants.{Memory};
 ghost use Rattle.room_model.specs.Decisions.{Decides};
 ghost use Rattle.room_model.specs.Incidents.{all_served, show_incident};
 ghost use Rattle.room_model.specs.Queries.{calls_of, turns_of};
@@ -13,7 +13,7 @@ use room_types::answers::{Answer, History, Listed, Served};
 use room_types::codes::Kind;
 use room_types::decisions::Decision;
 use room_types::numbers::Number;
-use room_types::refusals::Refusal;
+use room_types::refusal_statuses::Refusal;
 use room_types::slices::Slice;
 use room_types::tables::{Call, Turn};
 use std::alloc::Global;

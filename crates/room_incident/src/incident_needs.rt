@@ -19,7 +19,7 @@ use room_types::codes::{Kind, State};
 use room_types::decisions::Decision;
 use room_types::needs::Needs;
 use room_types::numbers::Number;
-use room_types::refusals::Refusal;
+use room_types::refusal_statuses::Refusal;
 use room_types::slices::Slice;
 use room_types::tables::Incident;
 use std::alloc::Global;

@@ -9,6 +9,6 @@ pub mod incident_history;
 pub mod incident_list;
 pub mod incident_merges;
 pub mod incident_needs;
+mod incident_tallies;
 pub mod laws;
 pub mod served_needs;
-mod tallies;

@@ -1,6 +1,7 @@
 -- What another desk asks leaves a division's share as it is, where nothing is handed over.
 use Rattle.std.proofs.Common.{ap, eqb-true, inl, inr, sym}
-use Rattle.std.specs.Prelude.{Bool, List, None, Option, Some, [], false, is_none, map, not, refl, true, ℕ, ◌&&◌, ◌+◌, ◌==◌, ◌∷◌, ◌≡◌}
+use Rattle.std.specs.Prelude.{Bool, List, None, Option, Some, [], false, is_none, map, not, refl, true, ℕ, ◌&&◌, ◌+◌}
+use Rattle.std.specs.Prelude.{◌==◌, ◌∷◌, ◌≡◌}
 use Rattle.room_place.specs.Choice.{Among}
 use Rattle.room_place.specs.declared.places.Place.{Place}
 use Rattle.room_types.specs.Keys.{incident_key, pair_cmp, same_callsign}
@@ -10,7 +11,7 @@ use Rattle.room_types.specs.declared.asks.Who.TheVariants.{Desk}
 use Rattle.room_types.specs.declared.needs.Counts.{Counts}
 use Rattle.room_types.specs.declared.codes.State.TheVariants.{Closed, Merged}
 use Rattle.room_types.specs.declared.codes.Status.TheVariants.{Available, Mobilised, OffDuty, Returning}
-use Rattle.room_types.specs.declared.refusals.Refusal.{Refusal}
+use Rattle.room_types.specs.declared.refusal_statuses.Refusal.{Refusal}
 use Rattle.room_types.specs.declared.tables.Call.{Call}
 use Rattle.room_types.specs.declared.tables.Incident.{Incident}
 use Rattle.room_types.specs.declared.tables.Loan.{Loan}
@@ -19,7 +20,8 @@ use Rattle.room_types.specs.declared.tables.Turn.{Turn}
 use Rattle.room_types.specs.declared.tables.Vehicle.{Vehicle}
 use Rattle.room_types.specs.Texts.{Callsign}
 use Rattle.room_model.proofs.Foreign.{AllForeign, foreign_append}
-use Rattle.room_model.proofs.Others.{IsHeld, call_foreign, held_is, incident_foreign, no_turn, other_assignment, point_foreign, report_foreign, turn_foreign, vehicle_foreign}
+use Rattle.room_model.proofs.Others.{IsHeld, call_foreign, held_is, incident_foreign, no_turn, other_assignment}
+use Rattle.room_model.proofs.Others.{point_foreign, report_foreign, turn_foreign, vehicle_foreign}
 use Rattle.room_model.proofs.Questions.{by_quiet}
 use Rattle.room_model.proofs.Tests.{among_filter, first_among, left_true, row_key}
 use Rattle.room_types.specs.Codes.{is_active}
@@ -35,7 +37,7 @@ use Rattle.room_model.specs.Step.{desk_asks}
 use Rattle.room_model.specs.Vehicles.{duty, mobilise, off, posted, stand_down, standby, standby_at, turn_stood_down}
 use Rattle.room_model.specs.WellFormed.{IsWellFormed}
 use Rattle.room_types.specs.declared.asks.Ask.TheVariants as ask
-use Rattle.room_types.specs.declared.refusals.Refusal.TheVariants as refusal
+use Rattle.room_types.specs.declared.refusal_statuses.Refusal.TheVariants as refusal
 
 module _ (d h : ℕ) (r : Room) (w : IsWellFormed r) (apart : h == d ≡ false) where
   abbrev pub LeavesShare : Verdict → Type 0
@@ -59,26 +61,36 @@ module _ (d h : ℕ) (r : Room) (w : IsWellFormed r) (apart : h == d ≡ false) 
 
   division_of_incident : (n : ℕ) (i : Incident) → incident_of h n r ≡ Some i → i.division ≡ h
   unfolding incident_of
-  division_of_incident n i g = sym (ap (λ (p : ℕ × ℕ). p.0) (row_key pair_cmp incident_key pairs_total exact_pair r.incidents (h, n) i g))
+  division_of_incident n i g =
+      sym (ap (λ (p : ℕ × ℕ). p.0) (row_key pair_cmp incident_key pairs_total exact_pair r.incidents (h, n) i g))
 
   -- ---- incidents
   needs_leaves : (n : ℕ) (needs : Counts) → LeavesShare (change_needs h n needs r)
   unfolding change_needs
-  needs_leaves n needs = active_leaves _ _ (λ i g. refuse_leaves _ _ _ (incident_foreign d h r w apart (record i { needs = needs }) (division_of_incident n i g), tt))
+  needs_leaves n needs =
+      active_leaves _ _ (λ i g.
+      refuse_leaves _ _ _
+      (incident_foreign d h r w apart (record i { needs = needs }) (division_of_incident n i g), tt))
 
   close_leaves : (n : ℕ) → LeavesShare (close h n r)
   unfolding close
-  close_leaves n = active_leaves _ _ (λ i g. refuse_leaves _ _ _ (incident_foreign d h r w apart (record i { state = Closed }) (division_of_incident n i g), tt))
+  close_leaves n =
+      active_leaves _ _ (λ i g.
+      refuse_leaves _ _ _
+      (incident_foreign d h r w apart (record i { state = Closed }) (division_of_incident n i g), tt))
 
   moved_calls : (m : ℕ) (cs : List Call)
       → ((c : Call) → Among c cs → Among c r.calls × (c.division ≡ h))
       → AllForeign d (own d r) (map (moved_call m) cs)
   moved_calls m [] g = tt
-  moved_calls m (c ∷ cs) g = (call_foreign d h r w apart c (g c (inl refl)).0 (g c (inl refl)).1 m, moved_calls m cs (λ x f. g x (inr f)))
+  moved_calls m (c ∷ cs) g =
+      (call_foreign d h r w apart c (g c (inl refl)).0 (g c (inl refl)).1 m, moved_calls m cs (λ x f. g x (inr f)))
 
   calls_are : (n : ℕ) (c : Call) → Among c (calls_of h n r) → Among c r.calls × (c.division ≡ h)
   unfolding calls_of
-  calls_are n c g = let parts = among_filter (λ c. c.division == h && c.incident == n) r.calls c g in (parts.0, eqb-true c.division h (left_true _ _ parts.1))
+  calls_are n c g =
+      let parts = among_filter (λ c. c.division == h && c.incident == n) r.calls c g in
+      (parts.0, eqb-true c.division h (left_true _ _ parts.1))
 
   merge_leaves_both : (n m : Option Incident) (attended : Bool) (cs : List Call)
       → ((i : Incident) → n ≡ Some i → i.division ≡ h)
@@ -88,8 +100,11 @@ module _ (d h : ℕ) (r : Room) (w : IsWellFormed r) (apart : h == d ≡ false) 
   merge_leaves_both None m attended cs f g k = tt
   merge_leaves_both (Some n) None attended cs f g k = tt
   merge_leaves_both (Some n) (Some m) attended cs f g k =
-      refuse_leaves (n.number == m.number) _ _ (refuse_leaves (not (is_active n.state)) _ _ (refuse_leaves (not (is_active m.state)) _ _ (refuse_leaves attended _ _
-      (incident_foreign d h r w apart (joined n m) (g m refl), (incident_foreign d h r w apart (record n { state = Merged m.number }) (f n refl), moved_calls m.number cs k)))))
+      refuse_leaves (n.number == m.number) _ _ (refuse_leaves (not (is_active n.state)) _ _
+      (refuse_leaves (not (is_active m.state)) _ _ (refuse_leaves attended _ _ (
+        incident_foreign d h r w apart (joined n m) (g m refl),
+        (incident_foreign d h r w apart (record n { state = Merged m.number }) (f n refl), moved_calls m.number cs k),
+      ))))
 
   merge_leaves : (n m : ℕ) → LeavesShare (merge h n m r)
   unfolding merge
@@ -107,41 +122,65 @@ module _ (d h : ℕ) (r : Room) (w : IsWellFormed r) (apart : h == d ≡ false) 
 
   standby_leaves : (c : Callsign) (p : Option ℕ) (at : ℕ) → LeavesShare (standby h c p at r)
   unfolding standby
-  standby_leaves c p at = held_leaves _ _ _ (λ v g. refuse_leaves _ _ _ (stands_by_leaves c v (held_is h c r v g) p _ at))
+  standby_leaves c p at =
+      held_leaves _ _ _ (λ v g. refuse_leaves _ _ _ (stands_by_leaves c v (held_is h c r v g) p _ at))
 
   duty_leaves : (c : Callsign) (place : Place) (until at : ℕ)
       → LeavesShare (duty h c place until at r)
   unfolding duty
-  duty_leaves c place until at = held_leaves _ _ _ (λ v g. let is = held_is h c r v g in refuse_leaves _ _ _ (refuse_leaves _ _ _ (vehicle_foreign d h r w apart c v is (record v { status = Available; shift_end = until; place = place }) refl is.holder, tt)))
+  duty_leaves c place until at =
+      held_leaves _ _ _ (λ v g.
+      let is = held_is h c r v g in
+      refuse_leaves _ _ _ (refuse_leaves _ _ _ (
+        vehicle_foreign d h r w apart c v is (record v { status = Available; shift_end = until; place = place }) refl
+            is.holder,
+        tt,
+      )))
 
   off_leaves : (c : Callsign) → LeavesShare (off h c r)
   unfolding off
-  off_leaves c = held_leaves _ _ _ (λ v g. let is = held_is h c r v g in refuse_leaves _ _ _ (refuse_leaves _ _ _ (vehicle_foreign d h r w apart c v is (record v { status = OffDuty; post = None }) refl is.holder, tt)))
+  off_leaves c =
+      held_leaves _ _ _ (λ v g.
+      let is = held_is h c r v g in
+      refuse_leaves _ _ _ (refuse_leaves _ _ _
+      (vehicle_foreign d h r w apart c v is (record v { status = OffDuty; post = None }) refl is.holder, tt)))
 
   turn_leaves : (c : Callsign) (at : ℕ) (o : Option Turn)
       → ((t : Turn) → o ≡ Some t → Among t r.turns × (t.division ≡ h))
       → AllForeign d (own d r) (turn_stood_down at o)
   turn_leaves c at None g = tt
-  turn_leaves c at (Some t) g = (turn_foreign d h r w apart t (g t refl).0 (g t refl).1 (record t { ended = Some at; stood_down = true }) refl refl (g t refl).1, tt)
+  turn_leaves c at (Some t) g = (
+    turn_foreign d h r w apart t (g t refl).0 (g t refl).1 (record t { ended = Some at; stood_down = true }) refl refl
+        (g t refl).1,
+    tt,
+  )
 
   open_is : (c : Callsign) (t : Turn) → open_turn h c r ≡ Some t
       → Among t r.turns × (t.division ≡ h)
   unfolding open_turn
-  open_is c t g = let parts = among_filter (λ t. t.division == h && (same_callsign t.callsign c && is_none t.ended)) r.turns t (first_among _ t g) in (parts.0, eqb-true t.division h (left_true _ _ parts.1))
+  open_is c t g =
+      let parts = among_filter (λ t. t.division == h && (same_callsign t.callsign c && is_none t.ended)) r.turns t
+      (first_among _ t g) in
+      (parts.0, eqb-true t.division h (left_true _ _ parts.1))
 
   stand_down_leaves : (c : Callsign) (at : ℕ) → LeavesShare (stand_down h c at r)
   unfolding stand_down
   stand_down_leaves c at = held_leaves _ _ _ (λ v g. let is = held_is h c r v g in refuse_leaves _ _ _
-      (foreign_append d (own d r) (turn_stood_down at (open_turn h c r)) _ (turn_leaves c at (open_turn h c r) (open_is c))
-      (other_assignment d h r w apart c v is, (vehicle_foreign d h r w apart c v is (record v { status = Returning }) refl is.holder, tt))))
+      (foreign_append d (own d r) (turn_stood_down at (open_turn h c r)) _
+      (turn_leaves c at (open_turn h c r) (open_is c)) (
+        other_assignment d h r w apart c v is,
+        (vehicle_foreign d h r w apart c v is (record v { status = Returning }) refl is.holder, tt),
+      )))
 
   mobilise_leaves : (n : ℕ) (c : Callsign) (at : ℕ) → LeavesShare (mobilise h n c at r)
   unfolding mobilise
   mobilise_leaves n c at = active_leaves _ _ (λ i g. held_leaves _ _ _ (λ v e. let is = held_is h c r v e in
       refuse_leaves _ _ _ (refuse_leaves _ _ _ (refuse_leaves _ _ _ (refuse_leaves _ _ _ (
-        incident_foreign d h r w apart (record i { first_order = first_of i.first_order at }) (division_of_incident n i g),
+        incident_foreign d h r w apart (record i { first_order = first_of i.first_order at })
+            (division_of_incident n i g),
         (
-          vehicle_foreign d h r w apart c v is (record v { status = Mobilised; post = None; last_order = v.last_order + 1 }) refl is.holder,
+          vehicle_foreign d h r w apart c v is
+              (record v { status = Mobilised; post = None; last_order = v.last_order + 1 }) refl is.holder,
           (
             (apart, no_turn d h r w apart c v is),
             ((apart, other_assignment d h r w apart c v is), tt),
@@ -153,7 +192,9 @@ module _ (d h : ℕ) (r : Room) (w : IsWellFormed r) (apart : h == d ≡ false) 
   clear_leaves_found : (c : Callsign) (n : ℕ) (o : Option Report)
       → ((x : Report) → o ≡ Some x → report_of h c n r ≡ Some x) → LeavesShare (clear_found o)
   clear_leaves_found c n None g = tt
-  clear_leaves_found c n (Some x) g = refuse_leaves _ _ _ (report_foreign d h r w apart c n x (g x refl) (record x { cleared = true }) refl refl refl, tt)
+  clear_leaves_found c n (Some x) g =
+      refuse_leaves _ _ _
+      (report_foreign d h r w apart c n x (g x refl) (record x { cleared = true }) refl refl refl, tt)
 
   clear_leaves : (c : Callsign) (n : ℕ) → LeavesShare (clear h c n r)
   unfolding clear
@@ -176,5 +217,6 @@ module _ (d h : ℕ) (r : Room) (w : IsWellFormed r) (apart : h == d ≡ false) 
   local_leaves (ask.Recall c) at l = cc
   local_leaves (ask.GiveBack c) at l = cc
   local_leaves (ask.Clear c n) at l = clear_leaves c n
-  local_leaves (ask.SetPoint n place cover) at l = (point_foreign d h r w apart (record { division = h; number = n; place = place; cover = cover }) refl, tt)
+  local_leaves (ask.SetPoint n place cover) at l =
+      (point_foreign d h r w apart (record { division = h; number = n; place = place; cover = cover }) refl, tt)
   local_leaves a at l = by_quiet at r (AllForeign d (own d r)) (Desk h) a refl tt

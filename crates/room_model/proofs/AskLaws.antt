@@ -1,6 +1,7 @@
 -- A desk decides alike in rooms that agree on what it asks.
 use Rattle.std.proofs.Common.{ap, subst, sym, ◌∙◌}
-use Rattle.std.specs.Prelude.{Bool, List, None, Option, Some, [], is_some, length, map, nat_le, not, option_map, refl, ℕ, ℤ, ◌&&◌, ◌++◌, ◌-◌, ◌≡◌}
+use Rattle.std.specs.Prelude.{Bool, List, None, Option, Some, [], is_some, length, map, nat_le, not, option_map, refl}
+use Rattle.std.specs.Prelude.{ℕ, ℤ, ◌&&◌, ◌++◌, ◌-◌, ◌≡◌}
 use Rattle.room_place.specs.Choice.{Among, chosen}
 use Rattle.room_place.specs.declared.places.Place.{Place}
 use Rattle.room_types.specs.Keys.{incident_key, pair_cmp}
@@ -22,16 +23,22 @@ use Rattle.room_types.specs.Codes.{is_active, is_free}
 use Rattle.room_types.specs.Needs.{need_of, needs_by}
 use Rattle.room_model.specs.DayTimes.{show_times, times_line, times_of}
 use Rattle.room_model.specs.Decisions.{Verdict, refuse_if, show, where_active, where_held}
-use Rattle.room_model.specs.Incidents.{change_needs, close, close_active, history_of, incident_line, lacking, merge, merge_of, needs_changed, show_incident, show_incidents}
-use Rattle.room_model.specs.Loans.{accept, accepted, decline, declined, give_back, given_back, lend, offered, recall, recall_lent, show_loans, show_offers, withdraw, withdrawn}
+use Rattle.room_model.specs.Incidents.{change_needs, close, close_active, history_of, incident_line, lacking, merge}
+use Rattle.room_model.specs.Incidents.{merge_of, needs_changed, show_incident, show_incidents}
+use Rattle.room_model.specs.Loans.{accept, accepted, decline, declined, give_back, given_back, lend, offered, recall}
+use Rattle.room_model.specs.Loans.{recall_lent, show_loans, show_offers, withdraw, withdrawn}
 use Rattle.room_model.specs.Points.{breaks_post, is_short, point_line, show_points}
 use Rattle.room_model.specs.Proposals.{all_proposed, candidates, eligible, is_before, proposal_of, propose, proposed}
-use Rattle.room_model.specs.Queries.{active_incidents, all_held, assignment_of, borrowed, calls_of, held, holders, incident_of, incidents_opened, is_attended, is_eligible, lent, loans_of, offered_by, offered_to, offers_of, open_turn, point_of, points_of, report_of, served, turns_of}
+use Rattle.room_model.specs.Queries.{active_incidents, all_held, assignment_of, borrowed, calls_of, held, holders}
+use Rattle.room_model.specs.Queries.{incident_of, incidents_opened, is_attended, is_eligible, lent, loans_of}
+use Rattle.room_model.specs.Queries.{offered_by, offered_to, offers_of, open_turn, point_of, points_of, report_of}
+use Rattle.room_model.specs.Queries.{served, turns_of}
 use Rattle.room_model.specs.Queue.{clear, clear_found, entries, ordered_from, show_queue}
 use Rattle.room_model.specs.Room.{Room}
-use Rattle.room_model.specs.Vehicles.{duty, mobilise, mobilise_held, off, posted, show_vehicles, stand_down, stand_down_held, standby, stands_by, vehicle_line}
+use Rattle.room_model.specs.Vehicles.{duty, mobilise, mobilise_held, off, posted, show_vehicles, stand_down}
+use Rattle.room_model.specs.Vehicles.{stand_down_held, standby, stands_by, vehicle_line}
 use Rattle.room_types.specs.declared.answers.Answer.TheVariants as answer
-use Rattle.room_types.specs.declared.refusals.Refusal.TheVariants as refusal
+use Rattle.room_types.specs.declared.refusal_statuses.Refusal.TheVariants as refusal
 
 -- what is decided of a vehicle, where it is there
 held_by : (o : Option Vehicle) (l : Option Loan) (f g : Vehicle → Verdict)
@@ -43,13 +50,18 @@ held_by (Some v) l f g h = h v refl
 stands_alike : (p : Option ℕ) (has had : ℕ → Bool) (at : ℕ) (v : Vehicle)
     → ((n : ℕ) → p ≡ Some n → has n ≡ had n) → stands_by p has at v ≡ stands_by p had at v
 stands_alike None has had at v h = refl
-stands_alike (Some n) has had at v h = ap (λ (b : Bool). refuse_if (not (is_free v.status)) refusal.WrongStatus (refuse_if (nat_le v.shift_end at) refusal.ShiftOver (refuse_if (not b) refusal.NoSuchPoint (posted v (Some n))))) (h n refl)
+stands_alike (Some n) has had at v h =
+    ap (λ (b : Bool).
+    refuse_if (not (is_free v.status)) refusal.WrongStatus
+    (refuse_if (nat_le v.shift_end at) refusal.ShiftOver (refuse_if (not b) refusal.NoSuchPoint (posted v (Some n)))))
+    (h n refl)
 
 module _ (d : ℕ) (s r : Room) where
   -- ---- vehicles
   where_same : (c : Callsign) (f : Vehicle → Verdict) → SeesVehicle d c s r
       → where_held (held d c s) (lent d c s) f ≡ where_held (held d c r) (lent d c r) f
-  where_same c f sees = ap (λ v. where_held v (lent d c s) f) sees.same_held ∙ ap (λ l. where_held (held d c r) l f) sees.same_lent
+  where_same c f sees =
+      ap (λ v. where_held v (lent d c s) f) sees.same_held ∙ ap (λ l. where_held (held d c r) l f) sees.same_lent
 
   pub vehicles_same : all_held d s ≡ all_held d r
       → ((c : Callsign) → assignment_of d c s ≡ assignment_of d c r)
@@ -57,29 +69,38 @@ module _ (d : ℕ) (s r : Room) where
   unfolding show_vehicles
   vehicles_same all assigned =
       ap (λ vs. show (answer.Vehicles (map (vehicle_line d s) vs))) all
-      ∙ ap (λ (f : Vehicle → VehicleLine). show (answer.Vehicles (map f (all_held d r)))) (λ i v. record (vehicle_line d r v) { incident = option_map (λ a. a.incident) (assigned v.callsign i) })
+      ∙ ap (λ (f : Vehicle → VehicleLine). show (answer.Vehicles (map f (all_held d r))))
+      (λ i v. record (vehicle_line d r v) { incident = option_map (λ a. a.incident) (assigned v.callsign i) })
 
   pub mobilise_same : (n : ℕ) (c : Callsign) (at : ℕ) → SeesVehicle d c s r → SeesIncident d n s r
       → mobilise d n c at s ≡ mobilise d n c at r
   unfolding mobilise
   mobilise_same n c at sees i =
       ap (λ x. where_active x (mobilise_held d (held d c s) (lent d c s) at (λ k. served d n k s))) i.same_incident
-      ∙ ap (λ x. where_active (incident_of d n r) (mobilise_held d x (lent d c s) at (λ k. served d n k s))) sees.same_held
-      ∙ ap (λ x. where_active (incident_of d n r) (mobilise_held d (held d c r) x at (λ k. served d n k s))) sees.same_lent
-      ∙ ap (λ (x : Kind → ℕ). where_active (incident_of d n r) (mobilise_held d (held d c r) (lent d c r) at x)) (λ j k. i.same_served k j)
+      ∙ ap (λ x. where_active (incident_of d n r) (mobilise_held d x (lent d c s) at (λ k. served d n k s)))
+      sees.same_held
+      ∙ ap (λ x. where_active (incident_of d n r) (mobilise_held d (held d c r) x at (λ k. served d n k s)))
+      sees.same_lent
+      ∙ ap (λ (x : Kind → ℕ). where_active (incident_of d n r) (mobilise_held d (held d c r) (lent d c r) at x))
+      (λ j k. i.same_served k j)
 
   -- the turn is looked up only where the vehicle is held
   pub stand_down_same : (c : Callsign) (at : ℕ) → SeesVehicle d c s r
       → ((v : Vehicle) → held d c r ≡ Some v → open_turn d c s ≡ open_turn d c r)
       → stand_down d c at s ≡ stand_down d c at r
   unfolding stand_down
-  stand_down_same c at sees t = where_same c _ sees ∙ held_by (held d c r) (lent d c r) _ _ (λ v e. ap (λ x. stand_down_held at x v) (t v e))
+  stand_down_same c at sees t =
+      where_same c _ sees ∙ held_by (held d c r) (lent d c r) _ _ (λ v e. ap (λ x. stand_down_held at x v) (t v e))
 
   pub standby_same : (c : Callsign) (p : Option ℕ) (at : ℕ) → SeesVehicle d c s r
       → ((n : ℕ) → p ≡ Some n → point_of d n s ≡ point_of d n r)
       → standby d c p at s ≡ standby d c p at r
   unfolding standby
-  standby_same c p at sees h = where_same c _ sees ∙ held_by (held d c r) (lent d c r) _ _ (λ v e. stands_alike p (λ n. is_some (point_of d n s)) (λ n. is_some (point_of d n r)) at v (λ n f. ap (λ o. is_some o) (h n f)))
+  standby_same c p at sees h =
+      where_same c _ sees
+      ∙ held_by (held d c r) (lent d c r) _ _ (λ v e.
+      stands_alike p (λ n. is_some (point_of d n s)) (λ n. is_some (point_of d n r)) at v
+      (λ n f. ap (λ o. is_some o) (h n f)))
 
   pub duty_same : (c : Callsign) (place : Place) (until at : ℕ) → SeesVehicle d c s r
       → duty d c place until at s ≡ duty d c place until at r
@@ -94,12 +115,14 @@ module _ (d : ℕ) (s r : Room) where
   pub lend_same : (c : Callsign) (to until at : ℕ) → SeesVehicle d c s r → s.plan ≡ r.plan
       → lend d c to until at s ≡ lend d c to until at r
   unfolding lend
-  lend_same c to until at sees planned = where_same c _ sees ∙ ap (λ plan. where_held (held d c r) (lent d c r) (offered plan d to until at)) planned
+  lend_same c to until at sees planned =
+      where_same c _ sees ∙ ap (λ plan. where_held (held d c r) (lent d c r) (offered plan d to until at)) planned
 
   pub withdraw_same : (c : Callsign) → SeesVehicle d c s r → offered_by d c s ≡ offered_by d c r
       → withdraw d c s ≡ withdraw d c r
   unfolding withdraw
-  withdraw_same c sees offered = where_same c _ sees ∙ ap (λ o. where_held (held d c r) (lent d c r) (withdrawn o)) offered
+  withdraw_same c sees offered =
+      where_same c _ sees ∙ ap (λ o. where_held (held d c r) (lent d c r) (withdrawn o)) offered
 
   pub decline_same : (c : Callsign) → offered_to d c s ≡ offered_to d c r
       → decline d c s ≡ decline d c r
@@ -113,12 +136,14 @@ module _ (d : ℕ) (s r : Room) where
 
   pub recall_same : (c : Callsign) → SeesVehicle d c s r → recall d c s ≡ recall d c r
   unfolding recall
-  recall_same c sees = ap (λ l. recall_lent l (held d c s)) sees.same_lent ∙ ap (recall_lent (lent d c r)) sees.same_held
+  recall_same c sees =
+      ap (λ l. recall_lent l (held d c s)) sees.same_lent ∙ ap (recall_lent (lent d c r)) sees.same_held
 
   pub give_back_same : (c : Callsign) → SeesVehicle d c s r → borrowed d c s ≡ borrowed d c r
       → give_back d c s ≡ give_back d c r
   unfolding give_back
-  give_back_same c sees borrows = where_same c _ sees ∙ ap (λ l. where_held (held d c r) (lent d c r) (given_back d l)) borrows
+  give_back_same c sees borrows =
+      where_same c _ sees ∙ ap (λ l. where_held (held d c r) (lent d c r) (given_back d l)) borrows
 
   pub loans_same : loans_of d s ≡ loans_of d r → show_loans d s ≡ show_loans d r
   unfolding show_loans
@@ -134,7 +159,8 @@ module _ (d : ℕ) (s r : Room) where
   unfolding show_points
   points_same at all hold =
       ap (λ ps. show (answer.Points (map (point_line d at s) ps))) all
-      ∙ ap (λ (f : Point → PointLine). show (answer.Points (map f (points_of d r)))) (λ i p. record (point_line d at r p) { held = length (hold p.number i) })
+      ∙ ap (λ (f : Point → PointLine). show (answer.Points (map f (points_of d r))))
+      (λ i p. record (point_line d at r p) { held = length (hold p.number i) })
 
   -- ---- incidents
   pub needs_same : (n : ℕ) (needs : Counts) → SeesIncident d n s r
@@ -155,27 +181,35 @@ module _ (d : ℕ) (s r : Room) where
 
   pub close_same : (n : ℕ) → SeesIncident d n s r → close d n s ≡ close d n r
   unfolding close
-  close_same n i = ap (λ x. where_active x (close_active (is_attended d n s))) i.same_incident ∙ ap (λ x. where_active (incident_of d n r) (close_active x)) i.same_attended
+  close_same n i =
+      ap (λ x. where_active x (close_active (is_attended d n s))) i.same_incident
+      ∙ ap (λ x. where_active (incident_of d n r) (close_active x)) i.same_attended
 
   pub incident_same : (n : ℕ) → SeesIncident d n s r → calls_of d n s ≡ calls_of d n r
       → turns_of d n s ≡ turns_of d n r → show_incident d n s ≡ show_incident d n r
   unfolding show_incident
   incident_same n i calls turns j =
-      history_of (i.same_incident j) (record { ambulances = i.same_served Ambulance j; cars = i.same_served Car j; support = i.same_served Support j }) (calls j) (turns j)
+      history_of (i.same_incident j)
+      (record { ambulances = i.same_served Ambulance j; cars = i.same_served Car j; support = i.same_served Support j })
+      (calls j) (turns j)
 
   -- an incident's line, from its calls and turns
   line_same : (i : Incident) → SeesIncident d i.number s r
       → calls_of d i.number s ≡ calls_of d i.number r → incident_line d s i ≡ incident_line d r i
   line_same i h calls =
       ap (λ (cs : List Call). record (incident_line d s i) { calls = length cs }) calls
-      ∙ ap (λ (f : Kind → ℕ). record (incident_line d r i) { lack = needs_by (λ k. need_of i.needs k - f k) }) (λ j k. h.same_served k j)
+      ∙ ap (λ (f : Kind → ℕ). record (incident_line d r i) { lack = needs_by (λ k. need_of i.needs k - f k) })
+      (λ j k. h.same_served k j)
 
   pub incidents_same : active_incidents d s ≡ active_incidents d r
       → ((i : Incident) → Among i (active_incidents d r) → SeesIncident d i.number s r)
       → ((i : Incident) → Among i (active_incidents d r)
       → calls_of d i.number s ≡ calls_of d i.number r) → show_incidents d s ≡ show_incidents d r
   unfolding show_incidents
-  incidents_same a h calls = ap (λ is. show (answer.Incidents (map (incident_line d s) is))) a ∙ ap (λ ls. show (answer.Incidents ls)) (map_among (incident_line d s) (incident_line d r) (active_incidents d r) (λ i m. line_same i (h i m) (calls i m)))
+  incidents_same a h calls =
+      ap (λ is. show (answer.Incidents (map (incident_line d s) is))) a
+      ∙ ap (λ ls. show (answer.Incidents ls)) (map_among (incident_line d s) (incident_line d r) (active_incidents d r)
+      (λ i m. line_same i (h i m) (calls i m)))
 
   pub times_same : (from to : ℤ) → incidents_opened d from to s ≡ incidents_opened d from to r
       → show_times d from to s ≡ show_times d from to r
@@ -186,47 +220,62 @@ module _ (d : ℕ) (s r : Room) where
   breaks_same : (at : ℕ) (p : Option ℕ) → SeesCover d s r
       → breaks_post d at s p ≡ breaks_post d at r p
   breaks_same at None sees = refl
-  breaks_same at (Some n) sees = ap (λ vs. is_short (length vs) (point_of d n s)) (sees.same_holders n at) ∙ ap (is_short (length (holders d n at r))) (sees.same_point n)
+  breaks_same at (Some n) sees =
+      ap (λ vs. is_short (length vs) (point_of d n s)) (sees.same_holders n at)
+      ∙ ap (is_short (length (holders d n at r))) (sees.same_point n)
 
   proposal_same : (i : Incident) (at : ℕ) (v : Vehicle) → SeesCover d s r
       → proposal_of d i at s v ≡ proposal_of d i at r v
-  proposal_same i at v sees = ap (λ (b : Bool). record (proposal_of d i at r v) { breaks = is_eligible d at v && b }) (breaks_same at v.post sees)
+  proposal_same i at v sees =
+      ap (λ (b : Bool). record (proposal_of d i at r v) { breaks = is_eligible d at v && b })
+      (breaks_same at v.post sees)
 
   candidates_same : (i : Incident) (k : Kind) (at : ℕ) → SeesCover d s r
       → eligible d k at s ≡ eligible d k at r → candidates d i k at s ≡ candidates d i k at r
   unfolding candidates
-  candidates_same i k at sees able = ap (λ vs. map (proposal_of d i at s) vs) able ∙ map_among (proposal_of d i at s) (proposal_of d i at r) (eligible d k at r) (λ v m. proposal_same i at v sees)
+  candidates_same i k at sees able =
+      ap (λ vs. map (proposal_of d i at s) vs) able
+      ∙ map_among (proposal_of d i at s) (proposal_of d i at r) (eligible d k at r) (λ v m. proposal_same i at v sees)
 
   proposed_same : (i : Incident) (at : ℕ) (k : Kind) → SeesCover d s r
       → eligible d k at s ≡ eligible d k at r → served d i.number k s ≡ served d i.number k r
       → proposed d i at s k ≡ proposed d i at r k
-  proposed_same i at k sees able h = ap (λ (n : ℕ). chosen is_before (need_of i.needs k - n) None (candidates d i k at s)) h ∙ ap (chosen is_before (lacking d i r k) None) (candidates_same i k at sees able)
+  proposed_same i at k sees able h =
+      ap (λ (n : ℕ). chosen is_before (need_of i.needs k - n) None (candidates d i k at s)) h
+      ∙ ap (chosen is_before (lacking d i r k) None) (candidates_same i k at sees able)
 
   all_proposed_same : (i : Incident) (at : ℕ) → SeesCover d s r
       → ((k : Kind) → eligible d k at s ≡ eligible d k at r)
       → ((k : Kind) → served d i.number k s ≡ served d i.number k r)
       → all_proposed d i at s ≡ all_proposed d i at r
   all_proposed_same i at sees able h =
-      ap (λ ps. ps ++ (proposed d i at s Car ++ proposed d i at s Support)) (proposed_same i at Ambulance sees (able Ambulance) (h Ambulance))
-      ∙ ap (λ ps. proposed d i at r Ambulance ++ (ps ++ proposed d i at s Support)) (proposed_same i at Car sees (able Car) (h Car))
-      ∙ ap (λ ps. proposed d i at r Ambulance ++ (proposed d i at r Car ++ ps)) (proposed_same i at Support sees (able Support) (h Support))
+      ap (λ ps. ps ++ (proposed d i at s Car ++ proposed d i at s Support))
+      (proposed_same i at Ambulance sees (able Ambulance) (h Ambulance))
+      ∙ ap (λ ps. proposed d i at r Ambulance ++ (ps ++ proposed d i at s Support))
+      (proposed_same i at Car sees (able Car) (h Car))
+      ∙ ap (λ ps. proposed d i at r Ambulance ++ (proposed d i at r Car ++ ps))
+      (proposed_same i at Support sees (able Support) (h Support))
 
   active_same : (o : Option Incident) (f g : Incident → Verdict)
       → ((i : Incident) → o ≡ Some i → f i ≡ g i) → where_active o f ≡ where_active o g
   active_same None f g h = refl
-  active_same (Some i) f g h = ap (λ (x : Verdict). refuse_if (not (is_active i.state)) refusal.IncidentNotOpen x) (h i refl)
+  active_same (Some i) f g h =
+      ap (λ (x : Verdict). refuse_if (not (is_active i.state)) refusal.IncidentNotOpen x) (h i refl)
 
   -- an incident that was looked up has its number
   named : (n : ℕ) (i : Incident) → incident_of d n r ≡ Some i → i.number ≡ n
   unfolding incident_of
-  named n i h = ap (λ (p : ℕ × ℕ). p.1) (sym (row_key pair_cmp incident_key pairs_total exact_pair r.incidents (d, n) i h))
+  named n i h =
+      ap (λ (p : ℕ × ℕ). p.1) (sym (row_key pair_cmp incident_key pairs_total exact_pair r.incidents (d, n) i h))
 
   pub propose_same : (n at : ℕ) → SeesIncident d n s r → SeesCover d s r
       → ((k : Kind) → eligible d k at s ≡ eligible d k at r) → propose d n at s ≡ propose d n at r
   unfolding propose
   propose_same n at h sees able =
       ap (λ x. where_active x (λ i. show (answer.Proposals (all_proposed d i at s)))) h.same_incident
-      ∙ active_same (incident_of d n r) _ _ (λ i e. ap (λ ps. show (answer.Proposals ps)) (all_proposed_same i at sees able (λ k. subst (λ m. served d m k s ≡ served d m k r) (sym (named n i e)) (h.same_served k))))
+      ∙ active_same (incident_of d n r) _ _ (λ i e.
+      ap (λ ps. show (answer.Proposals ps)) (all_proposed_same i at sees able
+      (λ k. subst (λ m. served d m k s ≡ served d m k r) (sym (named n i e)) (h.same_served k))))
 
   -- ---- queue
   pub queue_same : (at : ℕ) → entries d at s ≡ entries d at r

@@ -1,7 +1,8 @@
 -- What an event may change: a fact of each change that an event may make is a fact of all that it
 -- makes.
 use Rattle.std.proofs.Common.{ap, inl, inr, sym, ◌∙◌}
-use Rattle.std.specs.Prelude.{Bool, List, None, Option, Some, [], false, is_some, map, not, refl, true, ℕ, ◌&&◌, ◌++◌, ◌==◌, ◌∷◌, ◌≡◌}
+use Rattle.std.specs.Prelude.{Bool, List, None, Option, Some, [], false, is_some, map, not, refl, true, ℕ, ◌&&◌, ◌++◌}
+use Rattle.std.specs.Prelude.{◌==◌, ◌∷◌, ◌≡◌}
 use Rattle.room_place.specs.Choice.{Among}
 use Rattle.room_place.specs.Plans.{division_of}
 use Rattle.room_types_keyed.specs.Keyed.{row_at}
@@ -14,10 +15,11 @@ use Rattle.room_types.specs.declared.asks.Press.{Press}
 use Rattle.room_types.specs.declared.asks.Who.{Who}
 use Rattle.room_types.specs.declared.asks.Who.TheVariants.{Crew, Desk, Position}
 use Rattle.room_types.specs.declared.changes.Change.{Change}
-use Rattle.room_types.specs.declared.changes.Change.TheVariants.{DropAssignment, PutCall, PutLoan, PutOffer, PutReport, PutVehicle, Settle}
+use Rattle.room_types.specs.declared.changes.Change.TheVariants.{DropAssignment, PutCall, PutLoan, PutOffer, PutReport}
+use Rattle.room_types.specs.declared.changes.Change.TheVariants.{PutVehicle, Settle}
 use Rattle.room_types.specs.declared.codes.Button.{Button}
 use Rattle.room_types.specs.declared.codes.Status.TheVariants.{Returning}
-use Rattle.room_types.specs.declared.refusals.Refusal.{Refusal}
+use Rattle.room_types.specs.declared.refusal_statuses.Refusal.{Refusal}
 use Rattle.room_types.specs.declared.tables.Call.{Call}
 use Rattle.room_types.specs.declared.tables.Division.{Division}
 use Rattle.room_types.specs.declared.tables.Incident.{Incident}
@@ -34,16 +36,21 @@ use Rattle.room_model.specs.Calls.{call_in, call_kept, call_somewhere, call_take
 use Rattle.room_types.specs.Codes.{is_active}
 use Rattle.room_model.specs.Decisions.{Verdict, changes_of, refuse_if, where_active, where_held}
 use Rattle.room_model.specs.Incidents.{change_needs, close, close_active, merge, merge_of, moved_call, needs_changed}
-use Rattle.room_model.specs.Loans.{accept, accepted, decline, declined, give_back, given_back, lend, offered, recall, recall_lent, withdraw, withdrawn}
-use Rattle.room_model.specs.Queries.{borrowed, calls_of, held, incident_of, is_attended, kept_call, kept_report, last_number, lent, link_target, offered_by, offered_to, open_turn, point_of, report_of, served, vehicle_at}
+use Rattle.room_model.specs.Loans.{accept, accepted, decline, declined, give_back, given_back, lend, offered, recall}
+use Rattle.room_model.specs.Loans.{recall_lent, withdraw, withdrawn}
+use Rattle.room_model.specs.Queries.{borrowed, calls_of, held, incident_of, is_attended, kept_call, kept_report}
+use Rattle.room_model.specs.Queries.{last_number, lent, link_target, offered_by, offered_to, open_turn, point_of}
+use Rattle.room_model.specs.Queries.{report_of, served, vehicle_at}
 use Rattle.room_model.specs.Queue.{clear, clear_found}
-use Rattle.room_model.specs.Reports.{back_changes, drop_changes, ends_turn, is_due, is_home, outcome_of, report_held, report_in, report_kept, report_somewhere, turn_changes}
+use Rattle.room_model.specs.Reports.{back_changes, drop_changes, ends_turn, is_due, is_home, outcome_of, report_held}
+use Rattle.room_model.specs.Reports.{report_in, report_kept, report_somewhere, turn_changes}
 use Rattle.room_model.specs.Room.{Room}
 use Rattle.room_model.specs.Shares.{ArePlain, IsPlain}
 use Rattle.room_model.specs.Step.{crew_asks, decided, desk_asks, position_asks, who_asks}
-use Rattle.room_model.specs.Vehicles.{duty, mobilise, mobilise_held, mobilised, off, off_duty, on_duty, stand_down, stand_down_held, standby, standby_at, stands_by, turn_stood_down}
+use Rattle.room_model.specs.Vehicles.{duty, mobilise, mobilise_held, mobilised, off, off_duty, on_duty, stand_down}
+use Rattle.room_model.specs.Vehicles.{stand_down_held, standby, standby_at, stands_by, turn_stood_down}
 use Rattle.room_types.specs.declared.asks.Ask.TheVariants as ask
-use Rattle.room_types.specs.declared.refusals.Refusal.TheVariants as refusal
+use Rattle.room_types.specs.declared.refusal_statuses.Refusal.TheVariants as refusal
 
 -- of each change
 abbrev pub AllOf : (Change → Type 0) → List Change → Type 0
@@ -123,7 +130,9 @@ module _ (r : Room) (Q : Change → Type 0) (q : Allows r Q) where
       → ((x : Call) → Among x cs → Among x r.calls) → Holds (merge_of n m b cs)
   merged None m b cs g = tt
   merged (Some n) None b cs g = tt
-  merged (Some n) (Some m) b cs g = refuse _ _ _ (refuse _ _ _ (refuse _ _ _ (refuse _ _ _ (q.silent _ refl, (q.silent _ refl, moved_all m.number cs g)))))
+  merged (Some n) (Some m) b cs g =
+      refuse _ _ _
+      (refuse _ _ _ (refuse _ _ _ (refuse _ _ _ (q.silent _ refl, (q.silent _ refl, moved_all m.number cs g)))))
 
   withdrawn_all : (o : Option Offer) (v : Vehicle) → Holds (withdrawn o v)
   withdrawn_all None v = tt
@@ -146,7 +155,9 @@ module _ (r : Room) (Q : Change → Type 0) (q : Allows r Q) where
       → Holds (clear_found o)
   unfolding report_of kept_report
   cleared_all d c n None e = tt
-  cleared_all d c n (Some x) e = refuse _ _ _ (q.cleared c n x (keep_some (λ x. x.division == d) (row_at numbered_cmp report_key r.reports (c, n)) x e).0, tt)
+  cleared_all d c n (Some x) e =
+      refuse _ _ _
+      (q.cleared c n x (keep_some (λ x. x.division == d) (row_at numbered_cmp report_key r.reports (c, n)) x e).0, tt)
 
   standby_all : (p : Option ℕ) (has : ℕ → Bool) (at : ℕ) (v : Vehicle)
       → Holds (standby_at p has at v)
@@ -158,21 +169,48 @@ module _ (r : Room) (Q : Change → Type 0) (q : Allows r Q) where
 
   pub desk_all : (d : ℕ) (a : Ask) (at : ℕ) → (lends a ≡ true → AllowsLending Q)
       → Holds (desk_asks d a at r)
-  unfolding mobilise change_needs merge close stand_down standby duty off lend withdraw decline accept recall give_back clear
-  desk_all d (ask.Mobilise n c) at f = by_incident (incident_of d n r) (mobilise_held d (held d c r) (lent d c r) at (λ k. served d n k r)) (λ i. by_vehicle (held d c r) (lent d c r) (mobilised d i at (λ k. served d n k r)) (λ v. refuse _ _ _ (refuse _ _ _ (refuse _ _ _ (refuse _ _ _ (q.silent _ refl, (q.silent _ refl, (q.silent _ refl, (q.silent _ refl, tt)))))))))
-  desk_all d (ask.Needs n needs) at f = by_incident (incident_of d n r) (needs_changed needs (λ k. served d n k r)) (λ i. refuse _ _ _ (q.silent _ refl, tt))
+  unfolding mobilise change_needs merge close stand_down standby duty off lend withdraw decline accept recall give_back
+      clear
+  desk_all d (ask.Mobilise n c) at f =
+      by_incident (incident_of d n r) (mobilise_held d (held d c r) (lent d c r) at (λ k. served d n k r))
+      (λ i.
+      by_vehicle (held d c r) (lent d c r) (mobilised d i at (λ k. served d n k r))
+      (λ v.
+      refuse _ _ _ (refuse _ _ _
+      (refuse _ _ _ (refuse _ _ _ (q.silent _ refl, (q.silent _ refl, (q.silent _ refl, (q.silent _ refl, tt)))))))))
+  desk_all d (ask.Needs n needs) at f =
+      by_incident (incident_of d n r) (needs_changed needs (λ k. served d n k r))
+      (λ i. refuse _ _ _ (q.silent _ refl, tt))
   desk_all d (ask.Merge n m) at f = merged _ _ _ _ (own_calls d n)
-  desk_all d (ask.Close n) at f = by_incident (incident_of d n r) (close_active (is_attended d n r)) (λ i. refuse _ _ _ (q.silent _ refl, tt))
-  desk_all d (ask.StandDown c) at f = by_vehicle (held d c r) (lent d c r) (stand_down_held at (open_turn d c r)) (λ v. refuse _ _ _ (append (turn_stood_down at (open_turn d c r)) (DropAssignment v.callsign ∷ PutVehicle (record v { status = Returning }) ∷ []) (stood_down at (open_turn d c r)) (q.silent _ refl, (q.silent _ refl, tt))))
-  desk_all d (ask.Standby c p) at f = by_vehicle (held d c r) (lent d c r) (stands_by p (λ n. is_some (point_of d n r)) at) (λ v. refuse _ _ _ (standby_all p _ at v))
-  desk_all d (ask.Duty c place until) at f = by_vehicle (held d c r) (lent d c r) (on_duty place until at) (λ v. refuse _ _ _ (refuse _ _ _ (q.silent _ refl, tt)))
-  desk_all d (ask.Off c) at f = by_vehicle (held d c r) (lent d c r) off_duty (λ v. refuse _ _ _ (refuse _ _ _ (q.silent _ refl, tt)))
-  desk_all d (ask.Lend c to until) at f = by_vehicle (held d c r) (lent d c r) (offered r.plan d to until at) (λ v. refuse _ _ _ (refuse _ _ _ (refuse _ _ _ (refuse _ _ _ (refuse _ _ _ (q.silent _ refl, ((f refl).offered _, tt)))))))
-  desk_all d (ask.Withdraw c) at f = by_vehicle (held d c r) (lent d c r) (withdrawn (offered_by d c r)) (withdrawn_all (offered_by d c r))
+  desk_all d (ask.Close n) at f =
+      by_incident (incident_of d n r) (close_active (is_attended d n r)) (λ i. refuse _ _ _ (q.silent _ refl, tt))
+  desk_all d (ask.StandDown c) at f =
+      by_vehicle (held d c r) (lent d c r) (stand_down_held at (open_turn d c r))
+      (λ v.
+      refuse _ _ _ (append (turn_stood_down at (open_turn d c r))
+      (DropAssignment v.callsign ∷ PutVehicle (record v { status = Returning }) ∷ []) (stood_down at (open_turn d c r))
+      (q.silent _ refl, (q.silent _ refl, tt))))
+  desk_all d (ask.Standby c p) at f =
+      by_vehicle (held d c r) (lent d c r) (stands_by p (λ n. is_some (point_of d n r)) at)
+      (λ v. refuse _ _ _ (standby_all p _ at v))
+  desk_all d (ask.Duty c place until) at f =
+      by_vehicle (held d c r) (lent d c r) (on_duty place until at)
+      (λ v. refuse _ _ _ (refuse _ _ _ (q.silent _ refl, tt)))
+  desk_all d (ask.Off c) at f =
+      by_vehicle (held d c r) (lent d c r) off_duty (λ v. refuse _ _ _ (refuse _ _ _ (q.silent _ refl, tt)))
+  desk_all d (ask.Lend c to until) at f =
+      by_vehicle (held d c r) (lent d c r) (offered r.plan d to until at)
+      (λ v.
+      refuse _ _ _
+      (refuse _ _ _ (refuse _ _ _ (refuse _ _ _ (refuse _ _ _ (q.silent _ refl, ((f refl).offered _, tt)))))))
+  desk_all d (ask.Withdraw c) at f =
+      by_vehicle (held d c r) (lent d c r) (withdrawn (offered_by d c r)) (withdrawn_all (offered_by d c r))
   desk_all d (ask.Decline c) at f = declined_all (f refl) (offered_to d c r)
   desk_all d (ask.Accept c) at f = accepted_all (f refl) (offered_to d c r) at
   desk_all d (ask.Recall c) at f = recalled_all (f refl) (lent d c r) (held d c r)
-  desk_all d (ask.GiveBack c) at f = by_vehicle (held d c r) (lent d c r) (given_back d (borrowed d c r)) (λ v. refuse _ _ _ (refuse _ _ _ (q.silent _ refl, (q.silent _ refl, tt))))
+  desk_all d (ask.GiveBack c) at f =
+      by_vehicle (held d c r) (lent d c r) (given_back d (borrowed d c r))
+      (λ v. refuse _ _ _ (refuse _ _ _ (q.silent _ refl, (q.silent _ refl, tt))))
   desk_all d (ask.Clear c n) at f = cleared_all d c n (report_of d c n r) refl
   desk_all d (ask.SetPoint n place cover) at f = (q.silent _ refl, tt)
   desk_all d a at f = quiet_all (Desk d) a at refl
@@ -183,7 +221,8 @@ module _ (r : Room) (Q : Change → Type 0) (q : Allows r Q) where
       → Holds (call_taken d new i v)
   taken_all d new (Some i) v e placed = (q.silent _ refl, (q.new_call _ e placed, tt))
   taken_all d new None None e placed = tt
-  taken_all d new None (Some v) e placed = refuse _ _ _ (q.silent _ refl, (q.silent _ refl, (q.new_call _ e placed, tt)))
+  taken_all d new None (Some v) e placed =
+      refuse _ _ _ (q.silent _ refl, (q.silent _ refl, (q.new_call _ e placed, tt)))
 
   pub call_in_all : (d : ℕ) (new : NewCall) → kept_call new.position new.serial r ≡ None
       → division_of r.plan new.place ≡ Some d → Holds (call_in d new r)
@@ -222,9 +261,14 @@ module _ (r : Room) (Q : Change → Type 0) (q : Allows r Q) where
       → Holds (report_held v t l p at)
   held_all h c None e t l p at k = tt
   held_all h c (Some v) e t l p at k =
-      let fresh : kept_report v.callsign p.number r ≡ None = ap (λ c. kept_report c p.number r) (sym (held_is h c r v e).key) ∙ k in
+      let fresh : kept_report v.callsign p.number r
+      ≡ None = ap (λ c. kept_report c p.number r) (sym (held_is h c r v e).key) ∙ k in
       by_report Holds v t l p at
-      (λ o. (q.new_report _ fresh, append _ _ (turn_all p.button at t) (append _ _ (drop_all v.callsign (ends_turn p.button)) (append _ _ (back_all v.callsign (is_home p.button && is_due at l)) (q.silent _ refl, tt)))))
+      (λ o. (
+        q.new_report _ fresh,
+        append _ _ (turn_all p.button at t) (append _ _ (drop_all v.callsign (ends_turn p.button))
+            (append _ _ (back_all v.callsign (is_home p.button && is_due at l)) (q.silent _ refl, tt))),
+      ))
       (λ o. (q.new_report _ fresh, (q.silent _ refl, tt)))
       (outcome_of v t p)
 
@@ -258,7 +302,13 @@ module _ (r : Room) (Q : Change → Type 0) (q : Allows r Q) where
 
 -- ---- where no vehicle is settled, the changes are plain puts and drops
 pub plain_allowed : (r : Room) → Allows r IsPlain
-plain_allowed r = record { silent = plain_silent; new_call = λ x e placed. tt; moved = λ x a m. tt; new_report = λ x e. tt; cleared = λ c n x e. tt }
+plain_allowed r = record {
+  silent = plain_silent;
+  new_call = λ x e placed. tt;
+  moved = λ x a m. tt;
+  new_report = λ x e. tt;
+  cleared = λ c n x e. tt;
+}
   where
     plain_silent : (x : Change) → is_silent x ≡ true → IsPlain x
     plain_silent (Settle c d) e = cc

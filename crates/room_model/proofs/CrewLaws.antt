@@ -2,19 +2,23 @@
 use Rattle.std.proofs.Common.{ap, eq-eqb, subst, sym, ◌∙◌}
 use Rattle.std.specs.Cmp.{IsTotalOrder}
 use Rattle.std.specs.Ordering.{is_eq, ordering_reverse}
-use Rattle.std.specs.Prelude.{Bool, List, None, Option, Some, [], cond, filter, is_none, refl, true, ℕ, ◌&&◌, ◌==◌, ◌∷◌, ◌≡◌}
+use Rattle.std.specs.Prelude.{Bool, List, None, Option, Some, [], cond, filter, is_none, refl, true, ℕ, ◌&&◌, ◌==◌, ◌∷◌}
+use Rattle.std.specs.Prelude.{◌≡◌}
 use Rattle.std.specs.declared.cmp.Ordering.{Ordering}
 use Rattle.std.specs.declared.cmp.Ordering.TheVariants.{Equal, Greater, Less}
 use Rattle.room_place.specs.Choice.{first}
 use Rattle.room_types_keyed.proofs.KeyedLaws.{filter_drop, filter_put, keyed_filter, row_filter}
 use Rattle.room_types_keyed.specs.Keyed.{IsKeyed, drop_row, keep, put_row}
-use Rattle.room_types.specs.Keys.{assignment_key, callsign_cmp, loan_key, numbered_cmp, offer_key, report_key, same_callsign, turn_key, vehicle_key}
+use Rattle.room_types.specs.Keys.{assignment_key, callsign_cmp, loan_key, numbered_cmp, offer_key, report_key}
+use Rattle.room_types.specs.Keys.{same_callsign, turn_key, vehicle_key}
 use Rattle.room_types.specs.Orders.{callsigns_total, exact_numbered, numbered_total}
 use Rattle.room_types.specs.Texts.{Callsign}
 use Rattle.room_types.specs.declared.asks.Ask.{Ask}
 use Rattle.room_types.specs.declared.asks.Press.{Press}
 use Rattle.room_types.specs.declared.changes.Change.{Change}
-use Rattle.room_types.specs.declared.changes.Change.TheVariants.{DropAssignment, DropLoan, DropOffer, PutAssignment, PutCall, PutDivision, PutIncident, PutLoan, PutOffer, PutPoint, PutReport, PutTurn, PutVehicle, Settle}
+use Rattle.room_types.specs.declared.changes.Change.TheVariants.{DropAssignment, DropLoan, DropOffer, PutAssignment}
+use Rattle.room_types.specs.declared.changes.Change.TheVariants.{PutCall, PutDivision, PutIncident, PutLoan, PutOffer}
+use Rattle.room_types.specs.declared.changes.Change.TheVariants.{PutPoint, PutReport, PutTurn, PutVehicle, Settle}
 use Rattle.room_types.specs.declared.tables.Report.{Report}
 use Rattle.room_types.specs.declared.tables.Vehicle.{Vehicle}
 use Rattle.room_model.proofs.Changes.{all_plain, crew_all, plain_allowed}
@@ -65,7 +69,8 @@ module _ (c : Callsign) (s r : Room) (sees : SeesCrew c s r) where
       → crew_asks c a at s ≡ crew_asks c a at r
   crew_same ask.Order at h = λ i. order_of (sees.same_vehicle i) (sees.same_assignment i)
   crew_same ask.Last at h = ap last_of sees.same_vehicle
-  crew_same (ask.Report p) at h = ap (λ o. report_kept o c p at s) (h p refl) ∙ kept_same (kept_report c p.number r) p at
+  crew_same (ask.Report p) at h =
+      ap (λ o. report_kept o c p at s) (h p refl) ∙ kept_same (kept_report c p.number r) p at
   crew_same a at h = refl
 
 -- ---- its vehicle's rows are enough
@@ -80,10 +85,20 @@ module _ (c : Callsign) (r : Room) (order : IsInOrder r) where
   sees_beside : (xs : List Report) → SeesCrew c (beside xs) r
   unfolding vehicle_at assignment_at loan_at open_turn
   sees_beside xs = record {
-    same_vehicle = row_filter callsign_cmp vehicle_key callsigns_total _ r.vehicles c order.vehicles ∙ keep_row callsign_cmp vehicle_key _ r.vehicles c (λ x e. turned c x.callsign e);
-    same_assignment = row_filter callsign_cmp assignment_key callsigns_total _ r.assignments c order.assignments ∙ keep_row callsign_cmp assignment_key _ r.assignments c (λ x e. turned c x.callsign e);
-    same_loan = row_filter callsign_cmp loan_key callsigns_total _ r.loans c order.loans ∙ keep_row callsign_cmp loan_key _ r.loans c (λ x e. turned c x.callsign e);
-    same_turn = λ d. ap first (filter_filter _ (λ t. same_callsign t.callsign c && is_none t.ended) r.turns (λ x h. right_true (x.division == d) _ h));
+    same_vehicle =
+        row_filter callsign_cmp vehicle_key callsigns_total _ r.vehicles c order.vehicles
+        ∙ keep_row callsign_cmp vehicle_key _ r.vehicles c (λ x e. turned c x.callsign e);
+    same_assignment =
+        row_filter callsign_cmp assignment_key callsigns_total _ r.assignments c order.assignments
+        ∙ keep_row callsign_cmp assignment_key _ r.assignments c (λ x e. turned c x.callsign e);
+    same_loan =
+        row_filter callsign_cmp loan_key callsigns_total _ r.loans c order.loans
+        ∙ keep_row callsign_cmp loan_key _ r.loans c (λ x e. turned c x.callsign e);
+    same_turn =
+        λ d.
+        ap first
+        (filter_filter _ (λ t. same_callsign t.callsign c && is_none t.ended) r.turns
+        (λ x h. right_true (x.division == d) _ h));
   }
 
   -- a report that is looked up by its number passes a test of its callsign and number
@@ -91,7 +106,9 @@ module _ (c : Callsign) (r : Room) (order : IsInOrder r) where
       → ((x : Report) → same_callsign x.callsign c ≡ true → n ≡ x.number → p x ≡ true)
       → kept_report c n (beside (filter p r.reports)) ≡ kept_report c n r
   unfolding kept_report
-  report_kept_by p n h = row_filter numbered_cmp report_key numbered_total p r.reports (c, n) order.reports ∙ keep_row numbered_cmp report_key p r.reports (c, n) (λ x e.
+  report_kept_by p n h =
+      row_filter numbered_cmp report_key numbered_total p r.reports (c, n) order.reports
+      ∙ keep_row numbered_cmp report_key p r.reports (c, n) (λ x e.
       let key : (c, n) ≡ report_key x = exact_numbered (c, n) (report_key x) (is_equal _ e) in
       h x (same_self x.callsign (ap (λ (k : Callsign × ℕ). k.0) key)) (ap (λ (k : Callsign × ℕ). k.1) key))
     where
@@ -104,28 +121,34 @@ module _ (c : Callsign) (r : Room) (order : IsInOrder r) where
       same_self k e = ap (same_callsign k) e ∙ alike (callsign_cmp k k) (callsigns_total.antisymm k k)
 
   pub crew_mine : (a : Ask) (at : ℕ) → crew_asks c a at (mine c r) ≡ crew_asks c a at r
-  crew_mine a at = crew_same c (mine c r) r (sees_beside (mine c r).reports) a at (λ p e. report_kept_by (λ x. same_callsign x.callsign c) p.number (λ x k n. k))
+  crew_mine a at =
+      crew_same c (mine c r) r (sees_beside (mine c r).reports) a at
+      (λ p e. report_kept_by (λ x. same_callsign x.callsign c) p.number (λ x k n. k))
 
   pub order_in_hand : (n at : ℕ) → crew_asks c ask.Order at (in_hand c n r)
       ≡ crew_asks c ask.Order at r
-  order_in_hand n at = crew_same c (in_hand c n r) r (sees_beside (in_hand c n r).reports) ask.Order at (λ p e. absurd (no_report p e))
+  order_in_hand n at =
+      crew_same c (in_hand c n r) r (sees_beside (in_hand c n r).reports) ask.Order at (λ p e. absurd (no_report p e))
     where
       no_report : (p : Press) → ask.Order ≡ ask.Report p → ⊥
       no_report p e = cc
 
   pub last_in_hand : (n at : ℕ) → crew_asks c ask.Last at (in_hand c n r)
       ≡ crew_asks c ask.Last at r
-  last_in_hand n at = crew_same c (in_hand c n r) r (sees_beside (in_hand c n r).reports) ask.Last at (λ p e. absurd (no_report p e))
+  last_in_hand n at =
+      crew_same c (in_hand c n r) r (sees_beside (in_hand c n r).reports) ask.Last at (λ p e. absurd (no_report p e))
     where
       no_report : (p : Press) → ask.Last ≡ ask.Report p → ⊥
       no_report p e = cc
 
   pub report_in_hand : (p : Press) (at : ℕ)
       → crew_asks c (ask.Report p) at (in_hand c p.number r) ≡ crew_asks c (ask.Report p) at r
-  report_in_hand p at = crew_same c (in_hand c p.number r) r (sees_beside (in_hand c p.number r).reports) (ask.Report p) at (λ q e.
+  report_in_hand p at =
+      crew_same c (in_hand c p.number r) r (sees_beside (in_hand c p.number r).reports) (ask.Report p) at (λ q e.
       let same : p ≡ q = cc in
       subst (λ z. kept_report c z.number (in_hand c p.number r) ≡ kept_report c z.number r) same
-      (report_kept_by (λ x. same_callsign x.callsign c && x.number == p.number) p.number (λ x k n. both_true _ _ k (eq-eqb x.number p.number (sym n)))))
+      (report_kept_by (λ x. same_callsign x.callsign c && x.number == p.number) p.number
+      (λ x k n. both_true _ _ k (eq-eqb x.number p.number (sym n)))))
 
 -- ---- its vehicle's rows afterwards
 -- a put, and a drop, in the rows that pass
@@ -155,9 +178,13 @@ module _ (c : Callsign) where
     divisions = [];
     incidents = [];
     calls = [];
-    vehicles = filter_filter (λ x. same_callsign x.callsign c) (λ x. same_callsign x.callsign c) r.vehicles (λ x e. e) i;
-    turns = filter_filter (λ x. same_callsign x.callsign c && is_none x.ended) (λ x. same_callsign x.callsign c && is_none x.ended) r.turns (λ x e. e) i;
-    assignments = filter_filter (λ x. same_callsign x.callsign c) (λ x. same_callsign x.callsign c) r.assignments (λ x e. e) i;
+    vehicles =
+        filter_filter (λ x. same_callsign x.callsign c) (λ x. same_callsign x.callsign c) r.vehicles (λ x e. e) i;
+    turns =
+        filter_filter (λ x. same_callsign x.callsign c && is_none x.ended)
+        (λ x. same_callsign x.callsign c && is_none x.ended) r.turns (λ x e. e) i;
+    assignments =
+        filter_filter (λ x. same_callsign x.callsign c) (λ x. same_callsign x.callsign c) r.assignments (λ x e. e) i;
     points = [];
     loans = filter_filter (λ x. same_callsign x.callsign c) (λ x. same_callsign x.callsign c) r.loans (λ x e. e) i;
     offers = filter_filter (λ x. same_callsign x.callsign c) (λ x. same_callsign x.callsign c) r.offers (λ x e. e) i;
@@ -184,15 +211,52 @@ module _ (c : Callsign) where
   mine_one r (PutIncident x) h q = mine_twice r
   mine_one r (PutCall x) h q = mine_twice r
   mine_one r (PutPoint x) h q = mine_twice r
-  mine_one r (PutVehicle x) h q = λ i. record (mine_twice r i) { vehicles = put_within callsign_cmp vehicle_key callsigns_total (λ x. same_callsign x.callsign c) r.vehicles h.vehicles x i }
-  mine_one r (PutTurn x) h q = λ i. record (mine_twice r i) { turns = put_within numbered_cmp turn_key numbered_total (λ x. same_callsign x.callsign c && is_none x.ended) r.turns h.turns x i }
-  mine_one r (PutAssignment x) h q = λ i. record (mine_twice r i) { assignments = put_within callsign_cmp assignment_key callsigns_total (λ x. same_callsign x.callsign c) r.assignments h.assignments x i }
-  mine_one r (PutLoan x) h q = λ i. record (mine_twice r i) { loans = put_within callsign_cmp loan_key callsigns_total (λ x. same_callsign x.callsign c) r.loans h.loans x i }
-  mine_one r (PutOffer x) h q = λ i. record (mine_twice r i) { offers = put_within callsign_cmp offer_key callsigns_total (λ x. same_callsign x.callsign c) r.offers h.offers x i }
-  mine_one r (PutReport x) h q = λ i. record (mine_twice r i) { reports = put_within numbered_cmp report_key numbered_total (λ x. same_callsign x.callsign c) r.reports h.reports x i }
-  mine_one r (DropAssignment k) h q = λ i. record (mine_twice r i) { assignments = drop_within callsign_cmp assignment_key callsigns_total (λ x. same_callsign x.callsign c) r.assignments h.assignments k i }
-  mine_one r (DropLoan k) h q = λ i. record (mine_twice r i) { loans = drop_within callsign_cmp loan_key callsigns_total (λ x. same_callsign x.callsign c) r.loans h.loans k i }
-  mine_one r (DropOffer k) h q = λ i. record (mine_twice r i) { offers = drop_within callsign_cmp offer_key callsigns_total (λ x. same_callsign x.callsign c) r.offers h.offers k i }
+  mine_one r (PutVehicle x) h q =
+      λ i. record (mine_twice r i) {
+        vehicles =
+            put_within callsign_cmp vehicle_key callsigns_total (λ x. same_callsign x.callsign c) r.vehicles h.vehicles
+            x i;
+      }
+  mine_one r (PutTurn x) h q =
+      λ i. record (mine_twice r i) {
+        turns =
+            put_within numbered_cmp turn_key numbered_total (λ x. same_callsign x.callsign c && is_none x.ended) r.turns
+            h.turns x i;
+      }
+  mine_one r (PutAssignment x) h q =
+      λ i. record (mine_twice r i) {
+        assignments =
+            put_within callsign_cmp assignment_key callsigns_total (λ x. same_callsign x.callsign c) r.assignments
+            h.assignments x i;
+      }
+  mine_one r (PutLoan x) h q =
+      λ i. record (mine_twice r i)
+      { loans = put_within callsign_cmp loan_key callsigns_total (λ x. same_callsign x.callsign c) r.loans h.loans x i }
+  mine_one r (PutOffer x) h q =
+      λ i. record (mine_twice r i) {
+        offers =
+            put_within callsign_cmp offer_key callsigns_total (λ x. same_callsign x.callsign c) r.offers h.offers x i;
+      }
+  mine_one r (PutReport x) h q =
+      λ i. record (mine_twice r i) {
+        reports =
+            put_within numbered_cmp report_key numbered_total (λ x. same_callsign x.callsign c) r.reports h.reports x i;
+      }
+  mine_one r (DropAssignment k) h q =
+      λ i. record (mine_twice r i) {
+        assignments =
+            drop_within callsign_cmp assignment_key callsigns_total (λ x. same_callsign x.callsign c) r.assignments
+            h.assignments k i;
+      }
+  mine_one r (DropLoan k) h q =
+      λ i. record (mine_twice r i) {
+        loans = drop_within callsign_cmp loan_key callsigns_total (λ x. same_callsign x.callsign c) r.loans h.loans k i;
+      }
+  mine_one r (DropOffer k) h q =
+      λ i. record (mine_twice r i) {
+        offers =
+            drop_within callsign_cmp offer_key callsigns_total (λ x. same_callsign x.callsign c) r.offers h.offers k i;
+      }
   mine_one r (Settle k e) h q = absurd q
 
   mine_apply : (r : Room) (cs : List Change) → IsInOrder r → ArePlain cs
@@ -206,7 +270,10 @@ module _ (c : Callsign) where
 
   pub mine_after : (a : Ask) (at : ℕ) (r : Room) → IsInOrder r
       → mine c (room_after (by_crew c a at) r) ≡ mine c (room_after (by_crew c a at) (mine c r))
-  mine_after a at r h = sym (ap (λ x. mine c (apply (mine c r) (changes_of x))) (crew_mine c r h a at) ∙ mine_apply r (changes_of (crew_asks c a at r)) h (all_plain (changes_of (crew_asks c a at r)) (crew_all r IsPlain (plain_allowed r) c a at)))
+  mine_after a at r h =
+      sym (ap (λ x. mine c (apply (mine c r) (changes_of x))) (crew_mine c r h a at)
+      ∙ mine_apply r (changes_of (crew_asks c a at r)) h
+      (all_plain (changes_of (crew_asks c a at r)) (crew_all r IsPlain (plain_allowed r) c a at)))
 
   -- two vehicles with equal rows are answered alike, and have equal rows afterwards
   pub mine_answer : (a : Ask) (at : ℕ) (r s : Room) → IsInOrder r → IsInOrder s
@@ -216,4 +283,5 @@ module _ (c : Callsign) where
   pub mine_equal : (a : Ask) (at : ℕ) (r s : Room) → IsInOrder r → IsInOrder s
       → mine c r ≡ mine c s → mine c (room_after (by_crew c a at) r)
       ≡ mine c (room_after (by_crew c a at) s)
-  mine_equal a at r s h g same = mine_after a at r h ∙ ap (λ t. mine c (room_after (by_crew c a at) t)) same ∙ sym (mine_after a at s g)
+  mine_equal a at r s h g same =
+      mine_after a at r h ∙ ap (λ t. mine c (room_after (by_crew c a at) t)) same ∙ sym (mine_after a at s g)

@@ -7,7 +7,8 @@ use Rattle.room_types_keyed.proofs.EachRow.{row_key}
 use Rattle.room_types_keyed.proofs.KeyedLaws.{row_filter}
 use Rattle.room_types.specs.Crews.{IsCrew}
 use Rattle.room_types_keyed.specs.Keyed.{IsKeyed, keep, row_at}
-use Rattle.room_types.specs.Keys.{assignment_key, callsign_cmp, loan_key, numbered_cmp, same_callsign, turn_key, vehicle_key}
+use Rattle.room_types.specs.Keys.{assignment_key, callsign_cmp, loan_key, numbered_cmp, same_callsign, turn_key}
+use Rattle.room_types.specs.Keys.{vehicle_key}
 use Rattle.room_types.specs.Orders.{callsigns_total, exact_callsigns, exact_numbered, numbered_total}
 use Rattle.room_types.specs.SentVehicles.{OrderAgrees}
 use Rattle.room_types.specs.Texts.{Callsign}
@@ -32,14 +33,20 @@ mine_row : {X : Type 0} (key : X → Callsign) (xs : List X) (c : Callsign)
     (filter (λ x. same_callsign (key x) c) xs) c ≡ row_at callsign_cmp key xs c
 mine_row key xs c in_order =
     row_filter callsign_cmp key callsigns_total (λ x. same_callsign (key x) c) xs c in_order
-    ∙ keep_row callsign_cmp key (λ x. same_callsign (key x) c) xs c (λ x h. same_self c (key x) (exact_callsigns c (key x) (is_equal _ h)))
+    ∙ keep_row callsign_cmp key (λ x. same_callsign (key x) c) xs c
+    (λ x h. same_self c (key x) (exact_callsigns c (key x) (is_equal _ h)))
 
 module _ (c : Callsign) (r : Room) (in_order : IsInOrder r) where
   mine_turn : (m : ℕ) → keep is_open (row_at numbered_cmp turn_key (mine c r).turns (c, m))
       ≡ keep is_open (row_at numbered_cmp turn_key r.turns (c, m))
   mine_turn m =
-      ap (keep is_open) (row_filter numbered_cmp turn_key numbered_total (λ x. same_callsign x.callsign c && is_none x.ended) r.turns (c, m) in_order.turns)
-      ∙ keep_keep_row numbered_cmp turn_key is_open (λ x. same_callsign x.callsign c && is_none x.ended) r.turns (c, m) (λ x h open_one. both_true _ _ (same_self c x.callsign (ap (λ (k : Callsign × ℕ). k.0) (exact_numbered (c, m) (turn_key x) (is_equal _ h)))) open_one)
+      ap (keep is_open) (row_filter numbered_cmp turn_key numbered_total
+      (λ x. same_callsign x.callsign c && is_none x.ended) r.turns (c, m) in_order.turns)
+      ∙ keep_keep_row numbered_cmp turn_key is_open (λ x. same_callsign x.callsign c && is_none x.ended) r.turns (c, m)
+      (λ x h open_one.
+      both_true _ _
+      (same_self c x.callsign (ap (λ (k : Callsign × ℕ). k.0) (exact_numbered (c, m) (turn_key x) (is_equal _ h))))
+      open_one)
 
   pub rows_of_mine : (x : CrewRows) → AreCrewRows c (mine c r) x ↔ AreCrewRows c r x
   rows_of_mine x = (
@@ -61,16 +68,20 @@ order_of : (v : Vehicle) (a : Option Assignment) (t : Option Turn) → SentAgree
 order_of v None None h = h
 order_of v None (Some t) h = absurd h
 order_of v (Some a) None h = absurd h
-order_of v (Some a) (Some t) h = record { busy = h.busy; ordered_by_holder = h.ordered_by_holder; ordered_last = h.ordered_last }
+order_of v (Some a) (Some t) h =
+    record { busy = h.busy; ordered_by_holder = h.ordered_by_holder; ordered_last = h.ordered_last }
 
 module _ (c : Callsign) (r : Room) (x : CrewRows) (formed : IsWellFormed r)
     (mine : AreCrewRows c r x) where
   vehicle_named : x.vehicle.callsign ≡ c
-  vehicle_named = subst (λ o. IfSome o (λ v. v.callsign ≡ c)) mine.vehicle (row_key callsign_cmp vehicle_key callsigns_total exact_callsigns r.vehicles c)
+  vehicle_named =
+      subst (λ o. IfSome o (λ v. v.callsign ≡ c)) mine.vehicle
+      (row_key callsign_cmp vehicle_key callsigns_total exact_callsigns r.vehicles c)
 
   loan_named : IfSome x.loan (λ l. l.callsign ≡ x.vehicle.callsign)
   loan_named = subst (λ o. IfSome o (λ l. l.callsign ≡ x.vehicle.callsign)) mine.loan
-      (if_then (λ l. l.callsign ≡ c) (λ l. l.callsign ≡ x.vehicle.callsign) (row_at callsign_cmp loan_key r.loans c) (λ l e. e ∙ sym vehicle_named) (row_key callsign_cmp loan_key callsigns_total exact_callsigns r.loans c))
+      (if_then (λ l. l.callsign ≡ c) (λ l. l.callsign ≡ x.vehicle.callsign) (row_at callsign_cmp loan_key r.loans c)
+      (λ l e. e ∙ sym vehicle_named) (row_key callsign_cmp loan_key callsigns_total exact_callsigns r.loans c))
 
   turn_named : (m : ℕ) → IfSome (row_at numbered_cmp turn_key r.turns (c, m))
       (λ t. turn_key t ≡ (c, m))
@@ -78,18 +89,26 @@ module _ (c : Callsign) (r : Room) (x : CrewRows) (formed : IsWellFormed r)
 
   turn_open : IfSome x.turn (λ t. (t.callsign ≡ x.vehicle.callsign) × (t.ended ≡ None))
   turn_open = subst (λ o. IfSome o (λ t. (t.callsign ≡ x.vehicle.callsign) × (t.ended ≡ None))) mine.turn
-      (if_kept is_open (λ t. (t.callsign ≡ x.vehicle.callsign) × (t.ended ≡ None)) (row_at numbered_cmp turn_key r.turns (c, x.vehicle.last_order)) (λ t e open_one.
-      let key : turn_key t ≡ (c, x.vehicle.last_order) = subst (λ o. IfSome o (λ t. turn_key t ≡ (c, x.vehicle.last_order))) e (turn_named x.vehicle.last_order) in
+      (if_kept is_open (λ t. (t.callsign ≡ x.vehicle.callsign) × (t.ended ≡ None))
+      (row_at numbered_cmp turn_key r.turns (c, x.vehicle.last_order)) (λ t e open_one.
+      let key : turn_key t
+      ≡ (c, x.vehicle.last_order) =
+      subst (λ o. IfSome o (λ t. turn_key t ≡ (c, x.vehicle.last_order))) e (turn_named x.vehicle.last_order) in
       (ap (λ (k : Callsign × ℕ). k.0) key ∙ sym vehicle_named, none_of t.ended open_one)))
 
   ordered : OrderAgrees x.vehicle x.turn
   ordered =
       subst (OrderAgrees x.vehicle) mine.turn
       (order_of x.vehicle _ _ (sent_in_room x.vehicle _ _
-      (subst (λ o. room.AssignmentAgrees o (row_at callsign_cmp assignment_key r.assignments c)) mine.vehicle (formed.assignments c))
-      (subst (λ o. room.TurnAgrees o x.vehicle.last_order (row_at numbered_cmp turn_key r.turns (c, x.vehicle.last_order))) mine.vehicle (formed.turns c x.vehicle.last_order))
+      (subst (λ o. room.AssignmentAgrees o (row_at callsign_cmp assignment_key r.assignments c)) mine.vehicle
+      (formed.assignments c))
+      (subst
+      (λ o. room.TurnAgrees o x.vehicle.last_order (row_at numbered_cmp turn_key r.turns (c, x.vehicle.last_order)))
+      mine.vehicle (formed.turns c x.vehicle.last_order))
       (formed.same_incident c x.vehicle.last_order)
-      (if_then (λ t. turn_key t ≡ (c, x.vehicle.last_order)) (λ t. t.order ≡ x.vehicle.last_order) (row_at numbered_cmp turn_key r.turns (c, x.vehicle.last_order)) (λ t e. ap (λ (k : Callsign × ℕ). k.1) e) (turn_named x.vehicle.last_order))))
+      (if_then (λ t. turn_key t ≡ (c, x.vehicle.last_order)) (λ t. t.order ≡ x.vehicle.last_order)
+      (row_at numbered_cmp turn_key r.turns (c, x.vehicle.last_order)) (λ t e. ap (λ (k : Callsign × ℕ). k.1) e)
+      (turn_named x.vehicle.last_order))))
 
   pub rows_are_crew : IsCrew x
   rows_are_crew = record {

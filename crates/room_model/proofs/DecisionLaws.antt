@@ -4,7 +4,7 @@ use Rattle.room_types.specs.declared.asks.Press.{Press}
 use Rattle.room_types.specs.declared.changes.Change.TheVariants.{PutReport, PutVehicle}
 use Rattle.room_types.specs.declared.codes.Outcome.{Outcome}
 use Rattle.room_types.specs.declared.codes.Outcome.TheVariants.{Late, Normal, Skipped, Stale, Wrong}
-use Rattle.room_types.specs.declared.refusals.Refusal.{Refusal}
+use Rattle.room_types.specs.declared.refusal_statuses.Refusal.{Refusal}
 use Rattle.room_types.specs.declared.tables.Loan.{Loan}
 use Rattle.room_types.specs.declared.tables.Turn.{Turn}
 use Rattle.room_types.specs.declared.tables.Vehicle.{Vehicle}
@@ -21,8 +21,12 @@ by_refuse P false e x f g = g refl
 -- what holds of a report that acts, and of one that doesn't
 pub by_report : (P : Verdict → Type 0) (v : Vehicle) (t : Option Turn) (l : Option Loan)
     (p : Press) (at : ℕ) →
-    ((o : Outcome) → P (tell (answer.Reported p.number o (status_after v.status p.button)) (report_acts v t l p at o (is_home p.button && is_due at l)))) →
-    ((o : Outcome) → P (tell (answer.Reported p.number o v.status) (PutReport (report_row v p at o v.status) ∷ PutVehicle (with_report v p) ∷ []))) →
+    ((o : Outcome)
+    → P (tell (answer.Reported p.number o (status_after v.status p.button))
+    (report_acts v t l p at o (is_home p.button && is_due at l)))) →
+    ((o : Outcome)
+    → P (tell (answer.Reported p.number o v.status)
+    (PutReport (report_row v p at o v.status) ∷ PutVehicle (with_report v p) ∷ []))) →
     (o : Outcome) → P (report_made v t l p at o)
 by_report P v t l p at f g Normal = f Normal
 by_report P v t l p at f g Skipped = f Skipped

@@ -5,7 +5,8 @@ use Rattle.std.proofs.lemmas.Cmp.{tied_itself}
 use Rattle.std.proofs.lemmas.Map.Lookups.{CmpEqualImpliesEq}
 use Rattle.std.specs.Cmp.{IsTotalOrder}
 use Rattle.std.specs.Ordering.{is_eq}
-use Rattle.std.specs.Prelude.{Bool, List, None, Option, Some, [], cond, false, is_some, option_map, refl, true, ℕ, ◌==◌, ◌∷◌, ◌≡◌, ◌⊎◌}
+use Rattle.std.specs.Prelude.{Bool, List, None, Option, Some, [], cond, false, is_some, option_map, refl, true, ℕ, ◌==◌}
+use Rattle.std.specs.Prelude.{◌∷◌, ◌≡◌, ◌⊎◌}
 use Rattle.room_place.specs.Plans.{has_division}
 use Rattle.room_types_keyed.proofs.KeyedLaws.{keyed_put}
 use Rattle.room_types_keyed.specs.Keyed.{put_row, row_at}
@@ -33,10 +34,13 @@ use Rattle.room_model.proofs.Tests.{both_true}
 use Rattle.room_model.proofs.VehicleAgreements.{Agrees, agreed, kept_by}
 use Rattle.room_model.proofs.VehicleRows.{VehicleRows, bare, put_here, rows_of}
 use Rattle.room_types.specs.Codes.{same_kind}
-use Rattle.room_model.specs.Enrol.{AreTerminals, fate_again, fate_by, fate_of, is_same_vehicle, new_terminal, new_vehicle, room_by, room_enrolled, terminal_at, terminal_key, terminals_by, terminals_enrolled, token_cmp}
+use Rattle.room_model.specs.Enrol.{AreTerminals, fate_again, fate_by, fate_of, is_same_vehicle, new_terminal}
+use Rattle.room_model.specs.Enrol.{new_vehicle, room_by, room_enrolled, terminal_at, terminal_key, terminals_by}
+use Rattle.room_model.specs.Enrol.{terminals_enrolled, token_cmp}
 use Rattle.room_model.specs.Room.{Room}
-use Rattle.room_model.specs.WellFormed.{AssignmentAgrees, IsWellFormed, LoanAgrees, OfferAgrees, ReportAgrees, TurnAgrees}
-use Rattle.room_types.specs.declared.refusals.Refusal.TheVariants as refusal
+use Rattle.room_model.specs.WellFormed.{AssignmentAgrees, IsWellFormed, LoanAgrees, OfferAgrees, ReportAgrees}
+use Rattle.room_model.specs.WellFormed.{TurnAgrees}
+use Rattle.room_types.specs.declared.refusal_statuses.Refusal.TheVariants as refusal
 
 -- the rows of a callsign that no vehicle has
 module _ (s : Room) (p : VehicleRows) (x : FleetRow)
@@ -93,17 +97,24 @@ added_by : (v : Option Vehicle) (t : Option Terminal) (x : FleetRow) → fate_by
     → (v ≡ None) × (t ≡ None)
 added_by None None x e = (refl, refl)
 added_by None (Some t) x e = cc
-added_by (Some v) t x e = (elim (is_same_vehicle v t x) as (λ (b : Bool). cond b Same (Refused refusal.CallsignTaken) ≡ Added → (Some v ≡ None) × (t ≡ None)) [
-  | true ↦ λ f. absurd cc
-  | false ↦ λ f. absurd cc
-]) e
+added_by (Some v) t x e =
+    (elim (is_same_vehicle v t
+    x) as (λ (b : Bool). cond b Same (Refused refusal.CallsignTaken) ≡ Added → (Some v ≡ None) × (t ≡ None)) [
+      | true ↦ λ f. absurd cc
+      | false ↦ λ f. absurd cc
+    ]) e
 
 pub is_added : (r : Room) (ts : List Terminal) (x : FleetRow) → fate_of r ts x ≡ Added
     → IsAdded r ts x
-is_added r ts x = (elim (has_division r.plan x.division) as (λ (b : Bool). has_division r.plan x.division ≡ b → cond b (fate_by (row_at callsign_cmp vehicle_key r.vehicles x.callsign) (terminal_at x.token ts) x) (Refused refusal.NoSuchDivision) ≡ Added → IsAdded r ts x) [
-  | true ↦ λ planned e. let f = added_by _ _ x e in record { planned = planned; new_callsign = f.0; new_token = f.1 }
-  | false ↦ λ planned e. absurd cc
-]) refl
+is_added r ts x =
+    (elim (has_division r.plan x.division) as (λ (b : Bool).
+    has_division r.plan x.division ≡ b
+    → cond b (fate_by (row_at callsign_cmp vehicle_key r.vehicles x.callsign) (terminal_at x.token ts) x)
+    (Refused refusal.NoSuchDivision) ≡ Added → IsAdded r ts x) [
+      | true ↦
+          λ planned e. let f = added_by _ _ x e in record { planned = planned; new_callsign = f.0; new_token = f.1 }
+      | false ↦ λ planned e. absurd cc
+    ]) refl
 
 same_kind_itself : (k : Kind) → same_kind k k ≡ true
 same_kind_itself Ambulance = refl
@@ -132,7 +143,8 @@ module _ (r : Room) (ts : List Terminal) (x : FleetRow) where
       let is = is_added r ts x e in
       let p = rows_of x.callsign r in
       kept_by x.callsign r (PutVehicle (new_vehicle x) ∷ []) w (refl, tt)
-      (added_agrees (bare r) p x (subst (λ o. Agrees (bare r) (record p { vehicle = o })) is.new_callsign (agreed r w x.callsign)) is.planned)
+      (added_agrees (bare r) p x
+      (subst (λ o. Agrees (bare r) (record p { vehicle = o })) is.new_callsign (agreed r w x.callsign)) is.planned)
 
   pub enrolled_kept : IsWellFormed r → IsWellFormed (room_enrolled r ts x)
   enrolled_kept w = by_fate (fate_of r ts x) refl w
@@ -142,10 +154,18 @@ module _ (r : Room) (ts : List Terminal) (x : FleetRow) where
   added_same is =
       let v = put_here callsign_cmp vehicle_key callsigns_total r.vehicles (new_vehicle x) x.callsign refl in
       let t = put_here token_cmp terminal_key tokens_total ts (new_terminal x) x.token refl in
-      ap (λ (b : Bool). cond b (fate_by (row_at callsign_cmp vehicle_key (put_row callsign_cmp vehicle_key r.vehicles (new_vehicle x)) x.callsign) (terminal_at x.token (put_row token_cmp terminal_key ts (new_terminal x))) x) (Refused refusal.NoSuchDivision)) is.planned
+      ap (λ (b : Bool).
+      cond b
+      (fate_by
+      (row_at callsign_cmp vehicle_key (put_row callsign_cmp vehicle_key r.vehicles (new_vehicle x)) x.callsign)
+      (terminal_at x.token (put_row token_cmp terminal_key ts (new_terminal x))) x) (Refused refusal.NoSuchDivision))
+      is.planned
       ∙ ap (λ o. fate_by o (terminal_at x.token (put_row token_cmp terminal_key ts (new_terminal x))) x) v
       ∙ ap (λ o. fate_by (Some (new_vehicle x)) o x) t
-      ∙ ap (λ (b : Bool). cond b Same (Refused refusal.CallsignTaken)) (both_true (x.division == x.division) _ (eq-eqb x.division x.division refl) (both_true (same_kind x.kind x.kind) _ (same_kind_itself x.kind) (ap is_eq (tied_itself callsigns_total x.callsign))))
+      ∙ ap (λ (b : Bool). cond b Same (Refused refusal.CallsignTaken))
+      (both_true (x.division == x.division) _ (eq-eqb x.division x.division refl)
+      (both_true (same_kind x.kind x.kind) _ (same_kind_itself x.kind)
+      (ap is_eq (tied_itself callsigns_total x.callsign))))
 
   again_by : (f : RowFate) → fate_of r ts x ≡ f
       → fate_of (room_by f x r) (terminals_by f x ts) x ≡ fate_again f
@@ -163,7 +183,8 @@ module _ (r : Room) (ts : List Terminal) (x : FleetRow) where
         → terminal_at k ts ≡ Some (record { token = k; who = Crew c }) → (c ≡ x.callsign → ⊥)
     old_crew k c there same =
         let v = are.crews k c there in
-        let none : is_some (row_at callsign_cmp vehicle_key r.vehicles c) ≡ false = ap is_some (ap (row_at callsign_cmp vehicle_key r.vehicles) same ∙ is.new_callsign) in
+        let none : is_some (row_at callsign_cmp vehicle_key r.vehicles c)
+        ≡ false = ap is_some (ap (row_at callsign_cmp vehicle_key r.vehicles) same ∙ is.new_callsign) in
         cc
 
     -- a crew's terminal is the new one, or was there
@@ -171,20 +192,45 @@ module _ (r : Room) (ts : List Terminal) (x : FleetRow) where
         → terminal_at k (terminals_by Added x ts) ≡ Some (record { token = k; who = Crew c })
         → ((k ≡ x.token) × (c ≡ x.callsign))
         ⊎ (terminal_at k ts ≡ Some (record { token = k; who = Crew c }))
-    crew_after c = terminals_put (λ k o. o ≡ Some (record { token = k; who = Crew c }) → ((k ≡ x.token) × (c ≡ x.callsign)) ⊎ (terminal_at k ts ≡ Some (record { token = k; who = Crew c }))) ts (new_terminal x) (λ e. let whos : Some (Crew x.callsign) ≡ Some (Crew c) = ap (option_map (λ (t : Terminal). t.who)) e in let same : x.callsign ≡ c = cc in inl (refl, sym same)) (λ k apart e. inr e)
+    crew_after c =
+        terminals_put
+        (λ k o.
+        o ≡ Some (record { token = k; who = Crew c })
+        → ((k ≡ x.token) × (c ≡ x.callsign)) ⊎ (terminal_at k ts ≡ Some (record { token = k; who = Crew c }))) ts
+        (new_terminal x)
+        (λ e.
+        let whos : Some (Crew x.callsign) ≡ Some (Crew c) = ap (option_map (λ (t : Terminal). t.who)) e in
+        let same : x.callsign ≡ c = cc in inl (refl, sym same)) (λ k apart e. inr e)
 
     desk_after : (d : ℕ) (k : Token) → terminal_at k (terminals_by Added x ts)
         ≡ Some (record { token = k; who = Desk d })
         → terminal_at k ts ≡ Some (record { token = k; who = Desk d })
-    desk_after d = terminals_put (λ k o. o ≡ Some (record { token = k; who = Desk d }) → terminal_at k ts ≡ Some (record { token = k; who = Desk d })) ts (new_terminal x) (λ e. let whos : Some (Crew x.callsign) ≡ Some (Desk d) = ap (option_map (λ (t : Terminal). t.who)) e in absurd cc) (λ k apart e. e)
+    desk_after d =
+        terminals_put
+        (λ k o.
+        o ≡ Some (record { token = k; who = Desk d }) → terminal_at k ts ≡ Some (record { token = k; who = Desk d })) ts
+        (new_terminal x)
+        (λ e.
+        let whos : Some (Crew x.callsign) ≡ Some (Desk d) = ap (option_map (λ (t : Terminal). t.who)) e in absurd cc)
+        (λ k apart e. e)
 
     crew_there : (c : Callsign) → is_some
         (row_at callsign_cmp vehicle_key (room_by Added x r).vehicles c) ≡ true
         → (k : Token) × (terminal_at k (terminals_by Added x ts)
         ≡ Some (record { token = k; who = Crew c }))
-    crew_there = vehicles_put (λ c o. is_some o ≡ true → (k : Token) × (terminal_at k (terminals_by Added x ts) ≡ Some (record { token = k; who = Crew c }))) r.vehicles (new_vehicle x)
+    crew_there =
+        vehicles_put
+        (λ c o.
+        is_some o ≡ true
+        → (k : Token) × (terminal_at k (terminals_by Added x ts) ≡ Some (record { token = k; who = Crew c })))
+        r.vehicles (new_vehicle x)
         (λ e. (x.token, put_here token_cmp terminal_key tokens_total ts (new_terminal x) x.token refl))
-        (λ c apart e. let old = are.has_crew c e in (old.0, row_stays token_cmp terminal_key tokens_total exact_tokens ts (new_terminal x) (record { token = old.0; who = Crew c }) is.new_token old.0 old.1))
+        (λ c apart e.
+        let old = are.has_crew c e in (
+          old.0,
+          row_stays token_cmp terminal_key tokens_total exact_tokens ts (new_terminal x)
+              (record { token = old.0; who = Crew c }) is.new_token old.0 old.1,
+        ))
 
     terminals_added : AreTerminals (room_by Added x r) (terminals_by Added x ts)
     terminals_added = record {
@@ -201,7 +247,9 @@ module _ (r : Room) (ts : List Terminal) (x : FleetRow) where
         ]
       ];
       crews = λ k c e. elim (crew_after c k e) [
-        | inl a ↦ ap (λ j. is_some (row_at callsign_cmp vehicle_key (room_by Added x r).vehicles j)) a.1 ∙ ap is_some (put_here callsign_cmp vehicle_key callsigns_total r.vehicles (new_vehicle x) x.callsign refl)
+        | inl a ↦
+            ap (λ j. is_some (row_at callsign_cmp vehicle_key (room_by Added x r).vehicles j)) a.1
+            ∙ ap is_some (put_here callsign_cmp vehicle_key callsigns_total r.vehicles (new_vehicle x) x.callsign refl)
         | inr a ↦ put_there c r.vehicles (new_vehicle x) (are.crews k c a)
       ];
       desks = λ k d e. are.desks k d (desk_after d k e);

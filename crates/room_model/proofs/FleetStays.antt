@@ -1,6 +1,7 @@
 -- No event adds a vehicle, or changes a vehicle's home or kind.
 use Rattle.std.proofs.Common.{ap, sym, ◌∙◌}
-use Rattle.std.specs.Prelude.{Bool, List, None, Option, Some, [], cond, false, is_some, map, option_map, refl, true, ℕ, ◌&&◌, ◌++◌, ◌==◌, ◌∷◌, ◌≡◌}
+use Rattle.std.specs.Prelude.{Bool, List, None, Option, Some, [], cond, false, is_some, map, option_map, refl, true, ℕ}
+use Rattle.std.specs.Prelude.{◌&&◌, ◌++◌, ◌==◌, ◌∷◌, ◌≡◌}
 use Rattle.room_place.specs.Plans.{has_division}
 use Rattle.room_types_keyed.specs.Keyed.{row_at}
 use Rattle.room_types.specs.Keys.{callsign_cmp, vehicle_key}
@@ -21,7 +22,7 @@ use Rattle.room_types.specs.declared.codes.Status.TheVariants.{Returning}
 use Rattle.room_types.specs.declared.fleet.FleetRow.{FleetRow}
 use Rattle.room_types.specs.declared.fleet.RowFate.TheVariants.{Refused, Same}
 use Rattle.room_types.specs.declared.fleet.Terminal.{Terminal}
-use Rattle.room_types.specs.declared.refusals.Refusal.{Refusal}
+use Rattle.room_types.specs.declared.refusal_statuses.Refusal.{Refusal}
 use Rattle.room_types.specs.declared.tables.Call.{Call}
 use Rattle.room_types.specs.declared.tables.Division.{Division}
 use Rattle.room_types.specs.declared.tables.Incident.{Incident}
@@ -39,19 +40,24 @@ use Rattle.room_model.proofs.VehicleRows.{settle}
 use Rattle.room_model.specs.Calls.{call_in, call_kept, call_new, call_somewhere, call_taken, new_call}
 use Rattle.room_types.specs.Codes.{acts, same_kind}
 use Rattle.room_model.specs.Decisions.{Verdict, changes_of, refuse_if, tell, where_active, where_held}
-use Rattle.room_model.specs.Enrol.{AreTerminals, fate_by, fate_of, fleet_at, home_and_kind, is_crews_terminal, terminal_at}
+use Rattle.room_model.specs.Enrol.{AreTerminals, fate_by, fate_of, fleet_at, home_and_kind, is_crews_terminal}
+use Rattle.room_model.specs.Enrol.{terminal_at}
 use Rattle.room_model.specs.Incidents.{change_needs, close, close_active, merge, merge_of, moved_call, needs_changed}
-use Rattle.room_model.specs.Loans.{accept, accepted, decline, declined, give_back, given_back, lend, offered, recall, recall_lent, withdraw, withdrawn}
-use Rattle.room_model.specs.Queries.{borrowed, held, incident_of, is_attended, lent, offered_by, open_turn, point_of, served}
+use Rattle.room_model.specs.Loans.{accept, accepted, decline, declined, give_back, given_back, lend, offered, recall}
+use Rattle.room_model.specs.Loans.{recall_lent, withdraw, withdrawn}
+use Rattle.room_model.specs.Queries.{borrowed, held, incident_of, is_attended, lent, offered_by, open_turn, point_of}
+use Rattle.room_model.specs.Queries.{served}
 use Rattle.room_model.specs.Queue.{clear, clear_found}
-use Rattle.room_model.specs.Reports.{back_changes, drop_changes, ends_turn, is_due, is_home, report_held, report_in, report_kept, report_made, report_row, report_somewhere, turn_changes, with_report}
+use Rattle.room_model.specs.Reports.{back_changes, drop_changes, ends_turn, is_due, is_home, report_held, report_in}
+use Rattle.room_model.specs.Reports.{report_kept, report_made, report_row, report_somewhere, turn_changes, with_report}
 use Rattle.room_model.specs.Room.{Room, apply, apply_one, settled}
 use Rattle.room_model.specs.Run.{room_run}
 use Rattle.room_model.specs.Step.{crew_asks, decided, desk_asks, position_asks, room_after, who_asks}
-use Rattle.room_model.specs.Vehicles.{duty, mobilise, mobilise_held, mobilised, off, off_duty, on_duty, stand_down, stand_down_held, standby, standby_at, stands_by, turn_stood_down}
+use Rattle.room_model.specs.Vehicles.{duty, mobilise, mobilise_held, mobilised, off, off_duty, on_duty, stand_down}
+use Rattle.room_model.specs.Vehicles.{stand_down_held, standby, standby_at, stands_by, turn_stood_down}
 use Rattle.room_types.specs.declared.answers.Answer.TheVariants as answer
 use Rattle.room_types.specs.declared.asks.Ask.TheVariants as ask
-use Rattle.room_types.specs.declared.refusals.Refusal.TheVariants as refusal
+use Rattle.room_types.specs.declared.refusal_statuses.Refusal.TheVariants as refusal
 
 -- the vehicle that a change puts is there, with its home and kind
 abbrev pub KeepsFleet : Room → Change → Type 0
@@ -69,11 +75,13 @@ settled_fleet : (c k : Callsign) (d : ℕ) (r : Room) (o : Option Vehicle)
 settled_fleet c k d r None e = refl
 settled_fleet c k d r (Some v) e =
     let key : k ≡ v.callsign = row_key callsign_cmp vehicle_key callsigns_total exact_callsigns r.vehicles k v e in
-    vehicles_put (λ j o. option_map home_and_kind o ≡ fleet_at j r) r.vehicles (settle d v) (sym (ap (λ j. fleet_at j r) (sym key) ∙ ap (option_map home_and_kind) e)) (λ j apart. refl) c
+    vehicles_put (λ j o. option_map home_and_kind o ≡ fleet_at j r) r.vehicles (settle d v)
+    (sym (ap (λ j. fleet_at j r) (sym key) ∙ ap (option_map home_and_kind) e)) (λ j apart. refl) c
 
 fleet_one : (c : Callsign) (r : Room) (x : Change) → KeepsFleet r x
     → fleet_at c (apply_one r x) ≡ fleet_at c r
-fleet_one c r (PutVehicle x) h = vehicles_put (λ j o. option_map home_and_kind o ≡ fleet_at j r) r.vehicles x (sym h) (λ j apart. refl) c
+fleet_one c r (PutVehicle x) h =
+    vehicles_put (λ j o. option_map home_and_kind o ≡ fleet_at j r) r.vehicles x (sym h) (λ j apart. refl) c
 fleet_one c r (Settle k d) h = settled_fleet c k d r _ refl
 fleet_one c r x h = refl
 
@@ -90,7 +98,9 @@ all_still_keep r s (x ∷ xs) f h = (still_keeps r s x f h.0, all_still_keep r s
 fleet_after : (c : Callsign) (r : Room) (xs : List Change) → AllKeepFleet r xs
     → fleet_at c (apply r xs) ≡ fleet_at c r
 fleet_after c r [] h = refl
-fleet_after c r (x ∷ xs) h = fleet_after c (apply_one r x) xs (all_still_keep r (apply_one r x) xs (λ k. fleet_one k r x h.0) h.1) ∙ fleet_one c r x h.0
+fleet_after c r (x ∷ xs) h =
+    fleet_after c (apply_one r x) xs (all_still_keep r (apply_one r x) xs (λ k. fleet_one k r x h.0) h.1)
+    ∙ fleet_one c r x h.0
 
 -- ---- each decision's changes
 module _ (r : Room) where
@@ -109,10 +119,11 @@ module _ (r : Room) where
   held_fleet : (d : ℕ) (c : Callsign) (f : Vehicle → Verdict)
       → ((v : Vehicle) → IsThere v → SameFleet (f v))
       → SameFleet (where_held (held d c r) (lent d c r) f)
-  held_fleet d c f g = (elim (held d c r) as (λ (o : Option Vehicle). held d c r ≡ o → SameFleet (where_held o (lent d c r) f)) [
-    | None ↦ λ e. tt
-    | Some v ↦ λ e. g v (ap (option_map home_and_kind) (held_is d c r v e).there)
-  ]) refl
+  held_fleet d c f g =
+      (elim (held d c r) as (λ (o : Option Vehicle). held d c r ≡ o → SameFleet (where_held o (lent d c r) f)) [
+        | None ↦ λ e. tt
+        | Some v ↦ λ e. g v (ap (option_map home_and_kind) (held_is d c r v e).there)
+      ]) refl
 
   active_fleet : (o : Option Incident) (f : Incident → Verdict)
       → ((i : Incident) → SameFleet (f i)) → SameFleet (where_active o f)
@@ -131,7 +142,9 @@ module _ (r : Room) where
   merge_fleet : (n m : Option Incident) (b : Bool) (cs : List Call) → SameFleet (merge_of n m b cs)
   merge_fleet None m b cs = tt
   merge_fleet (Some n) None b cs = tt
-  merge_fleet (Some n) (Some m) b cs = refused_fleet _ _ _ (refused_fleet _ _ _ (refused_fleet _ _ _ (refused_fleet _ _ _ (tt, (tt, calls_fleet m.number cs)))))
+  merge_fleet (Some n) (Some m) b cs =
+      refused_fleet _ _ _
+      (refused_fleet _ _ _ (refused_fleet _ _ _ (refused_fleet _ _ _ (tt, (tt, calls_fleet m.number cs)))))
 
   turn_fleet : (at : ℕ) (o : Option Turn) → AllKeepFleet r (turn_stood_down at o)
   turn_fleet at None = tt
@@ -167,21 +180,41 @@ module _ (r : Room) where
   quiet_fleet who a at h = by_quiet at r (AllKeepFleet r) who a h tt
 
   desk_fleet : (d : ℕ) (a : Ask) (at : ℕ) → SameFleet (desk_asks d a at r)
-  unfolding mobilise change_needs merge close stand_down standby duty off lend withdraw decline accept recall give_back clear
-  desk_fleet d (ask.Mobilise n c) at = active_fleet (incident_of d n r) (mobilise_held d (held d c r) (lent d c r) at (λ k. served d n k r)) (λ i. held_fleet d c (mobilised d i at (λ k. served d n k r)) (λ v k. refused_fleet _ _ _ (refused_fleet _ _ _ (refused_fleet _ _ _ (refused_fleet _ _ _ (tt, (k, (tt, (tt, tt)))))))))
-  desk_fleet d (ask.Needs n needs) at = active_fleet (incident_of d n r) (needs_changed needs (λ k. served d n k r)) (λ i. refused_fleet _ _ _ (tt, tt))
+  unfolding mobilise change_needs merge close stand_down standby duty off lend withdraw decline accept recall give_back
+      clear
+  desk_fleet d (ask.Mobilise n c) at =
+      active_fleet (incident_of d n r) (mobilise_held d (held d c r) (lent d c r) at (λ k. served d n k r))
+      (λ i.
+      held_fleet d c (mobilised d i at (λ k. served d n k r))
+      (λ v k.
+      refused_fleet _ _ _ (refused_fleet _ _ _ (refused_fleet _ _ _ (refused_fleet _ _ _ (tt, (k, (tt, (tt, tt)))))))))
+  desk_fleet d (ask.Needs n needs) at =
+      active_fleet (incident_of d n r) (needs_changed needs (λ k. served d n k r)) (λ i. refused_fleet _ _ _ (tt, tt))
   desk_fleet d (ask.Merge n m) at = merge_fleet _ _ _ _
-  desk_fleet d (ask.Close n) at = active_fleet (incident_of d n r) (close_active (is_attended d n r)) (λ i. refused_fleet _ _ _ (tt, tt))
-  desk_fleet d (ask.StandDown c) at = held_fleet d c (stand_down_held at (open_turn d c r)) (λ v k. refused_fleet _ _ _ (fleet_append (turn_stood_down at (open_turn d c r)) (DropAssignment v.callsign ∷ PutVehicle (record v { status = Returning }) ∷ []) (turn_fleet at (open_turn d c r)) (tt, (k, tt))))
-  desk_fleet d (ask.Standby c p) at = held_fleet d c (stands_by p (λ n. is_some (point_of d n r)) at) (λ v k. refused_fleet _ _ _ (standby_fleet p _ at v k))
-  desk_fleet d (ask.Duty c place until) at = held_fleet d c (on_duty place until at) (λ v k. refused_fleet _ _ _ (refused_fleet _ _ _ (k, tt)))
+  desk_fleet d (ask.Close n) at =
+      active_fleet (incident_of d n r) (close_active (is_attended d n r)) (λ i. refused_fleet _ _ _ (tt, tt))
+  desk_fleet d (ask.StandDown c) at =
+      held_fleet d c (stand_down_held at (open_turn d c r)) (λ v k.
+      refused_fleet _ _ _ (fleet_append (turn_stood_down at (open_turn d c r))
+      (DropAssignment v.callsign ∷ PutVehicle (record v { status = Returning }) ∷ []) (turn_fleet at (open_turn d c r))
+      (tt, (k, tt))))
+  desk_fleet d (ask.Standby c p) at =
+      held_fleet d c (stands_by p (λ n. is_some (point_of d n r)) at)
+      (λ v k. refused_fleet _ _ _ (standby_fleet p _ at v k))
+  desk_fleet d (ask.Duty c place until) at =
+      held_fleet d c (on_duty place until at) (λ v k. refused_fleet _ _ _ (refused_fleet _ _ _ (k, tt)))
   desk_fleet d (ask.Off c) at = held_fleet d c off_duty (λ v k. refused_fleet _ _ _ (refused_fleet _ _ _ (k, tt)))
-  desk_fleet d (ask.Lend c to until) at = held_fleet d c (offered r.plan d to until at) (λ v k. refused_fleet _ _ _ (refused_fleet _ _ _ (refused_fleet _ _ _ (refused_fleet _ _ _ (refused_fleet _ _ _ (k, (tt, tt)))))))
-  desk_fleet d (ask.Withdraw c) at = held_fleet d c (withdrawn (offered_by d c r)) (λ v k. withdrawn_fleet (offered_by d c r) v k)
+  desk_fleet d (ask.Lend c to until) at =
+      held_fleet d c (offered r.plan d to until at) (λ v k.
+      refused_fleet _ _ _
+      (refused_fleet _ _ _ (refused_fleet _ _ _ (refused_fleet _ _ _ (refused_fleet _ _ _ (k, (tt, tt)))))))
+  desk_fleet d (ask.Withdraw c) at =
+      held_fleet d c (withdrawn (offered_by d c r)) (λ v k. withdrawn_fleet (offered_by d c r) v k)
   desk_fleet d (ask.Decline c) at = declined_fleet _
   desk_fleet d (ask.Accept c) at = accepted_fleet _ at
   desk_fleet d (ask.Recall c) at = recalled_fleet _ _
-  desk_fleet d (ask.GiveBack c) at = held_fleet d c (given_back d (borrowed d c r)) (λ v k. refused_fleet _ _ _ (refused_fleet _ _ _ (k, (tt, tt))))
+  desk_fleet d (ask.GiveBack c) at =
+      held_fleet d c (given_back d (borrowed d c r)) (λ v k. refused_fleet _ _ _ (refused_fleet _ _ _ (k, (tt, tt))))
   desk_fleet d (ask.Clear c n) at = cleared_fleet _
   desk_fleet d (ask.SetPoint n place cover) at = (tt, tt)
   desk_fleet d a at = quiet_fleet (Desk d) a at refl
@@ -228,16 +261,28 @@ module _ (r : Room) where
 
   made_fleet : (v : Vehicle) (t : Option Turn) (l : Option Loan) (p : Press) (at : ℕ) (o : Outcome)
       → IsThere v → SameFleet (report_made v t l p at o)
-  made_fleet v t l p at o k = either_fleet (acts o) _ (tell (answer.Reported p.number o v.status) (PutReport (report_row v p at o v.status) ∷ PutVehicle (with_report v p) ∷ []))
-      (tt, fleet_append (turn_changes p.button at t) _ (turns_fleet p.button at t) (fleet_append (drop_changes v.callsign (ends_turn p.button)) _ (drop_fleet v.callsign (ends_turn p.button)) (fleet_append (back_changes v.callsign (is_home p.button && is_due at l)) _ (back_fleet v.callsign (is_home p.button && is_due at l)) (k, tt))))
+  made_fleet v t l p at o k =
+      either_fleet (acts o) _ (tell (answer.Reported p.number o v.status)
+      (PutReport (report_row v p at o v.status) ∷ PutVehicle (with_report v p) ∷ [])) (
+        tt,
+        fleet_append (turn_changes p.button at t) _ (turns_fleet p.button at t)
+            (fleet_append (drop_changes v.callsign (ends_turn p.button)) _ (drop_fleet v.callsign (ends_turn p.button))
+            (fleet_append (back_changes v.callsign (is_home p.button && is_due at l)) _
+            (back_fleet v.callsign (is_home p.button && is_due at l)) (k, tt))),
+      )
       (tt, (k, tt))
 
   report_fleet : (d : ℕ) (c : Callsign) (p : Press) (at : ℕ) → SameFleet (report_in d c p at r)
   unfolding report_in
-  report_fleet d c p at = (elim (held d c r) as (λ (o : Option Vehicle). held d c r ≡ o → SameFleet (report_held o (open_turn d c r) (borrowed d c r) p at)) [
-    | None ↦ λ e. tt
-    | Some v ↦ λ e. made_fleet v (open_turn d c r) (borrowed d c r) p at _ (ap (option_map home_and_kind) (held_is d c r v e).there)
-  ]) refl
+  report_fleet d c p at =
+      (elim (held d c
+      r) as (λ (o : Option Vehicle). held d c r ≡ o → SameFleet (report_held o (open_turn d c r) (borrowed d c r) p at)) [
+        | None ↦ λ e. tt
+        | Some v ↦
+            λ e.
+            made_fleet v (open_turn d c r) (borrowed d c r) p at _
+            (ap (option_map home_and_kind) (held_is d c r v e).there)
+      ]) refl
 
   reported_fleet : (o : Option Vehicle) (c : Callsign) (p : Press) (at : ℕ)
       → SameFleet (report_somewhere o c p at r)
@@ -279,13 +324,19 @@ fate_alike None (Some u) t x e = cc
 fate_alike (Some v) None t x e = cc
 fate_alike (Some v) (Some u) t x e =
     let same : home_and_kind v ≡ home_and_kind u = cc in
-    ap (λ (p : ℕ × Kind). cond (p.0 == x.division && (same_kind p.1 x.kind && is_crews_terminal x.callsign t)) Same (Refused refusal.CallsignTaken)) same
+    ap (λ (p : ℕ × Kind).
+    cond (p.0 == x.division && (same_kind p.1 x.kind && is_crews_terminal x.callsign t)) Same
+    (Refused refusal.CallsignTaken)) same
 
 pub fate_run : (es : List Event) (r : Room) (ts : List Terminal) (x : FleetRow)
     → fate_of (room_run es r) ts x ≡ fate_of r ts x
 fate_run es r ts x =
-    ap (λ plan. cond (has_division plan x.division) (fate_by (row_at callsign_cmp vehicle_key (room_run es r).vehicles x.callsign) (terminal_at x.token ts) x) (Refused refusal.NoSuchDivision)) (plan_run es r)
-    ∙ ap (λ f. cond (has_division r.plan x.division) f (Refused refusal.NoSuchDivision)) (fate_alike _ _ (terminal_at x.token ts) x (fleet_run x.callsign es r))
+    ap (λ plan.
+    cond (has_division plan x.division)
+    (fate_by (row_at callsign_cmp vehicle_key (room_run es r).vehicles x.callsign) (terminal_at x.token ts) x)
+    (Refused refusal.NoSuchDivision)) (plan_run es r)
+    ∙ ap (λ f. cond (has_division r.plan x.division) f (Refused refusal.NoSuchDivision))
+    (fate_alike _ _ (terminal_at x.token ts) x (fleet_run x.callsign es r))
 
 some_alike : (v u : Option Vehicle) → option_map home_and_kind v ≡ option_map home_and_kind u
     → is_some v ≡ is_some u

@@ -8,7 +8,8 @@ use Rattle.std.specs.Prelude.{Bool, List, None, Option, Some, cond, false, is_so
 use Rattle.std.specs.declared.cmp.Ordering.{Ordering}
 use Rattle.room_types_keyed.proofs.KeyedLaws.{row_put}
 use Rattle.room_types_keyed.specs.Keyed.{put_row, row_at}
-use Rattle.room_types.specs.Keys.{call_key, callsign_cmp, division_key, incident_key, numbered_cmp, pair_cmp, point_key, turn_key, vehicle_key}
+use Rattle.room_types.specs.Keys.{call_key, callsign_cmp, division_key, incident_key, numbered_cmp, pair_cmp, point_key}
+use Rattle.room_types.specs.Keys.{turn_key, vehicle_key}
 use Rattle.room_types.specs.Orders.{callsigns_total, exact_callsigns, exact_number, exact_pair, pairs_total}
 use Rattle.room_types.specs.Texts.{Callsign}
 use Rattle.room_types.specs.declared.changes.Change.TheVariants.{PutIncident}
@@ -25,17 +26,20 @@ use Rattle.room_model.proofs.VehicleRows.{bare}
 use Rattle.room_types.specs.Codes.{is_active, is_merged}
 use Rattle.room_model.specs.Room.{IsInOrder, Room}
 use Rattle.room_types.specs.Slices.{IsActive}
-use Rattle.room_model.specs.WellFormed.{CallAgrees, IsOfIncident, IsPost, IsWellFormed, NumberAgrees, OpenedAgrees, PostAgrees, TurnIsActive}
+use Rattle.room_model.specs.WellFormed.{CallAgrees, IsOfIncident, IsPost, IsWellFormed, NumberAgrees, OpenedAgrees}
+use Rattle.room_model.specs.WellFormed.{PostAgrees, TurnIsActive}
 
 -- what is found at each key, after a row was put
 pub put_rows : {R K : Type 0} (cmp : K → K → Ordering) (key : R → K) (total : IsTotalOrder cmp)
     (exact : CmpEqualImpliesEq cmp) (P : K → Option R → Type 0) (xs : List R) (x : R)
     → P (key x) (Some x) → ((k : K) → is_eq (cmp k (key x)) ≡ false → P k (row_at cmp key xs k))
     → (k : K) → P k (row_at cmp key (put_row cmp key xs x) k)
-put_rows {R} {K} cmp key total exact P xs x here there k = subst (P k) (sym (row_put cmp key total xs x k)) ((elim (is_eq (cmp k (key x))) as (λ (b : Bool). is_eq (cmp k (key x)) ≡ b → P k (cond b (Some x) (row_at cmp key xs k))) [
-  | true ↦ λ e. subst (λ j. P j (Some x)) (sym (exact k (key x) (is_equal _ e))) here
-  | false ↦ λ e. there k e
-]) refl)
+put_rows {R} {K} cmp key total exact P xs x here there k =
+    subst (P k) (sym (row_put cmp key total xs x k)) ((elim (is_eq
+    (cmp k (key x))) as (λ (b : Bool). is_eq (cmp k (key x)) ≡ b → P k (cond b (Some x) (row_at cmp key xs k))) [
+      | true ↦ λ e. subst (λ j. P j (Some x)) (sym (exact k (key x) (is_equal _ e))) here
+      | false ↦ λ e. there k e
+    ]) refl)
 
 -- likewise of incidents, calls, divisions, points and vehicles
 pub incidents_put : (P : ℕ × ℕ → Option Incident → Type 0) (xs : List Incident) (x : Incident)
@@ -124,7 +128,9 @@ pub record IsRenewal (i x : Incident) : Type 0 where
 -- an incident that is found has its key
 pub found_key : (r : Room) (d n : ℕ) (i : Incident)
     → row_at pair_cmp incident_key r.incidents (d, n) ≡ Some i → (d ≡ i.division) × (n ≡ i.number)
-found_key r d n i e = let k = row_key pair_cmp incident_key pairs_total exact_pair r.incidents (d, n) i e in (ap (λ (p : ℕ × ℕ). p.0) k, ap (λ (p : ℕ × ℕ). p.1) k)
+found_key r d n i e =
+    let k = row_key pair_cmp incident_key pairs_total exact_pair r.incidents (d, n) i e in
+    (ap (λ (p : ℕ × ℕ). p.0) k, ap (λ (p : ℕ × ℕ). p.1) k)
 
 -- the incident of an open turn is active after an incident was put, if that one is active or is not
 -- the turn's
@@ -133,8 +139,11 @@ pub put_active : (r s : Room) (x : Incident) (o : Option Turn)
     → ((t : Turn) → o ≡ Some t → t.ended ≡ None → (t.division, t.incident) ≡ incident_key x
     → is_active x.state ≡ true) → TurnIsActive r o → TurnIsActive s o
 put_active r s x None e f h = tt
-put_active r s x (Some t) e f h = λ u. subst (λ is. IsActive (row_at pair_cmp incident_key is (t.division, t.incident))) (sym e)
-    (incidents_put (λ k o. (t.division, t.incident) ≡ k → IsActive o) r.incidents x (f t refl u) (λ k apart same. subst (λ j. IsActive (row_at pair_cmp incident_key r.incidents j)) same (h u)) (t.division, t.incident) refl)
+put_active r s x (Some t) e f h =
+    λ u. subst (λ is. IsActive (row_at pair_cmp incident_key is (t.division, t.incident))) (sym e)
+    (incidents_put (λ k o. (t.division, t.incident) ≡ k → IsActive o) r.incidents x (f t refl u)
+    (λ k apart same. subst (λ j. IsActive (row_at pair_cmp incident_key r.incidents j)) same (h u))
+    (t.division, t.incident) refl)
 
 -- a call of an incident stays so, where another incident that was opened no later stands in its
 -- place
@@ -142,7 +151,8 @@ pub no_later : (c : Call) (o : Option Incident) (i x : Incident) → o ≡ Some 
     → (is_merged i.state ≡ false → is_merged x.state ≡ false) → x.opened ≤ i.opened
     → IsOfIncident c o → IsOfIncident c (Some x)
 no_later c None i x e f le h = absurd h
-no_later c (Some j) i x e f le h = let same : j ≡ i = cc in let g = subst (λ z. IsOfIncident c (Some z)) same h in let at = g.1 in (f g.0, omega arith)
+no_later c (Some j) i x e f le h =
+    let same : j ≡ i = cc in let g = subst (λ z. IsOfIncident c (Some z)) same h in let at = g.1 in (f g.0, omega arith)
 
 -- an open turn of the incident
 pub record IsTurnFor (r : Room) (i : Incident) (c : Callsign) (n : ℕ) (t : Turn) : Type 0 where
@@ -158,22 +168,45 @@ module _ (r : Room) (w : IsWellFormed r) (i x : Incident)
     (like : IsRenewal i x) where
   renewed_calls : (o : Option Call) → CallAgrees r o → CallAgrees (with_incident r x) o
   renewed_calls None h = tt
-  renewed_calls (Some c) h = incidents_put (λ k o. IsOfIncident c (row_at pair_cmp incident_key r.incidents k) → IsOfIncident c o) r.incidents x (no_later c _ i x there (λ e. like.merged ∙ e) (omega (arith, like.opened))) (λ k e g. g) (c.division, c.incident) h
+  renewed_calls (Some c) h =
+      incidents_put (λ k o. IsOfIncident c (row_at pair_cmp incident_key r.incidents k) → IsOfIncident c o) r.incidents
+      x (no_later c _ i x there (λ e. like.merged ∙ e) (omega (arith, like.opened))) (λ k e g. g)
+      (c.division, c.incident) h
 
   renewed_opened : OpenedAgrees r (Some i) → OpenedAgrees (bare (with_incident r x)) (Some x)
-  renewed_opened h = λ m. let o = h (sym like.merged ∙ m) in record { position = o.position; serial = o.serial; first_call = o.first_call; there = o.there; same = (o.same.0 ∙ sym like.division, o.same.1 ∙ sym like.number, o.same.2 ∙ sym like.opened) }
+  renewed_opened h =
+      λ m.
+      let o = h (sym like.merged ∙ m) in
+      record {
+        position = o.position;
+        serial = o.serial;
+        first_call = o.first_call;
+        there = o.there;
+        same = (o.same.0 ∙ sym like.division, o.same.1 ∙ sym like.number, o.same.2 ∙ sym like.opened);
+      }
 
   -- such an incident keeps the room well-formed, where it is active or has no open turn
   pub renewed_kept : ((c : Callsign) (n : ℕ) (t : Turn) → IsTurnFor r x c n t
       → is_active x.state ≡ true) → IsWellFormed (with_incident r x)
   renewed_kept active =
-      amended_kept r w r.divisions (put_row pair_cmp incident_key r.incidents x) r.calls r.points (in_order_one r (PutIncident x) w.order)
-      (λ c n. put_active r (with_incident r x) x _ refl (λ t e u k. active c n t (record { there = e; unended = u; incident = k })) (w.active c n))
+      amended_kept r w r.divisions (put_row pair_cmp incident_key r.incidents x) r.calls r.points
+      (in_order_one r (PutIncident x) w.order)
+      (λ c n.
+      put_active r (with_incident r x) x _ refl
+      (λ t e u k. active c n t (record { there = e; unended = u; incident = k })) (w.active c n))
       (λ d n e. e)
       (record {
         calls = λ p n. renewed_calls _ (w.calls p n);
-        opened = λ d n. incidents_put (λ k o. OpenedAgrees (bare (with_incident r x)) o) r.incidents x (renewed_opened (subst (OpenedAgrees r) there (w.opened x.division x.number))) (λ k e. opened_alike r (bare (with_incident r x)) _ refl (w.opened k.0 k.1)) (d, n);
-        numbers = λ d n. incidents_put (λ k o. NumberAgrees r o) r.incidents x (rw (like.number, like.division) (subst (NumberAgrees r) there (w.numbers x.division x.number))) (λ k e. w.numbers k.0 k.1) (d, n);
+        opened =
+            λ d n.
+            incidents_put (λ k o. OpenedAgrees (bare (with_incident r x)) o) r.incidents x
+            (renewed_opened (subst (OpenedAgrees r) there (w.opened x.division x.number)))
+            (λ k e. opened_alike r (bare (with_incident r x)) _ refl (w.opened k.0 k.1)) (d, n);
+        numbers =
+            λ d n.
+            incidents_put (λ k o. NumberAgrees r o) r.incidents x
+            (rw (like.number, like.division) (subst (NumberAgrees r) there (w.numbers x.division x.number)))
+            (λ k e. w.numbers k.0 k.1) (d, n);
         divisions = w.plan.divisions;
         points = w.plan.points;
       })

@@ -10,13 +10,16 @@ use Rattle.room_types.specs.declared.asks.Event.{Event}
 use Rattle.room_types.specs.declared.asks.Who.{Who}
 use Rattle.room_types.specs.declared.asks.Who.TheVariants.{Crew, Desk, Position}
 use Rattle.room_types.specs.declared.changes.Change.{Change}
-use Rattle.room_types.specs.declared.changes.Change.TheVariants.{DropAssignment, DropLoan, DropOffer, PutAssignment, PutCall, PutDivision, PutIncident, PutLoan, PutOffer, PutPoint, PutReport, PutTurn, PutVehicle, Settle}
+use Rattle.room_types.specs.declared.changes.Change.TheVariants.{DropAssignment, DropLoan, DropOffer, PutAssignment}
+use Rattle.room_types.specs.declared.changes.Change.TheVariants.{PutCall, PutDivision, PutIncident, PutLoan, PutOffer}
+use Rattle.room_types.specs.declared.changes.Change.TheVariants.{PutPoint, PutReport, PutTurn, PutVehicle, Settle}
 use Rattle.room_types.specs.declared.tables.Vehicle.{Vehicle}
 use Rattle.room_model.proofs.IncidentChanges.{vehicles_put}
 use Rattle.room_model.proofs.KeptAsks.{Kept, duty_kept, mobilise_kept, off_kept, stand_down_kept, standby_kept}
 use Rattle.room_model.proofs.KeptCalls.{take_call_kept}
 use Rattle.room_model.proofs.KeptIncidents.{clear_kept, close_kept, needs_kept, set_point_kept}
-use Rattle.room_model.proofs.KeptLoans.{accept_kept, decline_kept, give_back_kept, lend_kept, recall_kept, withdraw_kept}
+use Rattle.room_model.proofs.KeptLoans.{accept_kept, decline_kept, give_back_kept, lend_kept, recall_kept}
+use Rattle.room_model.proofs.KeptLoans.{withdraw_kept}
 use Rattle.room_model.proofs.KeptMerge.{merge_kept}
 use Rattle.room_model.proofs.KeptReports.{take_report_kept}
 use Rattle.room_model.proofs.Questions.{IsQuiet, by_quiet}
@@ -28,7 +31,8 @@ use Rattle.room_model.specs.Decisions.{changes_of}
 use Rattle.room_model.specs.Queries.{vehicle_at}
 use Rattle.room_model.specs.Room.{Room, apply, apply_one, settled}
 use Rattle.room_model.specs.Run.{room_run}
-use Rattle.room_model.specs.Step.{IsAddressed, crew_asks, decided, desk_asks, is_crews, is_desks, is_for, position_asks, room_after, who_asks}
+use Rattle.room_model.specs.Step.{IsAddressed, crew_asks, decided, desk_asks, is_crews, is_desks, is_for, position_asks}
+use Rattle.room_model.specs.Step.{room_after, who_asks}
 use Rattle.room_model.specs.WellFormed.{IsWellFormed}
 use Rattle.room_types.specs.declared.asks.Ask.TheVariants as ask
 
@@ -102,7 +106,9 @@ IsThere c vs = is_some (row_at callsign_cmp vehicle_key vs c) ≡ true
 
 pub put_there : (c : Callsign) (vs : List Vehicle) (v : Vehicle) → IsThere c vs
     → IsThere c (put_row callsign_cmp vehicle_key vs v)
-put_there c vs v h = vehicles_put (λ k o. is_some (row_at callsign_cmp vehicle_key vs k) ≡ true → is_some o ≡ true) vs v (λ f. refl) (λ k apart f. f) c h
+put_there c vs v h =
+    vehicles_put (λ k o. is_some (row_at callsign_cmp vehicle_key vs k) ≡ true → is_some o ≡ true) vs v (λ f. refl)
+    (λ k apart f. f) c h
 
 settled_there : (c : Callsign) (o : Option Vehicle) (d : ℕ) (vs : List Vehicle) → IsThere c vs
     → IsThere c (settled o d vs)
@@ -134,9 +140,12 @@ there_still c r (x ∷ xs) h = there_still c (apply_one r x) xs (there_one c r x
 still_for : (who : Who) (a : Ask) (r : Room) (xs : List Change) → is_for who a r ≡ true
     → is_for who a (apply r xs) ≡ true
 unfolding vehicle_at
-still_for (Desk d) a r xs h = both_true (is_desks a) _ (left_true (is_desks a) _ h) (ap (λ p. has_division p d) (plan_stays r xs) ∙ right_true (is_desks a) _ h)
+still_for (Desk d) a r xs h =
+    both_true (is_desks a) _ (left_true (is_desks a) _ h)
+    (ap (λ p. has_division p d) (plan_stays r xs) ∙ right_true (is_desks a) _ h)
 still_for (Position p) a r xs h = h
-still_for (Crew c) a r xs h = both_true (is_crews a) _ (left_true (is_crews a) _ h) (there_still c r xs (right_true (is_crews a) _ h))
+still_for (Crew c) a r xs h =
+    both_true (is_crews a) _ (left_true (is_crews a) _ h) (there_still c r xs (right_true (is_crews a) _ h))
 
 pub addressed_still : (es : List Event) (r : Room) (xs : List Change) → AreAddressed es r
     → AreAddressed es (apply r xs)
@@ -146,9 +155,11 @@ addressed_still (e ∷ es) r xs h = (still_for e.who e.ask r xs h.0, h.1, addres
 pub addressed_run : (es : List Event) (r : Room) (e : Event) → IsAddressed e r
     → IsAddressed e (room_run es r)
 addressed_run [] r e h = h
-addressed_run (other ∷ es) r e h = addressed_run es (room_after other r) e (still_for e.who e.ask r (changes_of (decided other r)) h)
+addressed_run (other ∷ es) r e h =
+    addressed_run es (room_after other r) e (still_for e.who e.ask r (changes_of (decided other r)) h)
 
 pub run_kept : (es : List Event) (r : Room) → IsWellFormed r → AreAddressed es r
     → IsWellFormed (room_run es r)
 run_kept [] r w h = w
-run_kept (e ∷ es) r w h = run_kept es (room_after e r) (event_kept e r w h.0 h.1) (addressed_still es r (changes_of (decided e r)) h.2)
+run_kept (e ∷ es) r w h =
+    run_kept es (room_after e r) (event_kept e r w h.0 h.1) (addressed_still es r (changes_of (decided e r)) h.2)

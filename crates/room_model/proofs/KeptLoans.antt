@@ -1,12 +1,14 @@
 -- Offers and loans keep a room well-formed.
 use Rattle.std.proofs.Common.{ap, eq-eqb, eqb-true, inl, inr, subst, sym, ◌∙◌}
-use Rattle.std.specs.Prelude.{Bool, None, Option, Some, [], cond, false, option_map, refl, true, ℕ, ◌==◌, ◌||◌, ◌∷◌, ◌≡◌, ◌≢◌, ◌⊎◌}
+use Rattle.std.specs.Prelude.{Bool, None, Option, Some, [], cond, false, option_map, refl, true, ℕ, ◌==◌, ◌||◌, ◌∷◌}
+use Rattle.std.specs.Prelude.{◌≡◌, ◌≢◌, ◌⊎◌}
 use Rattle.room_place.specs.Plans.{has_division}
 use Rattle.room_types_keyed.specs.Keyed.{keep, row_at}
 use Rattle.room_types.specs.Keys.{callsign_cmp, loan_key, offer_key, vehicle_key}
 use Rattle.room_types.specs.Orders.{callsigns_total, exact_callsigns}
 use Rattle.room_types.specs.Texts.{Callsign}
-use Rattle.room_types.specs.declared.changes.Change.TheVariants.{DropLoan, DropOffer, PutLoan, PutOffer, PutVehicle, Settle}
+use Rattle.room_types.specs.declared.changes.Change.TheVariants.{DropLoan, DropOffer, PutLoan, PutOffer, PutVehicle}
+use Rattle.room_types.specs.declared.changes.Change.TheVariants.{Settle}
 use Rattle.room_types.specs.declared.codes.Status.TheVariants.{Available, Offered}
 use Rattle.room_types.specs.declared.tables.Loan.{Loan}
 use Rattle.room_types.specs.declared.tables.Offer.{Offer}
@@ -17,7 +19,8 @@ use Rattle.room_model.proofs.Tests.{row_key}
 use Rattle.room_model.proofs.VehicleAgreements.{Agrees, agreed, kept_by, known}
 use Rattle.room_model.proofs.VehicleChanges.{is_true, offered_agrees, returned_agrees, settled_agrees}
 use Rattle.room_model.proofs.VehicleRows.{VehicleRows, bare, rows_of, settle}
-use Rattle.room_model.specs.Loans.{accept, accepted, decline, declined, give_back, given_back, lend, lender_of, loan_row, offer_row, offered, recall, recall_lent, withdraw, withdrawn}
+use Rattle.room_model.specs.Loans.{accept, accepted, decline, declined, give_back, given_back, lend, lender_of}
+use Rattle.room_model.specs.Loans.{loan_row, offer_row, offered, recall, recall_lent, withdraw, withdrawn}
 use Rattle.room_model.specs.Queries.{borrowed, held, lent, offered_by, offered_to}
 use Rattle.room_model.specs.Room.{Room}
 use Rattle.room_model.specs.WellFormed.{IsWellFormed, LoanAgrees, OfferAgrees}
@@ -66,19 +69,26 @@ lender_home v (Some k) (Some l) h e = elim e [
 -- what is kept is none, or all
 pub keep_either : {X : Type 0} (p : X → Bool) (o : Option X) → (keep p o ≡ None) ⊎ (keep p o ≡ o)
 keep_either p None = inl refl
-keep_either {X} p (Some x) = (elim (p x) as (λ (b : Bool). (cond b (Some x) None ≡ None) ⊎ (cond b (Some x) None ≡ Some x)) [
-  | true ↦ inr refl
-  | false ↦ inl refl
-])
+keep_either {X} p (Some x) =
+    (elim (p x) as (λ (b : Bool). (cond b (Some x) None ≡ None) ⊎ (cond b (Some x) None ≡ Some x)) [
+      | true ↦ inr refl
+      | false ↦ inl refl
+    ])
 
 module _ (d : ℕ) (r : Room) (w : IsWellFormed r) where
   pub lend_kept : (c : Callsign) (to until at : ℕ) → Kept d r w (lend d c to until at r)
   unfolding lend
-  lend_kept c to until at = held_kept d r w c (offered r.plan d to until at) (λ v is h. refuse_kept d r w _ _ _ (λ other. refuse_kept d r w _ _ _ (λ home. refuse_kept d r w _ _ _ (λ idle. refuse_kept d r w _ _ _ (λ free. refuse_kept d r w _ _ _ (λ later.
+  lend_kept c to until at =
+      held_kept d r w c (offered r.plan d to until at) (λ v is h.
+      refuse_kept d r w _ _ _ (λ other.
+      refuse_kept d r w _ _ _
+      (λ home. refuse_kept d r w _ _ _ (λ idle. refuse_kept d r w _ _ _ (λ free. refuse_kept d r w _ _ _ (λ later.
       let o = offer_row v d to until at in
       let parts = or_parts _ _ other in
-      kept_by v.callsign r (PutVehicle (record v { status = Offered; post = None }) ∷ PutOffer o ∷ []) w (refl, (refl, tt))
-      (offered_agrees (bare r) (rows_of v.callsign r) v h o (is_true _ free) (sym is.holder) (sym (eqb-true v.home d (is_true _ home))) (not_equal to d parts.0) (is_true _ parts.1))))))))
+      kept_by v.callsign r (PutVehicle (record v { status = Offered; post = None }) ∷ PutOffer o ∷ []) w
+      (refl, (refl, tt))
+      (offered_agrees (bare r) (rows_of v.callsign r) v h o (is_true _ free) (sym is.holder)
+      (sym (eqb-true v.home d (is_true _ home))) (not_equal to d parts.0) (is_true _ parts.1))))))))
 
   -- an offer that is found is of an offered vehicle
   pub record IsOffer (c : Callsign) (o : Offer) : Type 0 where
@@ -92,11 +102,21 @@ module _ (d : ℕ) (r : Room) (w : IsWellFormed r) where
       → IsOffer c o
   is_offer c o e =
       let key : c ≡ o.callsign = row_key callsign_cmp offer_key callsigns_total exact_callsigns r.offers c o e in
-      let found : row_at callsign_cmp offer_key r.offers o.callsign ≡ Some o = subst (λ k. row_at callsign_cmp offer_key r.offers k ≡ Some o) key e in
-      (elim (row_at callsign_cmp vehicle_key r.vehicles o.callsign) as (λ (x : Option Vehicle). row_at callsign_cmp vehicle_key r.vehicles o.callsign ≡ x → OfferAgrees r.plan x (Some o) → IsOffer c o) [
+      let found : row_at callsign_cmp offer_key r.offers o.callsign
+      ≡ Some o = subst (λ k. row_at callsign_cmp offer_key r.offers k ≡ Some o) key e in
+      (elim (row_at callsign_cmp vehicle_key r.vehicles o.callsign) as (λ (x : Option Vehicle).
+      row_at callsign_cmp vehicle_key r.vehicles o.callsign ≡ x → OfferAgrees r.plan x (Some o) → IsOffer c o) [
         | None ↦ λ f g. absurd g
-        | Some v ↦ λ f g. record { vehicle = v; key = key; there = f; agrees = known (bare r) (rows_of o.callsign r) v f (agreed r w o.callsign); offer = g }
-      ]) refl (subst (λ x. OfferAgrees r.plan (row_at callsign_cmp vehicle_key r.vehicles o.callsign) x) found (w.offers o.callsign))
+        | Some v ↦
+            λ f g. record {
+              vehicle = v;
+              key = key;
+              there = f;
+              agrees = known (bare r) (rows_of o.callsign r) v f (agreed r w o.callsign);
+              offer = g;
+            }
+      ]) refl (subst (λ x. OfferAgrees r.plan (row_at callsign_cmp vehicle_key r.vehicles o.callsign) x) found
+      (w.offers o.callsign))
 
   withdrawn_kept : (c : Callsign) (v : Vehicle) → IsHeld d c r v
       → Agrees (bare r) (record (rows_of v.callsign r) { vehicle = Some v }) → (o : Option Offer)
@@ -105,13 +125,16 @@ module _ (d : ℕ) (r : Room) (w : IsWellFormed r) where
   withdrawn_kept c v is h None e = w
   withdrawn_kept c v is h (Some o) e =
       let there = (keep_some (λ o. o.lender == d) (row_at callsign_cmp offer_key r.offers c) o e).0 in
-      let offer : OfferAgrees r.plan (Some v) (Some o) = subst (OfferAgrees r.plan (Some v)) (ap (row_at callsign_cmp offer_key r.offers) (sym is.key) ∙ there) h.offer in
-      kept_by v.callsign r (PutVehicle (record v { status = Available }) ∷ DropOffer v.callsign ∷ []) w (refl, (refl, tt))
+      let offer : OfferAgrees r.plan (Some v) (Some o) = subst (OfferAgrees r.plan (Some v))
+      (ap (row_at callsign_cmp offer_key r.offers) (sym is.key) ∙ there) h.offer in
+      kept_by v.callsign r (PutVehicle (record v { status = Available }) ∷ DropOffer v.callsign ∷ []) w
+      (refl, (refl, tt))
       (settled_agrees (bare r) (rows_of v.callsign r) v h v.holder _ offer.0 h.loan h.holder)
 
   pub withdraw_kept : (c : Callsign) → Kept d r w (withdraw d c r)
   unfolding withdraw
-  withdraw_kept c = held_kept d r w c (withdrawn (offered_by d c r)) (λ v is h. withdrawn_kept c v is h (offered_by d c r) refl)
+  withdraw_kept c =
+      held_kept d r w c (withdrawn (offered_by d c r)) (λ v is h. withdrawn_kept c v is h (offered_by d c r) refl)
 
   declined_kept : (c : Callsign) (o : Option Offer) → offered_to d c r ≡ o → Kept d r w (declined o)
   unfolding offered_to
@@ -123,7 +146,9 @@ module _ (d : ℕ) (r : Room) (w : IsWellFormed r) where
       let p = rows_of o.callsign r in
       kept_by o.callsign r (Settle o.callsign o.lender ∷ DropOffer o.callsign ∷ []) w (refl, (refl, tt))
       (subst (λ x. Agrees (bare r) (record p { vehicle = option_map (settle o.lender) x; offer = None })) (sym is.there)
-      (settled_agrees (bare r) p v h o.lender p.loan is.offer.0 (subst (λ n. LoanAgrees (Some (record v { holder = n; status = Available })) p.loan) (sym is.offer.1) h.loan) (subst (λ n. has_division r.plan n ≡ true) (sym is.offer.1) h.holder)))
+      (settled_agrees (bare r) p v h o.lender p.loan is.offer.0
+      (subst (λ n. LoanAgrees (Some (record v { holder = n; status = Available })) p.loan) (sym is.offer.1) h.loan)
+      (subst (λ n. has_division r.plan n ≡ true) (sym is.offer.1) h.holder)))
 
   pub decline_kept : (c : Callsign) → Kept d r w (decline d c r)
   unfolding decline
@@ -137,9 +162,14 @@ module _ (d : ℕ) (r : Room) (w : IsWellFormed r) where
       let is = is_offer c o (keep_some (λ o. o.borrower == d) (row_at callsign_cmp offer_key r.offers c) o e).0 in
       let v = is.vehicle in
       let p = rows_of o.callsign r in
-      kept_by o.callsign r (Settle o.callsign o.borrower ∷ DropOffer o.callsign ∷ PutLoan (loan_row o at) ∷ []) w (refl, (refl, (refl, tt)))
-      (subst (λ x. Agrees (bare r) (record p { vehicle = option_map (settle o.borrower) x; offer = None; loan = Some (loan_row o at) })) (sym is.there)
-      (settled_agrees (bare r) p v is.agrees o.borrower (Some (loan_row o at)) is.offer.0 (is.offer.2, refl, λ same. is.offer.3 (same ∙ sym is.offer.2)) is.offer.4))
+      kept_by o.callsign r (Settle o.callsign o.borrower ∷ DropOffer o.callsign ∷ PutLoan (loan_row o at) ∷ []) w
+      (refl, (refl, (refl, tt)))
+      (subst (λ x.
+      Agrees (bare r)
+      (record p { vehicle = option_map (settle o.borrower) x; offer = None; loan = Some (loan_row o at) }))
+      (sym is.there)
+      (settled_agrees (bare r) p v is.agrees o.borrower (Some (loan_row o at)) is.offer.0
+      (is.offer.2, refl, λ same. is.offer.3 (same ∙ sym is.offer.2)) is.offer.4))
 
   pub accept_kept : (c : Callsign) (at : ℕ) → Kept d r w (accept d c at r)
   unfolding accept
@@ -154,7 +184,8 @@ module _ (d : ℕ) (r : Room) (w : IsWellFormed r) where
       let there = (keep_some (λ l. l.lender == d) (row_at callsign_cmp loan_key r.loans c) l e).0 in
       let key : c ≡ l.callsign = row_key callsign_cmp loan_key callsigns_total exact_callsigns r.loans c l there in
       kept_by l.callsign r (PutLoan (record l { recalled = true }) ∷ []) w (refl, tt)
-      (marked_agrees (bare r) (rows_of l.callsign r) l (subst (λ k. row_at callsign_cmp loan_key r.loans k ≡ Some l) key there) (agreed r w l.callsign))
+      (marked_agrees (bare r) (rows_of l.callsign r) l
+      (subst (λ k. row_at callsign_cmp loan_key r.loans k ≡ Some l) key there) (agreed r w l.callsign))
 
   pub recall_kept : (c : Callsign) → Kept d r w (recall d c r)
   unfolding recall
@@ -165,16 +196,31 @@ module _ (d : ℕ) (r : Room) (w : IsWellFormed r) where
       → Agrees (bare r) (record (rows_of v.callsign r) { vehicle = Some v })
       → lender_of v (borrowed d c r) ≡ v.home
   unfolding borrowed
-  lender_is_home c v is h = subst (λ (k : Callsign). lender_of v (keep (λ l. l.borrower == d) (row_at callsign_cmp loan_key r.loans k)) ≡ v.home) (sym is.key) (lender_home v (row_at callsign_cmp loan_key r.loans v.callsign) _ h.loan (keep_either (λ l. l.borrower == d) (row_at callsign_cmp loan_key r.loans v.callsign)))
+  lender_is_home c v is h =
+      subst
+      (λ (k : Callsign). lender_of v (keep (λ l. l.borrower == d) (row_at callsign_cmp loan_key r.loans k)) ≡ v.home)
+      (sym is.key) (lender_home v (row_at callsign_cmp loan_key r.loans v.callsign) _ h.loan
+      (keep_either (λ l. l.borrower == d) (row_at callsign_cmp loan_key r.loans v.callsign)))
 
   pub give_back_kept : (c : Callsign) → Kept d r w (give_back d c r)
   unfolding give_back
-  give_back_kept c = held_kept d r w c (given_back d (borrowed d c r)) (λ v is h. refuse_kept d r w _ _ _ (λ away. refuse_kept d r w _ _ _ (λ idle.
-      kept_by v.callsign r (PutVehicle (record v { holder = lender_of v (borrowed d c r); post = None }) ∷ DropLoan v.callsign ∷ []) w (refl, (refl, tt))
-      (returned_agrees (bare r) (rows_of v.callsign r) v h (record v { holder = lender_of v (borrowed d c r); post = None }) (λ same. not_equal v.home d away (sym same ∙ is.holder)) idle idle refl refl (lender_is_home c v is h) refl refl refl))))
+  give_back_kept c =
+      held_kept d r w c (given_back d (borrowed d c r))
+      (λ v is h. refuse_kept d r w _ _ _ (λ away. refuse_kept d r w _ _ _ (λ idle.
+      kept_by v.callsign r
+      (PutVehicle (record v { holder = lender_of v (borrowed d c r); post = None }) ∷ DropLoan v.callsign ∷ []) w
+      (refl, (refl, tt))
+      (returned_agrees (bare r) (rows_of v.callsign r) v h
+      (record v { holder = lender_of v (borrowed d c r); post = None })
+      (λ same. not_equal v.home d away (sym same ∙ is.holder)) idle idle refl refl (lender_is_home c v is h) refl refl
+      refl))))
 
 -- the loan that a division borrows by is none, or the one that is there
 pub borrowed_either : (d : ℕ) (c : Callsign) (r : Room) (v : Vehicle) → c ≡ v.callsign
     → (borrowed d c r ≡ None) ⊎ (borrowed d c r ≡ row_at callsign_cmp loan_key r.loans v.callsign)
 unfolding borrowed
-borrowed_either d c r v e = subst (λ (k : Callsign). (keep (λ l. l.borrower == d) (row_at callsign_cmp loan_key r.loans c) ≡ None) ⊎ (keep (λ l. l.borrower == d) (row_at callsign_cmp loan_key r.loans c) ≡ row_at callsign_cmp loan_key r.loans k)) e (keep_either (λ l. l.borrower == d) (row_at callsign_cmp loan_key r.loans c))
+borrowed_either d c r v e =
+    subst (λ (k : Callsign).
+    (keep (λ l. l.borrower == d) (row_at callsign_cmp loan_key r.loans c) ≡ None)
+    ⊎ (keep (λ l. l.borrower == d) (row_at callsign_cmp loan_key r.loans c) ≡ row_at callsign_cmp loan_key r.loans k)) e
+    (keep_either (λ l. l.borrower == d) (row_at callsign_cmp loan_key r.loans c))

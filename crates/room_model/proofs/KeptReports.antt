@@ -1,6 +1,7 @@
 -- A crew's report keeps a room well-formed.
 use Rattle.std.proofs.Common.{ap, inl, inr, subst, sym, ◌∙◌}
-use Rattle.std.specs.Prelude.{Bool, None, Option, Some, [], cond, false, is_some, nat_lt, not, refl, true, ℕ, ◌&&◌, ◌++◌, ◌==◌, ◌∷◌, ◌≡◌, ◌≢◌, ◌≤◌, ◌⊎◌}
+use Rattle.std.specs.Prelude.{Bool, None, Option, Some, [], cond, false, is_some, nat_lt, not, refl, true, ℕ, ◌&&◌}
+use Rattle.std.specs.Prelude.{◌++◌, ◌==◌, ◌∷◌, ◌≡◌, ◌≢◌, ◌≤◌, ◌⊎◌}
 use Rattle.room_types.specs.Texts.{Callsign}
 use Rattle.room_types.specs.declared.asks.Press.{Press}
 use Rattle.room_types.specs.declared.changes.Change.TheVariants.{PutReport, PutVehicle}
@@ -8,7 +9,8 @@ use Rattle.room_types.specs.declared.codes.Button.{Button}
 use Rattle.room_types.specs.declared.codes.Outcome.{Outcome}
 use Rattle.room_types.specs.declared.codes.Outcome.TheVariants.{Late, Stale}
 use Rattle.room_types.specs.declared.codes.Status.{Status}
-use Rattle.room_types.specs.declared.codes.Status.TheVariants.{AtHospital, AtScene, Available, Leaving, Mobilised, OffDuty, Offered, Returning}
+use Rattle.room_types.specs.declared.codes.Status.TheVariants.{AtHospital, AtScene, Available, Leaving, Mobilised}
+use Rattle.room_types.specs.declared.codes.Status.TheVariants.{OffDuty, Offered, Returning}
 use Rattle.room_types.specs.declared.tables.Assignment.{Assignment}
 use Rattle.room_types.specs.declared.tables.Loan.{Loan}
 use Rattle.room_types.specs.declared.tables.Report.{Report}
@@ -18,14 +20,18 @@ use Rattle.room_model.proofs.KeptAsks.{Kept, refuse_kept}
 use Rattle.room_model.proofs.KeptLoans.{borrowed_either, lender_is_home}
 use Rattle.room_model.proofs.OpenTurns.{open_held, open_there}
 use Rattle.room_model.proofs.Others.{IsHeld, held_is}
-use Rattle.room_model.proofs.TurnChanges.{IsOpenTurn, IsTurnOf, divisions_of_reports, divisions_of_turns, ended_turns, incidents_stay, last_up, moved_turns, reports_up, still_active, with_turn}
+use Rattle.room_model.proofs.TurnChanges.{IsOpenTurn, IsTurnOf, divisions_of_reports, divisions_of_turns, ended_turns}
+use Rattle.room_model.proofs.TurnChanges.{incidents_stay, last_up, moved_turns, reports_up, still_active, with_turn}
 use Rattle.room_model.proofs.VehicleAgreements.{Agrees, agreed, free_is_idle, kept_by, known, like_assignment}
 use Rattle.room_model.proofs.VehicleChanges.{like_offer, like_post, returned_agrees}
 use Rattle.room_model.proofs.VehicleRows.{AllConcern, VehicleRows, all_after, all_concern, bare, put_at, rows_of}
 use Rattle.room_types.specs.Codes.{acts, is_busy, is_free, is_offered}
 use Rattle.room_model.specs.Decisions.{changes_of, tell}
 use Rattle.room_model.specs.Queries.{borrowed, held, kept_report, open_turn, vehicle_at}
-use Rattle.room_model.specs.Reports.{back_changes, drop_changes, ends_turn, is_acknowledged, is_due, is_home, names_order, outcome_of, press, report_acts, report_held, report_in, report_kept, report_made, report_row, report_somewhere, status_after, take_report, turn_after, turn_changes, vehicle_after, with_report}
+use Rattle.room_model.specs.Reports.{back_changes, drop_changes, ends_turn, is_acknowledged, is_due, is_home}
+use Rattle.room_model.specs.Reports.{names_order, outcome_of, press, report_acts, report_held, report_in, report_kept}
+use Rattle.room_model.specs.Reports.{report_made, report_row, report_somewhere, status_after, take_report, turn_after}
+use Rattle.room_model.specs.Reports.{turn_changes, vehicle_after, with_report}
 use Rattle.room_model.specs.Room.{Room, apply}
 use Rattle.room_model.specs.WellFormed.{AssignmentAgrees, IsWellFormed, LoanAgrees, SameIncident, TurnAgrees}
 use Rattle.room_types.specs.declared.answers.Answer.TheVariants as answer
@@ -43,7 +49,12 @@ stays : (s : Status) → IsNext s s false
 stays s = record { busy = λ e. refl; idle = λ (e : false ≡ true). cc; offered = refl; free = λ f. f }
 
 moves_on : (s t : Status) → is_busy s ≡ true → is_busy t ≡ true → IsNext s t false
-moves_on s t b c = record { busy = λ e. c ∙ sym b; idle = λ (e : false ≡ true). cc; offered = (not_idle t c).0 ∙ sym (not_idle s b).0; free = λ (f : is_free s ≡ true). let g = (not_idle s b).1 in cc }
+moves_on s t b c = record {
+  busy = λ e. c ∙ sym b;
+  idle = λ (e : false ≡ true). cc;
+  offered = (not_idle t c).0 ∙ sym (not_idle s b).0;
+  free = λ (f : is_free s ≡ true). let g = (not_idle s b).1 in cc;
+}
   where
     not_idle : (s : Status) → is_busy s ≡ true → (is_offered s ≡ false) × (is_free s ≡ false)
     not_idle Mobilised e = (refl, refl)
@@ -53,7 +64,9 @@ moves_on s t b c = record { busy = λ e. c ∙ sym b; idle = λ (e : false ≡ t
     not_idle s e = cc
 
 comes_free : (s t : Status) → is_offered s ≡ false → is_free t ≡ true → IsNext s t true
-comes_free s t e f = let g = free_is_idle t f in record { busy = λ (e : true ≡ false). cc; idle = λ e. g.0; offered = g.1 ∙ sym e; free = λ x. f }
+comes_free s t e f =
+    let g = free_is_idle t f in
+    record { busy = λ (e : true ≡ false). cc; idle = λ e. g.0; offered = g.1 ∙ sym e; free = λ x. f }
 
 abbrev Acts : Status → Button → Bool → Type 0
 Acts s b a = acts (press s b a) ≡ true
@@ -83,7 +96,8 @@ return s a e = comes_free s Returning refl refl
 
 home : (s : Status) (a : Bool) → Acts s button.Home a → IsNext s (status_after s button.Home) true
 home OffDuty a e = absurd cc
-home Offered a e = record { busy = λ (e : true ≡ false). cc; idle = λ e. refl; offered = refl; free = λ (f : false ≡ true). cc }
+home Offered a e =
+    record { busy = λ (e : true ≡ false). cc; idle = λ e. refl; offered = refl; free = λ (f : false ≡ true). cc }
 home s a e = comes_free s Available refl refl
 
 -- a button that acts ends a vehicle's order just where it ends its turn, and neither offers it nor
@@ -249,13 +263,16 @@ module _ (d : ℕ) (c : Callsign) (r : Room) (w : IsWellFormed r) (v : Vehicle) 
       assignment = assignment;
       turn = turn;
       same_incident = same;
-      active = still_active (bare r) p v h (turn_after press.button at) (turn_of press.button at) (open_turn d c r) open_now;
+      active =
+          still_active (bare r) p v h (turn_after press.button at) (turn_of press.button at) (open_turn d c r) open_now;
       report = reports_up (bare r) p v pressed h reported least refl;
       last_report = last_up (bare r) p v pressed h reported least refl;
       post = like_post (bare r) v pressed v.post next.free refl h.post;
       home = h.home;
       holder = h.holder;
-      turn_division = divisions_of_turns (bare r) p v h (turn_after press.button at) (turn_of press.button at) (open_turn d c r) open_now;
+      turn_division =
+          divisions_of_turns (bare r) p v h (turn_after press.button at) (turn_of press.button at) (open_turn d c r)
+          open_now;
       report_division = divisions_of_reports (bare r) p v pressed h reported least refl refl;
     }
 
@@ -269,12 +286,17 @@ module _ (d : ℕ) (c : Callsign) (r : Room) (w : IsWellFormed r) (v : Vehicle) 
           report =
               put_at press.number reported (rows_of v.callsign r).report;
         })
-    acted_agrees true e = pressed_rows None (next.idle e) (ended_turns (bare r) (rows_of v.callsign r) v h (turn_after press.button at) (turn_of press.button at) pressed (open_turn d c r) open_now (λ t. turn_ends press.button at t e) (next.idle e) refl) (λ n. tt)
+    acted_agrees true e =
+        pressed_rows None (next.idle e)
+        (ended_turns (bare r) (rows_of v.callsign r) v h (turn_after press.button at) (turn_of press.button at) pressed
+        (open_turn d c r) open_now (λ t. turn_ends press.button at t e) (next.idle e) refl) (λ n. tt)
     acted_agrees false e =
         let p = rows_of v.callsign r in
         pressed_rows p.assignment (like_assignment v pressed (next.busy e) (λ b. refl) refl p.assignment h.assignment)
-        (moved_turns (bare r) p v h (turn_after press.button at) (turn_of press.button at) pressed (open_turn d c r) open_now (λ t. turn_goes press.button at t e) (next.busy e) refl refl)
-        (incidents_stay (bare r) p v h (turn_after press.button at) (turn_of press.button at) (open_turn d c r) open_now)
+        (moved_turns (bare r) p v h (turn_after press.button at) (turn_of press.button at) pressed (open_turn d c r)
+        open_now (λ t. turn_goes press.button at t e) (next.busy e) refl refl)
+        (incidents_stay (bare r) p v h (turn_after press.button at) (turn_of press.button at) (open_turn d c r)
+        open_now)
 
     -- a vehicle that goes back does so afterwards
     back_agrees : (back : Bool) → (back ≡ true
@@ -290,8 +312,15 @@ module _ (d : ℕ) (c : Callsign) (r : Room) (w : IsWellFormed r) (v : Vehicle) 
     back_agrees true f =
         let p = rows_of v.callsign r in
         let ends = (f refl).0 in
-        let p1 : VehicleRows = record p { assignment = cond (ends_turn press.button) None p.assignment; turn = turns_after; report = put_at press.number reported p.report } in
-        returned_agrees (bare r) p1 pressed (acted_agrees (ends_turn press.button) refl) (vehicle_after v (borrowed d c r) press true) (due_away v at (borrowed d c r) _ (borrowed_either d c r v is.key) (f refl).1 h.loan) (next.idle ends) (next.idle ends) refl refl (lender_is_home d r w c v is h) refl refl refl
+        let p1 : VehicleRows = record p {
+          assignment = cond (ends_turn press.button) None p.assignment;
+          turn = turns_after;
+          report = put_at press.number reported p.report;
+        } in
+        returned_agrees (bare r) p1 pressed (acted_agrees (ends_turn press.button) refl)
+        (vehicle_after v (borrowed d c r) press true)
+        (due_away v at (borrowed d c r) _ (borrowed_either d c r v is.key) (f refl).1 h.loan) (next.idle ends)
+        (next.idle ends) refl refl (lender_is_home d r w c v is h) refl refl refl
 
     acted_kept : IsWellFormed (apply r
         (report_acts v (open_turn d c r) (borrowed d c r) press at o
@@ -301,9 +330,16 @@ module _ (d : ℕ) (c : Callsign) (r : Room) (w : IsWellFormed r) (v : Vehicle) 
         let back = is_home b && is_due at (borrowed d c r) in
         let x = report_row v press at o (status_after v.status b) in
         let u = vehicle_after v (borrowed d c r) press back in
-        kept_by v.callsign r (report_acts v (open_turn d c r) (borrowed d c r) press at o back) w
-        (refl, all_concern v.callsign _ _ (turn_concerns v.callsign b at (open_turn d c r) (λ t e. (open_there d c r w.order t e).2 ∙ is.key)) (all_concern v.callsign _ _ (drop_concerns v.callsign (ends_turn b)) (all_concern v.callsign _ _ (back_concerns v.callsign back) (refl, tt))))
-        (subst (Agrees (bare r)) (sym (rows_acted (rows_of v.callsign r) v.callsign x u b at (open_turn d c r) (ends_turn b) back)) (back_agrees back (λ e. home_ends b _ e)))
+        kept_by v.callsign r (report_acts v (open_turn d c r) (borrowed d c r) press at o back) w (
+          refl,
+          all_concern v.callsign _ _
+              (turn_concerns v.callsign b at (open_turn d c r) (λ t e. (open_there d c r w.order t e).2 ∙ is.key))
+              (all_concern v.callsign _ _ (drop_concerns v.callsign (ends_turn b))
+              (all_concern v.callsign _ _ (back_concerns v.callsign back) (refl, tt))),
+        )
+        (subst (Agrees (bare r))
+        (sym (rows_acted (rows_of v.callsign r) v.callsign x u b at (open_turn d c r) (ends_turn b) back))
+        (back_agrees back (λ e. home_ends b _ e)))
 
 module _ (c : Callsign) (r : Room) (w : IsWellFormed r) (p : Press) (at : ℕ)
     (least : 1 ≤ p.number) where
@@ -312,17 +348,28 @@ module _ (c : Callsign) (r : Room) (w : IsWellFormed r) (p : Press) (at : ℕ)
       → Kept d r w (report_made v (open_turn d c r) (borrowed d c r) p at o)
   made_kept d v is o e =
       let h = known (bare r) (rows_of v.callsign r) v is.there (agreed r w v.callsign) in
-      (elim (acts o) as (λ (b : Bool). acts o ≡ b → Kept d r w (cond b (tell (answer.Reported p.number o (status_after v.status p.button)) (report_acts v (open_turn d c r) (borrowed d c r) p at o (is_home p.button && is_due at (borrowed d c r)))) (tell (answer.Reported p.number o v.status) (PutReport (report_row v p at o v.status) ∷ PutVehicle (with_report v p) ∷ [])))) [
-        | true ↦ λ f. acted_kept d c r w v is h p at least o (table v.status p.button _ (by_table v (open_turn d c r) p (ap acts (sym e) ∙ f)))
+      (elim (acts o) as (λ (b : Bool).
+      acts o ≡ b
+      → Kept d r w (cond b
+      (tell (answer.Reported p.number o (status_after v.status p.button))
+      (report_acts v (open_turn d c r) (borrowed d c r) p at o (is_home p.button && is_due at (borrowed d c r))))
+      (tell (answer.Reported p.number o v.status)
+      (PutReport (report_row v p at o v.status) ∷ PutVehicle (with_report v p) ∷ [])))) [
+        | true ↦
+            λ f.
+            acted_kept d c r w v is h p at least o
+            (table v.status p.button _ (by_table v (open_turn d c r) p (ap acts (sym e) ∙ f)))
         | false ↦ λ f. ignored_kept d c r w v is h p at least o
       ]) refl
 
   report_in_kept : (d : ℕ) → Kept d r w (report_in d c p at r)
   unfolding report_in
-  report_in_kept d = (elim (held d c r) as (λ (x : Option Vehicle). held d c r ≡ x → Kept d r w (report_held x (open_turn d c r) (borrowed d c r) p at)) [
-    | None ↦ λ e. w
-    | Some v ↦ λ e. made_kept d v (held_is d c r v e) _ refl
-  ]) refl
+  report_in_kept d =
+      (elim (held d c r) as (λ (x : Option Vehicle).
+      held d c r ≡ x → Kept d r w (report_held x (open_turn d c r) (borrowed d c r) p at)) [
+        | None ↦ λ e. w
+        | Some v ↦ λ e. made_kept d v (held_is d c r v e) _ refl
+      ]) refl
 
   pub take_report_kept : IsWellFormed (apply r (changes_of (take_report c p at r)))
   take_report_kept = kept_or_new (kept_report c p.number r)

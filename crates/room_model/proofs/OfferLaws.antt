@@ -1,6 +1,7 @@
 -- What doesn't speak of offers needs none.
 use Rattle.std.proofs.Common.{ap, append_assoc, subst, sym, ◌∙◌}
-use Rattle.std.specs.Prelude.{Bool, Err, List, None, Option, Some, [], cond, false, filter, filter_map, is_ok, map, refl, ℕ, ◌&&◌, ◌++◌, ◌==◌, ◌∷◌, ◌≡◌, ◌↔◌}
+use Rattle.std.specs.Prelude.{Bool, Err, List, None, Option, Some, [], cond, false, filter, filter_map, is_ok, map}
+use Rattle.std.specs.Prelude.{refl, ℕ, ◌&&◌, ◌++◌, ◌==◌, ◌∷◌, ◌≡◌, ◌↔◌}
 use Rattle.room_place.specs.Choice.{chosen}
 use Rattle.room_types.specs.Codes.{is_mobilised}
 use Rattle.room_types_keyed.specs.Keyed.{keep, row_at}
@@ -20,7 +21,7 @@ use Rattle.room_types.specs.declared.changes.Change.{Change}
 use Rattle.room_types.specs.declared.changes.Change.TheVariants.{PutOffer}
 use Rattle.room_types.specs.declared.codes.Kind.{Kind}
 use Rattle.room_types.specs.declared.codes.Kind.TheVariants.{Ambulance, Car, Support}
-use Rattle.room_types.specs.declared.refusals.Refusal.TheVariants.{NoSuchOffer}
+use Rattle.room_types.specs.declared.refusal_statuses.Refusal.TheVariants.{NoSuchOffer}
 use Rattle.room_types.specs.declared.tables.Call.{Call}
 use Rattle.room_types.specs.declared.tables.Incident.{Incident}
 use Rattle.room_types.specs.declared.tables.Offer.{Offer}
@@ -31,17 +32,24 @@ use Rattle.room_model.proofs.OffersMade.{AllMakeNone, MakesNone, none_made}
 use Rattle.room_model.proofs.OpenTurns.{row_there}
 use Rattle.room_model.proofs.Tests.{row_among}
 use Rattle.room_model.specs.Calls.{call_in, call_kept, call_somewhere, new_call}
-use Rattle.room_model.specs.Crossing.{Crossing, cross, cross_call, cross_crew, cross_desk, cross_other, cross_own, cross_position, cross_report, cross_who}
+use Rattle.room_model.specs.Crossing.{Crossing, cross, cross_call, cross_crew, cross_desk, cross_other, cross_own}
+use Rattle.room_model.specs.Crossing.{cross_position, cross_report, cross_who}
 use Rattle.room_model.specs.DayTimes.{show_times}
 use Rattle.room_model.specs.Decisions.{Verdict, changes_of, show, where_active, where_held}
 use Rattle.room_model.specs.Events.{by_desk}
 use Rattle.room_model.specs.Incidents.{change_needs, close, lacking, merge, show_incident, show_incidents}
-use Rattle.room_model.specs.Loans.{accept, accepted, decline, declined, give_back, recall, show_loans, show_offers, withdraw, withdrawn}
+use Rattle.room_model.specs.Loans.{accept, accepted, decline, declined, give_back, recall, show_loans, show_offers}
+use Rattle.room_model.specs.Loans.{withdraw, withdrawn}
 use Rattle.room_model.specs.Moving.{IsUnoffered, NoneIsReserved, OffersAgree, is_lend, speaks_of_offers, without_offers}
 use Rattle.room_model.specs.Points.{breaks_post, show_points}
 use Rattle.room_model.specs.Proposals.{all_proposed, candidates, eligible, is_before, proposal_of, propose, proposed}
-use Rattle.room_model.specs.Queries.{active_incidents, all_held, assignment_at, assignment_of, borrowed, calls_of, held, holders, incident_of, incidents_opened, is_attended, is_eligible, kept_call, kept_report, last_number, last_serial, lent, link_target, loan_at, loans_of, offered_by, offered_to, offers_of, open_turn, point_of, points_of, report_of, served, turns_of, vehicle_at}
-use Rattle.room_model.specs.Queue.{clear, entries, exception, overdue, shift_over, slow, slow_turn, unanswered, uncovered, unread, unserved}
+use Rattle.room_model.specs.Queries.{active_incidents, all_held, assignment_at, assignment_of, borrowed, calls_of, held}
+use Rattle.room_model.specs.Queries.{holders, incident_of, incidents_opened, is_attended, is_eligible, kept_call}
+use Rattle.room_model.specs.Queries.{kept_report, last_number, last_serial, lent, link_target, loan_at, loans_of}
+use Rattle.room_model.specs.Queries.{offered_by, offered_to, offers_of, open_turn, point_of, points_of, report_of}
+use Rattle.room_model.specs.Queries.{served, turns_of, vehicle_at}
+use Rattle.room_model.specs.Queue.{clear, entries, exception, overdue, shift_over, slow, slow_turn, unanswered}
+use Rattle.room_model.specs.Queue.{uncovered, unread, unserved}
 use Rattle.room_model.specs.Reports.{report_in, report_kept, report_somewhere}
 use Rattle.room_model.specs.Room.{IsInOrder, Room, apply, apply_one}
 use Rattle.room_model.specs.Step.{crew_asks, decided, desk_asks, position_asks, room_after, who_asks}
@@ -61,7 +69,9 @@ module _ (r : Room) where
   candidates_alike : (d : ℕ) (i : Incident) (k : Kind) (at : ℕ)
       → candidates d i k at (without_offers r) ≡ candidates d i k at r
   unfolding candidates
-  candidates_alike d i k at = ap (λ (f : Vehicle → Proposal). map f (eligible d k at r)) (λ j v. record (proposal_of d i at r v) { breaks = is_eligible d at v && breaks_alike d at v.post j })
+  candidates_alike d i k at =
+      ap (λ (f : Vehicle → Proposal). map f (eligible d k at r))
+      (λ j v. record (proposal_of d i at r v) { breaks = is_eligible d at v && breaks_alike d at v.post j })
 
   proposed_alike : (d : ℕ) (i : Incident) (at : ℕ) (k : Kind)
       → proposed d i at (without_offers r) k ≡ proposed d i at r k
@@ -70,13 +80,18 @@ module _ (r : Room) where
 
   all_alike : (d : ℕ) (i : Incident) (at : ℕ)
       → all_proposed d i at (without_offers r) ≡ all_proposed d i at r
-  all_alike d i at = λ j. proposed_alike d i at Ambulance j ++ (proposed_alike d i at Car j ++ proposed_alike d i at Support j)
+  all_alike d i at =
+      λ j. proposed_alike d i at Ambulance j ++ (proposed_alike d i at Car j ++ proposed_alike d i at Support j)
 
   -- ---- a desk's asks
   desk_alike : (d : ℕ) (a : Ask) (at : ℕ) → speaks_of_offers a ≡ false
       → desk_asks d a at (without_offers r) ≡ desk_asks d a at r
-  unfolding show_incidents show_incident propose mobilise change_needs merge close show_vehicles stand_down standby duty off recall give_back clear show_points show_loans show_times active_incidents all_held assignment_of borrowed calls_of held holders incident_of incidents_opened is_attended lent loans_of open_turn point_of points_of report_of served turns_of
-  desk_alike d (ask.Propose n) at h = λ j. where_active (incident_of d n r) (λ i. show (answer.Proposals (all_alike d i at j)))
+  unfolding show_incidents show_incident propose mobilise change_needs merge close show_vehicles stand_down standby duty
+      off recall give_back clear show_points show_loans show_times active_incidents all_held assignment_of borrowed
+      calls_of held holders incident_of incidents_opened is_attended lent loans_of open_turn point_of points_of
+      report_of served turns_of
+  desk_alike d (ask.Propose n) at h =
+      λ j. where_active (incident_of d n r) (λ i. show (answer.Proposals (all_alike d i at j)))
   desk_alike d (ask.Lend c to until) at h = cc
   desk_alike d (ask.Withdraw c) at h = cc
   desk_alike d (ask.Decline c) at h = cc
@@ -182,10 +197,20 @@ call_crosses_alike d e f (Some k) r = refl
 desk_crosses_alike : (d h : ℕ) (e : Event) (r : Room) → speaks_of_offers e.ask ≡ false
     → cross_desk d h e (without_offers r) ≡ cross_desk d h e r
 desk_crosses_alike d h e r f =
-    ap (λ (v : Verdict). cond (h == d) (Some (cross_own (is_ok v) e e.ask (without_offers r))) (cond (is_ok v) (cross_other d h e.ask (without_offers r) (room_after e (without_offers r))) None)) (decided_alike e r f)
-    ∙ ap (λ (x : Crossing). cond (h == d) (Some x) (cond (is_ok (decided e r)) (cross_other d h e.ask (without_offers r) (room_after e (without_offers r))) None)) (own_alike (is_ok (decided e r)) e e.ask r f)
-    ∙ ap (λ (after : Room). cond (h == d) (Some (cross_own (is_ok (decided e r)) e e.ask r)) (cond (is_ok (decided e r)) (cross_other d h e.ask (without_offers r) after) None)) (after_alike e r f)
-    ∙ ap (λ (x : Option Crossing). cond (h == d) (Some (cross_own (is_ok (decided e r)) e e.ask r)) (cond (is_ok (decided e r)) x None)) (other_alike d h e.ask r (room_after e r) f)
+    ap (λ (v : Verdict).
+    cond (h == d) (Some (cross_own (is_ok v) e e.ask (without_offers r)))
+    (cond (is_ok v) (cross_other d h e.ask (without_offers r) (room_after e (without_offers r))) None))
+    (decided_alike e r f)
+    ∙ ap (λ (x : Crossing).
+    cond (h == d) (Some x)
+    (cond (is_ok (decided e r)) (cross_other d h e.ask (without_offers r) (room_after e (without_offers r))) None))
+    (own_alike (is_ok (decided e r)) e e.ask r f)
+    ∙ ap (λ (after : Room).
+    cond (h == d) (Some (cross_own (is_ok (decided e r)) e e.ask r))
+    (cond (is_ok (decided e r)) (cross_other d h e.ask (without_offers r) after) None)) (after_alike e r f)
+    ∙ ap (λ (x : Option Crossing).
+    cond (h == d) (Some (cross_own (is_ok (decided e r)) e e.ask r)) (cond (is_ok (decided e r)) x None))
+    (other_alike d h e.ask r (room_after e r) f)
 
 position_crosses_alike : (d p : ℕ) (e : Event) (a : Ask) (r : Room)
     → cross_position d p e a (without_offers r) ≡ cross_position d p e a r
@@ -222,7 +247,9 @@ turn_alike d at r v (Some t) = refl
 slow_alike : (d at : ℕ) (r : Room)
     → filter_map (slow d at (without_offers r)) r.vehicles ≡ filter_map (slow d at r) r.vehicles
 unfolding open_turn
-slow_alike d at r = ap (λ (f : Vehicle → Option Entry). filter_map f r.vehicles) (λ j v. cond (v.holder == d && is_mobilised v.status) (turn_alike d at r v (open_turn d v.callsign r) j) None)
+slow_alike d at r =
+    ap (λ (f : Vehicle → Option Entry). filter_map f r.vehicles)
+    (λ j v. cond (v.holder == d && is_mobilised v.status) (turn_alike d at r v (open_turn d v.callsign r) j) None)
 
 more : (xs ys zs ws : List Entry) → ys ≡ zs ++ ws → xs ++ ys ≡ (xs ++ zs) ++ ws
 more xs ys zs ws h = ap (λ t. xs ++ t) h ∙ sym (append_assoc xs zs ws)
@@ -234,7 +261,12 @@ entries_alike d at r =
     let os : List Entry = filter_map (unanswered d at) r.offers in
     more (filter_map (unserved d at r) r.incidents) _ _ os
     (more (filter_map (unread d at r) r.vehicles) _ _ os
-    (ap (λ (xs : List Entry). xs ++ (filter_map (exception d) r.reports ++ (filter_map (overdue d at) r.loans ++ (filter_map (shift_over d at) r.vehicles ++ (filter_map (uncovered d at r) r.points ++ os))))) (sym (slow_alike d at r))
+    (ap (λ (xs : List Entry).
+    xs
+    ++ (filter_map (exception d) r.reports
+    ++ (filter_map (overdue d at) r.loans
+    ++ (filter_map (shift_over d at) r.vehicles ++ (filter_map (uncovered d at r) r.points ++ os)))))
+    (sym (slow_alike d at r))
     ∙ more (filter_map (slow d at (without_offers r)) r.vehicles) _ _ os
     (more (filter_map (exception d) r.reports) _ _ os
     (more (filter_map (overdue d at) r.loans) _ _ os
@@ -245,18 +277,22 @@ entries_alike d at r =
 pub no_accept : (d at : ℕ) (c : Callsign) (r : Room) → IsUnoffered r
     → decided (by_desk d (ask.Accept c) at) r ≡ Err NoSuchOffer
 unfolding accept offered_to
-no_accept d at c r h = ap (λ (os : List Offer). accepted (keep (λ o. o.borrower == d) (row_at callsign_cmp offer_key os c)) at) h
+no_accept d at c r h =
+    ap (λ (os : List Offer). accepted (keep (λ o. o.borrower == d) (row_at callsign_cmp offer_key os c)) at) h
 
 pub no_decline : (d at : ℕ) (c : Callsign) (r : Room) → IsUnoffered r
     → decided (by_desk d (ask.Decline c) at) r ≡ Err NoSuchOffer
 unfolding decline offered_to
-no_decline d at c r h = ap (λ (os : List Offer). declined (keep (λ o. o.borrower == d) (row_at callsign_cmp offer_key os c))) h
+no_decline d at c r h =
+    ap (λ (os : List Offer). declined (keep (λ o. o.borrower == d) (row_at callsign_cmp offer_key os c))) h
 
 pub no_withdrawal : (d at : ℕ) (c : Callsign) (r : Room) → IsUnoffered r
     → decided (by_desk d (ask.Withdraw c) at) r
     ≡ where_held (held d c r) (lent d c r) (λ v. Err NoSuchOffer)
 unfolding withdraw offered_by
-no_withdrawal d at c r h = ap (λ (os : List Offer). where_held (held d c r) (lent d c r) (withdrawn (keep (λ o. o.lender == d) (row_at callsign_cmp offer_key os c)))) h
+no_withdrawal d at c r h =
+    ap (λ (os : List Offer).
+    where_held (held d c r) (lent d c r) (withdrawn (keep (λ o. o.lender == d) (row_at callsign_cmp offer_key os c)))) h
 
 pub none_shown : (d at : ℕ) (r : Room) → IsUnoffered r
     → decided (by_desk d ask.Offers at) r ≡ show (answer.Offers [])
@@ -272,7 +308,14 @@ reserved_agrees r c (Some v) e h = h v (row_there callsign_cmp vehicle_key r.veh
 pub unoffered_agrees : (r : Room) → IsInOrder r → IsUnoffered r → (OffersAgree r ↔ NoneIsReserved r)
 unoffered_agrees r order n = (
   λ agree v here.
-      let there : row_at callsign_cmp vehicle_key r.vehicles v.callsign ≡ Some v = row_among callsign_cmp vehicle_key callsigns_total r.vehicles v order.vehicles here in
-      subst (λ (o : Option Vehicle). OfferAgrees r.plan o None) there (subst (λ (os : List Offer). OfferAgrees r.plan (row_at callsign_cmp vehicle_key r.vehicles v.callsign) (row_at callsign_cmp offer_key os v.callsign)) n (agree v.callsign)),
-  λ none c. subst (λ (os : List Offer). OfferAgrees r.plan (row_at callsign_cmp vehicle_key r.vehicles c) (row_at callsign_cmp offer_key os c)) (sym n) (reserved_agrees r c _ refl none),
+      let there : row_at callsign_cmp vehicle_key r.vehicles v.callsign
+      ≡ Some v = row_among callsign_cmp vehicle_key callsigns_total r.vehicles v order.vehicles here in
+      subst (λ (o : Option Vehicle). OfferAgrees r.plan o None) there
+      (subst (λ (os : List Offer).
+      OfferAgrees r.plan (row_at callsign_cmp vehicle_key r.vehicles v.callsign)
+      (row_at callsign_cmp offer_key os v.callsign)) n (agree v.callsign)),
+  λ none c.
+      subst (λ (os : List Offer).
+      OfferAgrees r.plan (row_at callsign_cmp vehicle_key r.vehicles c) (row_at callsign_cmp offer_key os c)) (sym n)
+      (reserved_agrees r c _ refl none),
 )

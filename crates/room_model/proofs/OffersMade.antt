@@ -1,6 +1,7 @@
 -- Nothing but a lend makes an offer.
 use Rattle.std.proofs.Common.{ap}
-use Rattle.std.specs.Prelude.{Bool, List, None, Option, Some, [], cond, false, is_some, map, refl, true, ℕ, ◌&&◌, ◌++◌, ◌∷◌, ◌≡◌}
+use Rattle.std.specs.Prelude.{Bool, List, None, Option, Some, [], cond, false, is_some, map, refl, true, ℕ, ◌&&◌, ◌++◌}
+use Rattle.std.specs.Prelude.{◌∷◌, ◌≡◌}
 use Rattle.room_types.specs.Codes.{acts}
 use Rattle.room_types_keyed.specs.Keyed.{drop_row}
 use Rattle.room_types.specs.Keys.{callsign_cmp, offer_key}
@@ -12,11 +13,12 @@ use Rattle.room_types.specs.declared.asks.Press.{Press}
 use Rattle.room_types.specs.declared.asks.Who.{Who}
 use Rattle.room_types.specs.declared.asks.Who.TheVariants.{Crew, Desk, Position}
 use Rattle.room_types.specs.declared.changes.Change.{Change}
-use Rattle.room_types.specs.declared.changes.Change.TheVariants.{DropAssignment, DropOffer, PutOffer, PutReport, PutVehicle}
+use Rattle.room_types.specs.declared.changes.Change.TheVariants.{DropAssignment, DropOffer, PutOffer, PutReport}
+use Rattle.room_types.specs.declared.changes.Change.TheVariants.{PutVehicle}
 use Rattle.room_types.specs.declared.codes.Button.{Button}
 use Rattle.room_types.specs.declared.codes.Outcome.{Outcome}
 use Rattle.room_types.specs.declared.codes.Status.TheVariants.{Returning}
-use Rattle.room_types.specs.declared.refusals.Refusal.{Refusal}
+use Rattle.room_types.specs.declared.refusal_statuses.Refusal.{Refusal}
 use Rattle.room_types.specs.declared.tables.Call.{Call}
 use Rattle.room_types.specs.declared.tables.Division.{Division}
 use Rattle.room_types.specs.declared.tables.Incident.{Incident}
@@ -29,15 +31,19 @@ use Rattle.room_model.proofs.Questions.{IsQuiet, by_quiet}
 use Rattle.room_model.specs.Calls.{call_in, call_kept, call_new, call_somewhere, call_taken, new_call}
 use Rattle.room_model.specs.Decisions.{Verdict, changes_of, refuse_if, tell, where_active, where_held}
 use Rattle.room_model.specs.Incidents.{change_needs, close, close_active, merge, merge_of, moved_call, needs_changed}
-use Rattle.room_model.specs.Loans.{accept, accepted, decline, declined, give_back, given_back, recall, recall_lent, withdraw, withdrawn}
+use Rattle.room_model.specs.Loans.{accept, accepted, decline, declined, give_back, given_back, recall, recall_lent}
+use Rattle.room_model.specs.Loans.{withdraw, withdrawn}
 use Rattle.room_model.specs.Moving.{IsUnoffered, NobodyLends, is_lend}
-use Rattle.room_model.specs.Queries.{borrowed, held, incident_of, is_attended, lent, offered_by, open_turn, point_of, served}
+use Rattle.room_model.specs.Queries.{borrowed, held, incident_of, is_attended, lent, offered_by, open_turn, point_of}
+use Rattle.room_model.specs.Queries.{served}
 use Rattle.room_model.specs.Queue.{clear, clear_found}
-use Rattle.room_model.specs.Reports.{back_changes, drop_changes, ends_turn, is_due, is_home, report_held, report_in, report_kept, report_made, report_row, report_somewhere, turn_changes, with_report}
+use Rattle.room_model.specs.Reports.{back_changes, drop_changes, ends_turn, is_due, is_home, report_held, report_in}
+use Rattle.room_model.specs.Reports.{report_kept, report_made, report_row, report_somewhere, turn_changes, with_report}
 use Rattle.room_model.specs.Room.{Room, apply, apply_one}
 use Rattle.room_model.specs.Run.{room_run}
 use Rattle.room_model.specs.Step.{crew_asks, decided, desk_asks, position_asks, room_after, who_asks}
-use Rattle.room_model.specs.Vehicles.{duty, mobilise, mobilise_held, mobilised, off, off_duty, on_duty, stand_down, stand_down_held, standby, standby_at, stands_by, turn_stood_down}
+use Rattle.room_model.specs.Vehicles.{duty, mobilise, mobilise_held, mobilised, off, off_duty, on_duty, stand_down}
+use Rattle.room_model.specs.Vehicles.{stand_down_held, standby, standby_at, stands_by, turn_stood_down}
 use Rattle.room_types.specs.declared.answers.Answer.TheVariants as answer
 use Rattle.room_types.specs.declared.asks.Ask.TheVariants as ask
 
@@ -85,7 +91,8 @@ calls_none m (c ∷ cs) = (tt, calls_none m cs)
 merge_none : (n m : Option Incident) (b : Bool) (cs : List Call) → NoneMade (merge_of n m b cs)
 merge_none None m b cs = tt
 merge_none (Some n) None b cs = tt
-merge_none (Some n) (Some m) b cs = refused_none _ _ _ (refused_none _ _ _ (refused_none _ _ _ (refused_none _ _ _ (tt, (tt, calls_none m.number cs)))))
+merge_none (Some n) (Some m) b cs =
+    refused_none _ _ _ (refused_none _ _ _ (refused_none _ _ _ (refused_none _ _ _ (tt, (tt, calls_none m.number cs)))))
 
 turn_none : (at : ℕ) (o : Option Turn) → AllMakeNone (turn_stood_down at o)
 turn_none at None = tt
@@ -124,20 +131,38 @@ quiet_none who a at r h = by_quiet at r AllMakeNone who a h tt
 desk_none : (d : ℕ) (a : Ask) (at : ℕ) (r : Room) → is_lend a ≡ false
     → NoneMade (desk_asks d a at r)
 unfolding mobilise change_needs merge close stand_down standby duty off withdraw decline accept recall give_back clear
-desk_none d (ask.Mobilise n c) at r h = active_none (incident_of d n r) (mobilise_held d (held d c r) (lent d c r) at (λ k. served d n k r)) (λ i. held_none (held d c r) (lent d c r) (mobilised d i at (λ k. served d n k r)) (λ v. refused_none _ _ _ (refused_none _ _ _ (refused_none _ _ _ (refused_none _ _ _ (tt, (tt, (tt, (tt, tt)))))))))
-desk_none d (ask.Needs n needs) at r h = active_none (incident_of d n r) (needs_changed needs (λ k. served d n k r)) (λ i. refused_none _ _ _ (tt, tt))
+desk_none d (ask.Mobilise n c) at r h =
+    active_none (incident_of d n r) (mobilise_held d (held d c r) (lent d c r) at (λ k. served d n k r))
+    (λ i.
+    held_none (held d c r) (lent d c r) (mobilised d i at (λ k. served d n k r))
+    (λ v. refused_none _ _ _ (refused_none _ _ _ (refused_none _ _ _ (refused_none _ _ _ (tt, (tt, (tt, (tt, tt)))))))))
+desk_none d (ask.Needs n needs) at r h =
+    active_none (incident_of d n r) (needs_changed needs (λ k. served d n k r)) (λ i. refused_none _ _ _ (tt, tt))
 desk_none d (ask.Merge n m) at r h = merge_none _ _ _ _
-desk_none d (ask.Close n) at r h = active_none (incident_of d n r) (close_active (is_attended d n r)) (λ i. refused_none _ _ _ (tt, tt))
-desk_none d (ask.StandDown c) at r h = held_none (held d c r) (lent d c r) (stand_down_held at (open_turn d c r)) (λ v. refused_none _ _ _ (append_none (turn_stood_down at (open_turn d c r)) (DropAssignment v.callsign ∷ PutVehicle (record v { status = Returning }) ∷ []) (turn_none at (open_turn d c r)) (tt, (tt, tt))))
-desk_none d (ask.Standby c p) at r h = held_none (held d c r) (lent d c r) (stands_by p (λ n. is_some (point_of d n r)) at) (λ v. refused_none _ _ _ (standby_none p _ at v))
-desk_none d (ask.Duty c place until) at r h = held_none (held d c r) (lent d c r) (on_duty place until at) (λ v. refused_none _ _ _ (refused_none _ _ _ (tt, tt)))
-desk_none d (ask.Off c) at r h = held_none (held d c r) (lent d c r) off_duty (λ v. refused_none _ _ _ (refused_none _ _ _ (tt, tt)))
+desk_none d (ask.Close n) at r h =
+    active_none (incident_of d n r) (close_active (is_attended d n r)) (λ i. refused_none _ _ _ (tt, tt))
+desk_none d (ask.StandDown c) at r h =
+    held_none (held d c r) (lent d c r) (stand_down_held at (open_turn d c r))
+    (λ v.
+    refused_none _ _ _ (append_none (turn_stood_down at (open_turn d c r))
+    (DropAssignment v.callsign ∷ PutVehicle (record v { status = Returning }) ∷ []) (turn_none at (open_turn d c r))
+    (tt, (tt, tt))))
+desk_none d (ask.Standby c p) at r h =
+    held_none (held d c r) (lent d c r) (stands_by p (λ n. is_some (point_of d n r)) at)
+    (λ v. refused_none _ _ _ (standby_none p _ at v))
+desk_none d (ask.Duty c place until) at r h =
+    held_none (held d c r) (lent d c r) (on_duty place until at) (λ v. refused_none _ _ _ (refused_none _ _ _ (tt, tt)))
+desk_none d (ask.Off c) at r h =
+    held_none (held d c r) (lent d c r) off_duty (λ v. refused_none _ _ _ (refused_none _ _ _ (tt, tt)))
 desk_none d (ask.Lend c to until) at r h = cc
-desk_none d (ask.Withdraw c) at r h = held_none (held d c r) (lent d c r) (withdrawn (offered_by d c r)) (λ v. withdrawn_none (offered_by d c r) v)
+desk_none d (ask.Withdraw c) at r h =
+    held_none (held d c r) (lent d c r) (withdrawn (offered_by d c r)) (λ v. withdrawn_none (offered_by d c r) v)
 desk_none d (ask.Decline c) at r h = declined_none _
 desk_none d (ask.Accept c) at r h = accepted_none _ at
 desk_none d (ask.Recall c) at r h = recalled_none _ _
-desk_none d (ask.GiveBack c) at r h = held_none (held d c r) (lent d c r) (given_back d (borrowed d c r)) (λ v. refused_none _ _ _ (refused_none _ _ _ (tt, (tt, tt))))
+desk_none d (ask.GiveBack c) at r h =
+    held_none (held d c r) (lent d c r) (given_back d (borrowed d c r))
+    (λ v. refused_none _ _ _ (refused_none _ _ _ (tt, (tt, tt))))
 desk_none d (ask.Clear c n) at r h = cleared_none _
 desk_none d (ask.SetPoint n place cover) at r h = (tt, tt)
 desk_none d a at r h = quiet_none (Desk d) a at r refl
@@ -180,8 +205,15 @@ back_none c false = tt
 
 made_none : (v : Vehicle) (t : Option Turn) (l : Option Loan) (p : Press) (at : ℕ) (o : Outcome)
     → NoneMade (report_made v t l p at o)
-made_none v t l p at o = either_none (acts o) _ (tell (answer.Reported p.number o v.status) (PutReport (report_row v p at o v.status) ∷ PutVehicle (with_report v p) ∷ []))
-    (tt, append_none (turn_changes p.button at t) _ (turns_none p.button at t) (append_none (drop_changes v.callsign (ends_turn p.button)) _ (drop_none v.callsign (ends_turn p.button)) (append_none (back_changes v.callsign (is_home p.button && is_due at l)) _ (back_none v.callsign (is_home p.button && is_due at l)) (tt, tt))))
+made_none v t l p at o =
+    either_none (acts o) _ (tell (answer.Reported p.number o v.status)
+    (PutReport (report_row v p at o v.status) ∷ PutVehicle (with_report v p) ∷ [])) (
+      tt,
+      append_none (turn_changes p.button at t) _ (turns_none p.button at t)
+          (append_none (drop_changes v.callsign (ends_turn p.button)) _ (drop_none v.callsign (ends_turn p.button))
+          (append_none (back_changes v.callsign (is_home p.button && is_due at l)) _
+          (back_none v.callsign (is_home p.button && is_due at l)) (tt, tt))),
+    )
     (tt, (tt, tt))
 
 report_none : (v : Option Vehicle) (t : Option Turn) (l : Option Loan) (p : Press) (at : ℕ)
@@ -224,4 +256,6 @@ unoffered_after r (x ∷ xs) h n = unoffered_after (apply_one r x) xs h.1 (unoff
 pub unoffered_run : (es : List Event) (r : Room) → IsUnoffered r → NobodyLends es
     → IsUnoffered (room_run es r)
 unoffered_run [] r n h = n
-unoffered_run (e ∷ es) r n h = unoffered_run es (room_after e r) (unoffered_after r (changes_of (decided e r)) (none_made e.who e.ask e.at r h.0) n) h.1
+unoffered_run (e ∷ es) r n h =
+    unoffered_run es (room_after e r)
+    (unoffered_after r (changes_of (decided e r)) (none_made e.who e.ask e.at r h.0) n) h.1

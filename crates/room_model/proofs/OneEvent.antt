@@ -1,12 +1,13 @@
 -- One event, and what a share becomes by what it is handed.
 use Rattle.std.proofs.Common.{ap, sym, ◌∙◌}
-use Rattle.std.specs.Prelude.{Bool, List, None, Option, Some, [], cond, false, is_ok, is_some, map, not, refl, true, ℕ, ◌++◌, ◌==◌, ◌∷◌, ◌≡◌}
+use Rattle.std.specs.Prelude.{Bool, List, None, Option, Some, [], cond, false, is_ok, is_some, map, not, refl, true, ℕ}
+use Rattle.std.specs.Prelude.{◌++◌, ◌==◌, ◌∷◌, ◌≡◌}
 use Rattle.room_types.specs.declared.asks.Ask.{Ask}
 use Rattle.room_types.specs.declared.asks.Who.TheVariants.{Desk}
 use Rattle.room_types.specs.declared.changes.Change.{Change}
 use Rattle.room_types.specs.declared.changes.Change.TheVariants.{DropAssignment, PutVehicle}
 use Rattle.room_types.specs.declared.codes.Status.TheVariants.{Returning}
-use Rattle.room_types.specs.declared.refusals.Refusal.{Refusal}
+use Rattle.room_types.specs.declared.refusal_statuses.Refusal.{Refusal}
 use Rattle.room_types.specs.declared.tables.Call.{Call}
 use Rattle.room_types.specs.declared.tables.Incident.{Incident}
 use Rattle.room_types.specs.declared.tables.Loan.{Loan}
@@ -24,15 +25,17 @@ use Rattle.room_model.specs.Crossing.{cross, cross_other, cross_own}
 use Rattle.room_model.specs.Decisions.{Verdict, changes_of, refuse_if, where_active, where_held}
 use Rattle.room_model.specs.Incidents.{change_needs, close, close_active, merge, merge_of, moved_call, needs_changed}
 use Rattle.room_model.specs.Loans.{give_back, given_back, lend, offered, recall, recall_lent, withdraw, withdrawn}
-use Rattle.room_model.specs.Queries.{borrowed, held, incident_of, is_attended, lent, offered_by, open_turn, point_of, served}
+use Rattle.room_model.specs.Queries.{borrowed, held, incident_of, is_attended, lent, offered_by, open_turn, point_of}
+use Rattle.room_model.specs.Queries.{served}
 use Rattle.room_model.specs.Queue.{clear, clear_found}
 use Rattle.room_model.specs.Room.{IsInOrder, Room, apply}
 use Rattle.room_model.specs.Shares.{ArePlain, own}
 use Rattle.room_model.specs.Step.{desk_asks, room_after}
-use Rattle.room_model.specs.Vehicles.{duty, mobilise, mobilise_held, mobilised, off, off_duty, on_duty, stand_down, stand_down_held, standby, standby_at, stands_by, turn_stood_down}
+use Rattle.room_model.specs.Vehicles.{duty, mobilise, mobilise_held, mobilised, off, off_duty, on_duty, stand_down}
+use Rattle.room_model.specs.Vehicles.{stand_down_held, standby, standby_at, stands_by, turn_stood_down}
 use Rattle.room_model.specs.WellFormed.{IsWellFormed}
 use Rattle.room_types.specs.declared.asks.Ask.TheVariants as ask
-use Rattle.room_types.specs.declared.refusals.Refusal.TheVariants as refusal
+use Rattle.room_types.specs.declared.refusal_statuses.Refusal.TheVariants as refusal
 
 -- another desk's request
 pub other_desk : (d h : ℕ) (r : Room) (a : Ask) (at : ℕ) → IsWellFormed r → h == d ≡ false
@@ -40,7 +43,11 @@ pub other_desk : (d h : ℕ) (r : Room) (a : Ask) (at : ℕ) → IsWellFormed r 
     ≡ share_by d (own d r) (cross d r (record { who = Desk h; ask = a; at = at }))
 other_desk d h r a at w apart =
     desk_isolated d h r w apart a at
-    ∙ sym (ap (λ (b : Bool). share_by d (own d r) (cond b (Some (cross_own (is_ok (desk_asks h a at r)) (record { who = Desk h; ask = a; at = at }) a r)) (cond (is_ok (desk_asks h a at r)) (cross_other d h a r (apply r (changes_of (desk_asks h a at r)))) None))) apart)
+    ∙ sym (ap
+    (λ (b : Bool).
+    share_by d (own d r) (cond b
+    (Some (cross_own (is_ok (desk_asks h a at r)) (record { who = Desk h; ask = a; at = at }) a r))
+    (cond (is_ok (desk_asks h a at r)) (cross_other d h a r (apply r (changes_of (desk_asks h a at r)))) None))) apart)
 
 -- ---- changes that a share can follow
 plain_refuse : (b : Bool) (e : Refusal) (x : Verdict) → ArePlain (changes_of x)
@@ -75,7 +82,9 @@ plain_merge : (n m : Option Incident) (b : Bool) (cs : List Call)
     → ArePlain (changes_of (merge_of n m b cs))
 plain_merge None m b cs = tt
 plain_merge (Some n) None b cs = tt
-plain_merge (Some n) (Some m) b cs = plain_refuse _ _ _ (plain_refuse _ _ _ (plain_refuse _ _ _ (plain_refuse _ _ _ (tt, (tt, plain_calls m.number cs)))))
+plain_merge (Some n) (Some m) b cs =
+    plain_refuse _ _ _
+    (plain_refuse _ _ _ (plain_refuse _ _ _ (plain_refuse _ _ _ (tt, (tt, plain_calls m.number cs)))))
 
 plain_withdrawn : (o : Option Offer) (v : Vehicle) → ArePlain (changes_of (withdrawn o v))
 plain_withdrawn None v = tt
@@ -106,18 +115,41 @@ pub desk_plain : (d : ℕ) (a : Ask) (at : ℕ) (r : Room) → settles a ≡ fal
 unfolding mobilise change_needs merge close stand_down standby duty off lend withdraw recall give_back clear
 desk_plain d (ask.Decline c) at r l = cc
 desk_plain d (ask.Accept c) at r l = cc
-desk_plain d (ask.Mobilise n c) at r l = plain_active (incident_of d n r) (mobilise_held d (held d c r) (lent d c r) at (λ k. served d n k r)) (λ i. plain_held (held d c r) (lent d c r) (mobilised d i at (λ k. served d n k r)) (λ v. plain_refuse _ _ _ (plain_refuse _ _ _ (plain_refuse _ _ _ (plain_refuse _ _ _ (tt, (tt, (tt, (tt, tt)))))))))
-desk_plain d (ask.Needs n needs) at r l = plain_active (incident_of d n r) (needs_changed needs (λ k. served d n k r)) (λ i. plain_refuse _ _ _ (tt, tt))
+desk_plain d (ask.Mobilise n c) at r l =
+    plain_active (incident_of d n r) (mobilise_held d (held d c r) (lent d c r) at (λ k. served d n k r))
+    (λ i.
+    plain_held (held d c r) (lent d c r) (mobilised d i at (λ k. served d n k r))
+    (λ v. plain_refuse _ _ _ (plain_refuse _ _ _ (plain_refuse _ _ _ (plain_refuse _ _ _ (tt, (tt, (tt, (tt, tt)))))))))
+desk_plain d (ask.Needs n needs) at r l =
+    plain_active (incident_of d n r) (needs_changed needs (λ k. served d n k r)) (λ i. plain_refuse _ _ _ (tt, tt))
 desk_plain d (ask.Merge n m) at r l = plain_merge _ _ _ _
-desk_plain d (ask.Close n) at r l = plain_active (incident_of d n r) (close_active (is_attended d n r)) (λ i. plain_refuse _ _ _ (tt, tt))
-desk_plain d (ask.StandDown c) at r l = plain_held (held d c r) (lent d c r) (stand_down_held at (open_turn d c r)) (λ v. plain_refuse _ _ _ (plain_append (turn_stood_down at (open_turn d c r)) (DropAssignment v.callsign ∷ PutVehicle (record v { status = Returning }) ∷ []) (plain_turn at (open_turn d c r)) (tt, (tt, tt))))
-desk_plain d (ask.Standby c p) at r l = plain_held (held d c r) (lent d c r) (stands_by p (λ n. is_some (point_of d n r)) at) (λ v. plain_refuse _ _ _ (plain_standby p _ at v))
-desk_plain d (ask.Duty c place until) at r l = plain_held (held d c r) (lent d c r) (on_duty place until at) (λ v. plain_refuse _ _ _ (plain_refuse _ _ _ (tt, tt)))
-desk_plain d (ask.Off c) at r l = plain_held (held d c r) (lent d c r) off_duty (λ v. plain_refuse _ _ _ (plain_refuse _ _ _ (tt, tt)))
-desk_plain d (ask.Lend c to until) at r l = plain_held (held d c r) (lent d c r) (offered r.plan d to until at) (λ v. plain_refuse _ _ _ (plain_refuse _ _ _ (plain_refuse _ _ _ (plain_refuse _ _ _ (plain_refuse _ _ _ (tt, (tt, tt)))))))
-desk_plain d (ask.Withdraw c) at r l = plain_held _ _ (withdrawn (offered_by d c r)) (λ v. plain_withdrawn (offered_by d c r) v)
+desk_plain d (ask.Close n) at r l =
+    plain_active (incident_of d n r) (close_active (is_attended d n r)) (λ i. plain_refuse _ _ _ (tt, tt))
+desk_plain d (ask.StandDown c) at r l =
+    plain_held (held d c r) (lent d c r) (stand_down_held at (open_turn d c r))
+    (λ v.
+    plain_refuse _ _ _ (plain_append (turn_stood_down at (open_turn d c r))
+    (DropAssignment v.callsign ∷ PutVehicle (record v { status = Returning }) ∷ []) (plain_turn at (open_turn d c r))
+    (tt, (tt, tt))))
+desk_plain d (ask.Standby c p) at r l =
+    plain_held (held d c r) (lent d c r) (stands_by p (λ n. is_some (point_of d n r)) at)
+    (λ v. plain_refuse _ _ _ (plain_standby p _ at v))
+desk_plain d (ask.Duty c place until) at r l =
+    plain_held (held d c r) (lent d c r) (on_duty place until at)
+    (λ v. plain_refuse _ _ _ (plain_refuse _ _ _ (tt, tt)))
+desk_plain d (ask.Off c) at r l =
+    plain_held (held d c r) (lent d c r) off_duty (λ v. plain_refuse _ _ _ (plain_refuse _ _ _ (tt, tt)))
+desk_plain d (ask.Lend c to until) at r l =
+    plain_held (held d c r) (lent d c r) (offered r.plan d to until at)
+    (λ v.
+    plain_refuse _ _ _
+    (plain_refuse _ _ _ (plain_refuse _ _ _ (plain_refuse _ _ _ (plain_refuse _ _ _ (tt, (tt, tt)))))))
+desk_plain d (ask.Withdraw c) at r l =
+    plain_held _ _ (withdrawn (offered_by d c r)) (λ v. plain_withdrawn (offered_by d c r) v)
 desk_plain d (ask.Recall c) at r l = plain_recall _ _
-desk_plain d (ask.GiveBack c) at r l = plain_held (held d c r) (lent d c r) (given_back d (borrowed d c r)) (λ v. plain_refuse _ _ _ (plain_refuse _ _ _ (tt, (tt, tt))))
+desk_plain d (ask.GiveBack c) at r l =
+    plain_held (held d c r) (lent d c r) (given_back d (borrowed d c r))
+    (λ v. plain_refuse _ _ _ (plain_refuse _ _ _ (tt, (tt, tt))))
 desk_plain d (ask.Clear c n) at r l = plain_clear _
 desk_plain d (ask.SetPoint n place cover) at r l = (tt, tt)
 desk_plain d a at r l = by_quiet at r ArePlain (Desk d) a refl tt

@@ -35,7 +35,9 @@ module _ {R K : Type 0} (cmp : K → K → Ordering) (key : R → K) (total : Is
     | inl e ↦ e
     | inr c ↦ elim b [
       | inl e ↦ sym e
-      | inr e ↦ absurd (not_less x (total.trans (key x) (key y) (key x) (below_each (key x) xs y h.0 e) (below_each (key y) ys x g.0 c)))
+      | inr e ↦
+          absurd (not_less x
+          (total.trans (key x) (key y) (key x) (below_each (key x) xs y h.0 e) (below_each (key y) ys x g.0 c)))
     ]
   ]
 
@@ -47,7 +49,8 @@ module _ {R K : Type 0} (cmp : K → K → Ordering) (key : R → K) (total : Is
   one_keyed (x ∷ xs) (y ∷ ys) h g to from =
       let same : x ≡ y = same_head x xs y ys h g (to x (inl refl)) (from y (inl refl)) in
       ap (λ z. z ∷ xs) same
-      ∙ ap (λ zs. y ∷ zs) (one_keyed xs ys h.1 g.1 (λ z a. past_head x xs y ys same h z a (to z (inr a))) (λ z a. past_head y ys x xs (sym same) g z a (from z (inr a))))
+      ∙ ap (λ zs. y ∷ zs) (one_keyed xs ys h.1 g.1 (λ z a. past_head x xs y ys same h z a (to z (inr a)))
+      (λ z a. past_head y ys x xs (sym same) g z a (from z (inr a))))
 
 -- ---- the first few, by an order that has no circle
 module _ {X : Type 0} (lt : X → X → Bool) (apart : (x y : X) → lt x y ≡ true → lt y x ≡ true → ⊥)
@@ -60,7 +63,8 @@ module _ {X : Type 0} (lt : X → X → Bool) (apart : (x y : X) → lt x y ≡ 
   -- y is the head, or above it
   head_or_above : (q : X) (qs : List X) → IsRising lt (Some q) qs → (y : X)
       → Among y (q ∷ qs) ⊎ AreBefore lt (q ∷ qs) y → (y ≡ q) ⊎ (lt q y ≡ true)
-  head_or_above q qs h y g = elim g [ inl e ↦ elim e [ inl f ↦ inl f | inr f ↦ inr (above q qs h y f) ] | inr e ↦ inr e.0 ]
+  head_or_above q qs h y g =
+      elim g [ inl e ↦ elim e [ inl f ↦ inl f | inr f ↦ inr (above q qs h y f) ] | inr e ↦ inr e.0 ]
 
   -- what is above the head is among the tail, or all of the tail is before it
   tail_only : (q : X) (qs : List X) (y : X) → lt q y ≡ true

@@ -27,8 +27,11 @@ module _ (r s : Room) (w : IsWellFormed r) (v : IsWellFormed s) where
       → take_call (new_call p f at) r ≡ take_call (new_call p f at) s
   placed_alike p f at agree none None outside =
       ap (λ k. call_kept k (new_call p f at) r) none ∙ ap (λ o. call_somewhere o (new_call p f at) r) outside
-      ∙ sym (ap (λ k. call_kept k (new_call p f at) s) (sym agree.kept ∙ none) ∙ ap (λ o. call_somewhere o (new_call p f at) s) (ap (λ plan. division_of plan f.place) (sym agree.plan) ∙ outside))
-  placed_alike p f at agree none (Some d) inside = call_equal d p f at r s w v (agree.share d inside) none (sym agree.kept ∙ none) inside
+      ∙ sym (ap (λ k. call_kept k (new_call p f at) s) (sym agree.kept ∙ none)
+      ∙ ap (λ o. call_somewhere o (new_call p f at) s)
+      (ap (λ plan. division_of plan f.place) (sym agree.plan) ∙ outside))
+  placed_alike p f at agree none (Some d) inside =
+      call_equal d p f at r s w v (agree.share d inside) none (sym agree.kept ∙ none) inside
 
   kept_alike : (p : ℕ) (f : CallForm) (at : ℕ) → AgreeOnCall p f r s → (o : Option Call)
       → kept_call p f.serial r ≡ o → take_call (new_call p f at) r ≡ take_call (new_call p f at) s

@@ -3,12 +3,15 @@ use Rattle.std.proofs.Common.{ap, eq-eqb, sym, ◌∙◌}
 use Rattle.std.proofs.lemmas.Cmp.{nat_cmp_total}
 use Rattle.std.proofs.lemmas.Map.Lookups.{exact_unsigned}
 use Rattle.std.specs.Ordering.{nat_cmp}
-use Rattle.std.specs.Prelude.{Bool, None, Option, Some, cond, false, filter, filter_map, length, nat_lt, refl, ℕ, ℤ, ◌&&◌, ◌++◌, ◌==◌, ◌≡◌}
+use Rattle.std.specs.Prelude.{Bool, None, Option, Some, cond, false, filter, filter_map, length, nat_lt, refl, ℕ, ℤ}
+use Rattle.std.specs.Prelude.{◌&&◌, ◌++◌, ◌==◌, ◌≡◌}
 use Rattle.room_place.specs.Choice.{first, least}
 use Rattle.room_place.specs.declared.places.Place.{Place}
 use Rattle.room_types_keyed.proofs.KeyedLaws.{row_filter}
 use Rattle.room_types_keyed.specs.Keyed.{keep}
-use Rattle.room_types.specs.Keys.{division_key, incident_key, numbered_cmp, owns_call, owns_division, owns_incident, owns_loan, owns_offer, owns_point, owns_report, owns_turn, owns_vehicle, pair_cmp, report_key}
+use Rattle.room_types.specs.Keys.{division_key, incident_key, numbered_cmp, owns_call, owns_division, owns_incident}
+use Rattle.room_types.specs.Keys.{owns_loan, owns_offer, owns_point, owns_report, owns_turn, owns_vehicle, pair_cmp}
+use Rattle.room_types.specs.Keys.{report_key}
 use Rattle.room_types.specs.Orders.{exact_pair, numbered_total, pairs_total}
 use Rattle.room_types.specs.declared.answers.Entry.{Entry}
 use Rattle.room_types.specs.declared.asks.Ask.{Ask}
@@ -21,14 +24,22 @@ use Rattle.room_types.specs.declared.tables.Point.{Point}
 use Rattle.room_types.specs.declared.tables.Turn.{Turn}
 use Rattle.room_types.specs.declared.tables.Vehicle.{Vehicle}
 use Rattle.room_types.specs.Texts.{Callsign}
-use Rattle.room_model.proofs.AskLaws.{accept_same, clear_same, close_same, decline_same, duty_same, give_back_same, incident_same, incidents_same, lend_same, loans_same, merge_same, mobilise_same, needs_same, off_same, offers_same, points_same, propose_same, queue_same, recall_same, stand_down_same, standby_same, times_same, vehicles_same, withdraw_same}
+use Rattle.room_model.proofs.AskLaws.{accept_same, clear_same, close_same, decline_same, duty_same, give_back_same}
+use Rattle.room_model.proofs.AskLaws.{incident_same, incidents_same, lend_same, loans_same, merge_same, mobilise_same}
+use Rattle.room_model.proofs.AskLaws.{needs_same, off_same, offers_same, points_same, propose_same, queue_same}
+use Rattle.room_model.proofs.AskLaws.{recall_same, stand_down_same, standby_same, times_same, vehicles_same}
+use Rattle.room_model.proofs.AskLaws.{withdraw_same}
 use Rattle.room_model.proofs.Sights.{SeesCover, SeesIncident, SeesVehicle, SeesVehicles, sees_beside}
-use Rattle.room_model.proofs.Tests.{any_filter, filter_filter, filter_map_among, filter_map_filter, is_equal, keep_keep, keep_row, left_true}
+use Rattle.room_model.proofs.Tests.{any_filter, filter_filter, filter_map_among, filter_map_filter, is_equal, keep_keep}
+use Rattle.room_model.proofs.Tests.{keep_row, left_true}
 use Rattle.room_model.specs.Calls.{call_in, call_taken}
 use Rattle.room_types.specs.Codes.{is_active, is_mobilised}
 use Rattle.room_model.specs.Moments.{age}
-use Rattle.room_model.specs.Queries.{active_incidents, borrowed, calls_of, held, incident_of, incidents_opened, is_attended, is_candidate, is_nearer, last_number, link_target, open_turn, report_of, served, turns_of}
-use Rattle.room_model.specs.Queue.{entries, exception, overdue, shift_over, slow, slow_incident, slow_turn, unanswered, uncovered, unread, unread_turn, unserved}
+use Rattle.room_model.specs.Queries.{active_incidents, borrowed, calls_of, held, incident_of, incidents_opened}
+use Rattle.room_model.specs.Queries.{is_attended, is_candidate, is_nearer, last_number, link_target, open_turn}
+use Rattle.room_model.specs.Queries.{report_of, served, turns_of}
+use Rattle.room_model.specs.Queue.{entries, exception, overdue, shift_over, slow, slow_incident, slow_turn, unanswered}
+use Rattle.room_model.specs.Queue.{uncovered, unread, unread_turn, unserved}
 use Rattle.room_model.specs.Reports.{report_held, report_in}
 use Rattle.room_model.specs.Room.{IsInOrder, Room}
 use Rattle.room_model.specs.Shares.{own}
@@ -37,11 +48,16 @@ use Rattle.room_types.specs.declared.asks.Ask.TheVariants as ask
 
 module _ (d : ℕ) (r : Room) (in_order : IsInOrder r) where
   pub sees_own : SeesVehicles d (own d r) r
-  sees_own = sees_beside d r in_order (filter (owns_incident d) r.incidents) (filter (owns_call d) r.calls) (filter (owns_turn d) r.turns) (filter (owns_report d) r.reports)
+  sees_own =
+      sees_beside d r in_order (filter (owns_incident d) r.incidents) (filter (owns_call d) r.calls)
+      (filter (owns_turn d) r.turns) (filter (owns_report d) r.reports)
 
   pub incident_own : (n : ℕ) → incident_of d n (own d r) ≡ incident_of d n r
   unfolding incident_of
-  incident_own n = row_filter pair_cmp incident_key pairs_total (owns_incident d) r.incidents (d, n) in_order.incidents ∙ keep_row pair_cmp incident_key (owns_incident d) r.incidents (d, n) (λ x h. eq-eqb x.division d (sym (ap (λ (p : ℕ × ℕ). p.0) (exact_pair (d, n) (incident_key x) (is_equal _ h)))))
+  incident_own n =
+      row_filter pair_cmp incident_key pairs_total (owns_incident d) r.incidents (d, n) in_order.incidents
+      ∙ keep_row pair_cmp incident_key (owns_incident d) r.incidents (d, n)
+      (λ x h. eq-eqb x.division d (sym (ap (λ (p : ℕ × ℕ). p.0) (exact_pair (d, n) (incident_key x) (is_equal _ h)))))
 
   pub served_own : (n : ℕ) (k : Kind) → served d n k (own d r) ≡ served d n k r
   unfolding served
@@ -60,7 +76,8 @@ module _ (d : ℕ) (r : Room) (in_order : IsInOrder r) where
   turns_own n = filter_filter _ (owns_turn d) r.turns (λ x h. left_true _ _ h)
 
   pub sees_incident_own : (n : ℕ) → SeesIncident d n (own d r) r
-  sees_incident_own n = record { same_incident = incident_own n; same_served = served_own n; same_attended = attended_own n }
+  sees_incident_own n =
+      record { same_incident = incident_own n; same_served = served_own n; same_attended = attended_own n }
 
   sees_vehicle_own : (c : Callsign) → SeesVehicle d c (own d r) r
   sees_vehicle_own c = record { same_held = sees_own.same_held c; same_lent = sees_own.same_lent c }
@@ -83,15 +100,23 @@ module _ (d : ℕ) (r : Room) (in_order : IsInOrder r) where
 
   pub report_own : (c : Callsign) (n : ℕ) → report_of d c n (own d r) ≡ report_of d c n r
   unfolding report_of
-  report_own c n = ap (keep (λ x. x.division == d)) (row_filter numbered_cmp report_key numbered_total (owns_report d) r.reports (c, n) in_order.reports) ∙ keep_keep (λ x. x.division == d) (owns_report d) _ (λ x h. h)
+  report_own c n =
+      ap (keep (λ x. x.division == d))
+      (row_filter numbered_cmp report_key numbered_total (owns_report d) r.reports (c, n) in_order.reports)
+      ∙ keep_keep (λ x. x.division == d) (owns_report d) _ (λ x h. h)
 
   pub last_number_own : last_number d (own d r) ≡ last_number d r
   unfolding last_number
-  last_number_own = row_filter nat_cmp division_key nat_cmp_total (owns_division d) r.divisions d in_order.divisions ∙ keep_row nat_cmp division_key (owns_division d) r.divisions d (λ x h. eq-eqb x.number d (sym (exact_unsigned d x.number (is_equal _ h))))
+  last_number_own =
+      row_filter nat_cmp division_key nat_cmp_total (owns_division d) r.divisions d in_order.divisions
+      ∙ keep_row nat_cmp division_key (owns_division d) r.divisions d
+      (λ x h. eq-eqb x.number d (sym (exact_unsigned d x.number (is_equal _ h))))
 
   pub target_own : (p : Place) (at : ℕ) → link_target d p at (own d r) ≡ link_target d p at r
   unfolding link_target
-  target_own p at = ap (least (is_nearer p)) (filter_filter (is_candidate d p at) (owns_incident d) r.incidents (λ x h. left_true _ _ h))
+  target_own p at =
+      ap (least (is_nearer p))
+      (filter_filter (is_candidate d p at) (owns_incident d) r.incidents (λ x h. left_true _ _ h))
 
   -- ---- the queue
   -- a test that fails for another division's rows
@@ -104,13 +129,20 @@ module _ (d : ℕ) (r : Room) (in_order : IsInOrder r) where
   unserved_own : (at : ℕ) → filter_map (unserved d at (own d r))
       (filter (owns_incident d) r.incidents) ≡ filter_map (unserved d at r) r.incidents
   unserved_own at =
-      ap (λ (f : Incident → Option Entry). filter_map f (filter (owns_incident d) r.incidents)) (λ j i. cond (i.division == d && (is_active i.state && ((served_own i.number Ambulance j == 0 && (served_own i.number Car j == 0 && served_own i.number Support j == 0)) && nat_lt 180 (age at i.opened)))) (Some (record { rank = 1; since = i.opened; number = i.number; callsign = None })) None)
+      ap (λ (f : Incident → Option Entry). filter_map f (filter (owns_incident d) r.incidents))
+      (λ j i.
+      cond (i.division == d
+      && (is_active i.state
+      && ((served_own i.number Ambulance j == 0
+      && (served_own i.number Car j == 0 && served_own i.number Support j == 0)) && nat_lt 180 (age at i.opened))))
+      (Some (record { rank = 1; since = i.opened; number = i.number; callsign = None })) None)
       ∙ filter_map_filter (unserved d at r) (owns_incident d) r.incidents (λ i h. off_share (i.division == d) _ _ h)
 
   unread_own : (at : ℕ) → filter_map (unread d at (own d r)) (filter (owns_vehicle d) r.vehicles)
       ≡ filter_map (unread d at r) r.vehicles
   unread_own at =
-      ap (λ (f : Vehicle → Option Entry). filter_map f (filter (owns_vehicle d) r.vehicles)) (λ j v. cond (v.holder == d && is_mobilised v.status) (unread_turn at v (turn_own v.callsign j)) None)
+      ap (λ (f : Vehicle → Option Entry). filter_map f (filter (owns_vehicle d) r.vehicles))
+      (λ j v. cond (v.holder == d && is_mobilised v.status) (unread_turn at v (turn_own v.callsign j)) None)
       ∙ filter_map_filter (unread d at r) (owns_vehicle d) r.vehicles (λ v h. off_share (v.holder == d) _ _ h)
 
   slow_same : (at : ℕ) (v : Vehicle) → slow d at (own d r) v ≡ slow d at r v
@@ -138,29 +170,39 @@ module _ (d : ℕ) (r : Room) (in_order : IsInOrder r) where
 
   shift_own : (at : ℕ) → filter_map (shift_over d at) (filter (owns_vehicle d) r.vehicles)
       ≡ filter_map (shift_over d at) r.vehicles
-  shift_own at = filter_map_filter (shift_over d at) (owns_vehicle d) r.vehicles (λ v h. off_share (v.holder == d) _ _ h)
+  shift_own at =
+      filter_map_filter (shift_over d at) (owns_vehicle d) r.vehicles (λ v h. off_share (v.holder == d) _ _ h)
 
   uncovered_own : (at : ℕ) → filter_map (uncovered d at (own d r)) (filter (owns_point d) r.points)
       ≡ filter_map (uncovered d at r) r.points
   uncovered_own at =
-      ap (λ (f : Point → Option Entry). filter_map f (filter (owns_point d) r.points)) (λ j p. cond (p.division == d && nat_lt (length (sees_own.same_holders p.number at j)) p.cover) (Some (record { rank = 7; since = 0; number = p.number; callsign = None })) None)
+      ap (λ (f : Point → Option Entry). filter_map f (filter (owns_point d) r.points))
+      (λ j p.
+      cond (p.division == d && nat_lt (length (sees_own.same_holders p.number at j)) p.cover)
+      (Some (record { rank = 7; since = 0; number = p.number; callsign = None })) None)
       ∙ filter_map_filter (uncovered d at r) (owns_point d) r.points (λ p h. off_share (p.division == d) _ _ h)
 
   unanswered_own : (at : ℕ) → filter_map (unanswered d at) (filter (owns_offer d) r.offers)
       ≡ filter_map (unanswered d at) r.offers
-  unanswered_own at = filter_map_filter (unanswered d at) (owns_offer d) r.offers (λ o h. off_share (owns_offer d o) _ _ h)
+  unanswered_own at =
+      filter_map_filter (unanswered d at) (owns_offer d) r.offers (λ o h. off_share (owns_offer d o) _ _ h)
 
   pub entries_own : (at : ℕ) → entries d at (own d r) ≡ entries d at r
   unfolding entries
   entries_own at i =
-      unserved_own at i ++ (unread_own at i ++ (slow_own at i ++ (exception_own i ++ (overdue_own at i ++ (shift_own at i ++ (uncovered_own at i ++ unanswered_own at i))))))
+      unserved_own at i
+      ++ (unread_own at i
+      ++ (slow_own at i
+      ++ (exception_own i ++ (overdue_own at i ++ (shift_own at i ++ (uncovered_own at i ++ unanswered_own at i))))))
 
   -- ---- the decisions
   pub desk_own : (a : Ask) (at : ℕ) → desk_asks d a at (own d r) ≡ desk_asks d a at r
   desk_own (ask.Call f) at = refl
-  desk_own ask.Incidents at = incidents_same d (own d r) r active_own (λ i m. sees_incident_own i.number) (λ i m. calls_own i.number)
+  desk_own ask.Incidents at =
+      incidents_same d (own d r) r active_own (λ i m. sees_incident_own i.number) (λ i m. calls_own i.number)
   desk_own (ask.Incident n) at = incident_same d (own d r) r n (sees_incident_own n) (calls_own n) (turns_own n)
-  desk_own (ask.Propose n) at = propose_same d (own d r) r n at (sees_incident_own n) sees_cover_own (λ k. sees_own.same_eligible k at)
+  desk_own (ask.Propose n) at =
+      propose_same d (own d r) r n at (sees_incident_own n) sees_cover_own (λ k. sees_own.same_eligible k at)
   desk_own (ask.Mobilise n c) at = mobilise_same d (own d r) r n c at (sees_vehicle_own c) (sees_incident_own n)
   desk_own (ask.Needs n needs) at = needs_same d (own d r) r n needs (sees_incident_own n)
   desk_own (ask.Merge n m) at = merge_same d (own d r) r n m (sees_incident_own n) (calls_own n) (incident_own m)
@@ -190,7 +232,9 @@ module _ (d : ℕ) (r : Room) (in_order : IsInOrder r) where
   -- a call in the division, and a report of a vehicle that it holds
   pub call_own : (new : NewCall) → call_in d new (own d r) ≡ call_in d new r
   unfolding call_in
-  call_own new = ap (λ t. call_taken d new t (last_number d (own d r))) (target_own new.place new.at) ∙ ap (call_taken d new (link_target d new.place new.at r)) last_number_own
+  call_own new =
+      ap (λ t. call_taken d new t (last_number d (own d r))) (target_own new.place new.at)
+      ∙ ap (call_taken d new (link_target d new.place new.at r)) last_number_own
 
   pub report_in_own : (c : Callsign) (p : Press) (at : ℕ)
       → report_in d c p at (own d r) ≡ report_in d c p at r

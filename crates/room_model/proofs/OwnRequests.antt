@@ -58,15 +58,28 @@ module _ (d : ℕ) (r : Room) (w : IsWellFormed r) where
 
   offered_vehicle : (o : Offer) → row_at callsign_cmp offer_key r.offers o.callsign ≡ Some o
       → IsOffered o
-  offered_vehicle o g = (elim (row_at callsign_cmp vehicle_key r.vehicles o.callsign) as (λ (x : Option Vehicle). row_at callsign_cmp vehicle_key r.vehicles o.callsign ≡ x → OfferAgrees r.plan x (Some o) → IsOffered o) [
-    | None ↦ λ e f. absurd f
-    | Some v ↦ λ e f. record { vehicle = v; there = e; key = row_key callsign_cmp vehicle_key callsigns_total exact_callsigns r.vehicles o.callsign v e; lender = f.1; elsewhere = differ o.lender v.holder o.borrower f.1 f.3 }
-  ]) refl (subst (λ x. OfferAgrees r.plan (row_at callsign_cmp vehicle_key r.vehicles o.callsign) x) g (w.offers o.callsign))
+  offered_vehicle o g =
+      (elim (row_at callsign_cmp vehicle_key r.vehicles o.callsign) as (λ (x : Option Vehicle).
+      row_at callsign_cmp vehicle_key r.vehicles o.callsign ≡ x → OfferAgrees r.plan x (Some o) → IsOffered o) [
+        | None ↦ λ e f. absurd f
+        | Some v ↦
+            λ e f. record {
+              vehicle = v;
+              there = e;
+              key = row_key callsign_cmp vehicle_key callsigns_total exact_callsigns r.vehicles o.callsign v e;
+              lender = f.1;
+              elsewhere = differ o.lender v.holder o.borrower f.1 f.3;
+            }
+      ]) refl (subst (λ x. OfferAgrees r.plan (row_at callsign_cmp vehicle_key r.vehicles o.callsign) x) g
+      (w.offers o.callsign))
 
   -- the vehicle that another division holds is none of the share's
   absent : (k : Callsign) (v : Vehicle) → row_at callsign_cmp vehicle_key r.vehicles k ≡ Some v
       → v.holder == d ≡ false → row_at callsign_cmp vehicle_key (own d r).vehicles k ≡ None
-  absent k v there other = none_own callsign_cmp vehicle_key callsigns_total (owns_vehicle d) r.vehicles k w.order.vehicles (λ y e. let both : Some v ≡ Some y = sym there ∙ e in let same : v ≡ y = cc in ap (owns_vehicle d) (sym same) ∙ other)
+  absent k v there other =
+      none_own callsign_cmp vehicle_key callsigns_total (owns_vehicle d) r.vehicles k w.order.vehicles
+      (λ y e.
+      let both : Some v ≡ Some y = sym there ∙ e in let same : v ≡ y = cc in ap (owns_vehicle d) (sym same) ∙ other)
 
   -- it is settled elsewhere: the share has nothing of it
   settled_elsewhere : (k : Callsign) (e : ℕ) (v : Vehicle)
@@ -77,10 +90,12 @@ module _ (d : ℕ) (r : Room) (w : IsWellFormed r) where
       let none = absent k v there other in
       ap (λ s. own d (apply s cs)) (settle_puts r k e v there)
       ∙ own_apply d r (PutVehicle (settled_row v e) ∷ cs) w.order (tt, plain)
-      ∙ ap (λ s. share_after d s cs) (share_foreign d (own d r) (PutVehicle (settled_row v e)) (away, ap (row_at callsign_cmp vehicle_key (own d r).vehicles) (sym key) ∙ none))
+      ∙ ap (λ s. share_after d s cs) (share_foreign d (own d r) (PutVehicle (settled_row v e))
+      (away, ap (row_at callsign_cmp vehicle_key (own d r).vehicles) (sym key) ∙ none))
       ∙ sym (own_apply d r cs w.order plain)
       ∙ own_apply_own d r cs w.order plain
-      ∙ sym (ap (λ (x : Option Vehicle). own d (apply (record (own d r) { vehicles = settled x e (own d r).vehicles }) cs)) none)
+      ∙ sym (ap
+      (λ (x : Option Vehicle). own d (apply (record (own d r) { vehicles = settled x e (own d r).vehicles }) cs)) none)
 
   -- the share that is handed the vehicle first settles it as the room does
   settled_here : (k : Callsign) (e : ℕ) (v : Vehicle)
@@ -92,11 +107,17 @@ module _ (d : ℕ) (r : Room) (w : IsWellFormed r) where
       let s = put_vehicle (own d r) v in
       let order = in_order_own d r w.order in
       let none = ap (row_at callsign_cmp vehicle_key (own d r).vehicles) (sym key) ∙ absent k v there other in
-      let found = subst (λ c. row_at callsign_cmp vehicle_key s.vehicles c ≡ Some v) (sym key) (put_found callsign_cmp vehicle_key callsigns_total (own d r).vehicles v) in
-      let back : own d s ≡ own d r = own_apply_one d (own d r) (PutVehicle v) order tt ∙ ap (λ x. share_one d x (PutVehicle v)) (own_twice d r) ∙ share_foreign d (own d r) (PutVehicle v) (other, none) in
+      let found = subst (λ c. row_at callsign_cmp vehicle_key s.vehicles c ≡ Some v) (sym key)
+      (put_found callsign_cmp vehicle_key callsigns_total (own d r).vehicles v) in
+      let back : own d s
+      ≡ own d r =
+      own_apply_one d (own d r) (PutVehicle v) order tt ∙ ap (λ x. share_one d x (PutVehicle v)) (own_twice d r)
+      ∙ share_foreign d (own d r) (PutVehicle v) (other, none) in
       ap (λ x. own d (apply x cs)) (settle_puts r k e v there)
       ∙ own_apply d r (PutVehicle (settled_row v e) ∷ cs) w.order (tt, plain)
-      ∙ sym (ap (λ x. own d (apply x cs)) (settle_puts s k e v found) ∙ own_apply d s (PutVehicle (settled_row v e) ∷ cs) (in_order_one (own d r) (PutVehicle v) order) (tt, plain) ∙ ap (λ x. share_after d x (PutVehicle (settled_row v e) ∷ cs)) back)
+      ∙ sym (ap (λ x. own d (apply x cs)) (settle_puts s k e v found)
+      ∙ own_apply d s (PutVehicle (settled_row v e) ∷ cs) (in_order_one (own d r) (PutVehicle v) order) (tt, plain)
+      ∙ ap (λ x. share_after d x (PutVehicle (settled_row v e) ∷ cs)) back)
 
   -- the offer to this division, with its vehicle
   offered_here : (c : Callsign) (o : Offer) → offered_to d c r ≡ Some o
@@ -104,8 +125,11 @@ module _ (d : ℕ) (r : Room) (w : IsWellFormed r) where
   unfolding offered_to
   offered_here c o e =
       let parts = keep_some (λ o. o.borrower == d) (row_at callsign_cmp offer_key r.offers c) o e in
-      let key : c ≡ o.callsign = row_key callsign_cmp offer_key callsigns_total exact_callsigns r.offers c o parts.0 in
-      (offered_vehicle o (subst (λ k. row_at callsign_cmp offer_key r.offers k ≡ Some o) key parts.0), eqb-true o.borrower d parts.1, key)
+      let key : c ≡ o.callsign = row_key callsign_cmp offer_key callsigns_total exact_callsigns r.offers c o parts.0 in (
+        offered_vehicle o (subst (λ k. row_at callsign_cmp offer_key r.offers k ≡ Some o) key parts.0),
+        eqb-true o.borrower d parts.1,
+        key,
+      )
 
   away : (o : Offer) → (is : IsOffered o) → o.borrower ≡ d → is.vehicle.holder == d ≡ false
   away o is e = ap (λ n. is.vehicle.holder == n) (sym e) ∙ is.elsewhere
@@ -122,13 +146,16 @@ module _ (d : ℕ) (r : Room) (w : IsWellFormed r) where
       let is = offered_here c o e in
       let there = is.0 in
       let other = away o there is.1 in
-      settled_elsewhere o.callsign o.lender there.vehicle there.there there.key other (ap (λ n. n == d) there.lender ∙ other) (DropOffer o.callsign ∷ []) (tt, tt)
+      settled_elsewhere o.callsign o.lender there.vehicle there.there there.key other
+      (ap (λ n. n == d) there.lender ∙ other) (DropOffer o.callsign ∷ []) (tt, tt)
 
   decline_own : (c : Callsign) (at : ℕ)
       → own d (apply r (changes_of (decline d c r)))
       ≡ own d (apply (own d r) (changes_of (decline d c (own d r))))
   unfolding decline
-  decline_own c at = declined_own c at (offered_to d c r) refl ∙ sym (ap (λ o. own d (apply (own d r) (changes_of (declined o)))) ((sees_own d r w.order).same_offered_to c))
+  decline_own c at =
+      declined_own c at (offered_to d c r) refl
+      ∙ sym (ap (λ o. own d (apply (own d r) (changes_of (declined o)))) ((sees_own d r w.order).same_offered_to c))
 
   -- ---- accept
   -- only the offers decide it
@@ -147,13 +174,16 @@ module _ (d : ℕ) (r : Room) (w : IsWellFormed r) where
       (with_vehicle (request (ask.Accept c) at) (vehicle_at c r))
       (Asked (request (ask.Accept c) at))))
   unfolding vehicle_at
-  accepted_own c at None e g = sym (own_twice d r) ∙ sym (ap (λ x. own d (apply (own d r) (changes_of x))) (desk_own d r w.order (ask.Accept c) at ∙ g))
+  accepted_own c at None e g =
+      sym (own_twice d r)
+      ∙ sym (ap (λ x. own d (apply (own d r) (changes_of x))) (desk_own d r w.order (ask.Accept c) at ∙ g))
   accepted_own c at (Some o) e g =
       let is = offered_here c o e in
       let there = is.0 in
       let v = there.vehicle in
       let found = subst (λ k. row_at callsign_cmp vehicle_key r.vehicles k ≡ Some v) (sym is.2) there.there in
-      settled_here o.callsign o.borrower v there.there there.key (away o there is.1) (DropOffer o.callsign ∷ PutLoan (loan_row o at) ∷ []) (tt, (tt, tt))
+      settled_here o.callsign o.borrower v there.there there.key (away o there is.1)
+      (DropOffer o.callsign ∷ PutLoan (loan_row o at) ∷ []) (tt, (tt, tt))
       ∙ sym (ap (λ x. own d (apply (put_vehicle (own d r) v) (changes_of x))) (accept_by_offers c at v ∙ g))
       ∙ sym (ap (λ x. share_by d (own d r) (Some (with_vehicle (request (ask.Accept c) at) x))) found)
 

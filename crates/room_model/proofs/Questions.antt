@@ -30,7 +30,7 @@ use Rattle.room_model.specs.Step.{crew_asks, desk_asks, is_of_role, is_question,
 use Rattle.room_model.specs.Vehicles.{show_vehicles}
 use Rattle.room_types.specs.declared.answers.Answer.TheVariants as answer
 use Rattle.room_types.specs.declared.asks.Ask.TheVariants as ask
-use Rattle.room_types.specs.declared.refusals.Refusal.TheVariants as refusal
+use Rattle.room_types.specs.declared.refusal_statuses.Refusal.TheVariants as refusal
 
 abbrev pub ChangesNothing : Verdict → Type 0
 ChangesNothing x = changes_of x ≡ []
@@ -38,7 +38,8 @@ ChangesNothing x = changes_of x ≡ []
 by_active : (o : Option Incident) (f : Incident → Verdict) → ((i : Incident) → ChangesNothing (f i))
     → ChangesNothing (where_active o f)
 by_active None f g = refl
-by_active (Some i) f g = by_refuse ChangesNothing (not (is_active i.state)) refusal.IncidentNotOpen (f i) refl (λ e. g i)
+by_active (Some i) f g =
+    by_refuse ChangesNothing (not (is_active i.state)) refusal.IncidentNotOpen (f i) refl (λ e. g i)
 
 by_history : (o : Option Incident) (serving : Served) (calls : List Call) (turns : List Turn)
     → ChangesNothing (history_of o serving calls turns)
@@ -61,7 +62,8 @@ module _ (at : ℕ) (r : Room) where
   desk_shows : (d : ℕ) (a : Ask) → IsQuiet (Desk d) a → ChangesNothing (desk_asks d a at r)
   unfolding show_incidents show_incident show_vehicles show_queue show_points show_loans show_offers show_times propose
   desk_shows d (ask.Incident n) h = by_history (incident_of d n r) _ _ _
-  desk_shows d (ask.Propose n) h = by_active (incident_of d n r) (λ i. show (answer.Proposals (all_proposed d i at r))) (λ i. refl)
+  desk_shows d (ask.Propose n) h =
+      by_active (incident_of d n r) (λ i. show (answer.Proposals (all_proposed d i at r))) (λ i. refl)
   desk_shows d a h = cc
 
   crew_shows : (c : Callsign) (a : Ask) → IsQuiet (Crew c) a → ChangesNothing (crew_asks c a at r)

@@ -7,7 +7,7 @@ use Rattle.room_types.specs.declared.asks.NewCall.{NewCall}
 use Rattle.room_types.specs.declared.asks.Press.{Press}
 use Rattle.room_types.specs.declared.asks.Who.{Who}
 use Rattle.room_types.specs.declared.asks.Who.TheVariants.{Crew, Desk, Position}
-use Rattle.room_types.specs.declared.refusals.Refusal.{Refusal}
+use Rattle.room_types.specs.declared.refusal_statuses.Refusal.{Refusal}
 use Rattle.room_types.specs.declared.tables.Assignment.{Assignment}
 use Rattle.room_types.specs.declared.tables.Call.{Call}
 use Rattle.room_types.specs.declared.tables.Division.{Division}
@@ -23,7 +23,8 @@ use Rattle.room_model.specs.Calls.{call_in, call_kept, call_new, call_somewhere,
 use Rattle.room_model.specs.DayTimes.{show_times}
 use Rattle.room_model.specs.Decisions.{Verdict, answer_of, refuse_if, where_active, where_held}
 use Rattle.room_model.specs.Incidents.{change_needs, close, history_of, merge, merge_of, show_incident, show_incidents}
-use Rattle.room_model.specs.Loans.{accept, accepted, decline, declined, give_back, lend, recall, recall_lent, show_loans, show_offers, withdraw, withdrawn}
+use Rattle.room_model.specs.Loans.{accept, accepted, decline, declined, give_back, lend, recall, recall_lent}
+use Rattle.room_model.specs.Loans.{show_loans, show_offers, withdraw, withdrawn}
 use Rattle.room_model.specs.Points.{show_points}
 use Rattle.room_model.specs.Proposals.{propose}
 use Rattle.room_model.specs.Queue.{clear, clear_found, show_queue}
@@ -32,7 +33,7 @@ use Rattle.room_model.specs.Room.{Room}
 use Rattle.room_model.specs.Step.{answer_to, crew_asks, desk_asks, is_of_role, is_of_the_room, position_asks, who_asks}
 use Rattle.room_model.specs.Vehicles.{duty, mobilise, off, show_vehicles, stand_down, standby, standby_at}
 use Rattle.room_types.specs.declared.asks.Ask.TheVariants as ask
-use Rattle.room_types.specs.declared.refusals.Refusal.TheVariants as refusal
+use Rattle.room_types.specs.declared.refusal_statuses.Refusal.TheVariants as refusal
 
 -- where it is a refusal, it is one of the room's
 abbrev pub Refuses : Verdict → Type 0
@@ -98,7 +99,8 @@ ruleset by_form = (by_test, by_held, by_active, by_point, by_withdrawn)
 module _ (r : Room) where
   desk_refuses : (d : ℕ) (a : Ask) (at : ℕ) → is_of_role (Desk d) a ≡ true
       → Refuses (desk_asks d a at r)
-  unfolding show_incidents show_incident show_vehicles show_queue show_points show_loans show_offers show_times propose mobilise change_needs merge close stand_down standby duty off lend withdraw decline accept recall give_back clear
+  unfolding show_incidents show_incident show_vehicles show_queue show_points show_loans show_offers show_times propose
+      mobilise change_needs merge close stand_down standby duty off lend withdraw decline accept recall give_back clear
   desk_refuses d ask.Incidents at h = tt
   desk_refuses d (ask.Incident n) at h = by_history _ _ _ _
   desk_refuses d (ask.Propose n) at h = search by_form depth 9

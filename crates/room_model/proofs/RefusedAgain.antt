@@ -1,7 +1,8 @@
 -- A report or a call that was refused for its number, its serial or its place is refused again.
 use Rattle.std.proofs.Common.{ap, eq-eqb, subst, sym, ◌∙◌}
 use Rattle.std.specs.Ordering.{is_eq}
-use Rattle.std.specs.Prelude.{Bool, Err, IfErr, IfSome, List, None, Ok, Option, Result, Some, [], cond, false, is_ok, is_some, not, refl, true, ℕ, ◌==◌, ◌∷◌, ◌≡◌}
+use Rattle.std.specs.Prelude.{Bool, Err, IfErr, IfSome, List, None, Ok, Option, Result, Some, [], cond, false, is_ok}
+use Rattle.std.specs.Prelude.{is_some, not, refl, true, ℕ, ◌==◌, ◌∷◌, ◌≡◌}
 use Rattle.room_place.specs.Plans.{division_of}
 use Rattle.room_place.specs.declared.plans.Area.{Area}
 use Rattle.room_types_keyed.proofs.KeyedLaws.{row_put}
@@ -16,7 +17,7 @@ use Rattle.room_types.specs.declared.asks.NewCall.{NewCall}
 use Rattle.room_types.specs.declared.asks.Press.{Press}
 use Rattle.room_types.specs.declared.changes.Change.{Change}
 use Rattle.room_types.specs.declared.changes.Change.TheVariants.{PutCall}
-use Rattle.room_types.specs.declared.refusals.Refusal.{Refusal}
+use Rattle.room_types.specs.declared.refusal_statuses.Refusal.{Refusal}
 use Rattle.room_types.specs.declared.tables.Call.{Call}
 use Rattle.room_types.specs.declared.tables.Division.{Division}
 use Rattle.room_types.specs.declared.tables.Incident.{Incident}
@@ -28,19 +29,22 @@ use Rattle.room_model.proofs.Changes.{AllOf, Allows, event_all, is_silent}
 use Rattle.room_model.proofs.DecisionLaws.{by_refuse, by_report}
 use Rattle.room_model.proofs.KeptEvents.{plan_stays}
 use Rattle.room_model.proofs.OwnChanges.{in_order_apply}
-use Rattle.room_model.proofs.RepeatLaws.{CallThere, ReportThere, call_lasts, call_later, exact_place, only_answers, refused_if, report_lasts, report_later, report_repeated}
+use Rattle.room_model.proofs.RepeatLaws.{CallThere, ReportThere, call_lasts, call_later, exact_place, only_answers}
+use Rattle.room_model.proofs.RepeatLaws.{refused_if, report_lasts, report_later, report_repeated}
 use Rattle.room_model.proofs.Tests.{is_equal, left_true, row_among, row_key}
-use Rattle.room_model.specs.Calls.{call_in, call_kept, call_somewhere, call_taken, new_call, outside_again, same_call, take_call}
+use Rattle.room_model.specs.Calls.{call_in, call_kept, call_somewhere, call_taken, new_call, outside_again, same_call}
+use Rattle.room_model.specs.Calls.{take_call}
 use Rattle.room_model.specs.Decisions.{Verdict, answer_of, changes_of, refuse_if, show}
 use Rattle.room_model.specs.Events.{OnlyAnswers, by_crew, by_position}
-use Rattle.room_model.specs.Queries.{borrowed, held, kept_call, kept_report, last_number, link_target, open_turn, vehicle_at}
+use Rattle.room_model.specs.Queries.{borrowed, held, kept_call, kept_report, last_number, link_target, open_turn}
+use Rattle.room_model.specs.Queries.{vehicle_at}
 use Rattle.room_model.specs.Reports.{outcome_of, report_held, report_in, report_kept, report_somewhere, same_press}
 use Rattle.room_model.specs.Room.{IsInOrder, Room, apply, apply_one}
 use Rattle.room_model.specs.Run.{room_run}
 use Rattle.room_model.specs.Step.{IsAddressed, answer_to, decided, room_after}
 use Rattle.room_types.specs.declared.answers.Answer.TheVariants as answer
 use Rattle.room_types.specs.declared.asks.Ask.TheVariants as ask
-use Rattle.room_types.specs.declared.refusals.Refusal.TheVariants as refusal
+use Rattle.room_types.specs.declared.refusal_statuses.Refusal.TheVariants as refusal
 
 -- what is refused changes nothing
 unchanged : (e : Event) (r : Room) (x : Verdict) (why : Refusal) → decided e r ≡ x
@@ -82,7 +86,11 @@ module _ (c : Callsign) (p : Press) (at : ℕ) (r : Room) where
   is_reused : (o : Option Report) → kept_report c p.number r ≡ o
       → answer_of (report_kept o c p at r) ≡ Err refusal.NumberReused → IsReused
   is_reused None e told = absurd (somewhere_numberless (vehicle_at c r) told)
-  is_reused (Some k) e told = record { row = k; there = e; other = test_fails (same_press k p) refusal.NumberReused (answer.Reported k.number k.outcome k.status) told }
+  is_reused (Some k) e told = record {
+    row = k;
+    there = e;
+    other = test_fails (same_press k p) refusal.NumberReused (answer.Reported k.number k.outcome k.status) told;
+  }
 
   pub reused_again : (es : List Event) → IsInOrder r
       → answer_to (by_crew c (ask.Report p) at) r ≡ Err refusal.NumberReused → (later : ℕ)
@@ -92,12 +100,23 @@ module _ (c : Callsign) (p : Press) (at : ℕ) (r : Room) where
   unfolding kept_report
   reused_again es order told later =
       let is = is_reused (kept_report c p.number r) refl told in
-      let key : (c, p.number) ≡ report_key is.row = row_key numbered_cmp report_key numbered_total exact_numbered r.reports (c, p.number) is.row is.there in
-      let here : ReportThere is.row r = (is.row.cleared, subst (λ (z : Callsign × ℕ). row_at numbered_cmp report_key r.reports z ≡ Some is.row) key is.there) in
-      let still : room_after (by_crew c (ask.Report p) at) r ≡ r = unchanged (by_crew c (ask.Report p) at) r (decided (by_crew c (ask.Report p) at) r) refusal.NumberReused refl told in
+      let key : (c, p.number)
+      ≡ report_key is.row =
+      row_key numbered_cmp report_key numbered_total exact_numbered r.reports (c, p.number) is.row is.there in
+      let here : ReportThere is.row
+      r = (
+        is.row.cleared,
+        subst (λ (z : Callsign × ℕ). row_at numbered_cmp report_key r.reports z ≡ Some is.row) key is.there,
+      ) in
+      let still : room_after (by_crew c (ask.Report p) at) r
+      ≡ r =
+      unchanged (by_crew c (ask.Report p) at) r (decided (by_crew c (ask.Report p) at) r) refusal.NumberReused refl
+      told in
       let again = report_lasts is.row es r order here in
       subst (λ s. OnlyAnswers (by_crew c (ask.Report p) later) (room_run es s) (Err refusal.NumberReused)) (sym still)
-      (only_answers (by_crew c (ask.Report p) later) (room_run es r) (Err refusal.NumberReused) _ (report_later c p later (room_run es r) is.row key again ∙ refused_if (same_press is.row p) refusal.NumberReused _ is.other) refl refl)
+      (only_answers (by_crew c (ask.Report p) later) (room_run es r) (Err refusal.NumberReused) _
+      (report_later c p later (room_run es r) is.row key again
+      ∙ refused_if (same_press is.row p) refusal.NumberReused _ is.other) refl refl)
 
   -- ---- and nothing else refuses a report of a vehicle that is there
   abbrev IsNumbers : Verdict → Type 0
@@ -105,7 +124,9 @@ module _ (c : Callsign) (p : Press) (at : ℕ) (r : Room) where
 
   found_holder : (v : Vehicle) → vehicle_at c r ≡ Some v → held v.holder c r ≡ Some v
   unfolding held vehicle_at
-  found_holder v e = ap (keep (λ (x : Vehicle). x.holder == v.holder)) e ∙ ap (λ (b : Bool). cond b (Some v) None) (eq-eqb v.holder v.holder refl)
+  found_holder v e =
+      ap (keep (λ (x : Vehicle). x.holder == v.holder)) e
+      ∙ ap (λ (b : Bool). cond b (Some v) None) (eq-eqb v.holder v.holder refl)
 
   held_taken : (v : Option Vehicle) (w : Vehicle) (t : Option Turn) (l : Option Loan) → v ≡ Some w
       → IsNumbers (report_held v t l p at)
@@ -116,7 +137,8 @@ module _ (c : Callsign) (p : Press) (at : ℕ) (r : Room) where
       → IsNumbers (report_somewhere v c p at r)
   unfolding report_in
   somewhere_taken None e there = cc
-  somewhere_taken (Some v) e there = held_taken (held v.holder c r) v (open_turn v.holder c r) (borrowed v.holder c r) (found_holder v e)
+  somewhere_taken (Some v) e there =
+      held_taken (held v.holder c r) v (open_turn v.holder c r) (borrowed v.holder c r) (found_holder v e)
 
   kept_taken : (o : Option Report) → is_some (vehicle_at c r) ≡ true
       → IsNumbers (report_kept o c p at r)
@@ -135,14 +157,16 @@ module _ (c : Callsign) (p : Press) (at : ℕ) (r : Room) where
   told_again es order later (Ok x) e why = report_repeated c p at r es order (ap is_ok e) later
   told_again es order later (Err x) e why =
       let told = e ∙ ap Err why in
-      subst (OnlyAnswers (by_crew c (ask.Report p) later) (room_run es (room_after (by_crew c (ask.Report p) at) r))) (sym told) (reused_again es order told later)
+      subst (OnlyAnswers (by_crew c (ask.Report p) later) (room_run es (room_after (by_crew c (ask.Report p) at) r)))
+      (sym told) (reused_again es order told later)
 
   pub report_told_again : (es : List Event) → IsInOrder r
       → IsAddressed (by_crew c (ask.Report p) at) r → (later : ℕ)
       → OnlyAnswers (by_crew c (ask.Report p) later)
       (room_run es (room_after (by_crew c (ask.Report p) at) r))
       (answer_to (by_crew c (ask.Report p) at) r)
-  report_told_again es order there later = told_again es order later (answer_to (by_crew c (ask.Report p) at) r) refl (number_alone there)
+  report_told_again es order there later =
+      told_again es order later (answer_to (by_crew c (ask.Report p) at) r) refl (number_alone there)
 
 -- ---- a call's serial
 module _ (p : ℕ) (f : CallForm) (at : ℕ) (r : Room) where
@@ -187,7 +211,11 @@ module _ (p : ℕ) (f : CallForm) (at : ℕ) (r : Room) where
   is_anothers : (o : Option Call) → kept_call p f.serial r ≡ o
       → answer_of (call_kept o call r) ≡ Err refusal.SerialReused → IsAnothers
   is_anothers None e told = absurd (somewhere_serial (division_of r.plan f.place) told)
-  is_anothers (Some k) e told = record { row = k; there = e; other = test_fails (same_call k call) refusal.SerialReused (answer.Called k.division k.given k.linked) told }
+  is_anothers (Some k) e told = record {
+    row = k;
+    there = e;
+    other = test_fails (same_call k call) refusal.SerialReused (answer.Called k.division k.given k.linked) told;
+  }
 
   pub serial_again : (es : List Event) → IsInOrder r
       → answer_to first r ≡ Err refusal.SerialReused → (later : ℕ)
@@ -196,11 +224,16 @@ module _ (p : ℕ) (f : CallForm) (at : ℕ) (r : Room) where
   unfolding kept_call
   serial_again es order told later =
       let is = is_anothers (kept_call p f.serial r) refl told in
-      let key : (p, f.serial) ≡ call_key is.row = row_key pair_cmp call_key pairs_total exact_pair r.calls (p, f.serial) is.row is.there in
-      let here : CallThere is.row r = (is.row.incident, subst (λ (z : ℕ × ℕ). row_at pair_cmp call_key r.calls z ≡ Some is.row) key is.there) in
+      let key : (p, f.serial)
+      ≡ call_key is.row = row_key pair_cmp call_key pairs_total exact_pair r.calls (p, f.serial) is.row is.there in
+      let here : CallThere is.row
+      r = (is.row.incident, subst (λ (z : ℕ × ℕ). row_at pair_cmp call_key r.calls z ≡ Some is.row) key is.there) in
       let again = call_lasts is.row es r order here in
-      subst (λ s. OnlyAnswers (by_position p (ask.Call f) later) (room_run es s) (Err refusal.SerialReused)) (sym (still refusal.SerialReused told))
-      (only_answers (by_position p (ask.Call f) later) (room_run es r) (Err refusal.SerialReused) _ (call_later p f later (room_run es r) is.row key again ∙ refused_if (same_call is.row (new_call p f later)) refusal.SerialReused _ is.other) refl refl)
+      subst (λ s. OnlyAnswers (by_position p (ask.Call f) later) (room_run es s) (Err refusal.SerialReused))
+      (sym (still refusal.SerialReused told))
+      (only_answers (by_position p (ask.Call f) later) (room_run es r) (Err refusal.SerialReused) _
+      (call_later p f later (room_run es r) is.row key again
+      ∙ refused_if (same_call is.row (new_call p f later)) refusal.SerialReused _ is.other) refl refl)
 
   -- ---- a call's place
   -- the serial is free, and the place in no division
@@ -215,7 +248,9 @@ module _ (p : ℕ) (f : CallForm) (at : ℕ) (r : Room) where
   is_outside : (o : Option Call) → kept_call p f.serial r ≡ o
       → answer_of (call_kept o call r) ≡ Err refusal.OutsideArea → IsOutside
   is_outside None e told = (e, outside_somewhere (division_of r.plan f.place) told)
-  is_outside (Some k) e told = absurd (by_refuse (λ x. answer_of x ≡ Err refusal.OutsideArea → ⊥) (not (same_call k call)) refusal.SerialReused _ (λ t. cc) (λ s t. cc) told)
+  is_outside (Some k) e told =
+      absurd (by_refuse (λ x. answer_of x ≡ Err refusal.OutsideArea → ⊥) (not (same_call k call)) refusal.SerialReused _
+      (λ t. cc) (λ s t. cc) told)
 
 -- ---- calls of a position and serial have places in the plan
 module _ (plan : List Area) (k : ℕ × ℕ) where
@@ -232,8 +267,13 @@ module _ (plan : List Area) (k : ℕ × ℕ) where
   puts_allowed : (r : Room) → IsInOrder r → r.plan ≡ plan → IsPlaced r.calls → Allows r PutsPlaced
   puts_allowed r order planned placed = record {
     silent = silent_puts;
-    new_call = λ x e there same. ap is_some (subst (λ areas. division_of areas x.place ≡ Some x.division) planned there);
-    moved = λ x a m same. found x (subst (λ z. row_at pair_cmp call_key r.calls z ≡ Some x) (sym (exact_pair k (call_key x) (is_equal _ same))) (row_among pair_cmp call_key pairs_total r.calls x order.calls a));
+    new_call =
+        λ x e there same. ap is_some (subst (λ areas. division_of areas x.place ≡ Some x.division) planned there);
+    moved =
+        λ x a m same.
+        found x
+        (subst (λ z. row_at pair_cmp call_key r.calls z ≡ Some x) (sym (exact_pair k (call_key x) (is_equal _ same)))
+        (row_among pair_cmp call_key pairs_total r.calls x order.calls a));
     new_report = λ x e. tt;
     cleared = λ c n x e. tt;
   }
@@ -252,7 +292,9 @@ module _ (plan : List Area) (k : ℕ × ℕ) where
 
   placed_one : (r : Room) (x : Change) → PutsPlaced x → IsPlaced r.calls
       → IsPlaced (apply_one r x).calls
-  placed_one r (PutCall x) puts placed = subst (λ o. IfSome o HasDivision) (sym (row_put pair_cmp call_key pairs_total r.calls x k)) (placed_if (is_eq (pair_cmp k (call_key x))) x (row_at pair_cmp call_key r.calls k) puts placed)
+  placed_one r (PutCall x) puts placed =
+      subst (λ o. IfSome o HasDivision) (sym (row_put pair_cmp call_key pairs_total r.calls x k))
+      (placed_if (is_eq (pair_cmp k (call_key x))) x (row_at pair_cmp call_key r.calls k) puts placed)
   placed_one r x puts placed = placed
 
   placed_apply : (r : Room) (cs : List Change) → AllOf PutsPlaced cs → IsPlaced r.calls
@@ -270,7 +312,9 @@ module _ (plan : List Area) (k : ℕ × ℕ) where
       let changes = changes_of (decided e r) in
       still_run es (room_after e r) (in_order_apply r changes order) (
         plan_stays r changes ∙ is.0,
-        placed_apply r changes (event_all r PutsPlaced (puts_allowed r order is.0 is.1) (record { offered = λ x. tt; settled = λ c d. tt; lent = λ x. tt }) e) is.1,
+        placed_apply r changes
+            (event_all r PutsPlaced (puts_allowed r order is.0 is.1)
+            (record { offered = λ x. tt; settled = λ c d. tt; lent = λ x. tt }) e) is.1,
       )
 
 module _ (p : ℕ) (f : CallForm) (at : ℕ) (r : Room) where
@@ -278,10 +322,15 @@ module _ (p : ℕ) (f : CallForm) (at : ℕ) (r : Room) where
       → IfSome o (λ k. is_some (division_of s.plan k.place) ≡ true)
       → division_of s.plan f.place ≡ None
       → take_call (new_call p f later) s ≡ Err (outside_again o)
-  outside_now later s None e placed outside = ap (λ o. call_kept o (new_call p f later) s) e ∙ ap (λ o. call_somewhere o (new_call p f later) s) outside
+  outside_now later s None e placed outside =
+      ap (λ o. call_kept o (new_call p f later) s) e ∙ ap (λ o. call_somewhere o (new_call p f later) s) outside
   outside_now later s (Some k) e placed outside =
       ap (λ o. call_kept o (new_call p f later) s) e
-      ∙ refused_if (same_call k (new_call p f later)) refusal.SerialReused _ (λ same. none (sym placed ∙ ap (λ place. is_some (division_of s.plan place)) (exact_place k.place f.place (left_true _ _ same)) ∙ ap is_some outside))
+      ∙ refused_if (same_call k (new_call p f later)) refusal.SerialReused _
+      (λ same.
+      none (sym placed
+      ∙ ap (λ place. is_some (division_of s.plan place)) (exact_place k.place f.place (left_true _ _ same))
+      ∙ ap is_some outside))
     where
       none : true ≡ false → ⊥
       none e = cc
@@ -294,10 +343,17 @@ module _ (p : ℕ) (f : CallForm) (at : ℕ) (r : Room) where
   unfolding kept_call
   outside_still es order told later =
       let is = is_outside p f at r (kept_call p f.serial r) refl told in
-      let here : IsStill r.plan (p, f.serial) r = (refl, subst (λ o. IfSome o (HasDivision r.plan (p, f.serial))) (sym is.0) tt) in
+      let here : IsStill r.plan (p, f.serial)
+      r = (refl, subst (λ o. IfSome o (HasDivision r.plan (p, f.serial))) (sym is.0) tt) in
       let now = room_run es r in
       let there = still_run r.plan (p, f.serial) es r order here in
-      let placed = subst (λ areas. IfSome (row_at pair_cmp call_key now.calls (p, f.serial)) (λ k. is_some (division_of areas k.place) ≡ true)) (sym there.0) there.1 in
+      let placed = subst
+      (λ areas.
+      IfSome (row_at pair_cmp call_key now.calls (p, f.serial)) (λ k. is_some (division_of areas k.place) ≡ true))
+      (sym there.0) there.1 in
       let outside = ap (λ areas. division_of areas f.place) there.0 ∙ is.1 in
-      subst (λ s. OnlyAnswers (by_position p (ask.Call f) later) (room_run es s) (Err (outside_again (kept_call p f.serial (room_run es s))))) (sym (still p f at r refusal.OutsideArea told))
-      (only_answers (by_position p (ask.Call f) later) now (Err (outside_again (kept_call p f.serial now))) _ (outside_now later now (kept_call p f.serial now) refl placed outside) refl refl)
+      subst (λ s.
+      OnlyAnswers (by_position p (ask.Call f) later) (room_run es s)
+      (Err (outside_again (kept_call p f.serial (room_run es s))))) (sym (still p f at r refusal.OutsideArea told))
+      (only_answers (by_position p (ask.Call f) later) now (Err (outside_again (kept_call p f.serial now))) _
+      (outside_now later now (kept_call p f.serial now) refl placed outside) refl refl)

@@ -1,7 +1,8 @@
 -- Any event, and runs of events, seen by one division.
 use Rattle.std.proofs.Common.{ap, eqb-true, subst, sym, ◌∙◌}
 use Rattle.std.specs.List.{list_all}
-use Rattle.std.specs.Prelude.{Bool, Err, List, None, Ok, Option, Some, [], cond, false, is_err, is_ok, map, not, option_map, refl, true, ℕ, ◌&&◌, ◌++◌, ◌==◌, ◌||◌, ◌∷◌, ◌≡◌}
+use Rattle.std.specs.Prelude.{Bool, Err, List, None, Ok, Option, Some, [], cond, false, is_err, is_ok, map, not}
+use Rattle.std.specs.Prelude.{option_map, refl, true, ℕ, ◌&&◌, ◌++◌, ◌==◌, ◌||◌, ◌∷◌, ◌≡◌}
 use Rattle.room_place.specs.Plans.{division_of}
 use Rattle.room_types_keyed.specs.Keyed.{row_at}
 use Rattle.room_types.specs.Keys.{callsign_cmp, loan_key}
@@ -23,7 +24,10 @@ use Rattle.room_model.proofs.OwnRequests.{own_request, told_request}
 use Rattle.room_model.proofs.ReportsApart.{crew_event, not_ended, told_crew}
 use Rattle.room_model.proofs.Tests.{both_true}
 use Rattle.room_model.specs.Alone.{alone, share_by, told_alone, told_by}
-use Rattle.room_model.specs.Crossing.{Arrive, CallIn, Crossing, Declined, Left, OfferIn, Recalled, ReportIn, Withdrawn, cross, cross_call, cross_crew, cross_other, cross_own, cross_position, cross_report, cross_who, crossings, is_division_of, is_held_by, is_loan_ended, is_local, is_offered_by, is_offered_to, newly_recalled}
+use Rattle.room_model.specs.Crossing.{Arrive, CallIn, Crossing, Declined, Left, OfferIn, Recalled, ReportIn, Withdrawn}
+use Rattle.room_model.specs.Crossing.{cross, cross_call, cross_crew, cross_other, cross_own, cross_position}
+use Rattle.room_model.specs.Crossing.{cross_report, cross_who, crossings, is_division_of, is_held_by, is_loan_ended}
+use Rattle.room_model.specs.Crossing.{is_local, is_offered_by, is_offered_to, newly_recalled}
 use Rattle.room_model.specs.Events.{AreAddressed, AreLocal, is_everyday, received}
 use Rattle.room_model.specs.Decisions.{Verdict, answer_of, changes_of}
 use Rattle.room_model.specs.Queries.{kept_call, kept_report, lent, loan_at, offer_at, vehicle_at}
@@ -57,12 +61,16 @@ module _ (s : Room) where
   quiet_recall d c (Some l) = quiet_if (l.borrower == d && not l.recalled) (Some (Recalled c)) refl
 
   quiet_other : (d h : ℕ) (a : Ask) (r after : Room) → told_by s (cross_other d h a r after) ≡ []
-  quiet_other d h (ask.Lend c to until) r after = quiet_if (to == d) (option_map OfferIn (offer_at c after)) (quiet_offer (offer_at c after))
+  quiet_other d h (ask.Lend c to until) r after =
+      quiet_if (to == d) (option_map OfferIn (offer_at c after)) (quiet_offer (offer_at c after))
   quiet_other d h (ask.Withdraw c) r after = quiet_if (is_offered_to d (offer_at c r)) (Some (Withdrawn c)) refl
   quiet_other d h (ask.Decline c) r after = quiet_if (is_offered_by d (offer_at c r)) (Some (Declined c)) refl
-  quiet_other d h (ask.Accept c) r after = quiet_if (is_offered_by d (offer_at c r)) (option_map Left (loan_at c after)) (quiet_loan (loan_at c after))
+  quiet_other d h (ask.Accept c) r after =
+      quiet_if (is_offered_by d (offer_at c r)) (option_map Left (loan_at c after)) (quiet_loan (loan_at c after))
   quiet_other d h (ask.Recall c) r after = quiet_recall d c (lent h c r)
-  quiet_other d h (ask.GiveBack c) r after = quiet_if (is_loan_ended d (loan_at c r) (loan_at c after)) (option_map Arrive (vehicle_at c after)) (quiet_vehicle (vehicle_at c after))
+  quiet_other d h (ask.GiveBack c) r after =
+      quiet_if (is_loan_ended d (loan_at c r) (loan_at c after)) (option_map Arrive (vehicle_at c after))
+      (quiet_vehicle (vehicle_at c after))
   quiet_other d h a r after = refl
 
 -- ---- one event
@@ -72,17 +80,25 @@ module _ (d : ℕ) (r : Room) (w : IsWellFormed r) where
 
   -- what the request hands over, by whether it is the desk's own
   abbrev handed : Bool → ℕ → Ask → ℕ → Option Crossing
-  handed b h a at = cond b (Some (cross_own (is_ok (desk_asks h a at r)) (by_desk h a at) a r)) (cond (is_ok (desk_asks h a at r)) (cross_other d h a r (apply r (changes_of (desk_asks h a at r)))) None)
+  handed b h a at =
+      cond b (Some (cross_own (is_ok (desk_asks h a at r)) (by_desk h a at) a r))
+      (cond (is_ok (desk_asks h a at r)) (cross_other d h a r (apply r (changes_of (desk_asks h a at r)))) None)
 
   desk_event : (h : ℕ) (a : Ask) (at : ℕ) (b : Bool) → h == d ≡ b
       → own d (apply r (changes_of (desk_asks h a at r))) ≡ share_by d (own d r) (handed b h a at)
-  desk_event h a at true e = subst (λ k. own d (apply r (changes_of (desk_asks k a at r))) ≡ share_by d (own d r) (handed true k a at)) (sym (eqb-true h d e)) (own_request d r w a at)
+  desk_event h a at true e =
+      subst (λ k. own d (apply r (changes_of (desk_asks k a at r))) ≡ share_by d (own d r) (handed true k a at))
+      (sym (eqb-true h d e)) (own_request d r w a at)
   desk_event h a at false e = other_desk d h r a at w e ∙ ap (λ b. share_by d (own d r) (handed b h a at)) e
 
   told_desk : (h : ℕ) (a : Ask) (at : ℕ) (b : Bool) → h == d ≡ b
       → told_by (own d r) (handed b h a at) ≡ cond b (answer_to (by_desk h a at) r ∷ []) []
-  told_desk h a at true e = subst (λ k. told_by (own d r) (handed true k a at) ≡ answer_to (by_desk k a at) r ∷ []) (sym (eqb-true h d e)) (told_request d r w a at)
-  told_desk h a at false e = quiet_if (own d r) (is_ok (desk_asks h a at r)) (cross_other d h a r (apply r (changes_of (desk_asks h a at r)))) (quiet_other (own d r) d h a r (apply r (changes_of (desk_asks h a at r))))
+  told_desk h a at true e =
+      subst (λ k. told_by (own d r) (handed true k a at) ≡ answer_to (by_desk k a at) r ∷ []) (sym (eqb-true h d e))
+      (told_request d r w a at)
+  told_desk h a at false e =
+      quiet_if (own d r) (is_ok (desk_asks h a at r)) (cross_other d h a r (apply r (changes_of (desk_asks h a at r))))
+      (quiet_other (own d r) d h a r (apply r (changes_of (desk_asks h a at r))))
 
   who_event : (who : Who) (a : Ask) (at : ℕ)
       → own d (room_after (record { who = who; ask = a; at = at }) r)
@@ -116,12 +132,17 @@ AreWellFormed (e ∷ es) r = IsWellFormed r × AreWellFormed es (room_after e r)
 pub meet_well_formed : (es : List Event) (r : Room) → IsWellFormed r → AreAddressed es r
     → AreWellFormed es r
 meet_well_formed [] r w known = tt
-meet_well_formed (e ∷ es) r w known = (w, meet_well_formed es (room_after e r) (event_kept e r w known.0 known.1) (addressed_still es r (changes_of (decided e r)) known.2))
+meet_well_formed (e ∷ es) r w known = (
+  w,
+  meet_well_formed es (room_after e r) (event_kept e r w known.0 known.1)
+      (addressed_still es r (changes_of (decided e r)) known.2),
+)
 
 pub run_share : (d : ℕ) (es : List Event) (r : Room) → AreWellFormed es r
     → own d (room_run es r) ≡ alone d (crossings d es r) (own d r)
 run_share d [] r w = refl
-run_share d (e ∷ es) r w = run_share d es (room_after e r) w.1 ∙ ap (alone d (crossings d es (room_after e r))) (one_event d r w.0 e)
+run_share d (e ∷ es) r w =
+    run_share d es (room_after e r) w.1 ∙ ap (alone d (crossings d es (room_after e r))) (one_event d r w.0 e)
 
 told_first : {X : Type 0} (b : Bool) (x : X) (xs : List X)
     → cond b (x ∷ xs) xs ≡ cond b (x ∷ []) [] ++ xs
@@ -134,7 +155,8 @@ run_told d [] r w = refl
 run_told d (e ∷ es) r w =
     told_first (is_desk d e.who) (answer_to e r) (told d es (room_after e r))
     ∙ ap (λ ts. ts ++ told d es (room_after e r)) (sym (one_told d r w.0 e))
-    ∙ ap (λ ts. told_by (own d r) (cross d r e) ++ ts) (run_told d es (room_after e r) w.1 ∙ ap (told_alone d (crossings d es (room_after e r))) (one_event d r w.0 e))
+    ∙ ap (λ ts. told_by (own d r) (cross d r e) ++ ts)
+    (run_told d es (room_after e r) w.1 ∙ ap (told_alone d (crossings d es (room_after e r))) (one_event d r w.0 e))
 
 -- ---- what is received, and no more, counts
 alone_received : (d : ℕ) (xs : List (Option Crossing)) (s : Room)
@@ -161,7 +183,8 @@ module _ (d : ℕ) (es fs : List Event) (r s : Room) (w : AreWellFormed es r)
   pub equal_answers : told d es r ≡ told d fs s
   equal_answers =
       run_told d es r w ∙ told_received d (crossings d es r) (own d r)
-      ∙ ap (λ xs. told_alone d (map Some xs) (own d r)) handed ∙ ap (told_alone d (map Some (received (crossings d fs s)))) same
+      ∙ ap (λ xs. told_alone d (map Some xs) (own d r)) handed
+      ∙ ap (told_alone d (map Some (received (crossings d fs s)))) same
       ∙ sym (run_told d fs s v ∙ told_received d (crossings d fs s) (own d s))
 
 -- ---- where nothing is lent
@@ -208,7 +231,9 @@ module _ (d : ℕ) (r : Room) where
   everyday_report e c (Some k) after same = refl
   everyday_report e c None after same =
       everyday_if (is_held_by d (vehicle_at c r)) (Some (ReportIn e)) _ refl
-      (ap (λ (b : Bool). is_everyday (cond b (option_map Arrive (vehicle_at c after)) None)) (ap (λ ls. is_loan_ended d (row_at callsign_cmp loan_key r.loans c) (row_at callsign_cmp loan_key ls c)) same ∙ not_ended d (row_at callsign_cmp loan_key r.loans c)))
+      (ap (λ (b : Bool). is_everyday (cond b (option_map Arrive (vehicle_at c after)) None))
+      (ap (λ ls. is_loan_ended d (row_at callsign_cmp loan_key r.loans c) (row_at callsign_cmp loan_key ls c)) same
+      ∙ not_ended d (row_at callsign_cmp loan_key r.loans c)))
 
   everyday_position : (p : ℕ) (e : Event) (a : Ask) → is_everyday (cross_position d p e a r) ≡ true
   everyday_position p e (ask.Call f) = everyday_call e f (kept_call p f.serial r)
@@ -222,17 +247,20 @@ module _ (d : ℕ) (r : Room) where
   everyday_desk : (h : ℕ) (e : Event) (done : Bool) → (done ≡ true → is_local e.ask ≡ true)
       → is_everyday (cond (h == d) (Some (cross_own done e e.ask r))
       (cond done (cross_other d h e.ask r (room_after e r)) None)) ≡ true
-  everyday_desk h e true l = everyday_if (h == d) _ _ (everyday_own true e e.ask (l refl)) (everyday_other h e.ask (room_after e r) (l refl))
+  everyday_desk h e true l =
+      everyday_if (h == d) _ _ (everyday_own true e e.ask (l refl)) (everyday_other h e.ask (room_after e r) (l refl))
   everyday_desk h e false l = everyday_if (h == d) _ None (everyday_refused e e.ask) refl
 
   everyday_who : (who : Who) (e : Event)
       → is_local e.ask || is_err (answer_of (decided e r)) ≡ true
       → (room_after e r).loans ≡ r.loans → is_everyday (cross_who d e who r) ≡ true
-  everyday_who (Desk h) e l same = everyday_desk h e (is_ok (decided e r)) (not_refused (is_local e.ask) (decided e r) l)
+  everyday_who (Desk h) e l same =
+      everyday_desk h e (is_ok (decided e r)) (not_refused (is_local e.ask) (decided e r) l)
   everyday_who (Position p) e l same = everyday_position p e e.ask
   everyday_who (Crew c) e l same = everyday_crew c e e.ask same
 
 pub run_everyday : (d : ℕ) (es : List Event) (r : Room) → AreLocal es r
     → list_all is_everyday (crossings d es r) ≡ true
 run_everyday d [] r l = refl
-run_everyday d (e ∷ es) r l = both_true _ _ (everyday_who d r e.who e l.0.0 l.0.1) (run_everyday d es (room_after e r) l.1)
+run_everyday d (e ∷ es) r l =
+    both_true _ _ (everyday_who d r e.who e l.0.0 l.0.1) (run_everyday d es (room_after e r) l.1)

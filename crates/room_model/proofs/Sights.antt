@@ -3,7 +3,8 @@ use Rattle.std.proofs.Common.{ap, eq-eqb, sym, ◌∙◌}
 use Rattle.std.specs.Prelude.{List, refl, ℕ, ◌==◌, ◌≡◌}
 use Rattle.room_types_keyed.proofs.KeyedLaws.{row_filter}
 use Rattle.room_types_keyed.specs.Keyed.{keep}
-use Rattle.room_types.specs.Keys.{assignment_key, callsign_cmp, loan_key, offer_key, owns_assignment, owns_loan, owns_offer, owns_point, owns_vehicle, pair_cmp, point_key, vehicle_key}
+use Rattle.room_types.specs.Keys.{assignment_key, callsign_cmp, loan_key, offer_key, owns_assignment, owns_loan}
+use Rattle.room_types.specs.Keys.{owns_offer, owns_point, owns_vehicle, pair_cmp, point_key, vehicle_key}
 use Rattle.room_types.specs.Orders.{callsigns_total, exact_pair, pairs_total}
 use Rattle.room_types.specs.declared.codes.Kind.{Kind}
 use Rattle.room_types.specs.declared.tables.Call.{Call}
@@ -13,7 +14,8 @@ use Rattle.room_types.specs.declared.tables.Turn.{Turn}
 use Rattle.room_types.specs.Texts.{Callsign}
 use Rattle.room_model.proofs.Tests.{filter_filter, is_equal, keep_keep, keep_row, left_true, or_left, or_right}
 use Rattle.room_model.specs.Proposals.{eligible}
-use Rattle.room_model.specs.Queries.{all_held, assignment_of, borrowed, held, holders, incident_of, is_attended, lent, loans_of, offered_by, offered_to, offers_of, point_of, points_of, served}
+use Rattle.room_model.specs.Queries.{all_held, assignment_of, borrowed, held, holders, incident_of, is_attended, lent}
+use Rattle.room_model.specs.Queries.{loans_of, offered_by, offered_to, offers_of, point_of, points_of, served}
 use Rattle.room_model.specs.Room.{IsInOrder, Room}
 use Rattle.room_model.specs.Shares.{own}
 
@@ -58,7 +60,10 @@ module _ (d : ℕ) (r : Room) (in_order : IsInOrder r) (is : List Incident) (cs 
     (ts : List Turn) (xs : List Report) where
   held_beside : (c : Callsign) → held d c (beside d r is cs ts xs) ≡ held d c r
   unfolding held
-  held_beside c = ap (keep (λ v. v.holder == d)) (row_filter callsign_cmp vehicle_key callsigns_total (owns_vehicle d) r.vehicles c in_order.vehicles) ∙ keep_keep (λ v. v.holder == d) (owns_vehicle d) _ (λ x h. h)
+  held_beside c =
+      ap (keep (λ v. v.holder == d))
+      (row_filter callsign_cmp vehicle_key callsigns_total (owns_vehicle d) r.vehicles c in_order.vehicles)
+      ∙ keep_keep (λ v. v.holder == d) (owns_vehicle d) _ (λ x h. h)
 
   all_held_beside : all_held d (beside d r is cs ts xs) ≡ all_held d r
   unfolding all_held
@@ -66,11 +71,17 @@ module _ (d : ℕ) (r : Room) (in_order : IsInOrder r) (is : List Incident) (cs 
 
   lent_beside : (c : Callsign) → lent d c (beside d r is cs ts xs) ≡ lent d c r
   unfolding lent
-  lent_beside c = ap (keep (λ l. l.lender == d)) (row_filter callsign_cmp loan_key callsigns_total (owns_loan d) r.loans c in_order.loans) ∙ keep_keep (λ l. l.lender == d) (owns_loan d) _ (λ x h. or_left _ _ h)
+  lent_beside c =
+      ap (keep (λ l. l.lender == d))
+      (row_filter callsign_cmp loan_key callsigns_total (owns_loan d) r.loans c in_order.loans)
+      ∙ keep_keep (λ l. l.lender == d) (owns_loan d) _ (λ x h. or_left _ _ h)
 
   borrowed_beside : (c : Callsign) → borrowed d c (beside d r is cs ts xs) ≡ borrowed d c r
   unfolding borrowed
-  borrowed_beside c = ap (keep (λ l. l.borrower == d)) (row_filter callsign_cmp loan_key callsigns_total (owns_loan d) r.loans c in_order.loans) ∙ keep_keep (λ l. l.borrower == d) (owns_loan d) _ (λ x h. or_right _ _ h)
+  borrowed_beside c =
+      ap (keep (λ l. l.borrower == d))
+      (row_filter callsign_cmp loan_key callsigns_total (owns_loan d) r.loans c in_order.loans)
+      ∙ keep_keep (λ l. l.borrower == d) (owns_loan d) _ (λ x h. or_right _ _ h)
 
   loans_beside : loans_of d (beside d r is cs ts xs) ≡ loans_of d r
   unfolding loans_of
@@ -78,11 +89,17 @@ module _ (d : ℕ) (r : Room) (in_order : IsInOrder r) (is : List Incident) (cs 
 
   offered_by_beside : (c : Callsign) → offered_by d c (beside d r is cs ts xs) ≡ offered_by d c r
   unfolding offered_by
-  offered_by_beside c = ap (keep (λ o. o.lender == d)) (row_filter callsign_cmp offer_key callsigns_total (owns_offer d) r.offers c in_order.offers) ∙ keep_keep (λ o. o.lender == d) (owns_offer d) _ (λ x h. or_left _ _ h)
+  offered_by_beside c =
+      ap (keep (λ o. o.lender == d))
+      (row_filter callsign_cmp offer_key callsigns_total (owns_offer d) r.offers c in_order.offers)
+      ∙ keep_keep (λ o. o.lender == d) (owns_offer d) _ (λ x h. or_left _ _ h)
 
   offered_to_beside : (c : Callsign) → offered_to d c (beside d r is cs ts xs) ≡ offered_to d c r
   unfolding offered_to
-  offered_to_beside c = ap (keep (λ o. o.borrower == d)) (row_filter callsign_cmp offer_key callsigns_total (owns_offer d) r.offers c in_order.offers) ∙ keep_keep (λ o. o.borrower == d) (owns_offer d) _ (λ x h. or_right _ _ h)
+  offered_to_beside c =
+      ap (keep (λ o. o.borrower == d))
+      (row_filter callsign_cmp offer_key callsigns_total (owns_offer d) r.offers c in_order.offers)
+      ∙ keep_keep (λ o. o.borrower == d) (owns_offer d) _ (λ x h. or_right _ _ h)
 
   offers_beside : offers_of d (beside d r is cs ts xs) ≡ offers_of d r
   unfolding offers_of
@@ -91,11 +108,17 @@ module _ (d : ℕ) (r : Room) (in_order : IsInOrder r) (is : List Incident) (cs 
   assignment_beside : (c : Callsign)
       → assignment_of d c (beside d r is cs ts xs) ≡ assignment_of d c r
   unfolding assignment_of
-  assignment_beside c = ap (keep (λ a. a.division == d)) (row_filter callsign_cmp assignment_key callsigns_total (owns_assignment d) r.assignments c in_order.assignments) ∙ keep_keep (λ a. a.division == d) (owns_assignment d) _ (λ x h. h)
+  assignment_beside c =
+      ap (keep (λ a. a.division == d))
+      (row_filter callsign_cmp assignment_key callsigns_total (owns_assignment d) r.assignments c in_order.assignments)
+      ∙ keep_keep (λ a. a.division == d) (owns_assignment d) _ (λ x h. h)
 
   point_beside : (n : ℕ) → point_of d n (beside d r is cs ts xs) ≡ point_of d n r
   unfolding point_of
-  point_beside n = row_filter pair_cmp point_key pairs_total (owns_point d) r.points (d, n) in_order.points ∙ keep_row pair_cmp point_key (owns_point d) r.points (d, n) (λ x h. eq-eqb x.division d (sym (ap (λ (p : ℕ × ℕ). p.0) (exact_pair (d, n) (point_key x) (is_equal _ h)))))
+  point_beside n =
+      row_filter pair_cmp point_key pairs_total (owns_point d) r.points (d, n) in_order.points
+      ∙ keep_row pair_cmp point_key (owns_point d) r.points (d, n)
+      (λ x h. eq-eqb x.division d (sym (ap (λ (p : ℕ × ℕ). p.0) (exact_pair (d, n) (point_key x) (is_equal _ h)))))
 
   points_beside : points_of d (beside d r is cs ts xs) ≡ points_of d r
   unfolding points_of

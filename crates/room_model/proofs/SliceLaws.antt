@@ -1,15 +1,19 @@
 -- A well-formed room's rows are a slice's.
-use Rattle.std.proofs.Common.{Bool, List, None, Option, Some, [], ap, cond, false, refl, subst, sym, true, ℕ, ◌∙◌, ◌∷◌, ◌≡◌, ◌≤◌}
+use Rattle.std.proofs.Common.{Bool, List, None, Option, Some, [], ap, cond, false, refl, subst, sym, true, ℕ, ◌∙◌, ◌∷◌}
+use Rattle.std.proofs.Common.{◌≡◌, ◌≤◌}
 use Rattle.std.specs.List.{list_all}
 use Rattle.std.specs.Prelude.{IfSome, filter, is_none, nat_le, ◌&&◌, ◌==◌, ◌||◌}
 use Rattle.room_types_keyed.proofs.EachRow.{row_key}
 use Rattle.room_types_keyed.proofs.KeyedLaws.{row_filter}
 use Rattle.room_types_keyed.specs.Keyed.{keep, row_at}
-use Rattle.room_types.specs.Keys.{assignment_key, callsign_cmp, incident_key, numbered_cmp, owns_assignment, owns_call, owns_division, owns_incident, owns_loan, owns_offer, owns_point, owns_report, owns_turn, owns_vehicle, pair_cmp, turn_key, vehicle_key}
+use Rattle.room_types.specs.Keys.{assignment_key, callsign_cmp, incident_key, numbered_cmp, owns_assignment, owns_call}
+use Rattle.room_types.specs.Keys.{owns_division, owns_incident, owns_loan, owns_offer, owns_point, owns_report}
+use Rattle.room_types.specs.Keys.{owns_turn, owns_vehicle, pair_cmp, turn_key, vehicle_key}
 use Rattle.room_types.specs.Orders.{callsigns_total, exact_callsigns, exact_numbered, numbered_total, pairs_total}
 use Rattle.room_types.specs.SentVehicles.{IsSent, PartsAgree}
 use Rattle.room_types.specs.Codes.{is_active, is_busy}
-use Rattle.room_types.specs.Slices.{AssignmentAgrees, IsActive, IsInTurn, IsShare, TurnAgrees, VehicleAgrees, assignment_at, open_turn, turn_at, vehicle_at}
+use Rattle.room_types.specs.Slices.{AssignmentAgrees, IsActive, IsInTurn, IsShare, TurnAgrees, VehicleAgrees}
+use Rattle.room_types.specs.Slices.{assignment_at, open_turn, turn_at, vehicle_at}
 use Rattle.room_types.specs.Texts.{Callsign}
 use Rattle.room_types.specs.declared.asks.Ask.{Ask}
 use Rattle.room_types.specs.declared.slices.DivisionRows.{DivisionRows}
@@ -28,7 +32,9 @@ use Rattle.room_model.specs.Room.{Room}
 use Rattle.room_model.specs.Shares.{own}
 use Rattle.room_model.specs.RoomSlices.{room_of}
 use Rattle.room_model.specs.WellFormed.{IsWellFormed}
-use Rattle.room_model.specs.Working.{names_turn, reads_assignments, reads_calls, reads_division, reads_incident, reads_loan, reads_number, reads_offer, reads_point, reads_report, reads_vehicle, working}
+use Rattle.room_model.specs.Working.{names_turn, reads_assignments, reads_calls, reads_division, reads_incident}
+use Rattle.room_model.specs.Working.{reads_loan, reads_number, reads_offer, reads_point, reads_report, reads_vehicle}
+use Rattle.room_model.specs.Working.{working}
 use Rattle.room_model.specs.WellFormed as room
 
 abbrev pub is_open : Turn → Bool
@@ -68,17 +74,25 @@ sent_in_room v None (Some x) h g same last = rw (open_idle v v.last_order x x.en
 sent_in_room v (Some y) None h g same last = let idle = g refl in let busy = h.0 in cc
 sent_in_room v (Some y) (Some x) h g same last =
     let found = open_busy v v.last_order x x.ended g.2 refl h.0 in
-    rw (ap (λ (o : Option ℕ). is_none o) found.0) (record { busy = h.0; assigned_by_holder = h.1; ordered_by_holder = found.1; same_incident = same (last ∙ sym h.2); assigned_last = h.2; ordered_last = last })
+    rw (ap (λ (o : Option ℕ). is_none o) found.0) (record {
+      busy = h.0;
+      assigned_by_holder = h.1;
+      ordered_by_holder = found.1;
+      same_incident = same (last ∙ sym h.2);
+      assigned_last = h.2;
+      ordered_last = last;
+    })
 
 -- ---- a division's rows, of a well-formed room
 -- a filter's rows pass
 all_filter : {X : Type 0} (p q : X → Bool) → Implies q p → (xs : List X)
     → list_all p (filter q xs) ≡ true
 all_filter p q f [] = refl
-all_filter p q f (x ∷ xs) = (elim (q x) as (λ (b : Bool). q x ≡ b → list_all p (cond b (x ∷ filter q xs) (filter q xs)) ≡ true) [
-  | true ↦ λ e. rw (f x e) (all_filter p q f xs)
-  | false ↦ λ e. all_filter p q f xs
-]) refl
+all_filter p q f (x ∷ xs) =
+    (elim (q x) as (λ (b : Bool). q x ≡ b → list_all p (cond b (x ∷ filter q xs) (filter q xs)) ≡ true) [
+      | true ↦ λ e. rw (f x e) (all_filter p q f xs)
+      | false ↦ λ e. all_filter p q f xs
+    ]) refl
 
 -- of the value, if there is one
 pub if_from : {X : Type 0} (P : X → Type 0) (o : Option X) → ((x : X) → o ≡ Some x → P x)
@@ -94,7 +108,9 @@ if_then P Q (Some x) f h = f x h
 pub if_kept : {X : Type 0} (p : X → Bool) (P : X → Type 0) (o : Option X)
     → ((x : X) → o ≡ Some x → p x ≡ true → P x) → IfSome (keep p o) P
 if_kept p P None f = tt
-if_kept p P (Some x) f = (elim (p x) as (λ (b : Bool). p x ≡ b → IfSome (cond b (Some x) None) P) [ true ↦ λ e. f x refl e | false ↦ λ e. tt ]) refl
+if_kept p P (Some x) f =
+    (elim (p x) as (λ (b : Bool). p x ≡ b → IfSome (cond b (Some x) None) P)
+    [ true ↦ λ e. f x refl e | false ↦ λ e. tt ]) refl
 
 -- of what agrees, any parts do
 parts_of : (v : Vehicle) (a : Option Assignment) (t : Option Turn) → SentAgrees v a t
@@ -106,8 +122,10 @@ parts_of v None None h false false = tt
 parts_of v None (Some t) h b c = absurd h
 parts_of v (Some a) None h b c = absurd h
 parts_of v (Some a) (Some t) h true true = h
-parts_of v (Some a) (Some t) h true false = record { busy = h.busy; assigned_by_holder = h.assigned_by_holder; assigned_last = h.assigned_last }
-parts_of v (Some a) (Some t) h false true = record { busy = h.busy; ordered_by_holder = h.ordered_by_holder; ordered_last = h.ordered_last }
+parts_of v (Some a) (Some t) h true false =
+    record { busy = h.busy; assigned_by_holder = h.assigned_by_holder; assigned_last = h.assigned_last }
+parts_of v (Some a) (Some t) h false true =
+    record { busy = h.busy; ordered_by_holder = h.ordered_by_holder; ordered_last = h.ordered_last }
 parts_of v (Some a) (Some t) h false false = tt
 
 -- what a test keeps is the value or none
@@ -129,7 +147,9 @@ open_kept : {X : Type 0} (b : Bool) (is p : X → Bool) (o : Option X)
 open_kept true is p None = refl
 open_kept false is p None = refl
 open_kept false is p (Some x) = refl
-open_kept true is p (Some x) = (elim (p x) as (λ (b : Bool). keep is (cond b (Some x) None) ≡ cond b (keep is (Some x)) None) [ true ↦ refl | false ↦ refl ])
+open_kept true is p (Some x) =
+    (elim (p x) as (λ (b : Bool). keep is (cond b (Some x) None) ≡ cond b (keep is (Some x)) None)
+    [ true ↦ refl | false ↦ refl ])
 
 -- which rows are read: the division's, of each table
 record Reads (d : ℕ) : Type 0 where
@@ -176,7 +196,8 @@ module _ (d : ℕ) (r : Room) (formed : IsWellFormed r) (reads : Reads d) where
 
   assignment_row : (c : Callsign) → assignment_at c read_rows
       ≡ keep reads.assignment (row_at callsign_cmp assignment_key r.assignments c)
-  assignment_row c = row_filter callsign_cmp assignment_key callsigns_total reads.assignment r.assignments c formed.order.assignments
+  assignment_row c =
+      row_filter callsign_cmp assignment_key callsigns_total reads.assignment r.assignments c formed.order.assignments
 
   turn_row : (c : Callsign) (n : ℕ)
       → turn_at c n read_rows ≡ keep reads.turn (row_at numbered_cmp turn_key r.turns (c, n))
@@ -184,27 +205,42 @@ module _ (d : ℕ) (r : Room) (formed : IsWellFormed r) (reads : Reads d) where
 
   turn_order : (c : Callsign) (n : ℕ)
       → IfSome (row_at numbered_cmp turn_key r.turns (c, n)) (λ t. t.order ≡ n)
-  turn_order c n = if_then (λ t. turn_key t ≡ (c, n)) (λ t. t.order ≡ n) (row_at numbered_cmp turn_key r.turns (c, n)) (λ t e. ap (λ (k : Callsign × ℕ). k.1) e) (row_key numbered_cmp turn_key numbered_total exact_numbered r.turns (c, n))
+  turn_order c n =
+      if_then (λ t. turn_key t ≡ (c, n)) (λ t. t.order ≡ n) (row_at numbered_cmp turn_key r.turns (c, n))
+      (λ t e. ap (λ (k : Callsign × ℕ). k.1) e)
+      (row_key numbered_cmp turn_key numbered_total exact_numbered r.turns (c, n))
 
   -- ---- at each callsign
   vehicle_agreed : (c : Callsign) (v : Vehicle)
       → row_at callsign_cmp vehicle_key r.vehicles c ≡ Some v → VehicleAgrees read_rows c v
   vehicle_agreed c v e =
-      let named : v.callsign ≡ c = subst (λ o. IfSome o (λ x. x.callsign ≡ c)) e (row_key callsign_cmp vehicle_key callsigns_total exact_callsigns r.vehicles c) in
-      let assigned = subst (λ o. room.AssignmentAgrees o (row_at callsign_cmp assignment_key r.assignments c)) e (formed.assignments c) in
-      let ordered = subst (λ o. room.TurnAgrees o v.last_order (row_at numbered_cmp turn_key r.turns (c, v.last_order))) e (formed.turns c v.last_order) in
+      let named : v.callsign
+      ≡ c =
+      subst (λ o. IfSome o (λ x. x.callsign ≡ c)) e
+      (row_key callsign_cmp vehicle_key callsigns_total exact_callsigns r.vehicles c) in
+      let assigned = subst (λ o. room.AssignmentAgrees o (row_at callsign_cmp assignment_key r.assignments c)) e
+      (formed.assignments c) in
+      let ordered = subst (λ o. room.TurnAgrees o v.last_order (row_at numbered_cmp turn_key r.turns (c, v.last_order)))
+      e (formed.turns c v.last_order) in
       let turn = row_at numbered_cmp turn_key r.turns (c, v.last_order) in
-      let same_assignment = assignment_row c ∙ kept_so reads.assignment (row_at callsign_cmp assignment_key r.assignments c) in
-      let same_turn : open_turn v read_rows ≡ cond (turn_passed (nat_le 1 v.last_order) reads.turn turn) (keep is_open turn) None =
+      let same_assignment = assignment_row c
+      ∙ kept_so reads.assignment (row_at callsign_cmp assignment_key r.assignments c) in
+      let same_turn : open_turn v read_rows
+      ≡ cond (turn_passed (nat_le 1 v.last_order) reads.turn turn) (keep is_open turn) None =
       ap (λ k. cond (nat_le 1 v.last_order) (keep is_open (turn_at k v.last_order read_rows)) None) named
       ∙ (ap (λ o. cond (nat_le 1 v.last_order) (keep is_open o) None) (turn_row c v.last_order)
       ∙ open_kept (nat_le 1 v.last_order) is_open reads.turn turn) in
       subst (λ a. PartsAgree v a (open_turn v read_rows)) (sym same_assignment)
-      (subst (PartsAgree v (cond (passed reads.assignment (row_at callsign_cmp assignment_key r.assignments c)) (row_at callsign_cmp assignment_key r.assignments c) None)) (sym same_turn)
-      (parts_of v _ _ (sent_in_room v _ _ assigned ordered (formed.same_incident c v.last_order) (turn_order c v.last_order)) _ _))
+      (subst (PartsAgree v (cond (passed reads.assignment (row_at callsign_cmp assignment_key r.assignments c))
+      (row_at callsign_cmp assignment_key r.assignments c) None)) (sym same_turn)
+      (parts_of v _ _
+      (sent_in_room v _ _ assigned ordered (formed.same_incident c v.last_order) (turn_order c v.last_order)) _ _))
 
   vehicles_agreed : (c : Callsign) → IfSome (vehicle_at c read_rows) (VehicleAgrees read_rows c)
-  vehicles_agreed c = subst (λ o. IfSome o (VehicleAgrees read_rows c)) (sym (vehicle_row c)) (if_kept reads.vehicle (VehicleAgrees read_rows c) (row_at callsign_cmp vehicle_key r.vehicles c) (λ v e passes. vehicle_agreed c v e))
+  vehicles_agreed c =
+      subst (λ o. IfSome o (VehicleAgrees read_rows c)) (sym (vehicle_row c))
+      (if_kept reads.vehicle (VehicleAgrees read_rows c) (row_at callsign_cmp vehicle_key r.vehicles c)
+      (λ v e passes. vehicle_agreed c v e))
 
   assigned_active : (v : Vehicle) (a : Assignment) (t : Option Turn) → a.division ≡ v.holder
       → is_busy v.status ≡ true → a.order ≡ v.last_order → room.TurnAgrees (Some v) v.last_order t
@@ -215,45 +251,72 @@ module _ (d : ℕ) (r : Room) (formed : IsWellFormed r) (reads : Reads d) where
   assigned_active v a (Some t) held busy last ordered same numbered active =
       let found = open_busy v v.last_order t t.ended ordered.2 refl busy in
       subst (λ n. IsActive (row_at pair_cmp incident_key r.incidents (n, a.incident))) (found.1 ∙ sym held)
-      (subst (λ n. IsActive (row_at pair_cmp incident_key r.incidents (t.division, n))) (same (numbered ∙ sym last)) (active found.0))
+      (subst (λ n. IsActive (row_at pair_cmp incident_key r.incidents (t.division, n))) (same (numbered ∙ sym last))
+      (active found.0))
 
   -- an active incident that is read is active
   active_read : (o : Option Incident) → IsActive o
       → IfSome (keep reads.incident o) (λ i. is_active i.state ≡ true)
   active_read None h = absurd h
-  active_read (Some i) h = if_kept reads.incident (λ x. is_active x.state ≡ true) (Some i) (λ x e passes. subst IsActive e h)
+  active_read (Some i) h =
+      if_kept reads.incident (λ x. is_active x.state ≡ true) (Some i) (λ x e passes. subst IsActive e h)
 
   assignment_agreed : (c : Callsign) (a : Assignment)
       → row_at callsign_cmp assignment_key r.assignments c ≡ Some a → AssignmentAgrees read_rows a
-  assignment_agreed c a e = (elim (row_at callsign_cmp vehicle_key r.vehicles c) as (λ o. row_at callsign_cmp vehicle_key r.vehicles c ≡ o → room.AssignmentAgrees o (Some a) → AssignmentAgrees read_rows a) [
-    | None ↦ λ f h. absurd h
-    | Some v ↦ λ f h.
-        let ordered = subst (λ o. room.TurnAgrees o v.last_order (row_at numbered_cmp turn_key r.turns (c, v.last_order))) f (formed.turns c v.last_order) in
-        let same = subst (λ o. room.SameIncident o (row_at numbered_cmp turn_key r.turns (c, v.last_order))) e (formed.same_incident c v.last_order) in
-        let active = assigned_active v a _ h.1 h.0 h.2 ordered same (turn_order c v.last_order) (formed.active c v.last_order) in
-        subst (λ o. IfSome o (λ i. is_active i.state ≡ true)) (sym (row_filter pair_cmp incident_key pairs_total reads.incident r.incidents (a.division, a.incident) formed.order.incidents)) (active_read _ active)
-  ]) refl (subst (λ o. room.AssignmentAgrees (row_at callsign_cmp vehicle_key r.vehicles c) o) e (formed.assignments c))
+  assignment_agreed c a e =
+      (elim (row_at callsign_cmp vehicle_key r.vehicles c) as (λ o.
+      row_at callsign_cmp vehicle_key r.vehicles c ≡ o → room.AssignmentAgrees o (Some a)
+      → AssignmentAgrees read_rows a) [
+        | None ↦ λ f h. absurd h
+        | Some v ↦ λ f h.
+            let ordered = subst
+            (λ o. room.TurnAgrees o v.last_order (row_at numbered_cmp turn_key r.turns (c, v.last_order))) f
+            (formed.turns c v.last_order) in
+            let same = subst (λ o. room.SameIncident o (row_at numbered_cmp turn_key r.turns (c, v.last_order))) e
+            (formed.same_incident c v.last_order) in
+            let active = assigned_active v a _ h.1 h.0 h.2 ordered same (turn_order c v.last_order)
+            (formed.active c v.last_order) in
+            subst (λ o. IfSome o (λ i. is_active i.state ≡ true))
+            (sym (row_filter pair_cmp incident_key pairs_total reads.incident r.incidents (a.division, a.incident)
+            formed.order.incidents)) (active_read _ active)
+      ]) refl
+      (subst (λ o. room.AssignmentAgrees (row_at callsign_cmp vehicle_key r.vehicles c) o) e (formed.assignments c))
 
   assignments_agreed : (c : Callsign)
       → IfSome (assignment_at c read_rows) (AssignmentAgrees read_rows)
-  assignments_agreed c = subst (λ o. IfSome o (AssignmentAgrees read_rows)) (sym (assignment_row c)) (if_kept reads.assignment (AssignmentAgrees read_rows) (row_at callsign_cmp assignment_key r.assignments c) (λ a e passes. assignment_agreed c a e))
+  assignments_agreed c =
+      subst (λ o. IfSome o (AssignmentAgrees read_rows)) (sym (assignment_row c))
+      (if_kept reads.assignment (AssignmentAgrees read_rows) (row_at callsign_cmp assignment_key r.assignments c)
+      (λ a e passes. assignment_agreed c a e))
 
   in_turn : (v : Vehicle) (n : ℕ) (t : Turn) → t.order ≡ n → n ≤ v.last_order
       → room.OpenAgrees v n t t.ended → (b : Bool) → IsInTurn t (cond b (Some v) None)
-  in_turn v n t numbered below h true = (subst (λ m. m ≤ v.last_order) (sym numbered) below, λ e. numbered ∙ (open_holder v n t t.ended h (ap (λ (o : Option ℕ). is_none o) e)).0)
+  in_turn v n t numbered below h true = (
+    subst (λ m. m ≤ v.last_order) (sym numbered) below,
+    λ e. numbered ∙ (open_holder v n t t.ended h (ap (λ (o : Option ℕ). is_none o) e)).0,
+  )
   in_turn v n t numbered below h false = tt
 
   turn_agreed : (c : Callsign) (n : ℕ) (t : Turn)
       → row_at numbered_cmp turn_key r.turns (c, n) ≡ Some t → TurnAgrees read_rows c t
   turn_agreed c n t e =
       let numbered : t.order ≡ n = subst (λ o. IfSome o (λ x. x.order ≡ n)) e (turn_order c n) in
-      (elim (row_at callsign_cmp vehicle_key r.vehicles c) as (λ o. row_at callsign_cmp vehicle_key r.vehicles c ≡ o → room.TurnAgrees o n (Some t) → TurnAgrees read_rows c t) [
+      (elim (row_at callsign_cmp vehicle_key r.vehicles c) as (λ o.
+      row_at callsign_cmp vehicle_key r.vehicles c ≡ o → room.TurnAgrees o n (Some t) → TurnAgrees read_rows c t) [
         | None ↦ λ f h. absurd h
-        | Some v ↦ λ f h. (subst (λ m. 1 ≤ m) (sym numbered) h.0, subst (IsInTurn t) (sym (vehicle_row c ∙ ap (keep reads.vehicle) f)) (in_turn v n t numbered h.1 h.2 (reads.vehicle v)))
+        | Some v ↦
+            λ f h. (
+              subst (λ m. 1 ≤ m) (sym numbered) h.0,
+              subst (IsInTurn t) (sym (vehicle_row c ∙ ap (keep reads.vehicle) f))
+                  (in_turn v n t numbered h.1 h.2 (reads.vehicle v)),
+            )
       ]) refl (subst (λ o. room.TurnAgrees (row_at callsign_cmp vehicle_key r.vehicles c) n o) e (formed.turns c n))
 
   turns_agreed : (c : Callsign) (n : ℕ) → IfSome (turn_at c n read_rows) (TurnAgrees read_rows c)
-  turns_agreed c n = subst (λ o. IfSome o (TurnAgrees read_rows c)) (sym (turn_row c n)) (if_kept reads.turn (TurnAgrees read_rows c) (row_at numbered_cmp turn_key r.turns (c, n)) (λ t e passes. turn_agreed c n t e))
+  turns_agreed c n =
+      subst (λ o. IfSome o (TurnAgrees read_rows c)) (sym (turn_row c n))
+      (if_kept reads.turn (TurnAgrees read_rows c) (row_at numbered_cmp turn_key r.turns (c, n))
+      (λ t e passes. turn_agreed c n t e))
 
   read_share : IsShare d read_rows
   read_share = record {
@@ -276,7 +339,18 @@ module _ (d : ℕ) (r : Room) (formed : IsWellFormed r) (reads : Reads d) where
 
 -- ---- the whole share, and the working rows
 abbrev rows_of : Room → DivisionRows
-rows_of r = record { divisions = r.divisions; incidents = r.incidents; calls = r.calls; vehicles = r.vehicles; turns = r.turns; assignments = r.assignments; points = r.points; loans = r.loans; offers = r.offers; reports = r.reports }
+rows_of r = record {
+  divisions = r.divisions;
+  incidents = r.incidents;
+  calls = r.calls;
+  vehicles = r.vehicles;
+  turns = r.turns;
+  assignments = r.assignments;
+  points = r.points;
+  loans = r.loans;
+  offers = r.offers;
+  reports = r.reports;
+}
 
 abbrev reads_all : (d : ℕ) → Reads d
 reads_all d = record {
@@ -332,4 +406,5 @@ reads_working d a at r = record {
 
 pub working_is_slice : (d : ℕ) (a : Ask) (at : ℕ) (r : Room) (s : DivisionRows) → IsWellFormed r
     → room_of r.plan s ≡ working d a at r → IsShare d s
-working_is_slice d a at r s formed e = subst (IsShare d) (sym (ap rows_of e)) (read_share d r formed (reads_working d a at r))
+working_is_slice d a at r s formed e =
+    subst (IsShare d) (sym (ap rows_of e)) (read_share d r formed (reads_working d a at r))

@@ -14,7 +14,9 @@ use Rattle.room_types.specs.declared.tables.Vehicle.{Vehicle}
 use Rattle.room_model.proofs.OpenTurns.{row_there}
 use Rattle.room_model.proofs.Tests.{row_among, row_key}
 use Rattle.room_model.specs.Room.{IsInOrder, Room}
-use Rattle.room_model.specs.WellFormed.{AssignmentAgrees, AssignmentStands, AssignmentsAgree, AssignmentsStand, HasAssignment, HasOpenTurn, OpenAgrees, StatusTellsAssignments, StatusTellsTurns, TurnAgrees, TurnStands, TurnsAgree, TurnsStand}
+use Rattle.room_model.specs.WellFormed.{AssignmentAgrees, AssignmentStands, AssignmentsAgree, AssignmentsStand}
+use Rattle.room_model.specs.WellFormed.{HasAssignment, HasOpenTurn, OpenAgrees, StatusTellsAssignments}
+use Rattle.room_model.specs.WellFormed.{StatusTellsTurns, TurnAgrees, TurnStands, TurnsAgree, TurnsStand}
 
 never_both : (b : Bool) → b ≡ true → b ≡ false → ⊥
 never_both b e f = cc
@@ -30,7 +32,8 @@ turn_stands : (o : Option Vehicle) (n : ℕ) (p : Option Turn) → TurnAgrees o 
 turn_stands None n None h = tt
 turn_stands None n (Some t) h = h
 turn_stands (Some v) n None h = tt
-turn_stands (Some v) n (Some t) h = (h.0, h.1, λ e. let g : OpenAgrees v n t None = subst (OpenAgrees v n t) e h.2 in (g.0, g.1))
+turn_stands (Some v) n (Some t) h =
+    (h.0, h.1, λ e. let g : OpenAgrees v n t None = subst (OpenAgrees v n t) e h.2 in (g.0, g.1))
 
 module _ (r : Room) (order : IsInOrder r) where
   vehicle_there : (v : Vehicle) → Among v r.vehicles
@@ -56,7 +59,9 @@ module _ (r : Room) (order : IsInOrder r) where
 
   assignment_found : (c : Callsign) (x : HasAssignment r c)
       → row_at callsign_cmp assignment_key r.assignments c ≡ Some x.assignment
-  assignment_found c x = ap (row_at callsign_cmp assignment_key r.assignments) (sym x.vehicle) ∙ row_among callsign_cmp assignment_key callsigns_total r.assignments x.assignment order.assignments x.there
+  assignment_found c x =
+      ap (row_at callsign_cmp assignment_key r.assignments) (sym x.vehicle)
+      ∙ row_among callsign_cmp assignment_key callsigns_total r.assignments x.assignment order.assignments x.there
 
   assignment_of_busy : (v : Vehicle) (p : Option Assignment)
       → row_at callsign_cmp assignment_key r.assignments v.callsign ≡ p
@@ -66,7 +71,9 @@ module _ (r : Room) (order : IsInOrder r) where
 
   pub status_tells_assignments : AssignmentsAgree r → StatusTellsAssignments r
   status_tells_assignments agree v here =
-      let h : AssignmentAgrees (Some v) (row_at callsign_cmp assignment_key r.assignments v.callsign) = subst (λ (o : Option Vehicle). AssignmentAgrees o (row_at callsign_cmp assignment_key r.assignments v.callsign)) (vehicle_there v here) (agree v.callsign) in (
+      let h : AssignmentAgrees (Some v) (row_at callsign_cmp assignment_key r.assignments v.callsign) = subst
+      (λ (o : Option Vehicle). AssignmentAgrees o (row_at callsign_cmp assignment_key r.assignments v.callsign))
+      (vehicle_there v here) (agree v.callsign) in (
         λ busy. assignment_of_busy v _ refl h busy,
         λ x. (subst (AssignmentAgrees (Some v)) (assignment_found v.callsign x) h).0,
       )
@@ -79,11 +86,15 @@ module _ (r : Room) (order : IsInOrder r) where
   assignment_agrees tells c None None e f h = tt
   assignment_agrees tells c None (Some a) e f h = h
   assignment_agrees tells c (Some v) None e f h = false_from_ne_true (is_busy v.status) (λ busy.
-      let x : HasAssignment r c = subst (HasAssignment r) (sym (vehicle_name c v e)) ((tells v (vehicle_among c v e)).0 busy) in
+      let x : HasAssignment r c = subst (HasAssignment r) (sym (vehicle_name c v e))
+      ((tells v (vehicle_among c v e)).0 busy) in
       let found : row_at callsign_cmp assignment_key r.assignments c ≡ Some x.assignment = assignment_found c x in
       cc)
-  assignment_agrees tells c (Some v) (Some a) e f h =
-      ((tells v (vehicle_among c v e)).1 (subst (HasAssignment r) (vehicle_name c v e) (has_assignment c a f)), h.0, h.1)
+  assignment_agrees tells c (Some v) (Some a) e f h = (
+    (tells v (vehicle_among c v e)).1 (subst (HasAssignment r) (vehicle_name c v e) (has_assignment c a f)),
+    h.0,
+    h.1,
+  )
 
   pub assignments_by_status : AssignmentsAgree r ↔ (AssignmentsStand r × StatusTellsAssignments r)
   assignments_by_status = (
@@ -97,13 +108,17 @@ module _ (r : Room) (order : IsInOrder r) where
   has_open_turn c n t e open_one = record {
     turn = t;
     there = row_there numbered_cmp turn_key r.turns (c, n) t e;
-    vehicle = sym (ap (λ (k : Callsign × ℕ). k.0) (row_key numbered_cmp turn_key numbered_total exact_numbered r.turns (c, n) t e));
+    vehicle =
+        sym (ap (λ (k : Callsign × ℕ). k.0)
+        (row_key numbered_cmp turn_key numbered_total exact_numbered r.turns (c, n) t e));
     unended = open_one;
   }
 
   turn_found : (c : Callsign) (x : HasOpenTurn r c)
       → row_at numbered_cmp turn_key r.turns (c, x.turn.order) ≡ Some x.turn
-  turn_found c x = ap (λ (k : Callsign). row_at numbered_cmp turn_key r.turns (k, x.turn.order)) (sym x.vehicle) ∙ row_among numbered_cmp turn_key numbered_total r.turns x.turn order.turns x.there
+  turn_found c x =
+      ap (λ (k : Callsign). row_at numbered_cmp turn_key r.turns (k, x.turn.order)) (sym x.vehicle)
+      ∙ row_among numbered_cmp turn_key numbered_total r.turns x.turn order.turns x.there
 
   turn_of_busy : (v : Vehicle) (t : Turn)
       → row_at numbered_cmp turn_key r.turns (v.callsign, v.last_order) ≡ Some t → (o : Option ℕ)
@@ -120,24 +135,31 @@ module _ (r : Room) (order : IsInOrder r) where
 
   turn_at : TurnsAgree r → (v : Vehicle) → Among v r.vehicles → (n : ℕ)
       → TurnAgrees (Some v) n (row_at numbered_cmp turn_key r.turns (v.callsign, n))
-  turn_at agree v here n = subst (λ (o : Option Vehicle). TurnAgrees o n (row_at numbered_cmp turn_key r.turns (v.callsign, n))) (vehicle_there v here) (agree v.callsign n)
+  turn_at agree v here n =
+      subst (λ (o : Option Vehicle). TurnAgrees o n (row_at numbered_cmp turn_key r.turns (v.callsign, n)))
+      (vehicle_there v here) (agree v.callsign n)
 
   busy_of_turn : TurnsAgree r → (v : Vehicle) → Among v r.vehicles → HasOpenTurn r v.callsign
       → is_busy v.status ≡ true
   busy_of_turn agree v here x =
-      let h : TurnAgrees (Some v) x.turn.order (Some x.turn) = subst (TurnAgrees (Some v) x.turn.order) (turn_found v.callsign x) (turn_at agree v here x.turn.order) in
+      let h : TurnAgrees (Some v) x.turn.order (Some x.turn) = subst (TurnAgrees (Some v) x.turn.order)
+      (turn_found v.callsign x) (turn_at agree v here x.turn.order) in
       let g : OpenAgrees v x.turn.order x.turn None = subst (OpenAgrees v x.turn.order x.turn) x.unended h.2 in
       g.2
 
   pub status_tells_turns : TurnsAgree r → StatusTellsTurns r
-  status_tells_turns agree v here = (λ busy. open_of_busy v _ refl (turn_at agree v here v.last_order) busy, busy_of_turn agree v here)
+  status_tells_turns agree v here =
+      (λ busy. open_of_busy v _ refl (turn_at agree v here v.last_order) busy, busy_of_turn agree v here)
 
   -- an open turn stands at the vehicle's last order
   last_found : TurnsStand r → (c : Callsign) (v : Vehicle)
       → row_at callsign_cmp vehicle_key r.vehicles c ≡ Some v → (x : HasOpenTurn r c) → (n : ℕ)
       → n ≡ v.last_order → row_at numbered_cmp turn_key r.turns (c, n) ≡ Some x.turn
   last_found stand c v e x n last =
-      let h : TurnStands (Some v) x.turn.order (Some x.turn) = subst (TurnStands (Some v) x.turn.order) (turn_found c x) (subst (λ (o : Option Vehicle). TurnStands o x.turn.order (row_at numbered_cmp turn_key r.turns (c, x.turn.order))) e (stand c x.turn.order)) in
+      let h : TurnStands (Some v) x.turn.order (Some x.turn) = subst (TurnStands (Some v) x.turn.order) (turn_found c x)
+      (subst
+      (λ (o : Option Vehicle). TurnStands o x.turn.order (row_at numbered_cmp turn_key r.turns (c, x.turn.order))) e
+      (stand c x.turn.order)) in
       let same : n ≡ x.turn.order = last ∙ sym (h.2 x.unended).0 in
       ap (λ m. row_at numbered_cmp turn_key r.turns (c, m)) same ∙ turn_found c x
 
@@ -150,8 +172,11 @@ module _ (r : Room) (order : IsInOrder r) where
       → row_at callsign_cmp vehicle_key r.vehicles c ≡ Some v → (n : ℕ) (t : Turn)
       → row_at numbered_cmp turn_key r.turns (c, n) ≡ Some t → TurnStands (Some v) n (Some t)
       → (o : Option ℕ) → t.ended ≡ o → OpenAgrees v n t o
-  open_agrees stand tells c v e n t f h None g =
-      ((h.2 g).0, (h.2 g).1, (tells v (vehicle_among c v e)).1 (subst (HasOpenTurn r) (vehicle_name c v e) (has_open_turn c n t f g)))
+  open_agrees stand tells c v e n t f h None g = (
+    (h.2 g).0,
+    (h.2 g).1,
+    (tells v (vehicle_among c v e)).1 (subst (HasOpenTurn r) (vehicle_name c v e) (has_open_turn c n t f g)),
+  )
   open_agrees stand tells c v e n t f h (Some at) g = λ last. false_from_ne_true (is_busy v.status) (λ busy.
       let x = open_now tells c v e busy in
       let found : row_at numbered_cmp turn_key r.turns (c, n) ≡ Some x.turn = last_found stand c v e x n last in

@@ -4,7 +4,8 @@ use Rattle.std.proofs.lemmas.Map.Lookups.{CmpEqualImpliesEq}
 use Rattle.std.specs.Cmp.{IsTotalOrder}
 use Rattle.std.specs.List.{cons_option, list_any}
 use Rattle.std.specs.Ordering.{is_eq, ordering_reverse}
-use Rattle.std.specs.Prelude.{Bool, List, None, Option, Some, [], cond, false, filter, filter_map, is_none, map, refl, true, ◌&&◌, ◌||◌, ◌∷◌, ◌≡◌}
+use Rattle.std.specs.Prelude.{Bool, List, None, Option, Some, [], cond, false, filter, filter_map, is_none, map, refl}
+use Rattle.std.specs.Prelude.{true, ◌&&◌, ◌||◌, ◌∷◌, ◌≡◌}
 use Rattle.std.specs.declared.cmp.Ordering.{Ordering}
 use Rattle.std.specs.declared.cmp.Ordering.TheVariants.{Equal, Greater, Less}
 use Rattle.room_place.specs.Choice.{Among, first}
@@ -42,16 +43,18 @@ filter_one : {X : Type 0} (b : Bool) (p : X → Bool) (x : X) (xs ys : List X)
     → (p x ≡ true → b ≡ true) → filter p xs ≡ filter p ys
     → filter p (cond b (x ∷ xs) xs) ≡ filter p (x ∷ ys)
 filter_one true p x xs ys f h = ap (λ zs. cond (p x) (x ∷ zs) zs) h
-filter_one {X} false p x xs ys f h = h ∙ (elim (p x) as (λ (c : Bool). p x ≡ c → filter p ys ≡ cond c (x ∷ filter p ys) (filter p ys)) [
-  | true ↦ λ e. let g = f e in cc
-  | false ↦ λ e. refl
-]) refl
+filter_one {X} false p x xs ys f h =
+    h ∙ (elim (p x) as (λ (c : Bool). p x ≡ c → filter p ys ≡ cond c (x ∷ filter p ys) (filter p ys)) [
+      | true ↦ λ e. let g = f e in cc
+      | false ↦ λ e. refl
+    ]) refl
 
 -- a filter after a weaker one, over the elements of a list
 pub filter_among : {X : Type 0} (p q : X → Bool) (xs : List X)
     → ((x : X) → Among x xs → p x ≡ true → q x ≡ true) → filter p (filter q xs) ≡ filter p xs
 filter_among p q [] f = refl
-filter_among p q (x ∷ xs) f = filter_one (q x) p x (filter q xs) xs (f x (inl refl)) (filter_among p q xs (λ y a. f y (inr a)))
+filter_among p q (x ∷ xs) f =
+    filter_one (q x) p x (filter q xs) xs (f x (inl refl)) (filter_among p q xs (λ y a. f y (inr a)))
 
 pub filter_filter : {X : Type 0} (p q : X → Bool) (xs : List X) → Implies p q
     → filter p (filter q xs) ≡ filter p xs
@@ -77,21 +80,27 @@ OnlyFrom {X} f q = (x : X) → q x ≡ false → f x ≡ None
 pub filter_map_filter : {X Y : Type 0} (f : X → Option Y) (q : X → Bool) (xs : List X)
     → OnlyFrom f q → filter_map f (filter q xs) ≡ filter_map f xs
 filter_map_filter f q [] h = refl
-filter_map_filter {X} {Y} f q (x ∷ xs) h = (elim (q x) as (λ (b : Bool). q x ≡ b → filter_map f (cond b (x ∷ filter q xs) (filter q xs)) ≡ cons_option (f x) (filter_map f xs)) [
-  | true ↦ λ e. ap (λ (zs : List Y). cons_option (f x) zs) (filter_map_filter f q xs h)
-  | false ↦ λ e. filter_map_filter f q xs h ∙ sym (ap (λ (o : Option Y). cons_option o (filter_map f xs)) (h x e))
-]) refl
+filter_map_filter {X} {Y} f q (x ∷ xs) h =
+    (elim (q x) as (λ (b : Bool).
+    q x ≡ b → filter_map f (cond b (x ∷ filter q xs) (filter q xs)) ≡ cons_option (f x) (filter_map f xs)) [
+      | true ↦ λ e. ap (λ (zs : List Y). cons_option (f x) zs) (filter_map_filter f q xs h)
+      | false ↦ λ e. filter_map_filter f q xs h ∙ sym (ap (λ (o : Option Y). cons_option o (filter_map f xs)) (h x e))
+    ]) refl
 
 -- two functions that agree on a list's elements
 pub filter_map_among : {X Y : Type 0} (f g : X → Option Y) (xs : List X)
     → ((x : X) → Among x xs → f x ≡ g x) → filter_map f xs ≡ filter_map g xs
 filter_map_among f g [] h = refl
-filter_map_among {X} {Y} f g (x ∷ xs) h = ap (λ (o : Option Y). cons_option o (filter_map f xs)) (h x (inl refl)) ∙ ap (λ (zs : List Y). cons_option (g x) zs) (filter_map_among f g xs (λ y a. h y (inr a)))
+filter_map_among {X} {Y} f g (x ∷ xs) h =
+    ap (λ (o : Option Y). cons_option o (filter_map f xs)) (h x (inl refl))
+    ∙ ap (λ (zs : List Y). cons_option (g x) zs) (filter_map_among f g xs (λ y a. h y (inr a)))
 
 pub map_among : {X Y : Type 0} (f g : X → Y) (xs : List X) → ((x : X) → Among x xs → f x ≡ g x)
     → map f xs ≡ map g xs
 map_among f g [] h = refl
-map_among {X} {Y} f g (x ∷ xs) h = ap (λ (y : Y). y ∷ map f xs) (h x (inl refl)) ∙ ap (λ (zs : List Y). g x ∷ zs) (map_among f g xs (λ y a. h y (inr a)))
+map_among {X} {Y} f g (x ∷ xs) h =
+    ap (λ (y : Y). y ∷ map f xs) (h x (inl refl))
+    ∙ ap (λ (zs : List Y). g x ∷ zs) (map_among f g xs (λ y a. h y (inr a)))
 
 -- an element of a filtered list is one of the list, and passes
 among_head : {X : Type 0} (b : Bool) (p : X → Bool) (y x : X) (zs xs : List X) → p x ≡ b
@@ -151,17 +160,24 @@ module _ {R K : Type 0} (cmp : K → K → Ordering) (key : R → K) (total : Is
       → row_at cmp key xs (key x) ≡ Some x
   row_among [] x h a = absurd a
   row_among (y ∷ xs) x h a = elim a [
-    | inl e ↦ ap (λ (o : Ordering). cond (is_eq o) (Some y) (row_at cmp key xs (key x))) (ap (λ z. cmp (key z) (key y)) e ∙ self_equal (cmp (key y) (key y)) (total.antisymm (key y) (key y))) ∙ ap Some (sym e)
-    | inr b ↦ ap (λ (o : Ordering). cond (is_eq o) (Some y) (row_at cmp key xs (key x))) (total.antisymm (key x) (key y) ∙ ap ordering_reverse (below_among (key y) xs x h.0 b)) ∙ row_among xs x h.1 b
+    | inl e ↦
+        ap (λ (o : Ordering). cond (is_eq o) (Some y) (row_at cmp key xs (key x)))
+        (ap (λ z. cmp (key z) (key y)) e ∙ self_equal (cmp (key y) (key y)) (total.antisymm (key y) (key y)))
+        ∙ ap Some (sym e)
+    | inr b ↦
+        ap (λ (o : Ordering). cond (is_eq o) (Some y) (row_at cmp key xs (key x)))
+        (total.antisymm (key x) (key y) ∙ ap ordering_reverse (below_among (key y) xs x h.0 b)) ∙ row_among xs x h.1 b
   ]
 
   pub row_key : CmpEqualImpliesEq cmp → (xs : List R) (k : K) (x : R)
       → row_at cmp key xs k ≡ Some x → k ≡ key x
   row_key exact [] k x h = cc
-  row_key exact (y ∷ xs) k x h = (elim (is_eq (cmp k (key y))) as (λ (b : Bool). is_eq (cmp k (key y)) ≡ b → cond b (Some y) (row_at cmp key xs k) ≡ Some x → k ≡ key x) [
-    | true ↦ λ e g. let same : y ≡ x = cc in exact k (key y) (is_equal _ e) ∙ ap key same
-    | false ↦ λ e g. row_key exact xs k x g
-  ]) refl h
+  row_key exact (y ∷ xs) k x h =
+      (elim (is_eq (cmp k (key
+      y))) as (λ (b : Bool). is_eq (cmp k (key y)) ≡ b → cond b (Some y) (row_at cmp key xs k) ≡ Some x → k ≡ key x) [
+        | true ↦ λ e g. let same : y ≡ x = cc in exact k (key y) (is_equal _ e) ∙ ap key same
+        | false ↦ λ e g. row_key exact xs k x g
+      ]) refl h
 
 keep_both : {X : Type 0} (b c : Bool) (p q : X → Bool) (x : X) (o : Option X)
     → (b ≡ true → p x ≡ true → q x ≡ true) → keep p (keep q o) ≡ keep p o
@@ -174,7 +190,8 @@ pub keep_keep_row : {X K : Type 0} (cmp : K → K → Ordering) (key : X → K) 
     (xs : List X) (k : K) → ((x : X) → is_eq (cmp k (key x)) ≡ true → p x ≡ true → q x ≡ true)
     → keep p (keep q (row_at cmp key xs k)) ≡ keep p (row_at cmp key xs k)
 keep_keep_row cmp key p q [] k f = refl
-keep_keep_row cmp key p q (x ∷ xs) k f = keep_both (is_eq (cmp k (key x))) true p q x _ (f x) (keep_keep_row cmp key p q xs k f)
+keep_keep_row cmp key p q (x ∷ xs) k f =
+    keep_both (is_eq (cmp k (key x))) true p q x _ (f x) (keep_keep_row cmp key p q xs k f)
 
 -- the first of a list is one of it
 pub first_among : {X : Type 0} (xs : List X) (x : X) → first xs ≡ Some x → Among x xs

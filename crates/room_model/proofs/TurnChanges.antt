@@ -56,7 +56,8 @@ module _ (s : Room) (p : VehicleRows) (v : Vehicle) (h : Agrees s (record p { ve
       → u.last_order ≡ v.last_order → ((x : Turn) → o ≡ Some x → x.ended ≡ None
       → OpenAgrees v n x None → ⊥) → TurnAgrees (Some v) n o → TurnAgrees (Some u) n o
   shut_turn u n None idle order none g = λ e. idle
-  shut_turn u n (Some x) idle order none g = (g.0, subst (λ m. n ≤ m) (sym order) g.1, shut_open u n x x.ended idle (none x refl) g.2)
+  shut_turn u n (Some x) idle order none g =
+      (g.0, subst (λ m. n ≤ m) (sym order) g.1, shut_open u n x x.ended idle (none x refl) g.2)
 
   has_ended : (u : Vehicle) (n : ℕ) (x : Turn) (o : Option ℕ) → is_some o ≡ true
       → is_busy u.status ≡ false → OpenAgrees u n x o
@@ -67,12 +68,16 @@ module _ (s : Room) (p : VehicleRows) (v : Vehicle) (h : Agrees s (record p { ve
   pub ended_turns : (u : Vehicle) (o : Option Turn) → IsOpenTurn v.holder p.turn o
       → ((t : Turn) → is_some (change t).ended ≡ true) → is_busy u.status ≡ false
       → u.last_order ≡ v.last_order → (n : ℕ) → TurnAgrees (Some u) n (with_turn change o p.turn n)
-  ended_turns u None is ends idle order = λ n. shut_turn u n (p.turn n) idle order (λ x e g k. is n x e g k.1) (h.turn n)
+  ended_turns u None is ends idle order =
+      λ n. shut_turn u n (p.turn n) idle order (λ x e g k. is n x e g k.1) (h.turn n)
   ended_turns u (Some t) is ends idle order =
       let known = open_agreed t is in
       let kept = same t in
-      replaced (λ n o. TurnAgrees (Some u) n o) (change t).order (change t) p.turn
-      (subst (λ n. 1 ≤ n) (sym kept.order) known.0, omega (arith, kept.order, known.1, order), has_ended u (change t).order (change t) (change t).ended (ends t) idle)
+      replaced (λ n o. TurnAgrees (Some u) n o) (change t).order (change t) p.turn (
+        subst (λ n. 1 ≤ n) (sym kept.order) known.0,
+        omega (arith, kept.order, known.1, order),
+        has_ended u (change t).order (change t) (change t).ended (ends t) idle,
+      )
       (λ n other. shut_turn u n (p.turn n) idle order (λ x e g k. other (k.0 ∙ sym (kept.order ∙ known.1))) (h.turn n))
 
   -- it goes on, and the vehicle is as busy as it was
@@ -84,8 +89,12 @@ module _ (s : Room) (p : VehicleRows) (v : Vehicle) (h : Agrees s (record p { ve
   moved_turns u (Some t) is goes busy holder order =
       let known = open_agreed t is in
       let kept = same t in
-      replaced (λ n o. TurnAgrees (Some u) n o) (change t).order (change t) p.turn
-      (subst (λ n. 1 ≤ n) (sym kept.order) known.0, omega (arith, kept.order, known.1, order), subst (OpenAgrees u (change t).order (change t)) (sym (goes t ∙ is.1)) (kept.order ∙ (known.1 ∙ sym order), kept.division ∙ (known.2 ∙ sym holder), busy ∙ known.3))
+      replaced (λ n o. TurnAgrees (Some u) n o) (change t).order (change t) p.turn (
+        subst (λ n. 1 ≤ n) (sym kept.order) known.0,
+        omega (arith, kept.order, known.1, order),
+        subst (OpenAgrees u (change t).order (change t)) (sym (goes t ∙ is.1))
+            (kept.order ∙ (known.1 ∙ sym order), kept.division ∙ (known.2 ∙ sym holder), busy ∙ known.3),
+      )
       (λ n other. like_turn v u busy (λ b. holder) order n (p.turn n) (h.turn n))
 
   same_incident_of : (a : Option Assignment) (t x : Turn) → IsTurnOf t x → SameIncident a (Some t)
@@ -96,7 +105,10 @@ module _ (s : Room) (p : VehicleRows) (v : Vehicle) (h : Agrees s (record p { ve
   pub incidents_stay : (o : Option Turn) → IsOpenTurn v.holder p.turn o → (n : ℕ)
       → SameIncident p.assignment (with_turn change o p.turn n)
   incidents_stay None is = h.same_incident
-  incidents_stay (Some t) is = replaced (λ n o. SameIncident p.assignment o) (change t).order (change t) p.turn (same_incident_of p.assignment t (change t) (same t) (subst (SameIncident p.assignment) is.0 (h.same_incident t.order))) (λ n other. h.same_incident n)
+  incidents_stay (Some t) is =
+      replaced (λ n o. SameIncident p.assignment o) (change t).order (change t) p.turn
+      (same_incident_of p.assignment t (change t) (same t)
+      (subst (SameIncident p.assignment) is.0 (h.same_incident t.order))) (λ n other. h.same_incident n)
 
   pub still_active : (o : Option Turn) → IsOpenTurn v.holder p.turn o → (n : ℕ)
       → TurnIsActive s (with_turn change o p.turn n)
@@ -104,12 +116,19 @@ module _ (s : Room) (p : VehicleRows) (v : Vehicle) (h : Agrees s (record p { ve
   still_active (Some t) is =
       let kept = same t in
       let was : TurnIsActive s (Some t) = subst (TurnIsActive s) is.0 (h.active t.order) in
-      replaced (λ n o. TurnIsActive s o) (change t).order (change t) p.turn (λ e. subst (λ (k : ℕ × ℕ). IsActive (row_at pair_cmp incident_key s.incidents k)) (λ i. (sym kept.division i, sym kept.incident i)) (was is.1)) (λ n other. h.active n)
+      replaced (λ n o. TurnIsActive s o) (change t).order (change t) p.turn
+      (λ e.
+      subst (λ (k : ℕ × ℕ). IsActive (row_at pair_cmp incident_key s.incidents k))
+      (λ i. (sym kept.division i, sym kept.incident i)) (was is.1)) (λ n other. h.active n)
 
   pub divisions_of_turns : (o : Option Turn) → IsOpenTurn v.holder p.turn o → (n : ℕ)
       → IfSome (with_turn change o p.turn n) (λ t. has_division s.plan t.division ≡ true)
   divisions_of_turns None is = h.turn_division
-  divisions_of_turns (Some t) is = replaced (λ n o. IfSome o (λ t. has_division s.plan t.division ≡ true)) (change t).order (change t) p.turn (rw (same t).division (subst (λ o. IfSome o (λ t. has_division s.plan t.division ≡ true)) is.0 (h.turn_division t.order))) (λ n other. h.turn_division n)
+  divisions_of_turns (Some t) is =
+      replaced (λ n o. IfSome o (λ t. has_division s.plan t.division ≡ true)) (change t).order (change t) p.turn
+      (rw (same t).division
+      (subst (λ o. IfSome o (λ t. has_division s.plan t.division ≡ true)) is.0 (h.turn_division t.order)))
+      (λ n other. h.turn_division n)
 
   -- a vehicle that is stood down
   pub stood_down_agrees : (o : Option Turn) → IsOpenTurn v.holder p.turn o
@@ -162,17 +181,24 @@ module _ (s : Room) (p : VehicleRows) (v u : Vehicle)
   report_up n (Some y) g = (g.0, omega (arith, g.1, last))
 
   pub reports_up : (n : ℕ) → ReportAgrees (Some u) n (put_at x.number x p.report n)
-  reports_up = replaced (λ n o. ReportAgrees (Some u) n o) x.number x p.report (least, omega (arith, last)) (λ n other. report_up n (p.report n) (h.report n))
+  reports_up =
+      replaced (λ n o. ReportAgrees (Some u) n o) x.number x p.report (least, omega (arith, last))
+      (λ n other. report_up n (p.report n) (h.report n))
 
   pub last_up : IsLast (put_at x.number x p.report) (Some u)
-  last_up = subst (λ m. (m ≡ 0) ⊎ (is_some (put_at x.number x p.report m) ≡ true)) (sym last) (elim (max_either v.last_report x.number) [
-    | inr e ↦ inr (subst (λ m. is_some (put_at x.number x p.report m) ≡ true) (sym e) (put_itself x.number x p.report))
-    | inl e ↦ subst (λ m. (m ≡ 0) ⊎ (is_some (put_at x.number x p.report m) ≡ true)) (sym e) (elim h.last_report [
-      | inl z ↦ inl z
-      | inr there ↦ inr (put_some x.number x p.report v.last_report there)
-    ])
-  ])
+  last_up =
+      subst (λ m. (m ≡ 0) ⊎ (is_some (put_at x.number x p.report m) ≡ true)) (sym last)
+      (elim (max_either v.last_report x.number) [
+        | inr e ↦
+            inr (subst (λ m. is_some (put_at x.number x p.report m) ≡ true) (sym e) (put_itself x.number x p.report))
+        | inl e ↦ subst (λ m. (m ≡ 0) ⊎ (is_some (put_at x.number x p.report m) ≡ true)) (sym e) (elim h.last_report [
+          | inl z ↦ inl z
+          | inr there ↦ inr (put_some x.number x p.report v.last_report there)
+        ])
+      ])
 
   pub divisions_of_reports : x.division ≡ v.holder → (n : ℕ)
       → IfSome (put_at x.number x p.report n) (λ y. has_division s.plan y.division ≡ true)
-  divisions_of_reports e = replaced (λ n o. IfSome o (λ y. has_division s.plan y.division ≡ true)) x.number x p.report (rw e h.holder) (λ n other. h.report_division n)
+  divisions_of_reports e =
+      replaced (λ n o. IfSome o (λ y. has_division s.plan y.division ≡ true)) x.number x p.report (rw e h.holder)
+      (λ n other. h.report_division n)

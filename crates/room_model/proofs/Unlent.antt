@@ -1,6 +1,7 @@
 -- Where nothing is lent and nobody offers a vehicle, no loan and no offer ever comes.
 use Rattle.std.proofs.Common.{ap, eq-eqb, subst, sym, ◌∙◌}
-use Rattle.std.specs.Prelude.{Bool, Err, List, None, Ok, Option, Some, [], false, is_err, not, refl, true, ℕ, ◌==◌, ◌||◌, ◌∷◌, ◌≡◌}
+use Rattle.std.specs.Prelude.{Bool, Err, List, None, Ok, Option, Some, [], false, is_err, not, refl, true, ℕ, ◌==◌}
+use Rattle.std.specs.Prelude.{◌||◌, ◌∷◌, ◌≡◌}
 use Rattle.room_types_keyed.specs.Keyed.{drop_row, keep, row_at}
 use Rattle.room_types.specs.Keys.{callsign_cmp, loan_key, offer_key}
 use Rattle.room_types.specs.Texts.{Callsign}
@@ -10,7 +11,7 @@ use Rattle.room_types.specs.declared.asks.Who.{Who}
 use Rattle.room_types.specs.declared.asks.Who.TheVariants.{Crew, Desk, Position}
 use Rattle.room_types.specs.declared.changes.Change.{Change}
 use Rattle.room_types.specs.declared.changes.Change.TheVariants.{DropLoan, DropOffer, PutLoan, PutOffer}
-use Rattle.room_types.specs.declared.refusals.Refusal.{Refusal}
+use Rattle.room_types.specs.declared.refusal_statuses.Refusal.{Refusal}
 use Rattle.room_types.specs.declared.tables.Loan.{Loan}
 use Rattle.room_types.specs.declared.tables.Offer.{Offer}
 use Rattle.room_types.specs.declared.tables.Vehicle.{Vehicle}
@@ -21,7 +22,8 @@ use Rattle.room_model.proofs.Tests.{or_left, or_right}
 use Rattle.room_model.specs.Crossing.{is_local}
 use Rattle.room_model.specs.Decisions.{Verdict, answer_of, changes_of, refuse_if, where_held}
 use Rattle.room_model.specs.Events.{AreAddressed, AreLocal, IsUnlent, NobodyLends, is_lend}
-use Rattle.room_model.specs.Loans.{accept, accepted, decline, declined, give_back, given_back, recall, recall_lent, withdraw, withdrawn}
+use Rattle.room_model.specs.Loans.{accept, accepted, decline, declined, give_back, given_back, recall, recall_lent}
+use Rattle.room_model.specs.Loans.{withdraw, withdrawn}
 use Rattle.room_model.specs.Queries.{borrowed, held, lent, offered_by, offered_to}
 use Rattle.room_model.specs.Room.{Room, apply, apply_one}
 use Rattle.room_model.specs.Run.{room_run}
@@ -100,8 +102,10 @@ module _ (r : Room) (w : IsWellFormed r) (u : IsUnlent r) where
   -- a vehicle that a desk holds is its own
   at_home : (d : ℕ) (c : Callsign) (v : Vehicle) → IsHeld d c r v → v.home == d ≡ true
   at_home d c v is =
-      let here = subst (λ (o : Option Vehicle). LoanAgrees o (row_at callsign_cmp loan_key r.loans v.callsign)) is.there (w.loans v.callsign) in
-      let home : v.holder ≡ v.home = subst (λ ls. LoanAgrees (Some v) (row_at callsign_cmp loan_key ls v.callsign)) u.0 here in
+      let here = subst (λ (o : Option Vehicle). LoanAgrees o (row_at callsign_cmp loan_key r.loans v.callsign)) is.there
+      (w.loans v.callsign) in
+      let home : v.holder
+      ≡ v.home = subst (λ ls. LoanAgrees (Some v) (row_at callsign_cmp loan_key ls v.callsign)) u.0 here in
       eq-eqb v.home d (sym home ∙ is.holder)
 
   give_back_refused : (d : ℕ) (c : Callsign) (v : Option Vehicle) → held d c r ≡ v
@@ -113,10 +117,13 @@ module _ (r : Room) (w : IsWellFormed r) (u : IsUnlent r) where
       → IsRefused (desk_asks d a at r)
   unfolding withdraw decline accept recall give_back
   rest_refused d (ask.Lend c to until) at l n = cc
-  rest_refused d (ask.Withdraw c) at l n = subst (λ o. IsRefused (where_held (held d c r) (lent d c r) (withdrawn o))) (sym (by_none d c)) (withdraw_refused (held d c r) (lent d c r))
+  rest_refused d (ask.Withdraw c) at l n =
+      subst (λ o. IsRefused (where_held (held d c r) (lent d c r) (withdrawn o))) (sym (by_none d c))
+      (withdraw_refused (held d c r) (lent d c r))
   rest_refused d (ask.Decline c) at l n = subst (λ o. IsRefused (declined o)) (sym (to_none d c)) refl
   rest_refused d (ask.Accept c) at l n = subst (λ o. IsRefused (accepted o at)) (sym (to_none d c)) refl
-  rest_refused d (ask.Recall c) at l n = subst (λ o. IsRefused (recall_lent o (held d c r))) (sym (lent_none d c)) (recall_refused (held d c r))
+  rest_refused d (ask.Recall c) at l n =
+      subst (λ o. IsRefused (recall_lent o (held d c r))) (sym (lent_none d c)) (recall_refused (held d c r))
   rest_refused d (ask.GiveBack c) at l n = give_back_refused d c (held d c r) refl
   rest_refused d a at l n = cc
 
@@ -136,7 +143,11 @@ module _ (r : Room) (w : IsWellFormed r) (u : IsUnlent r) where
   desk_step : (d : ℕ) (a : Ask) (at : ℕ) (b : Bool) → is_local a ≡ b
       → not (is_lend a) || is_err (answer_of (desk_asks d a at r)) ≡ true
       → IsStep a (desk_asks d a at r)
-  desk_step d a at true l n = (or_left _ _ l, apply_leaves r (changes_of (desk_asks d a at r)) (desk_all r LeavesUnlent (leaves_allowed r) d a at (λ f. absurd (none (sym f ∙ local_lends a l)))) u)
+  desk_step d a at true l n = (
+    or_left _ _ l,
+    apply_leaves r (changes_of (desk_asks d a at r))
+        (desk_all r LeavesUnlent (leaves_allowed r) d a at (λ f. absurd (none (sym f ∙ local_lends a l)))) u,
+  )
     where
       none : true ≡ false → ⊥
       none f = cc
@@ -144,7 +155,8 @@ module _ (r : Room) (w : IsWellFormed r) (u : IsUnlent r) where
 
   position_leaves : (p : ℕ) (a : Ask) (at : ℕ)
       → IsUnlent (apply r (changes_of (position_asks p a at r)))
-  position_leaves p a at = apply_leaves r (changes_of (position_asks p a at r)) (position_all r LeavesUnlent (leaves_allowed r) p a at) u
+  position_leaves p a at =
+      apply_leaves r (changes_of (position_asks p a at r)) (position_all r LeavesUnlent (leaves_allowed r) p a at) u
 
   position_step : (p : ℕ) (a : Ask) (at : ℕ) → IsStep a (position_asks p a at r)
   position_step p (ask.Call f) at = (refl, position_leaves p (ask.Call f) at)
@@ -152,7 +164,8 @@ module _ (r : Room) (w : IsWellFormed r) (u : IsUnlent r) where
 
   crew_leaves : (c : Callsign) (a : Ask) (at : ℕ)
       → IsUnlent (apply r (changes_of (crew_asks c a at r)))
-  crew_leaves c a at = apply_leaves r (changes_of (crew_asks c a at r)) (crew_all r LeavesUnlent (leaves_allowed r) c a at) u
+  crew_leaves c a at =
+      apply_leaves r (changes_of (crew_asks c a at r)) (crew_all r LeavesUnlent (leaves_allowed r) c a at) u
 
   crew_step : (c : Callsign) (a : Ask) (at : ℕ) → IsStep a (crew_asks c a at r)
   crew_step c (ask.Report p) at = (refl, crew_leaves c (ask.Report p) at)
@@ -172,5 +185,6 @@ pub unlent_run : (es : List Event) (r : Room) → IsWellFormed r → AreAddresse
 unlent_run [] r w known u n = (tt, u)
 unlent_run (e ∷ es) r w known u n =
     let step = who_step r w u e.who e.ask e.at n.0 in
-    let rest = unlent_run es (room_after e r) (event_kept e r w known.0 known.1) (addressed_still es r (changes_of (decided e r)) known.2) step.1 n.1 in
+    let rest = unlent_run es (room_after e r) (event_kept e r w known.0 known.1)
+    (addressed_still es r (changes_of (decided e r)) known.2) step.1 n.1 in
     (((step.0, step.1.0 ∙ sym u.0), rest.0), rest.1)

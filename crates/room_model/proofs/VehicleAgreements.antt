@@ -5,12 +5,14 @@ use Rattle.std.specs.Prelude.{Bool, IfSome, List, None, Option, Some, false, is_
 use Rattle.room_place.specs.Plans.{has_division}
 use Rattle.room_place.specs.declared.plans.Area.{Area}
 use Rattle.room_types_keyed.specs.Keyed.{row_at}
-use Rattle.room_types.specs.Keys.{call_key, callsign_cmp, division_key, incident_key, numbered_cmp, pair_cmp, point_key, report_key, vehicle_key}
+use Rattle.room_types.specs.Keys.{call_key, callsign_cmp, division_key, incident_key, numbered_cmp, pair_cmp, point_key}
+use Rattle.room_types.specs.Keys.{report_key, vehicle_key}
 use Rattle.room_types.specs.Orders.{callsigns_total, exact_callsigns}
 use Rattle.room_types.specs.Texts.{Callsign}
 use Rattle.room_types.specs.declared.changes.Change.{Change}
 use Rattle.room_types.specs.declared.codes.Status.{Status}
-use Rattle.room_types.specs.declared.codes.Status.TheVariants.{AtHospital, AtScene, Available, Leaving, Mobilised, OffDuty, Offered, Returning}
+use Rattle.room_types.specs.declared.codes.Status.TheVariants.{AtHospital, AtScene, Available, Leaving, Mobilised}
+use Rattle.room_types.specs.declared.codes.Status.TheVariants.{OffDuty, Offered, Returning}
 use Rattle.room_types.specs.declared.tables.Assignment.{Assignment}
 use Rattle.room_types.specs.declared.tables.Incident.{Incident}
 use Rattle.room_types.specs.declared.tables.Offer.{Offer}
@@ -19,10 +21,13 @@ use Rattle.room_types.specs.declared.tables.Turn.{Turn}
 use Rattle.room_types.specs.declared.tables.Vehicle.{Vehicle}
 use Rattle.room_model.proofs.OwnChanges.{in_order_apply}
 use Rattle.room_model.proofs.Tests.{is_equal, row_key}
-use Rattle.room_model.proofs.VehicleRows.{AllConcern, VehicleRows, all_after, bare, bare_stays, changed, others_stay, rows_of}
+use Rattle.room_model.proofs.VehicleRows.{AllConcern, VehicleRows, all_after, bare, bare_stays, changed, others_stay}
+use Rattle.room_model.proofs.VehicleRows.{rows_of}
 use Rattle.room_types.specs.Codes.{is_busy, is_free, is_offered}
 use Rattle.room_model.specs.Room.{IsInOrder, Room, apply}
-use Rattle.room_model.specs.WellFormed.{AssignmentAgrees, CallAgrees, IsWellFormed, LastAgrees, LoanAgrees, NumberAgrees, OfferAgrees, OpenAgrees, OpenedAgrees, PostAgrees, ReportAgrees, SameIncident, TurnAgrees, TurnIsActive}
+use Rattle.room_model.specs.WellFormed.{AssignmentAgrees, CallAgrees, IsWellFormed, LastAgrees, LoanAgrees}
+use Rattle.room_model.specs.WellFormed.{NumberAgrees, OfferAgrees, OpenAgrees, OpenedAgrees, PostAgrees, ReportAgrees}
+use Rattle.room_model.specs.WellFormed.{SameIncident, TurnAgrees, TurnIsActive}
 
 -- the vehicle's last report is there, where it sent any
 abbrev pub IsLast : (ℕ → Option Report) → Option Vehicle → Type 0
@@ -59,7 +64,16 @@ pub record AreRecorded (s : Room) : Type 0 where
 pub opened_alike : (r s : Room) (o : Option Incident) → r.calls ≡ s.calls → OpenedAgrees r o
     → OpenedAgrees s o
 opened_alike r s None e h = tt
-opened_alike r s (Some i) e h = λ m. let o = h m in record { position = o.position; serial = o.serial; first_call = o.first_call; there = ap (λ cs. row_at pair_cmp call_key cs (o.position, o.serial)) (sym e) ∙ o.there; same = o.same }
+opened_alike r s (Some i) e h =
+    λ m.
+    let o = h m in
+    record {
+      position = o.position;
+      serial = o.serial;
+      first_call = o.first_call;
+      there = ap (λ cs. row_at pair_cmp call_key cs (o.position, o.serial)) (sym e) ∙ o.there;
+      same = o.same;
+    }
 
 module _ (r : Room) where
   last_from : (c : Callsign) (o : Option Vehicle)
@@ -131,13 +145,20 @@ pub kept_by : (k : Callsign) (r : Room) (xs : List Change) → IsWellFormed r �
     → Agrees (bare r) (all_after (rows_of k r) xs) → IsWellFormed (apply r xs)
 kept_by k r xs w e h =
     let same = bare_stays k r xs e in
-    well_formed (apply r xs) (in_order_apply r xs w.order) (λ c. subst (λ s. Agrees s (rows_of c (apply r xs))) (sym same) (each c)) (subst AreRecorded (sym same) (recorded r w))
+    well_formed (apply r xs) (in_order_apply r xs w.order)
+    (λ c. subst (λ s. Agrees s (rows_of c (apply r xs))) (sym same) (each c))
+    (subst AreRecorded (sym same) (recorded r w))
   where
     each : (c : Callsign) → Agrees (bare r) (rows_of c (apply r xs))
-    each c = (elim (is_eq (callsign_cmp c k)) as (λ (b : Bool). is_eq (callsign_cmp c k) ≡ b → Agrees (bare r) (rows_of c (apply r xs))) [
-      | true ↦ λ f. subst (λ j. Agrees (bare r) (rows_of j (apply r xs))) (sym (exact_callsigns c k (is_equal _ f))) (subst (Agrees (bare r)) (sym (changed k r xs w.order e)) h)
-      | false ↦ λ f. subst (Agrees (bare r)) (sym (others_stay k r xs c w.order e f)) (agreed r w c)
-    ]) refl
+    each c =
+        (elim (is_eq
+        (callsign_cmp c k)) as (λ (b : Bool). is_eq (callsign_cmp c k) ≡ b → Agrees (bare r) (rows_of c (apply r xs))) [
+          | true ↦
+              λ f.
+              subst (λ j. Agrees (bare r) (rows_of j (apply r xs))) (sym (exact_callsigns c k (is_equal _ f)))
+              (subst (Agrees (bare r)) (sym (changed k r xs w.order e)) h)
+          | false ↦ λ f. subst (Agrees (bare r)) (sym (others_stay k r xs c w.order e f)) (agreed r w c)
+        ]) refl
 
 -- the same rows, with a vehicle that is known
 pub known : (s : Room) (p : VehicleRows) (v : Vehicle) → p.vehicle ≡ Some v → Agrees s p

@@ -2,7 +2,8 @@
 use Rattle.std.proofs.Common.{ap, arith, subst, sym, ◌∙◌}
 use Rattle.std.proofs.lemmas.Cmp.{nat_cmp_total, tied_itself}
 use Rattle.std.specs.Ordering.{is_eq, nat_cmp}
-use Rattle.std.specs.Prelude.{Bool, IfSome, List, None, Option, Some, cond, false, is_some, not, refl, true, ℕ, ◌+◌, ◌≡◌, ◌≢◌, ◌⊎◌}
+use Rattle.std.specs.Prelude.{Bool, IfSome, List, None, Option, Some, cond, false, is_some, not, refl, true, ℕ, ◌+◌}
+use Rattle.std.specs.Prelude.{◌≡◌, ◌≢◌, ◌⊎◌}
 use Rattle.room_place.specs.Plans.{has_division}
 use Rattle.room_place.specs.declared.plans.Area.{Area}
 use Rattle.room_types_keyed.specs.Keyed.{row_at}
@@ -22,7 +23,8 @@ use Rattle.room_types.specs.Codes.{is_busy, is_free, is_mobilised, is_off, is_of
 use Rattle.room_model.specs.Loans.{offered}
 use Rattle.room_model.specs.Room.{Room}
 use Rattle.room_types.specs.Slices.{IsActive}
-use Rattle.room_model.specs.WellFormed.{IsPost, LoanAgrees, OfferAgrees, OpenAgrees, ReportAgrees, SameIncident, TurnAgrees, TurnIsActive}
+use Rattle.room_model.specs.WellFormed.{IsPost, LoanAgrees, OfferAgrees, OpenAgrees, ReportAgrees, SameIncident}
+use Rattle.room_model.specs.WellFormed.{TurnAgrees, TurnIsActive}
 
 -- statuses by their tests
 pub is_true : (b : Bool) → not b ≡ false → b ≡ true
@@ -64,10 +66,16 @@ away_offer plan v u (Some o) away e h = absurd (away (sym h.1 ∙ h.2))
 -- what holds at each number, after a row was put at one
 pub replaced : {X : Type 0} (P : ℕ → Option X → Type 0) (m : ℕ) (x : X) (f : ℕ → Option X)
     → P m (Some x) → ((n : ℕ) → n ≢ m → P n (f n)) → (n : ℕ) → P n (put_at m x f n)
-replaced {X} P m x f here there n = (elim (is_eq (nat_cmp n m)) as (λ (b : Bool). is_eq (nat_cmp n m) ≡ b → P n (cond b (Some x) (f n))) [
-  | true ↦ λ e. subst (λ k. P k (Some x)) (sym (exact_number n m (is_equal _ e))) here
-  | false ↦ λ e. there n (λ same. let tied : is_eq (nat_cmp n m) ≡ true = ap (λ k. is_eq (nat_cmp n k)) (sym same) ∙ ap is_eq (tied_itself nat_cmp_total n) in cc)
-]) refl
+replaced {X} P m x f here there n =
+    (elim (is_eq (nat_cmp n m)) as (λ (b : Bool). is_eq (nat_cmp n m) ≡ b → P n (cond b (Some x) (f n))) [
+      | true ↦ λ e. subst (λ k. P k (Some x)) (sym (exact_number n m (is_equal _ e))) here
+      | false ↦
+          λ e.
+          there n (λ same.
+          let tied : is_eq (nat_cmp n m)
+          ≡ true = ap (λ k. is_eq (nat_cmp n k)) (sym same) ∙ ap is_eq (tied_itself nat_cmp_total n) in
+          cc)
+    ]) refl
 
 module _ (s : Room) (p : VehicleRows) (v : Vehicle)
     (h : Agrees s (record p { vehicle = Some v })) where
@@ -77,13 +85,16 @@ module _ (s : Room) (p : VehicleRows) (v : Vehicle)
       → u.last_order ≡ v.last_order → u.last_report ≡ v.last_report → IsPost s u u.post
       → Agrees s (record p { vehicle = Some u })
   idle_agrees u e f offered home holder order report post = record {
-    loan = subst (λ (x : ℕ × ℕ). LoanAgrees (Some (record u { home = x.0; holder = x.1 })) p.loan) (λ i. (sym home i, sym holder i)) h.loan;
+    loan =
+        subst (λ (x : ℕ × ℕ). LoanAgrees (Some (record u { home = x.0; holder = x.1 })) p.loan)
+        (λ i. (sym home i, sym holder i)) h.loan;
     offer = like_offer s.plan v u p.offer offered holder home h.offer;
     assignment = like_assignment v u (f ∙ sym e) (λ b. holder) order p.assignment h.assignment;
     turn = λ n. like_turn v u (f ∙ sym e) (λ b. holder) order n (p.turn n) (h.turn n);
     same_incident = h.same_incident;
     active = h.active;
-    report = λ n. subst (λ m. ReportAgrees (Some (record u { last_report = m })) n (p.report n)) (sym report) (h.report n);
+    report =
+        λ n. subst (λ m. ReportAgrees (Some (record u { last_report = m })) n (p.report n)) (sym report) (h.report n);
     last_report = subst (λ m. (m ≡ 0) ⊎ (is_some (p.report m) ≡ true)) (sym report) h.last_report;
     post = post;
     home = rw home h.home;
@@ -158,7 +169,8 @@ module _ (s : Room) (p : VehicleRows) (v : Vehicle)
     turn = λ n. like_turn v u (f ∙ sym e) idle order n (p.turn n) (h.turn n);
     same_incident = h.same_incident;
     active = h.active;
-    report = λ n. subst (λ m. ReportAgrees (Some (record u { last_report = m })) n (p.report n)) (sym report) (h.report n);
+    report =
+        λ n. subst (λ m. ReportAgrees (Some (record u { last_report = m })) n (p.report n)) (sym report) (h.report n);
     last_report = subst (λ m. (m ≡ 0) ⊎ (is_some (p.report m) ≡ true)) (sym report) h.last_report;
     post = subst (IsPost s u) (sym post) tt;
     home = rw home h.home;
@@ -190,15 +202,22 @@ module _ (s : Room) (p : VehicleRows) (v : Vehicle)
         loan = h.loan;
         offer = like_offer s.plan v u p.offer (sym idle.1) refl refl h.offer;
         assignment = (refl, assigned, ordered);
-        turn = replaced (λ n o. TurnAgrees (Some u) n o) t.order t p.turn (omega arith, omega arith, subst (OpenAgrees u t.order t) (sym unended) (order, division, refl)) (λ n other. newer n (p.turn n) idle.0 (λ e. other (e ∙ sym order)) (h.turn n));
-        same_incident = replaced (λ n o. SameIncident (Some a) o) t.order t p.turn (λ e. same) (λ n other. older n (p.turn n) (numbered n) (λ e. other (e ∙ sym order)));
+        turn =
+            replaced (λ n o. TurnAgrees (Some u) n o) t.order t p.turn
+            (omega arith, omega arith, subst (OpenAgrees u t.order t) (sym unended) (order, division, refl))
+            (λ n other. newer n (p.turn n) idle.0 (λ e. other (e ∙ sym order)) (h.turn n));
+        same_incident =
+            replaced (λ n o. SameIncident (Some a) o) t.order t p.turn (λ e. same)
+            (λ n other. older n (p.turn n) (numbered n) (λ e. other (e ∙ sym order)));
         active = replaced (λ n o. TurnIsActive s o) t.order t p.turn (λ e. active) (λ n other. h.active n);
         report = h.report;
         last_report = h.last_report;
         post = tt;
         home = h.home;
         holder = h.holder;
-        turn_division = replaced (λ n o. IfSome o (λ t. has_division s.plan t.division ≡ true)) t.order t p.turn (rw division h.holder) (λ n other. h.turn_division n);
+        turn_division =
+            replaced (λ n o. IfSome o (λ t. has_division s.plan t.division ≡ true)) t.order t p.turn
+            (rw division h.holder) (λ n other. h.turn_division n);
         report_division = h.report_division;
       }
     where

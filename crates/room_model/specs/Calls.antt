@@ -16,8 +16,8 @@ use Rattle.room_model.specs.Moments.{number_limit}
 use Rattle.room_model.specs.Queries.{kept_call, last_number, last_serial, link_target}
 use Rattle.room_model.specs.Room.{Room}
 use Rattle.room_types.specs.declared.answers.Answer.TheVariants as answer
-use Rattle.room_types.specs.declared.refusals.Refusal.{Refusal}
-use Rattle.room_types.specs.declared.refusals.Refusal.TheVariants as refusal
+use Rattle.room_types.specs.declared.refusal_statuses.Refusal.{Refusal}
+use Rattle.room_types.specs.declared.refusal_statuses.Refusal.TheVariants as refusal
 
 -- a call form, with its position and moment
 abbrev pub new_call : ℕ → CallForm → ℕ → NewCall

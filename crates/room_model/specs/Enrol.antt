@@ -2,7 +2,8 @@
 -- the row is refused.
 use Rattle.std.specs.Cmp.Lexicographic.{slice_cmp}
 use Rattle.std.specs.Ordering.{nat_cmp}
-use Rattle.std.specs.Prelude.{Bool, List, None, Option, Some, cond, false, is_some, option_map, true, ℕ, ◌&&◌, ◌==◌, ◌≡◌}
+use Rattle.std.specs.Prelude.{Bool, List, None, Option, Some, cond, false, is_some, option_map, true, ℕ, ◌&&◌, ◌==◌}
+use Rattle.std.specs.Prelude.{◌≡◌}
 use Rattle.std.specs.declared.cmp.Ordering.{Ordering}
 use Rattle.room_place.specs.Plans.{has_division}
 use Rattle.room_types_keyed.specs.Keyed.{IsKeyed, put_row, row_at}
@@ -20,7 +21,7 @@ use Rattle.room_types.specs.declared.fleet.Terminal.{Terminal}
 use Rattle.room_types.specs.declared.tables.Vehicle.{Vehicle}
 use Rattle.room_types.specs.Codes.{same_kind}
 use Rattle.room_model.specs.Room.{Room, apply_one}
-use Rattle.room_types.specs.declared.refusals.Refusal.TheVariants as refusal
+use Rattle.room_types.specs.declared.refusal_statuses.Refusal.TheVariants as refusal
 
 -- terminals are in the order of their tokens
 abbrev pub token_cmp : Token → Token → Ordering

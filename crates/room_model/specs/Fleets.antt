@@ -8,7 +8,7 @@ use Rattle.room_types.specs.declared.fleet.Terminal.{Terminal}
 use Rattle.room_model.specs.Enrol.{fate_of, room_enrolled, terminals_enrolled}
 use Rattle.room_model.specs.Room.{Room}
 use Rattle.room_model.specs.Step.{room_after}
-use Rattle.room_types.specs.declared.refusals.Refusal.TheVariants as refusal
+use Rattle.room_types.specs.declared.refusal_statuses.Refusal.TheVariants as refusal
 
 -- the room and its terminals after these rows
 abbrev pub enrolled : List FleetRow → Room → List Terminal → Room × List Terminal

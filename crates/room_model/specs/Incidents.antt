@@ -1,5 +1,6 @@
 -- A desk's asks about incidents.
-use Rattle.std.specs.Prelude.{Bool, Err, List, None, Option, Some, [], length, map, min, nat_lt, not, ℕ, ◌-◌, ◌==◌, ◌||◌, ◌∷◌}
+use Rattle.std.specs.Prelude.{Bool, Err, List, None, Option, Some, [], length, map, min, nat_lt, not, ℕ, ◌-◌, ◌==◌}
+use Rattle.std.specs.Prelude.{◌||◌, ◌∷◌}
 use Rattle.room_types.specs.declared.answers.IncidentLine.{IncidentLine}
 use Rattle.room_types.specs.declared.answers.Served.{Served}
 use Rattle.room_types.specs.declared.changes.Change.{Change}
@@ -18,7 +19,7 @@ use Rattle.room_model.specs.Moments.{earlier}
 use Rattle.room_model.specs.Queries.{active_incidents, calls_of, incident_of, is_attended, served, turns_of}
 use Rattle.room_model.specs.Room.{Room}
 use Rattle.room_types.specs.declared.answers.Answer.TheVariants as answer
-use Rattle.room_types.specs.declared.refusals.Refusal.TheVariants as refusal
+use Rattle.room_types.specs.declared.refusal_statuses.Refusal.TheVariants as refusal
 
 -- what an incident lacks of a kind
 abbrev pub lacking : ℕ → Incident → Room → Kind → ℕ

@@ -1,5 +1,6 @@
 -- The queue of what needs an eye.
-use Rattle.std.specs.Prelude.{Bool, Err, List, None, Option, Some, [], cond, filter_map, is_none, length, nat_le, nat_lt, not, true, ℕ, ◌&&◌, ◌++◌, ◌==◌, ◌||◌, ◌∷◌}
+use Rattle.std.specs.Prelude.{Bool, Err, List, None, Option, Some, [], cond, filter_map, is_none, length, nat_le}
+use Rattle.std.specs.Prelude.{nat_lt, not, true, ℕ, ◌&&◌, ◌++◌, ◌==◌, ◌||◌, ◌∷◌}
 use Rattle.room_place.specs.Choice.{Among}
 use Rattle.room_types_keyed.specs.Keyed.{IsKeyed, put_row}
 use Rattle.room_types.specs.Keys.{entry_cmp, entry_key, owns_loan, owns_offer}
@@ -20,7 +21,7 @@ use Rattle.room_model.specs.Moments.{age, scene_limit}
 use Rattle.room_model.specs.Queries.{holders, incident_of, open_turn, report_of, served}
 use Rattle.room_model.specs.Room.{Room}
 use Rattle.room_types.specs.declared.answers.Answer.TheVariants as answer
-use Rattle.room_types.specs.declared.refusals.Refusal.TheVariants as refusal
+use Rattle.room_types.specs.declared.refusal_statuses.Refusal.TheVariants as refusal
 
 -- 1: an active incident that nobody serves
 abbrev pub is_unserved : ℕ → ℕ → Room → Bool

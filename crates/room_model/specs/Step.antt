@@ -6,8 +6,8 @@ use Rattle.room_types.specs.declared.asks.Ask.{Ask}
 use Rattle.room_types.specs.declared.asks.Event.{Event}
 use Rattle.room_types.specs.declared.asks.Who.{Who}
 use Rattle.room_types.specs.declared.asks.Who.TheVariants.{Crew, Desk, Position}
-use Rattle.room_types.specs.declared.refusals.Refusal.{Refusal}
-use Rattle.room_types.specs.Refusals.{refusal_number}
+use Rattle.room_types.specs.declared.refusal_statuses.Refusal.{Refusal}
+use Rattle.room_types.specs.RefusalStatuses.{refusal_number}
 use Rattle.room_types.specs.Texts.{Callsign}
 use Rattle.room_model.specs.Calls.{new_call, show_last_serial, take_call}
 use Rattle.room_model.specs.DayTimes.{show_times}
@@ -22,7 +22,7 @@ use Rattle.room_model.specs.Reports.{show_last, show_order, take_report}
 use Rattle.room_model.specs.Room.{Room, apply}
 use Rattle.room_model.specs.Vehicles.{duty, mobilise, off, show_vehicles, stand_down, standby}
 use Rattle.room_types.specs.declared.asks.Ask.TheVariants as ask
-use Rattle.room_types.specs.declared.refusals.Refusal.TheVariants as refusal
+use Rattle.room_types.specs.declared.refusal_statuses.Refusal.TheVariants as refusal
 
 abbrev pub desk_asks : ℕ → Ask → ℕ → Room → Verdict
 desk_asks d (ask.Call f) at r = Err refusal.WrongRole

@@ -1,9 +1,11 @@
 -- A desk's asks about the vehicles that it holds.
-use Rattle.std.specs.Prelude.{Bool, List, None, Option, Some, [], false, is_some, map, nat_le, not, option_map, true, ℕ, ◌++◌, ◌+◌, ◌∷◌}
+use Rattle.std.specs.Prelude.{Bool, List, None, Option, Some, [], false, is_some, map, nat_le, not, option_map, true, ℕ}
+use Rattle.std.specs.Prelude.{◌++◌, ◌+◌, ◌∷◌}
 use Rattle.room_place.specs.declared.places.Place.{Place}
 use Rattle.room_types.specs.declared.answers.VehicleLine.{VehicleLine}
 use Rattle.room_types.specs.declared.changes.Change.{Change}
-use Rattle.room_types.specs.declared.changes.Change.TheVariants.{DropAssignment, PutAssignment, PutIncident, PutTurn, PutVehicle}
+use Rattle.room_types.specs.declared.changes.Change.TheVariants.{DropAssignment, PutAssignment, PutIncident, PutTurn}
+use Rattle.room_types.specs.declared.changes.Change.TheVariants.{PutVehicle}
 use Rattle.room_types.specs.declared.codes.Kind.{Kind}
 use Rattle.room_types.specs.declared.codes.Status.TheVariants.{Available, Mobilised, OffDuty, Returning}
 use Rattle.room_types.specs.declared.tables.Assignment.{Assignment}
@@ -19,7 +21,7 @@ use Rattle.room_model.specs.Moments.{first_of, number_limit}
 use Rattle.room_model.specs.Queries.{all_held, assignment_of, held, incident_of, lent, open_turn, point_of, served}
 use Rattle.room_model.specs.Room.{Room}
 use Rattle.room_types.specs.declared.answers.Answer.TheVariants as answer
-use Rattle.room_types.specs.declared.refusals.Refusal.TheVariants as refusal
+use Rattle.room_types.specs.declared.refusal_statuses.Refusal.TheVariants as refusal
 
 -- ---- vehicles
 abbrev pub vehicle_line : ℕ → Room → Vehicle → VehicleLine

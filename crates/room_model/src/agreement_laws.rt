@@ -22,14 +22,14 @@ pub fn an_event_keeps_the_agreements()
         IsWellFormed (room_after e r) }
 {}
 
-/// So does any list of events that the room knows when it begins.
+/// Any list of events that the room knows when it begins leaves a well-formed room well-formed.
 pub fn a_run_keeps_the_agreements()
     ensures { (es : List Event) (r : Room) →
         IsWellFormed r → AreAddressed es r →
         IsWellFormed (room_run es r) }
 {}
 
-/// After any events no vehicle is assigned to two incidents: over all divisions it has at most one
+/// After any events no vehicle is assigned to two incidents. Over all divisions it has at most one
 /// assignment, and at most one open turn.
 pub fn no_vehicle_is_assigned_twice()
     ensures assignments { (es : List Event) (r : Room) →
@@ -61,14 +61,14 @@ pub fn the_status_tells_who_is_sent()
         (AssignmentsAgree r ↔ (AssignmentsStand r × StatusTellsAssignments r)) }
 {}
 
-/// Who may ask may go on asking: what is addressed stays addressed, whatever happens in between.
+/// Who may ask may go on asking. What is addressed stays addressed, whatever happens in between.
 pub fn who_is_known_stays_known()
     ensures { (es : List Event) (r : Room) (e : Event) →
         IsAddressed e r →
         IsAddressed e (room_run es r) }
 {}
 
-/// No event adds a vehicle, or changes a vehicle's home or kind; so what becomes of a fleet row,
+/// No event adds a vehicle, or changes a vehicle's home or kind. So what becomes of a fleet row,
 /// and whether the terminals fit the room, stays as it was.
 pub fn the_fleet_stays()
     ensures fleet { (es : List Event) (r : Room) (c : Callsign) →
@@ -90,7 +90,7 @@ pub fn enrolment_keeps_the_agreements()
         AreTerminals (room_enrolled r ts row) (terminals_enrolled r ts row) }
 {}
 
-/// A row that is enrolled again changes nothing: it is the same where it was added or the same, and
+/// A row that is enrolled again changes nothing. It is the same where it was added or the same, and
 /// else refused as before.
 pub fn enrolling_again_changes_nothing()
     ensures { (r : Room) (ts : List Terminal) (row : FleetRow) →
@@ -98,9 +98,9 @@ pub fn enrolling_again_changes_nothing()
         ≡ fate_again (fate_of r ts row) }
 {}
 
-/// A fleet that is imported again changes neither the room nor the terminals, whatever events and
-/// rows came in between: a row that was added or the same is the same; one that was refused is
-/// refused as before, or as `CallsignTaken` where its token was another's.
+/// A fleet that is imported again changes neither room nor terminals, whatever events and rows came
+/// in between. A row that was added or the same is the same; one that was refused is refused as
+/// before, or as `CallsignTaken` where its token was another's.
 pub fn a_fleet_imported_again_changes_nothing()
     ensures { (xs : List FleetRow) (between : List Reaching) (r : Room) (ts : List Terminal) →
         AreTerminals r ts →

@@ -11,8 +11,7 @@ ghost use Rattle.room_model.specs.Room.{Room, IsInOrder};
 ghost use Rattle.room_model.specs.Shares.{mine};
 ghost use Rattle.room_model.specs.Step.{answer_to, crew_asks, room_after};
 
-/// What a crew asks is decided by its vehicle's rows, and these rows afterwards follow from them
-/// alone.
+/// What a crew asks is decided by its vehicle's rows, and so are these rows afterwards.
 pub fn vehicles_decide()
     ensures decision { (c : Callsign) (r : Room) (a : Ask) (at : ℕ) →
         IsInOrder r →
@@ -33,7 +32,7 @@ pub fn equal_vehicles_get_equal_answers()
         mine c (room_after (by_crew c a at) r) ≡ mine c (room_after (by_crew c a at) s) }
 {}
 
-/// Of a vehicle's reports, the one of the number that is sent is all that a crew's ask reads.
+/// Of a vehicle's reports a crew's ask reads only the one of the number that is sent.
 pub fn rows_in_hand_decide()
     ensures report { (c : Callsign) (r : Room) (p : Press) (at : ℕ) →
         IsInOrder r →

@@ -3,8 +3,8 @@ ghost use Rattle.std.specs.Prelude.{◌≡◌, ℕ, List, [], ◌∷◌, Result,
 ghost use Rattle.std.specs.Fn.{FnOnceReturnsAt};
 ghost use Rattle.room_types.specs.declared.answers.Answer.{Answer as Told};
 ghost use Rattle.room_types.specs.declared.fleet.Terminal.{Terminal};
-ghost use Rattle.room_types.specs.declared.refusals.Refusal.{Refusal as Why};
-ghost use Rattle.room_types.specs.declared.refusals.Refusal.TheVariants.{Memory};
+ghost use Rattle.room_types.specs.declared.refusal_statuses.Refusal.{Refusal as Why};
+ghost use Rattle.room_types.specs.declared.refusal_statuses.Refusal.TheVariants.{Memory};
 ghost use Rattle.room_model.specs.Room.{Room as Held};
 ghost use Rattle.room_model.specs.Step.{IsAddressed};
 ghost use Rattle.room_model.specs.Digests.{IsHeadOf, IsMiss, digits_of};
@@ -15,7 +15,7 @@ ghost use Rattle.room_model.specs.declared.digests.Version.{Version as Which};
 use crate::rooms::Room;
 use room_types::answers::Answer;
 use room_types::asks::Event;
-use room_types::refusals::Refusal;
+use room_types::refusal_statuses::Refusal;
 use std::alloc::Global;
 
 /// Which digest of a room's rows.
@@ -40,7 +40,7 @@ pub struct Head {
 pub enum Miss {
     /// It would have come to another one.
     Another,
-    /// Memory or storage is wanting.
+    /// Memory was refused, or storage failed.
     Want(Refusal),
 }
 
@@ -69,8 +69,7 @@ pub trait Digested: Room {
         ensures wants { IfErr result IsWant };
 
     /// Acts on an event of a known terminal, as `act` does, where the room comes by it to the
-    /// digest of this head. Where it would come to another one, it stays as it was, and that is
-    /// told.
+    /// digest of this head. Where it would come to another one, it stays as it was, and says so.
     fn act_towards<F: FnOnce(&Result<Answer, Refusal>) -> Result<Vec<u8>, Refusal>>(
         &mut self,
         alloc: Global,

@@ -5,7 +5,7 @@ ghost use Rattle.room_types.specs.Texts.{Callsign};
 ghost use Rattle.room_types.specs.declared.answers.Answer.TheVariants.{Offers as OffersTold};
 ghost use Rattle.room_types.specs.declared.asks.Ask.TheVariants.{Accept, Decline, Offers, Withdraw};
 ghost use Rattle.room_types.specs.declared.asks.Event.{Event};
-ghost use Rattle.room_types.specs.declared.refusals.Refusal.TheVariants.{NoSuchOffer};
+ghost use Rattle.room_types.specs.declared.refusal_statuses.Refusal.TheVariants.{NoSuchOffer};
 ghost use Rattle.room_model.specs.Crossing.{cross};
 ghost use Rattle.room_model.specs.Decisions.{show, where_held};
 ghost use Rattle.room_model.specs.Events.{by_desk};
@@ -17,7 +17,7 @@ ghost use Rattle.room_model.specs.Run.{room_run};
 ghost use Rattle.room_model.specs.Shares.{mine, own};
 ghost use Rattle.room_model.specs.Step.{decided, room_after};
 
-/// What doesn't speak of offers is decided by the rows that a room had before there were any: they
+/// What doesn't speak of offers is decided by the rows that a room had before there were any. They
 /// change alike, and each division is handed the same. The offers are rows beside the others in a
 /// share, and in the rows of a vehicle.
 pub fn the_rest_needs_no_offers()
@@ -56,7 +56,7 @@ pub fn no_offer_is_found()
         decided (by_desk d Offers at) r ≡ show (OffersTold []) }
 {}
 
-/// Only a desk that lends makes an offer: as long as none does, whatever else is asked, a room in
+/// Only a desk that lends makes an offer. As long as none does, whatever else is asked, a room in
 /// which nothing is offered stays one.
 pub fn nothing_is_offered_by_itself()
     ensures { (es : List Event) (r : Room) →

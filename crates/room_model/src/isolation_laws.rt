@@ -22,7 +22,7 @@ ghost use Rattle.room_model.specs.Step.{answer_to, decided, room_after};
 ghost use Rattle.room_model.specs.WellFormed.{IsWellFormed};
 ghost use Rattle.room_model.specs.Working.{working};
 
-/// Whatever happens, a share becomes what the division is handed makes of it; its desk is told the
+/// Whatever happens, a share becomes what the division is handed makes of it. Its desk gets the
 /// answers to its own requests, as the share gives them.
 pub fn desks_are_apart()
     ensures share { (d : ℕ) (r : Room) (e : Event) →
@@ -33,8 +33,8 @@ pub fn desks_are_apart()
         told_by (own d r) (cross d r e) ≡ cond (is_desk d e.who) (answer_to e r ∷ []) [] }
 {}
 
-/// Over any list of events, the last share and all that the desk is told are those of the share
-/// alone.
+/// Over any list of events, the last share and all answers of the desk follow from the share and
+/// what the division is handed.
 pub fn desks_stay_apart()
     ensures share { (d : ℕ) (es : List Event) (r : Room) →
         IsWellFormed r → AreAddressed es r →
@@ -44,8 +44,8 @@ pub fn desks_stay_apart()
         told d es r ≡ told_alone d (crossings d es r) (own d r) }
 {}
 
-/// In two rooms, and by any two lists of events: where a division's shares are equal and it is
-/// handed the same, its desk is told the same, and its shares stay equal.
+/// Where a division's shares are equal in two rooms, and two lists of events hand it the same, its
+/// desk gets the same answers, and its shares stay equal.
 pub fn equal_shares_get_equal_answers()
     ensures answers { (d : ℕ) (es fs : List Event) (r s : Room) →
         IsWellFormed r → IsWellFormed s → AreAddressed es r → AreAddressed fs s →
@@ -57,17 +57,17 @@ pub fn equal_shares_get_equal_answers()
         own d (room_run es r) ≡ own d (room_run fs s) }
 {}
 
-/// Where nobody offers, answers an offer, recalls or gives back, or only so that it is refused, and
-/// no loan ends, a division is handed its own requests, calls placed in it and reports of vehicles
-/// that it holds, and nothing else.
+/// Without offers and loans a division is handed only its own requests, calls placed in it and
+/// reports of vehicles that it holds. So it is while nobody offers, answers an offer, recalls or
+/// gives back, or only so that it is refused, and no loan ends.
 pub fn without_loans_divisions_share_nothing()
     ensures { (d : ℕ) (es : List Event) (r : Room) →
         AreLocal es r →
         list_all is_everyday (crossings d es r) ≡ true }
 {}
 
-/// A room in which nothing is lent or offered, and where nobody offers a vehicle but so that it is
-/// refused, stays so, whatever else is asked; and nothing crosses in it.
+/// A room in which nothing is lent or offered stays so, and nothing crosses in it, while nobody
+/// offers a vehicle but so that it is refused, whatever else is asked.
 pub fn where_nobody_lends_nothing_crosses()
     ensures stays { (es : List Event) (r : Room) →
         IsWellFormed r → AreAddressed es r → IsUnlent r → NobodyLends es r →
@@ -88,15 +88,16 @@ pub fn desks_decide_by_their_rows()
         decided (by_desk d a at) (working d a at r) ≡ decided (by_desk d a at) r }
 {}
 
-/// An event is decided by the rows of who asks: in two rooms that agree on them it is decided alike.
+/// An event is decided by the rows of who asks. In two rooms that agree on them it is decided
+/// alike.
 pub fn an_event_is_decided_by_its_rows()
     ensures { (e : Event) (r s : Room) →
         IsWellFormed r → IsWellFormed s → AgreeOn e.who e.ask r s →
         decided e r ≡ decided e s }
 {}
 
-/// A call that is not kept is decided by the rows of the division that it is placed in, and by the
-/// few of them that it reads.
+/// A call that is not kept is decided by the rows of the division of its place, and by the few of
+/// them that it reads.
 pub fn new_calls_are_decided_by_their_division()
     ensures share { (d p : ℕ) (f : CallForm) (at : ℕ) (r : Room) →
         IsWellFormed r → kept_call p f.serial r ≡ None → division_of r.plan f.place ≡ Some d →
@@ -114,7 +115,7 @@ pub fn new_reports_are_decided_by_the_holder()
         decided (by_crew c (Report p) at) (own v.holder r) ≡ decided (by_crew c (Report p) at) r }
 {}
 
-/// An offer is accepted or declined by itself: nothing else that the lender has counts.
+/// An offer is accepted or declined by itself. Nothing else that the lender has counts.
 pub fn offers_are_answered_by_themselves()
     ensures accept { (d : ℕ) (c : Callsign) (at : ℕ) (r s : Room) →
         offer_at c r ≡ offer_at c s →

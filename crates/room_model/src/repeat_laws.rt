@@ -5,8 +5,8 @@ ghost use Rattle.room_types.specs.declared.asks.Ask.TheVariants.{Call, Report};
 ghost use Rattle.room_types.specs.declared.asks.CallForm.{CallForm};
 ghost use Rattle.room_types.specs.declared.asks.Event.{Event};
 ghost use Rattle.room_types.specs.declared.asks.Press.{Press};
-ghost use Rattle.room_types.specs.declared.refusals.Refusal.{Refusal};
-ghost use Rattle.room_types.specs.declared.refusals.Refusal.TheVariants.{NumberReused, OutsideArea, SerialReused};
+ghost use Rattle.room_types.specs.declared.refusal_statuses.Refusal.{Refusal};
+ghost use Rattle.room_types.specs.declared.refusal_statuses.Refusal.TheVariants.{NumberReused, OutsideArea, SerialReused};
 ghost use Rattle.room_model.specs.Calls.{outside_again};
 ghost use Rattle.room_model.specs.Events.{OnlyAnswers, by_crew, by_position};
 ghost use Rattle.room_model.specs.Queries.{kept_call};
@@ -24,8 +24,8 @@ pub fn a_question_changes_nothing()
     ensures { (e : Event) (r : Room) → is_question e.ask ≡ true → room_after e r ≡ r }
 {}
 
-/// Whatever happened in between: a report that was accepted and is sent again, with its number,
-/// button, order and place, changes nothing and gets its first answer.
+/// A report that was accepted and is sent again changes nothing and gets its first answer, whatever
+/// happened in between. It has its number, button, order and place again.
 pub fn a_repeated_report_acts_once()
     ensures { (c : Callsign) (p : Press) (at later : ℕ) (r : Room) (es : List Event) →
         IsInOrder r → is_ok (answer_to (by_crew c (Report p) at) r) ≡ true →
@@ -34,8 +34,9 @@ pub fn a_repeated_report_acts_once()
         (answer_to (by_crew c (Report p) at) r) }
 {}
 
-/// Whatever happened in between: a call that was accepted and is sent again by its position, with
-/// its serial, place, class, needs and note, changes nothing and gets its first answer.
+/// A call that was accepted and is sent again changes nothing and gets its first answer, whatever
+/// happened in between. It is of its position, and has its serial, place, class, needs and note
+/// again.
 pub fn a_repeated_call_acts_once()
     ensures { (p : ℕ) (f : CallForm) (at later : ℕ) (r : Room) (es : List Event) →
         IsInOrder r → is_ok (answer_to (by_position p (Call f) at) r) ≡ true →
@@ -44,8 +45,8 @@ pub fn a_repeated_call_acts_once()
         (answer_to (by_position p (Call f) at) r) }
 {}
 
-/// Whatever happened in between: the number of a report that was accepted, and the serial of such a
-/// call, are refused for any other report or call, which changes nothing.
+/// The number of an accepted report, and the serial of such a call, are refused for any other
+/// report or call, which changes nothing, whatever happened in between.
 pub fn a_used_number_is_refused()
     ensures report { (c : Callsign) (p q : Press) (at later : ℕ) (r : Room) (es : List Event) →
         IsInOrder r → is_ok (answer_to (by_crew c (Report p) at) r) ≡ true → q.number ≡ p.number →
@@ -61,8 +62,8 @@ pub fn a_used_number_is_refused()
         (Err SerialReused) }
 {}
 
-/// Whatever happened in between: a report or a call that was refused because its number or serial
-/// was another's is refused so again, and changes nothing.
+/// A report or a call that was refused because its number or serial was another's is refused so
+/// again, and changes nothing, whatever happened in between.
 pub fn a_used_number_stays_refused()
     ensures report { (c : Callsign) (p : Press) (at later : ℕ) (r : Room) (es : List Event) →
         IsInOrder r → answer_to (by_crew c (Report p) at) r ≡ Err NumberReused →
@@ -76,8 +77,8 @@ pub fn a_used_number_stays_refused()
         (Err SerialReused) }
 {}
 
-/// A report of a vehicle that is there is refused only for its number; so whatever happened in
-/// between, and whatever it was told, it is told that again, and changes nothing.
+/// A report of a vehicle that is there, sent again, gets its first answer, accepted or refused, and
+/// changes nothing, whatever happened in between. It is refused only for its number.
 pub fn a_repeated_report_is_told_its_first_answer()
     ensures refused { (c : Callsign) (p : Press) (at : ℕ) (r : Room) →
         IsAddressed (by_crew c (Report p) at) r →
@@ -89,8 +90,8 @@ pub fn a_repeated_report_is_told_its_first_answer()
         (answer_to (by_crew c (Report p) at) r) }
 {}
 
-/// Whatever happened in between: a call that was refused because its place is in no division is
-/// refused again, and changes nothing: for its place, or for its serial where that was given to
+/// A call that was refused because its place is in no division is refused again, and changes
+/// nothing, whatever happened in between: for its place, or for its serial where that was given to
 /// another call meanwhile.
 pub fn a_call_from_outside_stays_refused()
     ensures { (p : ℕ) (f : CallForm) (at later : ℕ) (r : Room) (es : List Event) →

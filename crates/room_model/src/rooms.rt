@@ -3,8 +3,8 @@ ghost use Rattle.std.specs.Prelude.{◌≡◌, ◌⊎◌, ℕ, List, [], ◌∷�
 ghost use Rattle.std.specs.Fn.{FnOnceReturnsAt};
 ghost use Rattle.room_types.specs.declared.answers.Answer.{Answer as Told};
 ghost use Rattle.room_types.specs.declared.fleet.Terminal.{Terminal};
-ghost use Rattle.room_types.specs.declared.refusals.Refusal.{Refusal as Why};
-ghost use Rattle.room_types.specs.declared.refusals.Refusal.TheVariants.{Memory};
+ghost use Rattle.room_types.specs.declared.refusal_statuses.Refusal.{Refusal as Why};
+ghost use Rattle.room_types.specs.declared.refusal_statuses.Refusal.TheVariants.{Memory};
 ghost use Rattle.room_model.specs.Room.{Room as Held};
 ghost use Rattle.room_model.specs.Step.{IsAddressed};
 ghost use Rattle.room_model.specs.Enrol.{AreTerminals};
@@ -12,7 +12,7 @@ ghost use Rattle.room_model.specs.Rooms.{Step, who_at, IsWant};
 
 use room_types::answers::Answer;
 use room_types::asks::{Event, Who};
-use room_types::refusals::Refusal;
+use room_types::refusal_statuses::Refusal;
 use room_types::token::Token;
 use std::alloc::Global;
 

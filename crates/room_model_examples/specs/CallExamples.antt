@@ -5,7 +5,7 @@ use Rattle.room_types.specs.declared.answers.Answer.TheVariants as answer
 use Rattle.room_types.specs.declared.asks.Ask.TheVariants as ask
 use Rattle.room_types.specs.declared.asks.Event.{Event}
 use Rattle.room_types.specs.declared.asks.Who.TheVariants.{Desk}
-use Rattle.room_types.specs.declared.refusals.Refusal.TheVariants as refusal
+use Rattle.room_types.specs.declared.refusal_statuses.Refusal.TheVariants as refusal
 use Rattle.room_model.specs.Room.{Room}
 use Rattle.room_model.specs.Step.{answer_to}
 use Rattle.room_model_examples.specs.ExampleRoom.{example_room, fresh_division, fresh_incident}

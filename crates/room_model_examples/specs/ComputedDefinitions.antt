@@ -7,7 +7,11 @@ use Rattle.room_model.specs.Incidents.{change_needs, close, merge, show_incident
 use Rattle.room_model.specs.Loans.{accept, decline, give_back, lend, recall, show_loans, show_offers, withdraw}
 use Rattle.room_model.specs.Points.{show_points}
 use Rattle.room_model.specs.Proposals.{candidates, propose}
-use Rattle.room_model.specs.Queries.{active_incidents, all_held, assignment_at, assignment_of, borrowed, calls_of, held, holders, incident_of, incidents_opened, is_attended, kept_call, kept_report, last_number, lent, link_target, loan_at, loans_of, offer_at, offered_by, offered_to, offers_of, open_turn, point_of, points_of, report_of, served, vehicle_at}
+use Rattle.room_model.specs.Queries.{active_incidents, all_held, assignment_at, assignment_of, borrowed, calls_of, held}
+use Rattle.room_model.specs.Queries.{holders, incident_of, incidents_opened, is_attended, kept_call, kept_report}
+use Rattle.room_model.specs.Queries.{last_number, lent, link_target, loan_at, loans_of, offer_at, offered_by}
+use Rattle.room_model.specs.Queries.{offered_to, offers_of, open_turn, point_of, points_of, report_of, served}
+use Rattle.room_model.specs.Queries.{vehicle_at}
 use Rattle.room_model.specs.Queue.{clear, entries, show_queue}
 use Rattle.room_model.specs.Reports.{report_in}
 use Rattle.room_model.specs.Vehicles.{duty, mobilise, off, show_vehicles, stand_down, standby}

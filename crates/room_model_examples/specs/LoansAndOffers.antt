@@ -14,7 +14,7 @@ use Rattle.room_types.specs.declared.codes.Kind.{Kind}
 use Rattle.room_types.specs.declared.codes.Outcome.TheVariants.{Skipped}
 use Rattle.room_types.specs.declared.codes.Status.TheVariants.{Available, OffDuty, Offered}
 use Rattle.room_types.specs.declared.codes.Status.{Status}
-use Rattle.room_types.specs.declared.refusals.Refusal.TheVariants as refusal
+use Rattle.room_types.specs.declared.refusal_statuses.Refusal.TheVariants as refusal
 use Rattle.room_types.specs.declared.tables.Loan.{Loan}
 use Rattle.room_types.specs.declared.tables.Offer.{Offer}
 use Rattle.room_model.specs.Queries.{loan_at}

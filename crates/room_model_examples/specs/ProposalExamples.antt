@@ -7,11 +7,12 @@ use Rattle.room_types.specs.declared.asks.Ask.TheVariants as ask
 use Rattle.room_types.specs.declared.asks.Event.{Event}
 use Rattle.room_types.specs.declared.asks.Who.TheVariants.{Desk}
 use Rattle.room_types.specs.declared.codes.Kind.TheVariants.{Ambulance, Car}
-use Rattle.room_types.specs.declared.refusals.Refusal.TheVariants as refusal
+use Rattle.room_types.specs.declared.refusal_statuses.Refusal.TheVariants as refusal
 use Rattle.room_types.specs.declared.needs.Counts.{Counts}
 use Rattle.room_model.specs.Room.{Room}
 use Rattle.room_model.specs.Step.{answer_to}
-use Rattle.room_model_examples.specs.ExampleRoom.{A1, A2, A3, C1, a1_on_duty, a1_on_duty_until, a2_on_duty, a3_on_duty, example_room}
+use Rattle.room_model_examples.specs.ExampleRoom.{A1, A2, A3, C1, a1_on_duty, a1_on_duty_until, a2_on_duty, a3_on_duty}
+use Rattle.room_model_examples.specs.ExampleRoom.{example_room}
 use Rattle.room_model_examples.specs.StepWords.{at, call_of, needs, place, taker, ◌▸◌}
 
 -- an incident at TQ300800 with these needs

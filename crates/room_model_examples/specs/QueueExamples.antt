@@ -10,12 +10,13 @@ use Rattle.room_types.specs.declared.codes.Button.TheVariants as button
 use Rattle.room_types.specs.declared.codes.Kind.TheVariants.{Ambulance}
 use Rattle.room_types.specs.declared.codes.Outcome.TheVariants.{Wrong}
 use Rattle.room_types.specs.declared.codes.Status.TheVariants.{Available, Mobilised}
-use Rattle.room_types.specs.declared.refusals.Refusal.TheVariants as refusal
+use Rattle.room_types.specs.declared.refusal_statuses.Refusal.TheVariants as refusal
 use Rattle.room_types.specs.declared.tables.Vehicle.{Vehicle}
 use Rattle.room_model.specs.Room.{Room}
 use Rattle.room_model.specs.Step.{answer_to}
 use Rattle.room_model_examples.specs.CallExamples.{after_a_call}
-use Rattle.room_model_examples.specs.ExampleRoom.{A1, A2, A3, B1, a1_on_duty, a1_on_duty_until, example_room, fresh_division, fresh_incident, fresh_vehicle}
+use Rattle.room_model_examples.specs.ExampleRoom.{A1, A2, A3, B1, a1_on_duty, a1_on_duty_until, example_room}
+use Rattle.room_model_examples.specs.ExampleRoom.{fresh_division, fresh_incident, fresh_vehicle}
 use Rattle.room_model_examples.specs.IncidentExamples.{merged, two_calls}
 use Rattle.room_model_examples.specs.LoansAndOffers.{a1_came_home, a1_lent, a1_offered, accept_a1, lend_a1}
 use Rattle.room_model_examples.specs.ProposalExamples.{post, set_point}

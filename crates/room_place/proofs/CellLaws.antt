@@ -15,7 +15,8 @@ apart a b (suc k) h = omega (arith, h)
 -- what is at most one side of a way is at most its root
 below_root : (n m f x y : ℕ) → IsRoot n m → n ≡ x * x + y * y → f ≤ x → f ≤ m
 below_root n m f x y h e g = (elim (cases_lt m f) [
-  | inl past ↦ absurd (let s : (m + 1) * (m + 1) ≤ x * x = mul-le-mul (omega arith) (omega arith) in omega (arith, s, e, h.1))
+  | inl past ↦
+      absurd (let s : (m + 1) * (m + 1) ≤ x * x = mul-le-mul (omega arith) (omega arith) in omega (arith, s, e, h.1))
   | inr within ↦ within
 ])
 
@@ -29,6 +30,10 @@ ring_floor-le a b a_inside b_inside =
     let x = abs_diff a.east b.east in
     let y = abs_diff a.north b.north in
     (elim (cases_lt east north) [
-      | inl less ↦ below_root (square_between a b) (distance a b) (ring_floor (max east north)) y x root (omega arith) (apart a.north b.north (max east north) (sym (max-eq_right (omega arith))))
-      | inr more ↦ below_root (square_between a b) (distance a b) (ring_floor (max east north)) x y root refl (apart a.east b.east (max east north) (sym (max-eq_left more)))
+      | inl less ↦
+          below_root (square_between a b) (distance a b) (ring_floor (max east north)) y x root (omega arith)
+          (apart a.north b.north (max east north) (sym (max-eq_right (omega arith))))
+      | inr more ↦
+          below_root (square_between a b) (distance a b) (ring_floor (max east north)) x y root refl
+          (apart a.east b.east (max east north) (sym (max-eq_left more)))
     ])

@@ -1,5 +1,6 @@
 -- Digits, and the spaces that may stand between them.
-use Rattle.std.proofs.Common.{Bool, List, [], ap, arith, cond, false, inl, inr, length, refl, sym, true, ◌++◌, ◌+◌, ◌*◌, ◌-◌, ◌<◌, ◌^◌, ◌∙◌, ◌∷◌, ◌≡◌, ◌≤◌, ℕ}
+use Rattle.std.proofs.Common.{Bool, List, [], ap, arith, cond, false, inl, inr, length, refl, sym, true, ◌++◌, ◌+◌, ◌*◌}
+use Rattle.std.proofs.Common.{◌-◌, ◌<◌, ◌^◌, ◌∙◌, ◌∷◌, ◌≡◌, ◌≤◌, ℕ}
 use Rattle.std.proofs.Math.Nat.{mul_assoc, pow-succ'}
 use Rattle.std.proofs.lemmas.Bool.{eqb-true, and_from, and_parts, or_left}
 use Rattle.std.proofs.lemmas.Bool.Decides.{nat_tests}
@@ -16,7 +17,8 @@ pub filter-digits : (ds : List ℕ) → AreDigits ds → filter is_ascii_digit d
 filter-digits [] digits = refl
 filter-digits (d ∷ ds) digits =
     let parts = and_parts (is_ascii_digit d) _ digits in
-    ap (λ (b : Bool). cond b (d ∷ filter is_ascii_digit ds) (filter is_ascii_digit ds)) parts.0 ∙ ap (λ xs. d ∷ xs) (filter-digits ds parts.1)
+    ap (λ (b : Bool). cond b (d ∷ filter is_ascii_digit ds) (filter is_ascii_digit ds)) parts.0
+    ∙ ap (λ xs. d ∷ xs) (filter-digits ds parts.1)
 
 pub filter-gap : (gap : List ℕ) → IsGap gap → filter is_ascii_digit gap ≡ []
 filter-gap gap is = elim is [ inl none ↦ ap (filter is_ascii_digit) none | inr one ↦ ap (filter is_ascii_digit) one ]
@@ -39,7 +41,9 @@ pub after_gap-digits : (gap ds tail : List ℕ) → IsGap gap → AreDigits ds �
     → after_gap (gap ++ (ds ++ tail)) ≡ ds ++ tail
 after_gap-digits gap [] tail is digits some = absurd (omega arith)
 after_gap-digits gap (d ∷ ds) tail is digits some = elim is [
-  | inl none ↦ ap (λ (g : List ℕ). after_gap (g ++ (d ∷ ds ++ tail))) none ∙ after_gap-digit d (ds ++ tail) (and_parts (is_ascii_digit d) _ digits).0
+  | inl none ↦
+      ap (λ (g : List ℕ). after_gap (g ++ (d ∷ ds ++ tail))) none
+      ∙ after_gap-digit d (ds ++ tail) (and_parts (is_ascii_digit d) _ digits).0
   | inr one ↦ ap (λ (g : List ℕ). after_gap (g ++ (d ∷ ds ++ tail))) one
 ]
 
@@ -50,18 +54,21 @@ gap_of (b ∷ bs) = cond (b == 32) (codes " ") []
 
 pub gap_of-IsGap : (bs : List ℕ) → IsGap (gap_of bs)
 gap_of-IsGap [] = inl refl
-gap_of-IsGap (b ∷ bs) = elim (b == 32) as (λ (t : Bool). IsGap (cond t (codes " ") [])) [ true ↦ inr refl | false ↦ inl refl ]
+gap_of-IsGap (b ∷ bs) =
+    elim (b == 32) as (λ (t : Bool). IsGap (cond t (codes " ") [])) [ true ↦ inr refl | false ↦ inl refl ]
 
 pub gap_of-after_gap : (bs : List ℕ) → gap_of bs ++ after_gap bs ≡ bs
 gap_of-after_gap [] = refl
-gap_of-after_gap (b ∷ bs) = (elim (b == 32) as (λ (t : Bool). (b == 32) ≡ t → cond t (codes " ") [] ++ cond t bs (b ∷ bs) ≡ b ∷ bs) [
-  | true ↦ λ space. ap (λ n. n ∷ bs) (sym (eqb-true b 32 space))
-  | false ↦ λ other. refl
-]) refl
+gap_of-after_gap (b ∷ bs) =
+    (elim (b == 32) as (λ (t : Bool). (b == 32) ≡ t → cond t (codes " ") [] ++ cond t bs (b ∷ bs) ≡ b ∷ bs) [
+      | true ↦ λ space. ap (λ n. n ∷ bs) (sym (eqb-true b 32 space))
+      | false ↦ λ other. refl
+    ]) refl
 
 -- n digits write a number below 10 ^ n
 pub number_of-lt : (ds : List ℕ) → AreDigits ds → number_of ds < 10 ^ length ds
-number_of-lt ds digits = let below : number_of ds < 1 * 10 ^ length ds = from_below ds 0 1 digits (omega arith) in omega (arith, below)
+number_of-lt ds digits =
+    let below : number_of ds < 1 * 10 ^ length ds = from_below ds 0 1 digits (omega arith) in omega (arith, below)
   where
     from_below : (ds : List ℕ) (n top : ℕ) → AreDigits ds → n < top
         → fold (λ m b. m * 10 + (b - 48)) n ds < top * 10 ^ length ds

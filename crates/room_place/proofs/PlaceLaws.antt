@@ -33,7 +33,8 @@ same_place-true a b same =
     λ i. record { east = eqb-true a.east b.east parts.0 i; north = eqb-true a.north b.north parts.1 i }
 
 pub same_place-same : (a b : Place) → a ≡ b → same_place a b ≡ true
-same_place-same a b same = and_from _ _ (eq-eqb _ _ (ap (λ (p : Place). p.east) same)) (eq-eqb _ _ (ap (λ (p : Place). p.north) same))
+same_place-same a b same =
+    and_from _ _ (eq-eqb _ _ (ap (λ (p : Place). p.east) same)) (eq-eqb _ _ (ap (λ (p : Place). p.north) same))
 
 -- the distance is the root of the square of the way
 pub distance_is_root : (a b : Place) → IsInSquares a → IsInSquares b
@@ -50,4 +51,5 @@ distance_is_root a b a_inside b_inside =
 pub in_squares : (p : Place) → 400000 ≤ p.east → p.east ≤ 599999 → 100000 ≤ p.north
     → p.north ≤ 299999 → IsInSquares p
 in_squares p from_west to_east from_south to_north =
-    and_from _ _ (le-leb _ _ from_west) (and_from _ _ (le-leb _ _ to_east) (and_from _ _ (le-leb _ _ from_south) (le-leb _ _ to_north)))
+    and_from _ _ (le-leb _ _ from_west)
+    (and_from _ _ (le-leb _ _ to_east) (and_from _ _ (le-leb _ _ from_south) (le-leb _ _ to_north)))

@@ -1,7 +1,10 @@
 -- Reading a text gives the place that it names, or its first fault.
-use Rattle.std.proofs.Common.{Bool, List, Option, Result, Some, None, Ok, Err, [], ap, arith, cond, drop, false, get_or, inl, inr, length, refl, subst, sym, take, true, ◌++◌, ◌+◌, ◌-◌, ◌/◌, ◌∙◌, ◌∷◌, ◌≡◌, ◌≤◌, ◌⊎◌, ℕ}
+use Rattle.std.proofs.Common.{Bool, List, Option, Result, Some, None, Ok, Err, [], ap, arith, cond, drop, false, get_or}
+use Rattle.std.proofs.Common.{inl, inr, length, refl, subst, sym, take, true, ◌++◌, ◌+◌, ◌-◌, ◌/◌, ◌∙◌, ◌∷◌, ◌≡◌, ◌≤◌}
+use Rattle.std.proofs.Common.{◌⊎◌, ℕ}
 use Rattle.std.proofs.Math.Seq.{drop-append_seam, take-append_seam, take-length}
-use Rattle.std.proofs.lemmas.Bool.{and_from, and_parts, cond-true, eq-eqb, eqb-true, not-false, or_cases, or_left, or_right}
+use Rattle.std.proofs.lemmas.Bool.{and_from, and_parts, cond-true, eq-eqb, eqb-true, not-false, or_cases, or_left}
+use Rattle.std.proofs.lemmas.Bool.{or_right}
 use Rattle.std.proofs.lemmas.List.{append-nil, length-append, length-drop, take-append-drop}
 use Rattle.std.proofs.lemmas.List.Elements.{filter-append}
 use Rattle.std.proofs.lemmas.List.Folds.{list_all-append}
@@ -9,11 +12,14 @@ use Rattle.std.specs.Char.{is_ascii_digit}
 use Rattle.std.specs.List.{filter}
 use Rattle.std.specs.Option.{ok_or, option_and_then}
 use Rattle.std.specs.Prelude.{IfErr, IfOk, MatchResult, is_none, not, ◌==◌, ◌&&◌, ◌||◌}
-use Rattle.room_place.specs.References.{IsFirstFault, IsReference, after_gap, are_allowed, are_digits, corner_of, digit_count, has_digit_fault, has_length_fault, has_square_fault, metres_of, parse, place_by, place_in, square_of}
+use Rattle.room_place.specs.References.{IsFirstFault, IsReference, after_gap, are_allowed, are_digits, corner_of}
+use Rattle.room_place.specs.References.{digit_count, has_digit_fault, has_length_fault, has_square_fault, metres_of}
+use Rattle.room_place.specs.References.{parse, place_by, place_in, square_of}
 use Rattle.room_place.specs.declared.places.Place.{Place}
 use Rattle.room_place.specs.declared.places.PlaceFault.{PlaceFault}
 use Rattle.room_place.specs.declared.places.PlaceFault.TheVariants.{Digit, Length, Spacing, Square}
-use Rattle.room_place.proofs.DigitLaws.{after_gap-digits, allowed-digits, allowed-gap, filter-digits, filter-gap, gap_of, gap_of-IsGap, gap_of-after_gap}
+use Rattle.room_place.proofs.DigitLaws.{after_gap-digits, allowed-digits, allowed-gap, filter-digits, filter-gap}
+use Rattle.room_place.proofs.DigitLaws.{gap_of, gap_of-IsGap, gap_of-after_gap}
 
 -- a text without the first three faults is read
 unfaulted : (text : List ℕ) → has_square_fault text ≡ false → has_digit_fault text ≡ false
@@ -28,7 +34,11 @@ half-even : (n : ℕ) → (n == 6 || (n == 8 || n == 10)) ≡ true
     → (n / 2 ≡ 3) ⊎ ((n / 2 ≡ 4) ⊎ (n / 2 ≡ 5))
 half-even n even = elim (or_cases _ _ even) [
   | inl six ↦ inl (ap (λ k. k / 2) (eqb-true n 6 six))
-  | inr more ↦ elim (or_cases _ _ more) [ inl eight ↦ inr (inl (ap (λ k. k / 2) (eqb-true n 8 eight))) | inr ten ↦ inr (inr (ap (λ k. k / 2) (eqb-true n 10 ten))) ]
+  | inr more ↦
+      elim (or_cases _ _ more) [
+        | inl eight ↦ inr (inl (ap (λ k. k / 2) (eqb-true n 8 eight)))
+        | inr ten ↦ inr (inr (ap (λ k. k / 2) (eqb-true n 10 ten)))
+      ]
 ]
 
 even-half : (h n : ℕ) → n ≡ h + h → (h ≡ 3) ⊎ ((h ≡ 4) ⊎ (h ≡ 5))
@@ -46,11 +56,15 @@ pub parse-square : (text rest : List ℕ) (corner : Place) (h : ℕ) → square_
     → rest ≡ drop 2 text → are_allowed rest ≡ true → length (filter is_ascii_digit rest) ≡ h + h
     → (h ≡ 3) ⊎ ((h ≡ 4) ⊎ (h ≡ 5)) → parse text ≡ ok_or (place_in h rest corner) Spacing
 parse-square text rest corner h square same allowed digits size =
-    let twice : digit_count text ≡ h + h = ap (λ (ds : List ℕ). length (filter is_ascii_digit ds)) (sym same) ∙ digits in
+    let twice : digit_count text
+    ≡ h + h = ap (λ (ds : List ℕ). length (filter is_ascii_digit ds)) (sym same) ∙ digits in
     let half : digit_count text / 2 ≡ h = omega (arith, twice) in
-    unfaulted text (ap is_none square) (ap not (ap are_allowed (sym same) ∙ allowed)) (ap not (even-half h (digit_count text) twice size))
-    ∙ (ap (λ (o : Option Place). ok_or (option_and_then (place_in (digit_count text / 2) (drop 2 text)) o) Spacing) square
-    ∙ (ap (λ n. ok_or (place_in n (drop 2 text) corner) Spacing) half ∙ ap (λ (ds : List ℕ). ok_or (place_in h ds corner) Spacing) (sym same)))
+    unfaulted text (ap is_none square) (ap not (ap are_allowed (sym same) ∙ allowed))
+    (ap not (even-half h (digit_count text) twice size))
+    ∙ (ap (λ (o : Option Place). ok_or (option_and_then (place_in (digit_count text / 2) (drop 2 text)) o) Spacing)
+    square
+    ∙ (ap (λ n. ok_or (place_in n (drop 2 text) corner) Spacing) half
+    ∙ ap (λ (ds : List ℕ). ok_or (place_in h ds corner) Spacing) (sym same)))
 
 -- the first two characters, and the rest
 pub square_of-letters : (text : List ℕ) → 2 ≤ length text
@@ -60,7 +74,9 @@ square_of-letters (a ∷ []) two = absurd (omega arith)
 square_of-letters (a ∷ b ∷ bs) two = refl
 
 pub rest-drop : (text : List ℕ) → take (length text - 2) (drop 2 text) ≡ drop 2 text
-rest-drop text = let left : length text - 2 ≡ length (drop 2 text) = omega (arith, length-drop 2 text) in ap (λ n. take n (drop 2 text)) left ∙ take-length (drop 2 text)
+rest-drop text =
+    let left : length text - 2 ≡ length (drop 2 text) = omega (arith, length-drop 2 text) in
+    ap (λ n. take n (drop 2 text)) left ∙ take-length (drop 2 text)
 
 -- a place stands where its halves say
 pub place_in-read : (h : ℕ) (bs easting later northing : List ℕ) (corner p : Place)
@@ -70,8 +86,13 @@ pub place_in-read : (h : ℕ) (bs easting later northing : List ℕ) (corner p :
     → place_in h bs corner ≡ Some p
 place_in-read h bs easting later northing corner p first rest second east_digits north_digits east north =
     let read : northing ≡ after_gap (drop h (after_gap bs)) = second ∙ ap after_gap rest in
-    let halves : place_in h bs corner ≡ place_by h easting northing corner = ap (λ (e : List ℕ). place_by h e (after_gap (drop h (after_gap bs))) corner) (sym first) ∙ ap (λ (n : List ℕ). place_by h easting n corner) (sym read) in
-    let there : ◌≡◌ {A = Place} (record { east = corner.east + metres_of h easting; north = corner.north + metres_of h northing }) p = λ i. record { east = sym east i; north = sym north i } in
+    let halves : place_in h bs corner
+    ≡ place_by h easting northing corner =
+    ap (λ (e : List ℕ). place_by h e (after_gap (drop h (after_gap bs))) corner) (sym first)
+    ∙ ap (λ (n : List ℕ). place_by h easting n corner) (sym read) in
+    let there : ◌≡◌ {A = Place}
+    (record { east = corner.east + metres_of h easting; north = corner.north + metres_of h northing }) p = λ i.
+    record { east = sym east i; north = sym north i } in
     halves ∙ (cond-true _ _ None (and_from _ _ east_digits north_digits) ∙ ap Some there)
 
 module _ (text : List ℕ) (p : Place) (r : IsReference text p) where
@@ -79,19 +100,44 @@ module _ (text : List ℕ) (p : Place) (r : IsReference text p) where
   rest = r.before ++ (r.easting ++ (r.between ++ r.northing))
 
   some_digits : 1 ≤ r.half
-  some_digits = let size = r.size in elim size [ inl three ↦ omega arith | inr more ↦ elim more [ inl four ↦ omega arith | inr five ↦ omega arith ] ]
+  some_digits =
+      let size = r.size in
+      elim size [ inl three ↦ omega arith | inr more ↦ elim more [ inl four ↦ omega arith | inr five ↦ omega arith ] ]
 
   digits_of-rest : filter is_ascii_digit rest ≡ r.easting ++ r.northing
-  digits_of-rest = rw (filter-append, filter-append, filter-append, filter-gap r.before r.gaps.0, filter-gap r.between r.gaps.1, filter-digits r.easting r.digits.0, filter-digits r.northing r.digits.1) refl
+  digits_of-rest =
+      rw (
+        filter-append,
+        filter-append,
+        filter-append,
+        filter-gap r.before r.gaps.0,
+        filter-gap r.between r.gaps.1,
+        filter-digits r.easting r.digits.0,
+        filter-digits r.northing r.digits.1,
+      ) refl
 
   count : length (filter is_ascii_digit rest) ≡ r.half + r.half
-  count = ap length digits_of-rest ∙ (length-append r.easting r.northing ∙ (ap (λ n. n + length r.northing) r.sizes.0 ∙ ap (λ n. r.half + n) r.sizes.1))
+  count =
+      ap length digits_of-rest
+      ∙ (length-append r.easting r.northing
+      ∙ (ap (λ n. n + length r.northing) r.sizes.0 ∙ ap (λ n. r.half + n) r.sizes.1))
 
   allowed : are_allowed rest ≡ true
-  allowed = rw (list_all-append, list_all-append, list_all-append, allowed-gap r.before r.gaps.0, allowed-gap r.between r.gaps.1, allowed-digits r.easting r.digits.0, allowed-digits r.northing r.digits.1) refl
+  allowed =
+      rw (
+        list_all-append,
+        list_all-append,
+        list_all-append,
+        allowed-gap r.before r.gaps.0,
+        allowed-gap r.between r.gaps.1,
+        allowed-digits r.easting r.digits.0,
+        allowed-digits r.northing r.digits.1,
+      ) refl
 
   first_half : after_gap rest ≡ r.easting ++ (r.between ++ r.northing)
-  first_half = after_gap-digits r.before r.easting (r.between ++ r.northing) r.gaps.0 r.digits.0 (omega (arith, some_digits, r.sizes.0))
+  first_half =
+      after_gap-digits r.before r.easting (r.between ++ r.northing) r.gaps.0 r.digits.0
+      (omega (arith, some_digits, r.sizes.0))
 
   easting_read : take r.half (after_gap rest) ≡ r.easting
   easting_read = rw (first_half, sym r.sizes.0) (take-append_seam r.easting (r.between ++ r.northing))
@@ -102,14 +148,20 @@ module _ (text : List ℕ) (p : Place) (r : IsReference text p) where
   northing_read : after_gap (r.between ++ r.northing) ≡ r.northing
   northing_read =
       let no_more : r.northing ++ [] ≡ r.northing = append-nil r.northing in
-      let passed = after_gap-digits r.between r.northing [] r.gaps.1 r.digits.1 (omega (arith, some_digits, r.sizes.1)) in
+      let passed = after_gap-digits r.between r.northing [] r.gaps.1 r.digits.1
+      (omega (arith, some_digits, r.sizes.1)) in
       ap (λ (ds : List ℕ). after_gap (r.between ++ ds)) (sym no_more) ∙ (passed ∙ no_more)
 
   place_read : place_in r.half rest r.corner ≡ Some p
-  place_read = place_in-read r.half rest r.easting (r.between ++ r.northing) r.northing r.corner p (sym easting_read) (sym later_read) (sym northing_read) (and_from _ _ (eq-eqb (length r.easting) r.half r.sizes.0) r.digits.0) (and_from _ _ (eq-eqb (length r.northing) r.half r.sizes.1) r.digits.1) r.east r.north
+  place_read =
+      place_in-read r.half rest r.easting (r.between ++ r.northing) r.northing r.corner p (sym easting_read)
+      (sym later_read) (sym northing_read) (and_from _ _ (eq-eqb (length r.easting) r.half r.sizes.0) r.digits.0)
+      (and_from _ _ (eq-eqb (length r.northing) r.half r.sizes.1) r.digits.1) r.east r.north
 
   parse-read : parse (r.letter ∷ r.other ∷ rest) ≡ Ok p
-  parse-read = parse-square (r.letter ∷ r.other ∷ rest) rest r.corner r.half r.square refl allowed count r.size ∙ ap (λ (o : Option Place). ok_or o Spacing) place_read
+  parse-read =
+      parse-square (r.letter ∷ r.other ∷ rest) rest r.corner r.half r.square refl allowed count r.size
+      ∙ ap (λ (o : Option Place). ok_or o Spacing) place_read
 
 -- a reference is read as its place
 pub parse-reference : (text : List ℕ) (p : Place) → IsReference text p → parse text ≡ Ok p
@@ -122,12 +174,17 @@ module _ (a b : ℕ) (bs : List ℕ) (p : Place) where
   read_by corner square h size there =
       let easting = take h (after_gap bs) in
       let northing = after_gap (drop h (after_gap bs)) in
-      (elim (are_digits h easting && are_digits h northing) as (λ (t : Bool). (are_digits h easting && are_digits h northing) ≡ t → cond t (Some (record { east = corner.east + metres_of h easting; north = corner.north + metres_of h northing })) None ≡ Some p → IsReference (a ∷ b ∷ bs) p) [
+      (elim (are_digits h easting
+      && are_digits h northing) as (λ (t : Bool).
+      (are_digits h easting && are_digits h northing) ≡ t
+      → cond t (Some (record { east = corner.east + metres_of h easting; north = corner.north + metres_of h northing }))
+      None ≡ Some p → IsReference (a ∷ b ∷ bs) p) [
         | true ↦ λ both found.
             let halves = and_parts _ _ both in
             let east = and_parts _ _ halves.0 in
             let north = and_parts _ _ halves.1 in
-            let stands : ◌≡◌ {A = Place} (record { east = corner.east + metres_of h easting; north = corner.north + metres_of h northing }) p = cc in
+            let stands : ◌≡◌ {A = Place}
+            (record { east = corner.east + metres_of h easting; north = corner.north + metres_of h northing }) p = cc in
             let later = drop h (after_gap bs) in
             let whole : gap_of bs ++ (easting ++ (gap_of later ++ northing)) ≡ bs =
             ap (λ (ds : List ℕ). gap_of bs ++ (easting ++ ds)) (gap_of-after_gap later)
@@ -159,34 +216,81 @@ read_place : (text : List ℕ) (p : Place) → has_length_fault text ≡ false
     → IsReference text p
 read_place [] p even there = cc
 read_place (a ∷ []) p even there = cc
-read_place (a ∷ b ∷ bs) p even there = (elim (corner_of a b) as (λ (o : Option Place). corner_of a b ≡ o → option_and_then (place_in (digit_count (a ∷ b ∷ bs) / 2) bs) o ≡ Some p → IsReference (a ∷ b ∷ bs) p) [
-  | None ↦ λ square none. cc
-  | Some corner ↦ λ square found. read_by a b bs p corner square _ (half-even (digit_count (a ∷ b ∷ bs)) (not-false _ even)) found
-]) refl there
+read_place (a ∷ b ∷ bs) p even there =
+    (elim (corner_of a b) as (λ (o : Option Place).
+    corner_of a b ≡ o → option_and_then (place_in (digit_count (a ∷ b ∷ bs) / 2) bs) o ≡ Some p
+    → IsReference (a ∷ b ∷ bs) p) [
+      | None ↦ λ square none. cc
+      | Some corner ↦
+          λ square found.
+          read_by a b bs p corner square _ (half-even (digit_count (a ∷ b ∷ bs)) (not-false _ even)) found
+    ]) refl there
 
 -- what is said of a text: the place that it names, or its first fault
 pub parse-told : (text : List ℕ) → MatchResult (parse text) (IsReference text) (IsFirstFault text)
-parse-told text = (elim (has_square_fault text) as (λ (s : Bool). has_square_fault text ≡ s → MatchResult (cond s (Err Square) (cond (has_digit_fault text) (Err Digit) (cond (has_length_fault text) (Err Length) (ok_or (option_and_then (place_in (digit_count text / 2) (drop 2 text)) (square_of text)) Spacing)))) (IsReference text) (IsFirstFault text)) [
-  | true ↦ λ square. square
-  | false ↦ λ square. (elim (has_digit_fault text) as (λ (d : Bool). has_digit_fault text ≡ d → MatchResult (cond d (Err Digit) (cond (has_length_fault text) (Err Length) (ok_or (option_and_then (place_in (digit_count text / 2) (drop 2 text)) (square_of text)) Spacing))) (IsReference text) (IsFirstFault text)) [
-    | true ↦ λ digit. (square, digit)
-    | false ↦ λ digit. (elim (has_length_fault text) as (λ (l : Bool). has_length_fault text ≡ l → MatchResult (cond l (Err Length) (ok_or (option_and_then (place_in (digit_count text / 2) (drop 2 text)) (square_of text)) Spacing)) (IsReference text) (IsFirstFault text)) [
-      | true ↦ λ length. (square, digit, length)
-      | false ↦ λ length. (elim (option_and_then (place_in (digit_count text / 2) (drop 2 text)) (square_of text)) as (λ (o : Option Place). option_and_then (place_in (digit_count text / 2) (drop 2 text)) (square_of text) ≡ o → MatchResult (ok_or o Spacing) (IsReference text) (IsFirstFault text)) [
-        | Some p ↦ λ found. read_place text p length found
-        | None ↦ λ none. (square, digit, length, λ p r. let read = parse-reference text p r in let as_read = unfaulted text square digit length in let told : ok_or {T = Place} None Spacing ≡ Ok p = sym (ap (λ (o : Option Place). ok_or o Spacing) none) ∙ (sym as_read ∙ read) in cc)
-      ]) refl
+parse-told text =
+    (elim (has_square_fault text) as (λ (s : Bool).
+    has_square_fault text ≡ s
+    → MatchResult
+    (cond s (Err Square) (cond (has_digit_fault text) (Err Digit)
+    (cond (has_length_fault text) (Err Length)
+    (ok_or (option_and_then (place_in (digit_count text / 2) (drop 2 text)) (square_of text)) Spacing))))
+    (IsReference text) (IsFirstFault text)) [
+      | true ↦ λ square. square
+      | false ↦
+          λ square.
+          (elim (has_digit_fault text) as (λ (d : Bool).
+          has_digit_fault text ≡ d
+          → MatchResult
+          (cond d (Err Digit) (cond (has_length_fault text) (Err Length)
+          (ok_or (option_and_then (place_in (digit_count text / 2) (drop 2 text)) (square_of text)) Spacing)))
+          (IsReference text) (IsFirstFault text)) [
+            | true ↦ λ digit. (square, digit)
+            | false ↦
+                λ digit.
+                (elim (has_length_fault text) as (λ (l : Bool).
+                has_length_fault text ≡ l
+                → MatchResult
+                (cond l (Err Length)
+                (ok_or (option_and_then (place_in (digit_count text / 2) (drop 2 text)) (square_of text)) Spacing))
+                (IsReference text) (IsFirstFault text)) [
+                  | true ↦ λ length. (square, digit, length)
+                  | false ↦
+                      λ length.
+                      (elim (option_and_then (place_in (digit_count text / 2) (drop 2 text))
+                      (square_of text)) as (λ (o : Option Place).
+                      option_and_then (place_in (digit_count text / 2) (drop 2 text)) (square_of text) ≡ o
+                      → MatchResult (ok_or o Spacing) (IsReference text) (IsFirstFault text)) [
+                        | Some p ↦ λ found. read_place text p length found
+                        | None ↦
+                            λ none. (
+                              square,
+                              digit,
+                              length,
+                              λ p r.
+                                  let read = parse-reference text p r in
+                                  let as_read = unfaulted text square digit length in
+                                  let told : ok_or {T = Place} None Spacing
+                                  ≡ Ok p =
+                                  sym (ap (λ (o : Option Place). ok_or o Spacing) none) ∙ (sym as_read ∙ read) in
+                                  cc,
+                            )
+                      ]) refl
+                ]) refl
+          ]) refl
     ]) refl
-  ]) refl
-]) refl
 
 -- the same of a result that was read
 pub told_place : (text : List ℕ) (r : Result Place PlaceFault) → r ≡ parse text
     → IfOk r (IsReference text)
-told_place text (Ok p) read = subst (λ (r : Result Place PlaceFault). MatchResult r (IsReference text) (IsFirstFault text)) (sym read) (parse-told text)
+told_place text (Ok p) read =
+    subst (λ (r : Result Place PlaceFault). MatchResult r (IsReference text) (IsFirstFault text)) (sym read)
+    (parse-told text)
 told_place text (Err fault) read = tt
 
 pub told_fault : (text : List ℕ) (r : Result Place PlaceFault) → r ≡ parse text
     → IfErr r (IsFirstFault text)
 told_fault text (Ok p) read = tt
-told_fault text (Err fault) read = subst (λ (r : Result Place PlaceFault). MatchResult r (IsReference text) (IsFirstFault text)) (sym read) (parse-told text)
+told_fault text (Err fault) read =
+    subst (λ (r : Result Place PlaceFault). MatchResult r (IsReference text) (IsFirstFault text)) (sym read)
+    (parse-told text)

@@ -1,6 +1,7 @@
 -- The areas of divisions, and what makes a plan of them.
 use Rattle.std.specs.List.{list_all, list_any}
-use Rattle.std.specs.Prelude.{Bool, List, None, Option, Some, filter, if◌then◌else◌, is_none, length, map, nat_le, nat_lt, not, true, ℕ, ◌&&◌, ◌==◌, ◌≡◌}
+use Rattle.std.specs.Prelude.{Bool, List, None, Option, Some, filter, if◌then◌else◌, is_none, length, map, nat_le}
+use Rattle.std.specs.Prelude.{nat_lt, not, true, ℕ, ◌&&◌, ◌==◌, ◌≡◌}
 use Rattle.room_place.specs.Choice.{least}
 use Rattle.room_place.specs.Squares.{is_in_squares}
 use Rattle.room_place.specs.declared.places.Place.{Place}

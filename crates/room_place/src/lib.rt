@@ -2,10 +2,10 @@
 #![tactic(auto)]
 
 pub mod bounded_numbers;
-pub mod cells;
 mod distances;
+pub mod grid_cells;
+mod grid_references;
 mod lowest_division;
 pub mod places;
 mod plan_faults;
 pub mod plans;
-mod references;

@@ -4,7 +4,7 @@ ghost use Rattle.room_place.specs.Squares.{is_in_squares as in_squares};
 
 use crate::bounded_numbers::Bounded;
 pub use crate::distances::distance;
-use crate::references;
+use crate::grid_references;
 use std::fmt;
 
 /// Metres of easting from the National Grid's false origin, within the squares.
@@ -63,7 +63,7 @@ impl Place {
         ensures only { (place : Place) → IsReference text.now place → result ≡ Ok place }
         ensures fault { IfErr result (IsFirstFault text.now) }
     {
-        references::read(text)
+        grid_references::read(text)
     }
 }
 

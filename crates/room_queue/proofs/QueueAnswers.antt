@@ -17,7 +17,8 @@ pub shown : (d at : ℕ) (r : Room) (queue : List Entry) → IsQueueOf (entries 
 unfolding show_queue
 shown d at r queue is =
     let machine = ordered_queue (entries d at r) in
-    ap (λ q. show (Queue q)) (one_keyed entry_cmp entry_key entries_total _ queue machine.increasing is.increasing (λ e a. is.there e (machine.only e a)) (λ e a. machine.there e (is.only e a)))
+    ap (λ q. show (Queue q)) (one_keyed entry_cmp entry_key entries_total _ queue machine.increasing is.increasing
+    (λ e a. is.there e (machine.only e a)) (λ e a. machine.there e (is.only e a)))
 
 -- the entries of an answer
 abbrev queue_of : Answer → Option (List Entry)

@@ -1,7 +1,8 @@
 -- What is found in a slice's rows are the entries of any room that has them.
 use Rattle.std.proofs.Common.{ap, append_assoc, append-nil, drop, eqb-true, inl, inr, refl, subst, sym, ◌+◌, ◌∙◌}
 use Rattle.std.proofs.lemmas.List.{drop_all}
-use Rattle.std.specs.Prelude.{Bool, List, None, Option, Some, [], cond, false, filter_map, length, true, ℕ, ◌++◌, ◌∷◌, ◌≡◌, ◌≤◌}
+use Rattle.std.specs.Prelude.{Bool, List, None, Option, Some, [], cond, false, filter_map, length, true, ℕ, ◌++◌, ◌∷◌}
+use Rattle.std.specs.Prelude.{◌≡◌, ◌≤◌}
 use Rattle.std.specs.List.{cons_option, list_all}
 use Rattle.room_place.specs.Choice.{Among}
 use Rattle.room_place.specs.declared.plans.Area.{Area}
@@ -46,7 +47,9 @@ module _ (d at : ℕ) (plan : List Area) (s : DivisionRows) (agrees : is_share d
     (turns : IsKeyed numbered_cmp turn_key s.turns) where
   same_turn : (v : Vehicle) → Among v s.vehicles
       → slice.open_turn v s ≡ open_turn d v.callsign (room_of plan s)
-  same_turn v a = sym (open_turn_is d plan s agrees v.callsign v (row_among callsign_cmp vehicle_key callsigns_total s.vehicles v vehicles a) turns)
+  same_turn v a =
+      sym (open_turn_is d plan s agrees v.callsign v
+      (row_among callsign_cmp vehicle_key callsigns_total s.vehicles v vehicles a) turns)
 
   unread_is : (v : Vehicle) → Among v s.vehicles
       → unread_turn at v (turn_ahead d s v) ≡ unread d at (room_of plan s) v
@@ -60,14 +63,21 @@ module _ (d at : ℕ) (plan : List Area) (s : DivisionRows) (agrees : is_share d
       → uncovered_seen d at s p ≡ uncovered d at (room_of plan s) p
   unfolding holders point_of
   uncovered_is p a =
-      let owned : p.division ≡ d = eqb-true p.division d (all_among_hold (owns_point d) s.points p (share_agrees d s agrees).owned.points a) in
-      let there : row_at pair_cmp point_key s.points (d, p.number) ≡ Some p = subst (λ k. row_at pair_cmp point_key s.points (k, p.number) ≡ Some p) owned (row_among pair_cmp point_key pairs_total s.points p points a) in
+      let owned : p.division
+      ≡ d = eqb-true p.division d (all_among_hold (owns_point d) s.points p (share_agrees d s agrees).owned.points a) in
+      let there : row_at pair_cmp point_key s.points (d, p.number)
+      ≡ Some p =
+      subst (λ k. row_at pair_cmp point_key s.points (k, p.number) ≡ Some p) owned
+      (row_among pair_cmp point_key pairs_total s.points p points a) in
       rw there refl
 
   pub seen_all : (served : List Served) → AreServed d s.turns served
       → seen d at served s ≡ entries d at (room_of plan s)
   unfolding entries holders incident_of
-  seen_all served h = rw (filter_map_among _ _ s.incidents (λ i a. unserved_is d at (room_of plan s) served i h)) (rw (filter_map_among _ _ s.vehicles unread_is) (rw (filter_map_among _ _ s.vehicles slow_is) (rw (filter_map_among _ _ s.points uncovered_is) (simp append_assoc refl))))
+  seen_all served h =
+      rw (filter_map_among _ _ s.incidents (λ i a. unserved_is d at (room_of plan s) served i h))
+      (rw (filter_map_among _ _ s.vehicles unread_is) (rw (filter_map_among _ _ s.vehicles slow_is)
+      (rw (filter_map_among _ _ s.points uncovered_is) (simp append_assoc refl))))
 
 -- ---- walks
 one_or_none : {Y : Type 0} (o : Option Y) (ys : List Y) → cons_option o [] ++ ys ≡ cons_option o ys
@@ -90,4 +100,5 @@ noted h xs i x o before after all made put rest so_far =
 pub walked : {X Y : Type 0} (h : X → Option Y) (xs : List X) (i : ℕ) (before after : List Y)
     → length xs ≤ i → after ++ filter_map h (drop i xs) ≡ before ++ filter_map h xs
     → after ≡ before ++ filter_map h xs
-walked h xs i before after past so_far = sym (append-nil after) ∙ (ap (λ ys. after ++ filter_map h ys) (sym (drop_all i xs past)) ∙ so_far)
+walked h xs i before after past so_far =
+    sym (append-nil after) ∙ (ap (λ ys. after ++ filter_map h ys) (sym (drop_all i xs past)) ∙ so_far)

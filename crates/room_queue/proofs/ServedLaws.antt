@@ -36,8 +36,10 @@ one_more : (division incident count : Bool) (k : Kind) (t : Turn) (xs ys zs : Li
     && length (cond (division && (incident && (same_kind k Support && count)))
     (t ∷ zs) zs) == 0))
     ≡ not (incident && (division && count) || later)
-one_more true true true Ambulance t xs ys zs later h = ap (λ b. b && (length ys == 0 && length zs == 0)) (eqb-suc-zero (length xs))
-one_more true true true Car t xs ys zs later h = ap (λ b. length xs == 0 && (b && length zs == 0)) (eqb-suc-zero (length ys)) ∙ and_false (length xs == 0)
+one_more true true true Ambulance t xs ys zs later h =
+    ap (λ b. b && (length ys == 0 && length zs == 0)) (eqb-suc-zero (length xs))
+one_more true true true Car t xs ys zs later h =
+    ap (λ b. length xs == 0 && (b && length zs == 0)) (eqb-suc-zero (length ys)) ∙ and_false (length xs == 0)
 one_more true true true Support t xs ys zs later h =
     ap (λ b. length xs == 0 && (length ys == 0 && b)) (eqb-suc-zero (length zs))
     ∙ (ap (λ b. length xs == 0 && b) (and_false (length ys == 0)) ∙ and_false (length xs == 0))
@@ -69,7 +71,9 @@ tied : (d n : ℕ) (ts : List Turn)
     → list_any (λ t. is_eq (nat_cmp n t.incident) && serves d t) ts
     ≡ list_any (λ t. t.incident == n && serves d t) ts
 tied d n [] = refl
-tied d n (t ∷ ts) = ap (λ b. b && serves d t || list_any (λ u. is_eq (nat_cmp n u.incident) && serves d u) ts) (tied_numbers n t.incident) ∙ ap (λ b. t.incident == n && serves d t || b) (tied d n ts)
+tied d n (t ∷ ts) =
+    ap (λ b. b && serves d t || list_any (λ u. is_eq (nat_cmp n u.incident) && serves d u) ts)
+    (tied_numbers n t.incident) ∙ ap (λ b. t.incident == n && serves d t || b) (tied d n ts)
 
 none_serve : (d n : ℕ) (r : Room) (known : List Served) → AreServed d r.turns known
     → not (is_served known n) ≡ is_unserved d n r
@@ -93,8 +97,11 @@ told i = record { rank = 1; since = i.opened; number = i.number; callsign = None
 pub unserved_is : (d at : ℕ) (r : Room) (known : List Served) (i : Incident)
     → AreServed d r.turns known → unserved_seen d at known i ≡ unserved d at r i
 unserved_is d at r known i h =
-    turned (told i) (i.division == d) (is_active i.state) (nat_lt 180 (age at i.opened)) (not (is_served known i.number))
-    ∙ ap (λ b. cond (i.division == d && (is_active i.state && (b && nat_lt 180 (age at i.opened)))) (Some (told i)) None) (none_serve d i.number r known h)
+    turned (told i) (i.division == d) (is_active i.state) (nat_lt 180 (age at i.opened))
+    (not (is_served known i.number))
+    ∙ ap
+    (λ b. cond (i.division == d && (is_active i.state && (b && nat_lt 180 (age at i.opened)))) (Some (told i)) None)
+    (none_serve d i.number r known h)
 
 -- ---- gathering
 either : (b : Bool) (x : Served) (o : Option Served) (later : Bool)
@@ -116,9 +123,12 @@ module _ (d n : ℕ) (known : List Served) (t : Turn) (later : Bool) where
   counted x same e =
       ap (λ o. is_some o || later) (row_put nat_cmp number_of nat_cmp_total known x n)
       ∙ (either (is_eq (nat_cmp n x.incident)) x (row_at nat_cmp number_of known n) later
-      ∙ ap (λ b. is_served known n || (b || later)) (ap (λ m. is_eq (nat_cmp n m)) same ∙ and_true (is_eq (nat_cmp n t.incident)) (serves d t) e))
+      ∙ ap (λ b. is_served known n || (b || later))
+      (ap (λ m. is_eq (nat_cmp n m)) same ∙ and_true (is_eq (nat_cmp n t.incident)) (serves d t) e))
 
   -- another is left
   pub left : serves d t ≡ false → is_served known n || later ≡ is_served known n
       || (is_eq (nat_cmp n t.incident) && serves d t || later)
-  left e = ap (λ b. is_served known n || (b || later)) (sym (ap (λ b. is_eq (nat_cmp n t.incident) && b) e ∙ and_false (is_eq (nat_cmp n t.incident))))
+  left e =
+      ap (λ b. is_served known n || (b || later))
+      (sym (ap (λ b. is_eq (nat_cmp n t.incident) && b) e ∙ and_false (is_eq (nat_cmp n t.incident))))

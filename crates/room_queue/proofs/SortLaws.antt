@@ -1,7 +1,8 @@
 -- Entries that are sorted, and shown once each, are a queue.
 use Rattle.std.proofs.Common.{ap, arith, inl, inr, refl, subst, sym, ◌∙◌}
 use Rattle.std.proofs.lemmas.Cmp.{eq_by_cmp_equiv}
-use Rattle.std.proofs.lemmas.List.Elements.{All-cons, All-contains, All-weaker, Contains-append_left, Contains-append_right, Contains-push}
+use Rattle.std.proofs.lemmas.List.Elements.{All-cons, All-contains, All-weaker, Contains-append_left}
+use Rattle.std.proofs.lemmas.List.Elements.{Contains-append_right, Contains-push}
 use Rattle.std.proofs.lemmas.List.Kept.{Contains-dedup, Contains-from_dedup, IsStrictlySortedBy-dedup}
 use Rattle.std.proofs.lemmas.List.Sorted.{Contains-permutation, IsPermutation-sym}
 use Rattle.std.specs.Cmp.{IsEquivalence, both_tied, unsigned_ties}
@@ -23,10 +24,14 @@ use Rattle.room_model.specs.Queue.{IsQueueOf}
 
 -- ---- the order and the test that entries have in code
 abbrev pub told_cmp : Entry → Entry → Ordering
-told_cmp a b = ordering_then (nat_cmp a.rank b.rank) (ordering_then (nat_cmp a.since b.since) (ordering_then (nat_cmp a.number b.number) (option_cmp callsign_cmp a.callsign b.callsign)))
+told_cmp a b =
+    ordering_then (nat_cmp a.rank b.rank) (ordering_then (nat_cmp a.since b.since)
+    (ordering_then (nat_cmp a.number b.number) (option_cmp callsign_cmp a.callsign b.callsign)))
 
 abbrev pub alike : Entry → Entry → Bool
-alike a b = a.rank == b.rank && (a.since == b.since && (a.number == b.number && option_eq (eq_by_cmp callsign_cmp) a.callsign b.callsign))
+alike a b =
+    a.rank == b.rank
+    && (a.since == b.since && (a.number == b.number && option_eq (eq_by_cmp callsign_cmp) a.callsign b.callsign))
 
 same_options : (a b : Option Callsign) → option_cmp callsign_cmp a b ≡ option_callsign_cmp a b
 same_options None None = refl
@@ -35,7 +40,11 @@ same_options (Some a) None = refl
 same_options (Some a) (Some b) = refl
 
 same_cmp : (a b : Entry) → told_cmp a b ≡ entry_cmp a b
-same_cmp a b = ap (λ o. ordering_then (nat_cmp a.rank b.rank) (ordering_then (nat_cmp a.since b.since) (ordering_then (nat_cmp a.number b.number) o))) (same_options a.callsign b.callsign)
+same_cmp a b =
+    ap (λ o.
+    ordering_then (nat_cmp a.rank b.rank)
+    (ordering_then (nat_cmp a.since b.since) (ordering_then (nat_cmp a.number b.number) o)))
+    (same_options a.callsign b.callsign)
 
 tied_options : (a b : Option Callsign)
     → option_eq (eq_by_cmp callsign_cmp) a b ≡ is_eq (option_callsign_cmp a b)
@@ -45,7 +54,9 @@ tied_options (Some a) None = refl
 tied_options (Some a) (Some b) = refl
 
 tied : (a b : Entry) → alike a b ≡ eq_by_cmp entry_cmp a b
-tied a b = both_tied _ _ _ _ (unsigned_ties a.rank b.rank) (both_tied _ _ _ _ (unsigned_ties a.since b.since) (both_tied _ _ _ _ (unsigned_ties a.number b.number) (tied_options a.callsign b.callsign)))
+tied a b =
+    both_tied _ _ _ _ (unsigned_ties a.rank b.rank) (both_tied _ _ _ _ (unsigned_ties a.since b.since)
+    (both_tied _ _ _ _ (unsigned_ties a.number b.number) (tied_options a.callsign b.callsign)))
 
 alike_equiv : IsEquivalence alike
 alike_equiv = let by_cmp = eq_by_cmp_equiv entries_total in record {
@@ -78,7 +89,9 @@ contained (y ∷ ys) x a = elim a [
 
 all_among : (xs : List Entry) → All (λ x. Among x xs) xs
 all_among [] = λ k d low. let none : ⊥ = omega arith in absurd none
-all_among (x ∷ xs) = All-cons (λ y. Among y (x ∷ xs)) x xs (inl refl) (All-weaker (λ y. Among y xs) (λ y. Among y (x ∷ xs)) (λ y a. inr a) xs (all_among xs))
+all_among (x ∷ xs) =
+    All-cons (λ y. Among y (x ∷ xs)) x xs (inl refl)
+    (All-weaker (λ y. Among y xs) (λ y. Among y (x ∷ xs)) (λ y a. inr a) xs (all_among xs))
 
 among : (xs : List Entry) (x : Entry) → Contains xs x → Among x xs
 among xs x h = All-contains (λ y. Among y xs) xs x (all_among xs) h
@@ -86,7 +99,17 @@ among xs x h = All-contains (λ y. Among y xs) xs x (all_among xs) h
 pub sorted_queue : (all sorted : List Entry) → IsPermutation all sorted → IsSorted told_cmp sorted
     → IsQueueOf all (dedup alike sorted)
 sorted_queue all sorted moved rises = record {
-  increasing = keyed _ (IsStrictlySortedBy-dedup entries_total tied sorted (λ k d low high. ap is_lt (sym (same_cmp (slice_index_or sorted (k + 1) d) (slice_index_or sorted k d))) ∙ rises k d low high));
-  there = λ e a. among _ e (Contains-dedup alike_equiv alike_same sorted e (Contains-permutation all sorted e moved (contained all e a)));
-  only = λ e a. among all e (Contains-permutation sorted all e (IsPermutation-sym all sorted moved) (Contains-from_dedup alike sorted e (contained _ e a)));
+  increasing =
+      keyed _
+      (IsStrictlySortedBy-dedup entries_total tied sorted (λ k d low high.
+      ap is_lt (sym (same_cmp (slice_index_or sorted (k + 1) d) (slice_index_or sorted k d))) ∙ rises k d low high));
+  there =
+      λ e a.
+      among _ e
+      (Contains-dedup alike_equiv alike_same sorted e (Contains-permutation all sorted e moved (contained all e a)));
+  only =
+      λ e a.
+      among all e
+      (Contains-permutation sorted all e (IsPermutation-sym all sorted moved)
+      (Contains-from_dedup alike sorted e (contained _ e a)));
 }

@@ -1,7 +1,7 @@
 //! What needs an eye in a division, and clearing a report.
 #![tactic(auto)]
 
-mod entries;
 pub mod exceptions;
+mod queue_entries;
 pub mod queues;
 mod served_incidents;

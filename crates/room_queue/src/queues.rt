@@ -4,19 +4,19 @@ ghost use Rattle.std.specs.List.{cons_option};
 ghost use Rattle.room_place.specs.declared.plans.Area.{Area};
 ghost use Rattle.room_types.specs.declared.answers.Answer.TheVariants.{Queue};
 ghost use Rattle.room_types.specs.declared.answers.Entry.{Entry};
-ghost use Rattle.room_types.specs.declared.refusals.Refusal.TheVariants.{Memory};
+ghost use Rattle.room_types.specs.declared.refusal_statuses.Refusal.TheVariants.{Memory};
 ghost use Rattle.room_model.specs.Decisions.{Decides};
 ghost use Rattle.room_model.specs.Queue.{IsQueueOf, entries, show_queue};
 ghost use Rattle.room_model.specs.RoomSlices.{room_of};
 ghost use Rattle.room_queue.specs.QueueEntries.{with_held, with_sent};
 ghost use Rattle.room_queue.specs.ServedIncidents.{AreServed};
 
-use crate::entries;
+use crate::queue_entries;
 use crate::served_incidents::{Served, gather};
 use room_types::answers::{Answer, Entry, Listed};
 use room_types::decisions::Decision;
 use room_types::numbers::Moment;
-use room_types::refusals::Refusal;
+use room_types::refusal_statuses::Refusal;
 use room_types::rows::Rows;
 use room_types::slices::Slice;
 use std::alloc::{AllocError, Global};
@@ -81,16 +81,16 @@ fn push_sent(
 {
     let vehicles = slice.rows.vehicles.as_slice();
     for incident in slice.rows.incidents.as_slice() {
-        push_entry(seen, entries::unserved(slice, served, incident, at))?;
+        push_entry(seen, queue_entries::unserved(slice, served, incident, at))?;
     }
     for vehicle in vehicles {
-        push_entry(seen, entries::unread(slice, vehicle, at))?;
+        push_entry(seen, queue_entries::unread(slice, vehicle, at))?;
     }
     for vehicle in vehicles {
-        push_entry(seen, entries::slow(slice, vehicle, at))?;
+        push_entry(seen, queue_entries::slow(slice, vehicle, at))?;
     }
     for report in slice.rows.reports.as_slice() {
-        push_entry(seen, entries::exception(slice, report))?;
+        push_entry(seen, queue_entries::exception(slice, report))?;
     }
     Ok(())
 }
@@ -101,16 +101,16 @@ fn push_held(seen: &mut Vec<Entry>, slice: &Slice, at: Moment) -> Result<(), All
         (seen.new.items ≡ with_held slice.now.division at slice.now.rows seen.old.items) }
 {
     for loan in slice.rows.loans.as_slice() {
-        push_entry(seen, entries::overdue(slice, loan, at))?;
+        push_entry(seen, queue_entries::overdue(slice, loan, at))?;
     }
     for vehicle in slice.rows.vehicles.as_slice() {
-        push_entry(seen, entries::shift_over(slice, vehicle, at))?;
+        push_entry(seen, queue_entries::shift_over(slice, vehicle, at))?;
     }
     for point in slice.rows.points.as_slice() {
-        push_entry(seen, entries::uncovered(slice, point, at))?;
+        push_entry(seen, queue_entries::uncovered(slice, point, at))?;
     }
     for offer in slice.rows.offers.as_slice() {
-        push_entry(seen, entries::unanswered(slice, offer, at))?;
+        push_entry(seen, queue_entries::unanswered(slice, offer, at))?;
     }
     Ok(())
 }

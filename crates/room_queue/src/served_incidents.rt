@@ -1,12 +1,12 @@
 //! The incidents that some vehicle serves, by number, so that the turns are gone over once.
 ghost use Rattle.std.specs.Prelude.{◌≡◌, true, IfErr, IfOk};
 ghost use Rattle.room_types.specs.Orders.{exact_number};
-ghost use Rattle.room_types.specs.declared.refusals.Refusal.TheVariants.{Memory};
+ghost use Rattle.room_types.specs.declared.refusal_statuses.Refusal.TheVariants.{Memory};
 ghost use Rattle.room_queue.specs.ServedIncidents.{AreServed, number_of, serves};
 
 use room_place::plans::DivisionNumber;
 use room_types::numbers::Number;
-use room_types::refusals::Refusal;
+use room_types::refusal_statuses::Refusal;
 use room_types::rows::{Row, Rows};
 use room_types::tables::Turn;
 use std::alloc::Global;

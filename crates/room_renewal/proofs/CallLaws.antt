@@ -9,7 +9,9 @@ use Rattle.std.specs.Cmp.{ranked}
 use Rattle.std.specs.List.{list_any}
 use Rattle.std.specs.Ordering.{is_eq, is_ge, nat_cmp, ordering_then}
 use Rattle.std.specs.Slice.{IsItemAt}
-use Rattle.std.specs.Prelude.{Bool, List, None, Option, Some, [], cond, false, filter, get_or, length, max, nat_le, not, option_copied, refl, slice_get, suc, take, true, zero, ℕ, ◌&&◌, ◌+◌, ◌++◌, ◌<◌, ◌==◌, ◌||◌, ◌∷◌, ◌≡◌, ◌≤◌, ◌⊎◌}
+use Rattle.std.specs.Prelude.{Bool, List, None, Option, Some, [], cond, false, filter, get_or, length, max, nat_le, not}
+use Rattle.std.specs.Prelude.{option_copied, refl, slice_get, suc, take, true, zero, ℕ, ◌&&◌, ◌+◌, ◌++◌, ◌<◌, ◌==◌}
+use Rattle.std.specs.Prelude.{◌||◌, ◌∷◌, ◌≡◌, ◌≤◌, ◌⊎◌}
 use Rattle.std.specs.declared.cmp.Ordering.{Ordering}
 use Rattle.std.specs.declared.cmp.Ordering.TheVariants.{Equal, Greater, Less}
 use Rattle.room_types_keyed.specs.Keyed.{IsBelowAll, IsKeyed}
@@ -38,11 +40,13 @@ not_same a b f = (elim (a == b) as (λ (x : Bool). a == b ≡ x → x ≡ false)
 
 -- a lower key is of a lower position, or of the same and a lower serial
 lower_key : (a b : ℕ × ℕ) → pair_cmp a b ≡ Less → (a.0 < b.0) ⊎ ((a.0 ≡ b.0) × (a.1 < b.1))
-lower_key a b e = (elim (nat_cmp a.0 b.0) as (λ (o : Ordering). nat_cmp a.0 b.0 ≡ o → ordering_then o (nat_cmp a.1 b.1) ≡ Less → (a.0 < b.0) ⊎ ((a.0 ≡ b.0) × (a.1 < b.1))) [
-  | Less ↦ λ f g. inl (ranked a.0 b.0 Less (sym f))
-  | Equal ↦ λ f g. inr (ranked a.0 b.0 Equal (sym f), ranked a.1 b.1 Less (sym g))
-  | Greater ↦ λ f g. cc
-]) refl e
+lower_key a b e =
+    (elim (nat_cmp a.0 b.0) as (λ (o : Ordering).
+    nat_cmp a.0 b.0 ≡ o → ordering_then o (nat_cmp a.1 b.1) ≡ Less → (a.0 < b.0) ⊎ ((a.0 ≡ b.0) × (a.1 < b.1))) [
+      | Less ↦ λ f g. inl (ranked a.0 b.0 Less (sym f))
+      | Equal ↦ λ f g. inr (ranked a.0 b.0 Equal (sym f), ranked a.1 b.1 Less (sym g))
+      | Greater ↦ λ f g. cc
+    ]) refl e
 
 below_get : (k : ℕ × ℕ) (xs : List Call) (at : ℕ) (c : Call) → IsBelowAll pair_cmp call_key k xs
     → slice_get xs at ≡ Some c → pair_cmp k (call_key c) ≡ Less
@@ -55,13 +59,17 @@ none_after : (p : ℕ) (k : ℕ × ℕ) (xs : List Call) → p < k.0 → IsBelow
     → greatest_of p xs ≡ 0
 none_after p k [] less h = refl
 none_after p k (x ∷ xs) less h =
-    let later : p < x.position = elim (lower_key k (call_key x) h.0) [ inl f ↦ omega (arith, less, f) | inr f ↦ omega (arith, less, f.0) ] in
+    let later : p
+    < x.position =
+    elim (lower_key k (call_key x) h.0) [ inl f ↦ omega (arith, less, f) | inr f ↦ omega (arith, less, f.0) ] in
     of_another p x xs (not_same x.position p (λ e. omega (arith, later, e))) ∙ none_after p k xs less h.1
 
 with_more : (p : ℕ) (x : Call) (xs : List Call) → greatest_of p xs ≤ greatest_of p (x ∷ xs)
 with_more p x xs = of (x.position == p)
   where
-    of : (b : Bool) → greatest_of p xs ≤ greatest_serial (cond b (x ∷ filter (λ c. c.position == p) xs) (filter (λ c. c.position == p) xs))
+    of : (b : Bool)
+        → greatest_of p xs
+        ≤ greatest_serial (cond b (x ∷ filter (λ c. c.position == p) xs) (filter (λ c. c.position == p) xs))
     of true = omega arith
     of false = omega arith
 
@@ -73,14 +81,18 @@ at_most (x ∷ xs) zero c e =
     let same : x ≡ c = cc in
     subst (λ (z : Call). z.serial ≤ greatest_of z.position (x ∷ xs)) same
     (let first = of_its_position x.position x xs (eq-eqb x.position x.position refl) in omega (arith, first))
-at_most (x ∷ xs) (suc at) c e = let rest = at_most xs at c e in let more = with_more c.position x xs in omega (arith, rest, more)
+at_most (x ∷ xs) (suc at) c e =
+    let rest = at_most xs at c e in let more = with_more c.position x xs in omega (arith, rest, more)
 
 first_end : (x : Call) (xs : List Call) → IsKeyed pair_cmp call_key (x ∷ xs)
     → is_end x (slice_get xs zero) ≡ (x.serial == greatest_of x.position (x ∷ xs))
-first_end x [] h = sym (eq-eqb x.serial _ (let first = of_its_position x.position x [] (eq-eqb x.position x.position refl) in omega (arith, first)))
+first_end x [] h =
+    sym (eq-eqb x.serial _
+    (let first = of_its_position x.position x [] (eq-eqb x.position x.position refl) in omega (arith, first)))
 first_end x (y ∷ ys) h = elim (lower_key (call_key x) (call_key y) h.0.0) [
   | inl less ↦
-      let none = of_another x.position y ys (not_same y.position x.position (λ e. omega (arith, less, e))) ∙ none_after x.position (call_key y) ys less h.1.0 in
+      let none = of_another x.position y ys (not_same y.position x.position (λ e. omega (arith, less, e)))
+      ∙ none_after x.position (call_key y) ys less h.1.0 in
       let first = of_its_position x.position x (y ∷ ys) (eq-eqb x.position x.position refl) in
       ap not (not_same y.position x.position (λ e. omega (arith, less, e)))
       ∙ sym (eq-eqb x.serial (greatest_of x.position (x ∷ y ∷ ys)) (omega (arith, first, none)))
@@ -97,14 +109,19 @@ pub end_is_last : (xs : List Call) (at : ℕ) (c : Call) → IsKeyed pair_cmp ca
     → slice_get xs at ≡ Some c
     → is_end c (slice_get xs (suc at)) ≡ (c.serial == greatest_of c.position xs)
 end_is_last [] at c h e = cc
-end_is_last (x ∷ xs) zero c h e = let same : x ≡ c = cc in subst (λ (z : Call). is_end z (slice_get xs zero) ≡ (z.serial == greatest_of z.position (x ∷ xs))) same (first_end x xs h)
-end_is_last (x ∷ xs) (suc at) c h e = end_is_last xs at c h.1 e ∙ ap (λ n. c.serial == n) (sym (elim (lower_key (call_key x) (call_key c) (below_get (call_key x) xs at c h.0 e)) [
-  | inl less ↦ of_another c.position x xs (not_same x.position c.position (λ f. omega (arith, less, f)))
-  | inr lower ↦
-      let most = at_most xs at c e in
-      let here = of_its_position c.position x xs (eq-eqb x.position c.position lower.0) in
-      omega (arith, most, here, lower.1)
-]))
+end_is_last (x ∷ xs) zero c h e =
+    let same : x ≡ c = cc in
+    subst (λ (z : Call). is_end z (slice_get xs zero) ≡ (z.serial == greatest_of z.position (x ∷ xs))) same
+    (first_end x xs h)
+end_is_last (x ∷ xs) (suc at) c h e =
+    end_is_last xs at c h.1 e
+    ∙ ap (λ n. c.serial == n) (sym (elim (lower_key (call_key x) (call_key c) (below_get (call_key x) xs at c h.0 e)) [
+      | inl less ↦ of_another c.position x xs (not_same x.position c.position (λ f. omega (arith, less, f)))
+      | inr lower ↦
+          let most = at_most xs at c e in
+          let here = of_its_position c.position x xs (eq-eqb x.position c.position lower.0) in
+          omega (arith, most, here, lower.1)
+    ]))
 
 -- ---- the incidents that calls keep
 same_number : (m n : ℕ) → is_eq (nat_cmp m n) ≡ (m == n)
@@ -116,7 +133,9 @@ both_same Equal p = refl
 both_same Greater p = refl
 
 same_pair : (a b : ℕ × ℕ) → is_eq (pair_cmp a b) ≡ (a.0 == b.0 && a.1 == b.1)
-same_pair a b = both_same (nat_cmp a.0 b.0) (nat_cmp a.1 b.1) ∙ ap (λ x. x && is_eq (nat_cmp a.1 b.1)) (same_number a.0 b.0) ∙ ap (λ x. a.0 == b.0 && x) (same_number a.1 b.1)
+same_pair a b =
+    both_same (nat_cmp a.0 b.0) (nat_cmp a.1 b.1) ∙ ap (λ x. x && is_eq (nat_cmp a.1 b.1)) (same_number a.0 b.0)
+    ∙ ap (λ x. a.0 == b.0 && x) (same_number a.1 b.1)
 
 or_last : (x y before : Bool) → cond (x && y) true before ≡ (before || ((x && (y && true)) || false))
 or_last true true true = refl
@@ -148,7 +167,8 @@ module _ (since : ℕ) (calls first : List Call) (c : Call) (old : BTreeSet (ℕ
       ∙ (ap (λ b. cond b true (contains pair_cmp old (d, n))) (same_pair (c.division, c.incident) (d, n))
       ∙ (ap (λ b. cond (c.division == d && c.incident == n) true b) (so_far d n)
       ∙ (or_last (c.division == d) (c.incident == n) (list_any (calls_of_it d n) first)
-      ∙ (ap (λ b. list_any (calls_of_it d n) first || ((c.division == d && (c.incident == n && b)) || false)) (sym recent)
+      ∙ (ap (λ b. list_any (calls_of_it d n) first || ((c.division == d && (c.incident == n && b)) || false))
+      (sym recent)
       ∙ sym (list_any-append (calls_of_it d n) first (c ∷ []))))))
 
   pub called_same : is_recent_of since calls c ≡ false
@@ -202,8 +222,12 @@ module _ (since : ℕ) (calls : List Call) (at : ℕ) (c : Call) (inside : at < 
       → is_recent_of since calls c ≡ true
       → Updates pair_cmp old new (c.division, c.incident) true
       → AreCalled since calls (take (at + 1) calls) new
-  next_more old new so_far recent updates = subst (λ first. AreCalled since calls first new) (sym one_on) (called_more since calls (take at calls) c old so_far new recent updates)
+  next_more old new so_far recent updates =
+      subst (λ first. AreCalled since calls first new) (sym one_on)
+      (called_more since calls (take at calls) c old so_far new recent updates)
 
   pub next_same : (old : BTreeSet (ℕ × ℕ)) → AreCalled since calls (take at calls) old
       → is_recent_of since calls c ≡ false → AreCalled since calls (take (at + 1) calls) old
-  next_same old so_far late = subst (λ first. AreCalled since calls first old) (sym one_on) (called_same since calls (take at calls) c old so_far late)
+  next_same old so_far late =
+      subst (λ first. AreCalled since calls first old) (sym one_on)
+      (called_same since calls (take at calls) c old so_far late)

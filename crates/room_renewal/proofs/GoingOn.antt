@@ -15,7 +15,8 @@ use Rattle.room_renewal.proofs.PastAsked.{asks_none, asks_nothing}
 use Rattle.room_renewal.proofs.RenewedAgreements.{well_formed_without}
 use Rattle.room_renewal.proofs.SpareAll.{who_all}
 use Rattle.room_renewal.proofs.SparingChanges.{Spares, stays_all, without_all}
-use Rattle.room_renewal.specs.Continuation.{AreAnsweredAlike, IsSuccessor, NoneRepeatsThePast, asks_of_the_past, repeats_the_past}
+use Rattle.room_renewal.specs.Continuation.{AreAnsweredAlike, IsSuccessor, NoneRepeatsThePast, asks_of_the_past}
+use Rattle.room_renewal.specs.Continuation.{repeats_the_past}
 use Rattle.room_renewal.specs.Successor.{Behind}
 
 -- a successor is well-formed
@@ -32,7 +33,10 @@ module _ (since : ℕ) (b : Behind) (old new : Room) (w : IsWellFormed old)
   pub successor_after : changes_of (decided e new) ≡ changes_of (decided e old)
       → IsSuccessor since b (room_after e old) (room_after e new)
   successor_after same = record {
-    rows = ap (apply new) same ∙ (ap (λ r. apply r (changes_of (decided e old))) is.rows ∙ sym (without_all b old (changes_of (decided e old)) w.order spared));
+    rows =
+        ap (apply new) same
+        ∙ (ap (λ r. apply r (changes_of (decided e old))) is.rows
+        ∙ sym (without_all b old (changes_of (decided e old)) w.order spared));
     behind = stays_all since b old (changes_of (decided e old)) w.order spared is.behind;
   }
 
@@ -46,14 +50,17 @@ module _ (since : ℕ) (b : Behind) (old new : Room) (w : IsWellFormed old)
   nothing_old f = asks_nothing since b old is.behind e.who e.ask e.at f
 
   pub nothing_new : asks_of_the_past since b e ≡ true → changes_of (decided e new) ≡ []
-  nothing_new f = ap (λ r. changes_of (decided e r)) is.rows ∙ asks_none since b old is.behind w.order e.who e.ask e.at f
+  nothing_new f =
+      ap (λ r. changes_of (decided e r)) is.rows ∙ asks_none since b old is.behind w.order e.who e.ask e.at f
 
   changes_same : repeats_the_past b e ≡ false
       → changes_of (decided e new) ≡ changes_of (decided e old)
-  changes_same g = (elim (asks_of_the_past since b e) as (λ (x : Bool). asks_of_the_past since b e ≡ x → changes_of (decided e new) ≡ changes_of (decided e old)) [
-    | true ↦ λ f. nothing_new f ∙ sym (nothing_old f)
-    | false ↦ λ f. ap changes_of (decided_same f g)
-  ]) refl
+  changes_same g =
+      (elim (asks_of_the_past since b
+      e) as (λ (x : Bool). asks_of_the_past since b e ≡ x → changes_of (decided e new) ≡ changes_of (decided e old)) [
+        | true ↦ λ f. nothing_new f ∙ sym (nothing_old f)
+        | false ↦ λ f. ap changes_of (decided_same f g)
+      ]) refl
 
   pub goes_on : repeats_the_past b e ≡ false
       → IsSuccessor since b (room_after e old) (room_after e new)
@@ -65,5 +72,7 @@ pub run_on : (since : ℕ) (b : Behind) (es : List Event) (old new : Room) → I
     → AreAnsweredAlike since b es old new × IsSuccessor since b (room_run es old) (room_run es new)
 run_on since b [] old new w is known new_only = (tt, is)
 run_on since b (e ∷ es) old new w is known new_only =
-    let rest = run_on since b es (room_after e old) (room_after e new) (event_kept e old w known.0 known.1) (goes_on since b old new w is e new_only.0) (addressed_still es old (changes_of (decided e old)) known.2) new_only.1 in
+    let rest = run_on since b es (room_after e old) (room_after e new) (event_kept e old w known.0 known.1)
+    (goes_on since b old new w is e new_only.0) (addressed_still es old (changes_of (decided e old)) known.2)
+    new_only.1 in
     ((λ f. ap answer_of (decided_same since b old new w is e f new_only.0), rest.0), rest.1)

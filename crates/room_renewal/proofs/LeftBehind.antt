@@ -1,7 +1,8 @@
 -- What a room leaves behind when it is renewed has no part in what goes on.
 use Rattle.std.proofs.Common.{ap, arith, eq-eqb, eqb-true, inl, inr, subst, sym, ◌∙◌}
 use Rattle.std.specs.List.{list_any}
-use Rattle.std.specs.Prelude.{Bool, List, None, Option, Some, [], cond, false, filter, is_some, max, nat_le, nat_lt, not, refl, true, ℕ, ◌&&◌, ◌<◌, ◌==◌, ◌||◌, ◌∷◌, ◌≡◌, ◌≤◌, ◌⊎◌}
+use Rattle.std.specs.Prelude.{Bool, List, None, Option, Some, [], cond, false, filter, is_some, max, nat_le, nat_lt}
+use Rattle.std.specs.Prelude.{not, refl, true, ℕ, ◌&&◌, ◌<◌, ◌==◌, ◌||◌, ◌∷◌, ◌≡◌, ◌≤◌, ◌⊎◌}
 use Rattle.room_place.specs.Choice.{Among}
 use Rattle.room_types_keyed.specs.Keyed.{keep, row_at}
 use Rattle.room_types.specs.Codes.{is_active}
@@ -16,7 +17,8 @@ use Rattle.room_model.specs.Queries.{greatest_serial, incident_of, kept_call, ke
 use Rattle.room_model.specs.Room.{Room}
 use Rattle.room_model.specs.WellFormed.{IsWellFormed, ReportAgrees}
 use Rattle.room_renewal.specs.Continuation.{IsOver, IsSettled, IsSuccessor, StaysBehind}
-use Rattle.room_renewal.specs.Successor.{has_recent_call, incident_stays, is_last_report, is_over, is_recent, is_settled, left_behind, renewed}
+use Rattle.room_renewal.specs.Successor.{has_recent_call, incident_stays, is_last_report, is_over, is_recent}
+use Rattle.room_renewal.specs.Successor.{is_settled, left_behind, renewed}
 
 -- ---- tests
 pub from_not : (x : Bool) → not x ≡ true → x ≡ false
@@ -41,10 +43,12 @@ apart_is n m le e = grind (arith, le, e)
 kept_some : {X : Type 0} (p : X → Bool) (o : Option X) → is_some (keep p o) ≡ true
     → (x : X) × (o ≡ Some x) × (p x ≡ true)
 kept_some p None e = cc
-kept_some {X} p (Some x) e = (elim (p x) as (λ (b : Bool). p x ≡ b → is_some (cond b (Some x) None) ≡ true → (y : X) × (Some x ≡ Some y) × (p y ≡ true)) [
-  | true ↦ λ f g. (x, refl, f)
-  | false ↦ λ f g. cc
-]) refl e
+kept_some {X} p (Some x) e =
+    (elim (p
+    x) as (λ (b : Bool). p x ≡ b → is_some (cond b (Some x) None) ≡ true → (y : X) × (Some x ≡ Some y) × (p y ≡ true)) [
+      | true ↦ λ f g. (x, refl, f)
+      | false ↦ λ f g. cc
+    ]) refl e
 
 -- some element of a list passes, where one of its elements does
 pub any_among : {X : Type 0} (p : X → Bool) (xs : List X) (x : X) → Among x xs → p x ≡ true
@@ -59,10 +63,11 @@ any_among {X} p (y ∷ ys) x a e = elim a [
 pub among_passing : {X : Type 0} (p : X → Bool) (xs : List X) (x : X) → Among x xs → p x ≡ true
     → Among x (filter p xs)
 among_passing p [] x a e = absurd a
-among_passing {X} p (y ∷ ys) x a e = (elim (p y) as (λ (b : Bool). p y ≡ b → Among x (cond b (y ∷ filter p ys) (filter p ys))) [
-  | true ↦ λ f. elim a [ inl same ↦ inl same | inr b ↦ inr (among_passing p ys x b e) ]
-  | false ↦ λ f. elim a [ inl same ↦ let alike : p x ≡ p y = ap p same in cc | inr b ↦ among_passing p ys x b e ]
-]) refl
+among_passing {X} p (y ∷ ys) x a e =
+    (elim (p y) as (λ (b : Bool). p y ≡ b → Among x (cond b (y ∷ filter p ys) (filter p ys))) [
+      | true ↦ λ f. elim a [ inl same ↦ inl same | inr b ↦ inr (among_passing p ys x b e) ]
+      | false ↦ λ f. elim a [ inl same ↦ let alike : p x ≡ p y = ap p same in cc | inr b ↦ among_passing p ys x b e ]
+    ]) refl
 
 -- ---- the greatest serial of calls
 max_either : (a b : ℕ) → (max a b ≡ a) ⊎ (max a b ≡ b)
@@ -100,27 +105,40 @@ module _ (since : ℕ) (r : Room) (w : IsWellFormed r) where
   over_without : (i : Incident) (c : Call) → Among c r.calls → c.division ≡ i.division
       → c.incident ≡ i.number → is_recent since r c ≡ true → is_over since r i ≡ true → ⊥
   over_without i c a division number recent over =
-      let none : has_recent_call since r i ≡ false = from_not _ (right_true (nat_lt i.opened since) _ (right_true (not (is_active i.state)) _ over)) in
-      let one : has_recent_call since r i ≡ true = any_among _ r.calls c a (both_true (c.division == i.division) _ (eq-eqb c.division i.division division) (both_true (c.incident == i.number) _ (eq-eqb c.incident i.number number) recent)) in
+      let none : has_recent_call since r i
+      ≡ false = from_not _ (right_true (nat_lt i.opened since) _ (right_true (not (is_active i.state)) _ over)) in
+      let one : has_recent_call since r i
+      ≡ true =
+      any_among _ r.calls c a
+      (both_true (c.division == i.division) _ (eq-eqb c.division i.division division)
+      (both_true (c.incident == i.number) _ (eq-eqb c.incident i.number number) recent)) in
       cc
 
   recent_stays : (c : Call) → Among c r.calls → is_recent since r c ≡ true
       → incident_stays since r c.division c.incident ≡ false
   unfolding incident_of
-  recent_stays c a recent = (elim (incident_stays since r c.division c.incident) as (λ (x : Bool). incident_stays since r c.division c.incident ≡ x → x ≡ false) [
-    | true ↦ λ e.
-        let found = kept_some (is_over since r) (row_at pair_cmp incident_key r.incidents (c.division, c.incident)) e in
-        let i : Incident = found.0 in
-        let key : (c.division, c.incident) ≡ (i.division, i.number) = row_key pair_cmp incident_key pairs_total exact_pair r.incidents (c.division, c.incident) i found.1 in
-        absurd (over_without i c a (ap (λ (k : ℕ × ℕ). k.0) key) (ap (λ (k : ℕ × ℕ). k.1) key) recent found.2)
-    | false ↦ λ e. refl
-  ]) refl
+  recent_stays c a recent =
+      (elim (incident_stays since r c.division
+      c.incident) as (λ (x : Bool). incident_stays since r c.division c.incident ≡ x → x ≡ false) [
+        | true ↦ λ e.
+            let found = kept_some (is_over since r) (row_at pair_cmp incident_key r.incidents (c.division, c.incident))
+            e in
+            let i : Incident = found.0 in
+            let key : (c.division, c.incident)
+            ≡ (i.division, i.number) =
+            row_key pair_cmp incident_key pairs_total exact_pair r.incidents (c.division, c.incident) i found.1 in
+            absurd (over_without i c a (ap (λ (k : ℕ × ℕ). k.0) key) (ap (λ (k : ℕ × ℕ). k.1) key) recent found.2)
+        | false ↦ λ e. refl
+      ]) refl
 
   -- a call that is there stays behind with its incident
   call_stays_with : (c : Call) → Among c r.calls
       → (left_behind since r).call c.position c.serial ≡ incident_stays since r c.division c.incident
   unfolding kept_call
-  call_stays_with c a = ap (λ o. is_some (keep (λ (c : Call). incident_stays since r c.division c.incident) o)) (row_among pair_cmp call_key pairs_total r.calls c w.order.calls a) ∙ kept_one (incident_stays since r c.division c.incident)
+  call_stays_with c a =
+      ap (λ o. is_some (keep (λ (c : Call). incident_stays since r c.division c.incident) o))
+      (row_among pair_cmp call_key pairs_total r.calls c w.order.calls a)
+      ∙ kept_one (incident_stays since r c.division c.incident)
     where
       kept_one : (x : Bool) → is_some (cond x (Some c) None) ≡ x
       kept_one true = refl
@@ -136,9 +154,16 @@ module _ (since : ℕ) (r : Room) (w : IsWellFormed r) where
         let c : Call = found.0 in
         let there = among_filter (λ (c : Call). c.position == p) r.calls c found.1 in
         let same : c.position ≡ p = eqb-true c.position p there.1 in
-        let recent : is_recent since r c ≡ true = or_right (nat_le since c.at) _ (eq-eqb c.serial (last_serial c.position r) (found.2 ∙ ap (λ n. greatest_serial (filter (λ c. c.position == n) r.calls)) (sym same))) in
-        let stays : not ((left_behind since r).call c.position c.serial) ≡ true = ap not (call_stays_with c there.0 ∙ recent_stays c there.0 recent) in
-        let below = serial_below (filter (λ c. c.position == p) (renewed since r).calls) c (among_passing (λ c. c.position == p) (renewed since r).calls c (among_passing (λ c. not ((left_behind since r).call c.position c.serial)) r.calls c there.0 stays) there.1) in
+        let recent : is_recent since r c
+        ≡ true =
+        or_right (nat_le since c.at) _
+        (eq-eqb c.serial (last_serial c.position r)
+        (found.2 ∙ ap (λ n. greatest_serial (filter (λ c. c.position == n) r.calls)) (sym same))) in
+        let stays : not ((left_behind since r).call c.position c.serial)
+        ≡ true = ap not (call_stays_with c there.0 ∙ recent_stays c there.0 recent) in
+        let below = serial_below (filter (λ c. c.position == p) (renewed since r).calls) c
+        (among_passing (λ c. c.position == p) (renewed since r).calls c
+        (among_passing (λ c. not ((left_behind since r).call c.position c.serial)) r.calls c there.0 stays) there.1) in
         let serial : c.serial ≡ greatest_serial (filter (λ c. c.position == p) r.calls) = found.2 in
         omega (arith, below, serial)
   ]
@@ -147,9 +172,11 @@ module _ (since : ℕ) (r : Room) (w : IsWellFormed r) where
   unfolding last_serial
   serials_same p =
       let least = last_kept p in
-      let most = serials_below (filter (λ c. c.position == p) (renewed since r).calls) (filter (λ c. c.position == p) r.calls) (λ c a.
+      let most = serials_below (filter (λ c. c.position == p) (renewed since r).calls)
+      (filter (λ c. c.position == p) r.calls) (λ c a.
       let there = among_filter (λ (c : Call). c.position == p) (renewed since r).calls c a in
-      among_passing (λ c. c.position == p) r.calls c (among_filter (λ c. not ((left_behind since r).call c.position c.serial)) r.calls c there.0).0 there.1) in
+      among_passing (λ c. c.position == p) r.calls c
+      (among_filter (λ c. not ((left_behind since r).call c.position c.serial)) r.calls c there.0).0 there.1) in
       omega (arith, least, most)
 
   incident_over : (o : Option Incident) → is_some (keep (is_over since r) o) ≡ true → IsOver since o
@@ -157,8 +184,10 @@ module _ (since : ℕ) (r : Room) (w : IsWellFormed r) where
   incident_over (Some i) e =
       let found = kept_some (is_over since r) (Some i) e in
       let same : found.0 ≡ i = cc in
-      let over : is_over since r i ≡ true = subst (λ (j : Incident). is_over since r j ≡ true) same found.2 in
-      (from_not _ (left_true (not (is_active i.state)) _ over), below_is _ _ (left_true (nat_lt i.opened since) _ (right_true (not (is_active i.state)) _ over)))
+      let over : is_over since r i ≡ true = subst (λ (j : Incident). is_over since r j ≡ true) same found.2 in (
+        from_not _ (left_true (not (is_active i.state)) _ over),
+        below_is _ _ (left_true (nat_lt i.opened since) _ (right_true (not (is_active i.state)) _ over)),
+      )
 
   report_over : (v : Option Vehicle) (n : ℕ) (o : Option Report) → ReportAgrees v n o
       → is_some (keep (is_settled since) o) && not (is_last_report n v) ≡ true → IsSettled v n o
@@ -167,8 +196,10 @@ module _ (since : ℕ) (r : Room) (w : IsWellFormed r) where
   report_over (Some v) n (Some x) g e =
       let found = kept_some (is_settled since) (Some x) (left_true _ (not (v.last_report == n)) e) in
       let same : found.0 ≡ x = cc in
-      let settled : is_settled since x ≡ true = subst (λ (y : Report). is_settled since y ≡ true) same found.2 in
-      (right_true (nat_lt x.at since) _ settled, apart_is n v.last_report g.1 (from_not _ (right_true (is_some (keep (is_settled since) (Some x))) _ e)))
+      let settled : is_settled since x ≡ true = subst (λ (y : Report). is_settled since y ≡ true) same found.2 in (
+        right_true (nat_lt x.at since) _ settled,
+        apart_is n v.last_report g.1 (from_not _ (right_true (is_some (keep (is_settled since) (Some x))) _ e)),
+      )
 
   pub left_stays : StaysBehind since (left_behind since r) r
   unfolding incident_of kept_report vehicle_at
@@ -176,7 +207,10 @@ module _ (since : ℕ) (r : Room) (w : IsWellFormed r) where
     incidents = λ d n e. incident_over (row_at pair_cmp incident_key r.incidents (d, n)) e;
     calls = λ p s. refl;
     serials = serials_same;
-    reports = λ c n e. report_over (row_at callsign_cmp vehicle_key r.vehicles c) n (row_at numbered_cmp report_key r.reports (c, n)) (w.reports c n) e;
+    reports =
+        λ c n e.
+        report_over (row_at callsign_cmp vehicle_key r.vehicles c) n (row_at numbered_cmp report_key r.reports (c, n))
+        (w.reports c n) e;
   }
 
   pub left_successor : IsSuccessor since (left_behind since r) r (renewed since r)

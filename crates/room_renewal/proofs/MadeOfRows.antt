@@ -8,10 +8,14 @@ use Rattle.std.specs.Prelude.{Bool, List, None, Option, Some, [], cond, false, m
 use Rattle.std.specs.declared.cmp.Ordering.{Ordering}
 use Rattle.room_types_keyed.proofs.KeyedLaws.{keyed_put, row_below, row_put}
 use Rattle.room_types_keyed.specs.Keyed.{IsBelowAll, IsKeyed, put_row, row_at}
-use Rattle.room_types.specs.Keys.{assignment_key, call_key, callsign_cmp, division_key, incident_key, loan_key, numbered_cmp, offer_key, pair_cmp, point_key, report_key, turn_key, vehicle_key}
-use Rattle.room_types.specs.Orders.{callsigns_total, exact_callsigns, exact_number, exact_numbered, exact_pair, numbered_total, pairs_total}
+use Rattle.room_types.specs.Keys.{assignment_key, call_key, callsign_cmp, division_key, incident_key, loan_key}
+use Rattle.room_types.specs.Keys.{numbered_cmp, offer_key, pair_cmp, point_key, report_key, turn_key, vehicle_key}
+use Rattle.room_types.specs.Orders.{callsigns_total, exact_callsigns, exact_number, exact_numbered, exact_pair}
+use Rattle.room_types.specs.Orders.{numbered_total, pairs_total}
 use Rattle.room_types.specs.declared.changes.Change.{Change}
-use Rattle.room_types.specs.declared.changes.Change.TheVariants.{PutAssignment, PutCall, PutDivision, PutIncident, PutLoan, PutOffer, PutPoint, PutReport, PutTurn, PutVehicle}
+use Rattle.room_types.specs.declared.changes.Change.TheVariants.{PutAssignment, PutCall, PutDivision, PutIncident}
+use Rattle.room_types.specs.declared.changes.Change.TheVariants.{PutLoan, PutOffer, PutPoint, PutReport, PutTurn}
+use Rattle.room_types.specs.declared.changes.Change.TheVariants.{PutVehicle}
 use Rattle.room_types.specs.declared.tables.Assignment.{Assignment}
 use Rattle.room_types.specs.declared.tables.Call.{Call}
 use Rattle.room_types.specs.declared.tables.Division.{Division}
@@ -51,8 +55,14 @@ module _ {R K : Type 0} (cmp : K → K → Ordering) (key : R → K) (total : Is
   each_at ys (x ∷ xs) k h =
       each_at (put_row cmp key ys x) xs k h.1
       ∙ ap (or_else (row_at cmp key xs k)) (row_put cmp key total ys x k)
-      ∙ (elim (is_eq (cmp k (key x))) as (λ (b : Bool). is_eq (cmp k (key x)) ≡ b → or_else (row_at cmp key xs k) (cond b (Some x) (row_at cmp key ys k)) ≡ or_else (cond b (Some x) (row_at cmp key xs k)) (row_at cmp key ys k)) [
-        | true ↦ λ e. ap (λ o. or_else o (Some x)) (row_below cmp key total xs k (subst (λ j. IsBelowAll cmp key j xs) (sym (exact k (key x) (is_equal _ e))) h.0))
+      ∙ (elim (is_eq (cmp k (key x))) as (λ (b : Bool).
+      is_eq (cmp k (key x)) ≡ b
+      → or_else (row_at cmp key xs k) (cond b (Some x) (row_at cmp key ys k))
+      ≡ or_else (cond b (Some x) (row_at cmp key xs k)) (row_at cmp key ys k)) [
+        | true ↦
+            λ e.
+            ap (λ o. or_else o (Some x)) (row_below cmp key total xs k
+            (subst (λ j. IsBelowAll cmp key j xs) (sym (exact k (key x) (is_equal _ e))) h.0))
         | false ↦ λ e. refl
       ]) refl
 
@@ -71,7 +81,9 @@ module _ {R K : Type 0} (cmp : K → K → Ordering) (key : R → K) (total : Is
   -- put among rows of no other keys they are the list
   pub made_among : (ys xs : List R) → IsKeyed cmp key ys → IsKeyed cmp key xs
       → ((k : K) → row_at cmp key xs k ≡ None → row_at cmp key ys k ≡ None) → put_each cmp key ys xs ≡ xs
-  made_among ys xs h g only = one_at (put_each cmp key ys xs) xs (keyed_each ys xs h) g (λ k. each_at ys xs k g ∙ or_none (row_at cmp key xs k) (row_at cmp key ys k) (only k))
+  made_among ys xs h g only =
+      one_at (put_each cmp key ys xs) xs (keyed_each ys xs h) g
+      (λ k. each_at ys xs k g ∙ or_none (row_at cmp key xs k) (row_at cmp key ys k) (only k))
 
   pub made_of : (ys xs : List R) → ys ≡ [] → IsKeyed cmp key xs → put_each cmp key ys xs ≡ xs
   made_of ys xs e h = ap (λ zs. put_each cmp key zs xs) e ∙ made_among [] xs tt h (λ k f. refl)
@@ -80,43 +92,53 @@ apply_both : (r : Room) (cs ds : List Change) → apply r (cs ++ ds) ≡ apply (
 apply_both r [] ds = refl
 apply_both r (c ∷ cs) ds = apply_both (apply_one r c) cs ds
 
-put_divisions : (r : Room) (xs : List Division) → apply r (map PutDivision xs) ≡ record r { divisions = put_each nat_cmp division_key r.divisions xs }
+put_divisions : (r : Room) (xs : List Division)
+    → apply r (map PutDivision xs) ≡ record r { divisions = put_each nat_cmp division_key r.divisions xs }
 put_divisions r [] = refl
 put_divisions r (x ∷ xs) = put_divisions (apply_one r (PutDivision x)) xs
 
-put_incidents : (r : Room) (xs : List Incident) → apply r (map PutIncident xs) ≡ record r { incidents = put_each pair_cmp incident_key r.incidents xs }
+put_incidents : (r : Room) (xs : List Incident)
+    → apply r (map PutIncident xs) ≡ record r { incidents = put_each pair_cmp incident_key r.incidents xs }
 put_incidents r [] = refl
 put_incidents r (x ∷ xs) = put_incidents (apply_one r (PutIncident x)) xs
 
-put_calls : (r : Room) (xs : List Call) → apply r (map PutCall xs) ≡ record r { calls = put_each pair_cmp call_key r.calls xs }
+put_calls : (r : Room) (xs : List Call)
+    → apply r (map PutCall xs) ≡ record r { calls = put_each pair_cmp call_key r.calls xs }
 put_calls r [] = refl
 put_calls r (x ∷ xs) = put_calls (apply_one r (PutCall x)) xs
 
-put_vehicles : (r : Room) (xs : List Vehicle) → apply r (map PutVehicle xs) ≡ record r { vehicles = put_each callsign_cmp vehicle_key r.vehicles xs }
+put_vehicles : (r : Room) (xs : List Vehicle)
+    → apply r (map PutVehicle xs) ≡ record r { vehicles = put_each callsign_cmp vehicle_key r.vehicles xs }
 put_vehicles r [] = refl
 put_vehicles r (x ∷ xs) = put_vehicles (apply_one r (PutVehicle x)) xs
 
-put_turns : (r : Room) (xs : List Turn) → apply r (map PutTurn xs) ≡ record r { turns = put_each numbered_cmp turn_key r.turns xs }
+put_turns : (r : Room) (xs : List Turn)
+    → apply r (map PutTurn xs) ≡ record r { turns = put_each numbered_cmp turn_key r.turns xs }
 put_turns r [] = refl
 put_turns r (x ∷ xs) = put_turns (apply_one r (PutTurn x)) xs
 
-put_assignments : (r : Room) (xs : List Assignment) → apply r (map PutAssignment xs) ≡ record r { assignments = put_each callsign_cmp assignment_key r.assignments xs }
+put_assignments : (r : Room) (xs : List Assignment)
+    → apply r (map PutAssignment xs) ≡ record r { assignments = put_each callsign_cmp assignment_key r.assignments xs }
 put_assignments r [] = refl
 put_assignments r (x ∷ xs) = put_assignments (apply_one r (PutAssignment x)) xs
 
-put_points : (r : Room) (xs : List Point) → apply r (map PutPoint xs) ≡ record r { points = put_each pair_cmp point_key r.points xs }
+put_points : (r : Room) (xs : List Point)
+    → apply r (map PutPoint xs) ≡ record r { points = put_each pair_cmp point_key r.points xs }
 put_points r [] = refl
 put_points r (x ∷ xs) = put_points (apply_one r (PutPoint x)) xs
 
-put_loans : (r : Room) (xs : List Loan) → apply r (map PutLoan xs) ≡ record r { loans = put_each callsign_cmp loan_key r.loans xs }
+put_loans : (r : Room) (xs : List Loan)
+    → apply r (map PutLoan xs) ≡ record r { loans = put_each callsign_cmp loan_key r.loans xs }
 put_loans r [] = refl
 put_loans r (x ∷ xs) = put_loans (apply_one r (PutLoan x)) xs
 
-put_offers : (r : Room) (xs : List Offer) → apply r (map PutOffer xs) ≡ record r { offers = put_each callsign_cmp offer_key r.offers xs }
+put_offers : (r : Room) (xs : List Offer)
+    → apply r (map PutOffer xs) ≡ record r { offers = put_each callsign_cmp offer_key r.offers xs }
 put_offers r [] = refl
 put_offers r (x ∷ xs) = put_offers (apply_one r (PutOffer x)) xs
 
-put_reports : (r : Room) (xs : List Report) → apply r (map PutReport xs) ≡ record r { reports = put_each numbered_cmp report_key r.reports xs }
+put_reports : (r : Room) (xs : List Report)
+    → apply r (map PutReport xs) ≡ record r { reports = put_each numbered_cmp report_key r.reports xs }
 put_reports r [] = refl
 put_reports r (x ∷ xs) = put_reports (apply_one r (PutReport x)) xs
 
@@ -142,7 +164,8 @@ module _ (s r : Room) where
   with_turns = record with_vehicles { turns = put_each numbered_cmp turn_key s.turns r.turns }
 
   abbrev with_assignments : Room
-  with_assignments = record with_turns { assignments = put_each callsign_cmp assignment_key s.assignments r.assignments }
+  with_assignments =
+      record with_turns { assignments = put_each callsign_cmp assignment_key s.assignments r.assignments }
 
   abbrev with_points : Room
   with_points = record with_assignments { points = put_each pair_cmp point_key s.points r.points }
@@ -187,11 +210,13 @@ module _ (s r : Room) where
   made_room : apply s (puts r) ≡ with_reports
   made_room =
       on_to s with_divisions (map PutDivision r.divisions) from_incidents (put_divisions s r.divisions)
-      ∙ (on_to with_divisions with_incidents (map PutIncident r.incidents) from_calls (put_incidents with_divisions r.incidents)
+      ∙ (on_to with_divisions with_incidents (map PutIncident r.incidents) from_calls
+      (put_incidents with_divisions r.incidents)
       ∙ (on_to with_incidents with_calls (map PutCall r.calls) from_vehicles (put_calls with_incidents r.calls)
       ∙ (on_to with_calls with_vehicles (map PutVehicle r.vehicles) from_turns (put_vehicles with_calls r.vehicles)
       ∙ (on_to with_vehicles with_turns (map PutTurn r.turns) from_assignments (put_turns with_vehicles r.turns)
-      ∙ (on_to with_turns with_assignments (map PutAssignment r.assignments) from_points (put_assignments with_turns r.assignments)
+      ∙ (on_to with_turns with_assignments (map PutAssignment r.assignments) from_points
+      (put_assignments with_turns r.assignments)
       ∙ (on_to with_assignments with_points (map PutPoint r.points) from_loans (put_points with_assignments r.points)
       ∙ (on_to with_points with_loans (map PutLoan r.loans) from_offers (put_loans with_points r.loans)
       ∙ (on_to with_loans with_offers (map PutOffer r.offers) from_reports (put_offers with_loans r.offers)
@@ -200,14 +225,22 @@ module _ (s r : Room) where
 pub made_of_rows : (s r : Room) → IsInOrder s → IsInOrder r → IsBare s r → apply s (puts r) ≡ r
 made_of_rows s r order keyed bare = made_room s r ∙ (λ i. record {
   plan = bare.plan i;
-  divisions = made_among nat_cmp division_key nat_cmp_total exact_number s.divisions r.divisions order.divisions keyed.divisions bare.divisions i;
-  incidents = made_of pair_cmp incident_key pairs_total exact_pair s.incidents r.incidents bare.incidents keyed.incidents i;
+  divisions =
+      made_among nat_cmp division_key nat_cmp_total exact_number s.divisions r.divisions order.divisions keyed.divisions
+      bare.divisions i;
+  incidents =
+      made_of pair_cmp incident_key pairs_total exact_pair s.incidents r.incidents bare.incidents keyed.incidents i;
   calls = made_of pair_cmp call_key pairs_total exact_pair s.calls r.calls bare.calls keyed.calls i;
-  vehicles = made_of callsign_cmp vehicle_key callsigns_total exact_callsigns s.vehicles r.vehicles bare.vehicles keyed.vehicles i;
+  vehicles =
+      made_of callsign_cmp vehicle_key callsigns_total exact_callsigns s.vehicles r.vehicles bare.vehicles
+      keyed.vehicles i;
   turns = made_of numbered_cmp turn_key numbered_total exact_numbered s.turns r.turns bare.turns keyed.turns i;
-  assignments = made_of callsign_cmp assignment_key callsigns_total exact_callsigns s.assignments r.assignments bare.assignments keyed.assignments i;
+  assignments =
+      made_of callsign_cmp assignment_key callsigns_total exact_callsigns s.assignments r.assignments bare.assignments
+      keyed.assignments i;
   points = made_of pair_cmp point_key pairs_total exact_pair s.points r.points bare.points keyed.points i;
   loans = made_of callsign_cmp loan_key callsigns_total exact_callsigns s.loans r.loans bare.loans keyed.loans i;
   offers = made_of callsign_cmp offer_key callsigns_total exact_callsigns s.offers r.offers bare.offers keyed.offers i;
-  reports = made_of numbered_cmp report_key numbered_total exact_numbered s.reports r.reports bare.reports keyed.reports i;
+  reports =
+      made_of numbered_cmp report_key numbered_total exact_numbered s.reports r.reports bare.reports keyed.reports i;
 })

@@ -1,6 +1,7 @@
 -- What becomes of events that speak of what stayed behind.
 use Rattle.std.proofs.Common.{ap, arith, eq-eqb, inl, inr, subst, sym, ◌∙◌}
-use Rattle.std.specs.Prelude.{Bool, Err, List, None, Option, Some, [], cond, false, filter, is_some, map, max, nat_lt, not, refl, true, ℕ, ℤ, ◌<◌, ◌==◌, ◌||◌, ◌∷◌, ◌≡◌, ◌⊎◌}
+use Rattle.std.specs.Prelude.{Bool, Err, List, None, Option, Some, [], cond, false, filter, is_some, map, max, nat_lt}
+use Rattle.std.specs.Prelude.{not, refl, true, ℕ, ℤ, ◌<◌, ◌==◌, ◌||◌, ◌∷◌, ◌≡◌, ◌⊎◌}
 use Rattle.room_place.specs.Plans.{division_of}
 use Rattle.room_types_keyed.specs.Keyed.{keep, put_row, row_at}
 use Rattle.room_types.specs.Codes.{is_active}
@@ -28,19 +29,22 @@ use Rattle.room_model.specs.Calls.{call_kept, call_somewhere, new_call}
 use Rattle.room_model.specs.DayTimes.{show_times, times_line, times_of}
 use Rattle.room_model.specs.Decisions.{Verdict, answer_of, changes_of, show, tell, where_active}
 use Rattle.room_model.specs.Events.{by_crew, by_desk, by_position}
-use Rattle.room_model.specs.Incidents.{all_served, change_needs, close, close_active, history_of, merge, merge_of, needs_changed, show_incident}
+use Rattle.room_model.specs.Incidents.{all_served, change_needs, close, close_active, history_of, merge, merge_of}
+use Rattle.room_model.specs.Incidents.{needs_changed, show_incident}
 use Rattle.room_model.specs.Proposals.{all_proposed, propose}
-use Rattle.room_model.specs.Queries.{borrowed, calls_of, held, incident_of, incidents_opened, is_attended, kept_call, kept_report, lent, open_turn, served, turns_of, vehicle_at}
+use Rattle.room_model.specs.Queries.{borrowed, calls_of, held, incident_of, incidents_opened, is_attended, kept_call}
+use Rattle.room_model.specs.Queries.{kept_report, lent, open_turn, served, turns_of, vehicle_at}
 use Rattle.room_model.specs.Reports.{report_held, report_in, report_kept, report_row, report_somewhere, with_report}
 use Rattle.room_model.specs.Room.{IsInOrder, Room, apply}
 use Rattle.room_model.specs.Step.{decided, desk_asks}
 use Rattle.room_model.specs.Vehicles.{mobilise, mobilise_held}
 use Rattle.room_renewal.proofs.RowsLeft.{call_gone, incident_gone, report_gone}
-use Rattle.room_renewal.specs.Continuation.{IsOver, IsSettled, IsTakenLate, StaysBehind, asks_back, looks_back, names_behind, sends_again}
+use Rattle.room_renewal.specs.Continuation.{IsOver, IsSettled, IsTakenLate, StaysBehind, asks_back, looks_back}
+use Rattle.room_renewal.specs.Continuation.{names_behind, sends_again}
 use Rattle.room_renewal.specs.Successor.{Behind, without}
 use Rattle.room_types.specs.declared.answers.Answer.TheVariants as answer
 use Rattle.room_types.specs.declared.asks.Ask.TheVariants as ask
-use Rattle.room_types.specs.declared.refusals.Refusal.TheVariants as refusal
+use Rattle.room_types.specs.declared.refusal_statuses.Refusal.TheVariants as refusal
 
 either_true : (x y : Bool) → x || y ≡ true → (x ≡ true) ⊎ (y ≡ true)
 either_true true y e = inl e
@@ -64,14 +68,18 @@ filters_turned p q (x ∷ xs) = turned_at p q x (filter q xs) (filter p xs) (p x
 where_over : (since : ℕ) (o : Option Incident) (f : Incident → Verdict) → IsOver since o
     → ChangesNothing (where_active o f)
 where_over since None f h = absurd h
-where_over since (Some i) f h = by_refuse ChangesNothing (not (is_active i.state)) refusal.IncidentNotOpen (f i) refl (λ e. let idle = h.0 in let active : not (is_active i.state) ≡ true = ap not idle in cc)
+where_over since (Some i) f h =
+    by_refuse ChangesNothing (not (is_active i.state)) refusal.IncidentNotOpen (f i) refl
+    (λ e. let idle = h.0 in let active : not (is_active i.state) ≡ true = ap not idle in cc)
 
 merge_over : (since : ℕ) (x y : Option Incident) (attended : Bool) (calls : List Call)
     → IsOver since x ⊎ IsOver since y → ChangesNothing (merge_of x y attended calls)
 merge_over since None y attended calls h = refl
 merge_over since (Some i) None attended calls h = refl
 merge_over since (Some i) (Some j) attended calls h =
-    by_refuse ChangesNothing _ _ _ refl (λ other. by_refuse ChangesNothing _ _ _ refl (λ first. by_refuse ChangesNothing _ _ _ refl (λ second. absurd (none first second))))
+    by_refuse ChangesNothing _ _ _ refl (λ other.
+    by_refuse ChangesNothing _ _ _ refl
+    (λ first. by_refuse ChangesNothing _ _ _ refl (λ second. absurd (none first second))))
   where
     none : not (is_active i.state) ≡ false → not (is_active j.state) ≡ false → ⊥
     none first second = elim h [
@@ -98,13 +106,19 @@ module _ (since : ℕ) (b : Behind) (r : Room) (h : StaysBehind since b r) where
   unfolding mobilise change_needs merge close
   names_nothing d (ask.Incident n) at e = quiet_shows at r (Desk d) (ask.Incident n) refl
   names_nothing d (ask.Propose n) at e = quiet_shows at r (Desk d) (ask.Propose n) refl
-  names_nothing d (ask.Mobilise n c) at e = where_over since (incident_of d n r) (mobilise_held d (held d c r) (lent d c r) at (λ k. served d n k r)) (h.incidents d n e)
-  names_nothing d (ask.Needs n needs) at e = where_over since (incident_of d n r) (needs_changed needs (λ k. served d n k r)) (h.incidents d n e)
-  names_nothing d (ask.Merge n m) at e = merge_over since (incident_of d n r) (incident_of d m r) (is_attended d n r) (calls_of d n r) (elim (either_true (b.incident d n) (b.incident d m) e) [
-    | inl f ↦ inl (h.incidents d n f)
-    | inr f ↦ inr (h.incidents d m f)
-  ])
-  names_nothing d (ask.Close n) at e = where_over since (incident_of d n r) (close_active (is_attended d n r)) (h.incidents d n e)
+  names_nothing d (ask.Mobilise n c) at e =
+      where_over since (incident_of d n r) (mobilise_held d (held d c r) (lent d c r) at (λ k. served d n k r))
+      (h.incidents d n e)
+  names_nothing d (ask.Needs n needs) at e =
+      where_over since (incident_of d n r) (needs_changed needs (λ k. served d n k r)) (h.incidents d n e)
+  names_nothing d (ask.Merge n m) at e =
+      merge_over since (incident_of d n r) (incident_of d m r) (is_attended d n r) (calls_of d n r)
+      (elim (either_true (b.incident d n) (b.incident d m) e) [
+        | inl f ↦ inl (h.incidents d n f)
+        | inr f ↦ inr (h.incidents d m f)
+      ])
+  names_nothing d (ask.Close n) at e =
+      where_over since (incident_of d n r) (close_active (is_attended d n r)) (h.incidents d n e)
   names_nothing d a at e = cc
 
   pub asks_nothing : (who : Who) (a : Ask) (at : ℕ) → asks_back since b who a ≡ true
@@ -129,8 +143,10 @@ module _ (since : ℕ) (b : Behind) (r : Room) (h : StaysBehind since b r) where
 
   pub again_nothing : (who : Who) (a : Ask) (at : ℕ) → sends_again b who a ≡ true
       → changes_of (decided (record { who = who; ask = a; at = at }) r) ≡ []
-  again_nothing (Position p) (ask.Call f) at e = again_call p f at (kept_call p f.serial r) refl (sym (h.calls p f.serial) ∙ e)
-  again_nothing (Crew c) (ask.Report p) at e = again_report (vehicle_at c r) c p at (kept_report c p.number r) (h.reports c p.number e)
+  again_nothing (Position p) (ask.Call f) at e =
+      again_call p f at (kept_call p f.serial r) refl (sym (h.calls p f.serial) ∙ e)
+  again_nothing (Crew c) (ask.Report p) at e =
+      again_report (vehicle_at c r) c p at (kept_report c p.number r) (h.reports c p.number e)
   again_nothing who a at e = cc
 
   -- ---- in the new room what stayed behind is not there
@@ -142,13 +158,20 @@ module _ (since : ℕ) (b : Behind) (r : Room) (h : StaysBehind since b r) where
     pub names_none : (d : ℕ) (a : Ask) (at : ℕ) → names_behind b d a ≡ true
         → desk_asks d a at new ≡ Err refusal.NoSuchIncident
     unfolding mobilise change_needs merge close show_incident propose
-    names_none d (ask.Incident n) at e = ap (λ o. history_of o (all_served d n new) (calls_of d n new) (turns_of d n new)) (none_there d n e)
-    names_none d (ask.Propose n) at e = ap (λ o. where_active o (λ i. show (answer.Proposals (all_proposed d i at new)))) (none_there d n e)
-    names_none d (ask.Mobilise n c) at e = ap (λ o. where_active o (mobilise_held d (held d c new) (lent d c new) at (λ k. served d n k new))) (none_there d n e)
-    names_none d (ask.Needs n needs) at e = ap (λ o. where_active o (needs_changed needs (λ k. served d n k new))) (none_there d n e)
+    names_none d (ask.Incident n) at e =
+        ap (λ o. history_of o (all_served d n new) (calls_of d n new) (turns_of d n new)) (none_there d n e)
+    names_none d (ask.Propose n) at e =
+        ap (λ o. where_active o (λ i. show (answer.Proposals (all_proposed d i at new)))) (none_there d n e)
+    names_none d (ask.Mobilise n c) at e =
+        ap (λ o. where_active o (mobilise_held d (held d c new) (lent d c new) at (λ k. served d n k new)))
+        (none_there d n e)
+    names_none d (ask.Needs n needs) at e =
+        ap (λ o. where_active o (needs_changed needs (λ k. served d n k new))) (none_there d n e)
     names_none d (ask.Merge n m) at e = elim (either_true (b.incident d n) (b.incident d m) e) [
       | inl f ↦ ap (λ o. merge_of o (incident_of d m new) (is_attended d n new) (calls_of d n new)) (none_there d n f)
-      | inr f ↦ ap (λ o. merge_of (incident_of d n new) o (is_attended d n new) (calls_of d n new)) (none_there d m f) ∙ merge_none (incident_of d n new) (is_attended d n new) (calls_of d n new)
+      | inr f ↦
+          ap (λ o. merge_of (incident_of d n new) o (is_attended d n new) (calls_of d n new)) (none_there d m f)
+          ∙ merge_none (incident_of d n new) (is_attended d n new) (calls_of d n new)
     ]
     names_none d (ask.Close n) at e = ap (λ o. where_active o (close_active (is_attended d n new))) (none_there d n e)
     names_none d a at e = cc
@@ -178,12 +201,16 @@ module _ (since : ℕ) (b : Behind) (r : Room) (h : StaysBehind since b r) where
         is_below n m less = grind (arith, less)
 
     late_vehicle : (v : Vehicle) (p : Press) → p.number < v.last_report → with_report v p ≡ v
-    late_vehicle v p less = let same : max v.last_report p.number ≡ v.last_report = omega (arith, less) in ap (λ (n : ℕ). record v { last_report = n }) same
+    late_vehicle v p less =
+        let same : max v.last_report p.number ≡ v.last_report = omega (arith, less) in
+        ap (λ (n : ℕ). record v { last_report = n }) same
 
     held_itself : (c : Callsign) (v : Vehicle) → vehicle_at c new ≡ Some v
         → held v.holder c new ≡ Some v
     unfolding held vehicle_at
-    held_itself c v e = ap (keep (λ (x : Vehicle). x.holder == v.holder)) e ∙ ap (λ (x : Bool). cond x (Some v) None) (eq-eqb v.holder v.holder refl)
+    held_itself c v e =
+        ap (keep (λ (x : Vehicle). x.holder == v.holder)) e
+        ∙ ap (λ (x : Bool). cond x (Some v) None) (eq-eqb v.holder v.holder refl)
 
     late_decided : (c : Callsign) (p : Press) (at : ℕ) (v : Vehicle) → b.report c p.number ≡ true
         → vehicle_at c new ≡ Some v → p.number < v.last_report
@@ -203,8 +230,15 @@ module _ (since : ℕ) (b : Behind) (r : Room) (h : StaysBehind since b r) where
         ≡ record new { reports = put_row numbered_cmp report_key new.reports x }
     unfolding vehicle_at
     late_rows c v p x there less =
-        ap (λ (u : Vehicle). record new { reports = put_row numbered_cmp report_key new.reports x; vehicles = put_row callsign_cmp vehicle_key r.vehicles u }) (late_vehicle v p less)
-        ∙ ap (λ (vs : List Vehicle). record new { reports = put_row numbered_cmp report_key new.reports x; vehicles = vs }) (put_same callsign_cmp vehicle_key callsigns_total r.vehicles v order.vehicles (subst (λ (k : Callsign). row_at callsign_cmp vehicle_key r.vehicles k ≡ Some v) (row_key callsign_cmp vehicle_key callsigns_total exact_callsigns r.vehicles c v there) there))
+        ap (λ (u : Vehicle). record new {
+          reports = put_row numbered_cmp report_key new.reports x;
+          vehicles = put_row callsign_cmp vehicle_key r.vehicles u;
+        }) (late_vehicle v p less)
+        ∙ ap
+        (λ (vs : List Vehicle). record new { reports = put_row numbered_cmp report_key new.reports x; vehicles = vs })
+        (put_same callsign_cmp vehicle_key callsigns_total r.vehicles v order.vehicles
+        (subst (λ (k : Callsign). row_at callsign_cmp vehicle_key r.vehicles k ≡ Some v)
+        (row_key callsign_cmp vehicle_key callsigns_total exact_callsigns r.vehicles c v there) there))
 
     taken_late : (c : Callsign) (p : Press) (at : ℕ) (o : Option Vehicle) (x : Option Report)
         → vehicle_at c new ≡ o → b.report c p.number ≡ true → IsSettled o p.number x
@@ -223,7 +257,8 @@ module _ (since : ℕ) (b : Behind) (r : Room) (h : StaysBehind since b r) where
     pub report_again : (c : Callsign) (p : Press) (at : ℕ) → b.report c p.number ≡ true
         → IsTakenLate c p at new
     unfolding vehicle_at
-    report_again c p at e = taken_late c p at (vehicle_at c r) (kept_report c p.number r) refl e (h.reports c p.number e)
+    report_again c p at e =
+        taken_late c p at (vehicle_at c r) (kept_report c p.number r) refl e (h.reports c p.number e)
 
 -- ---- the times that are left
 pub times_left : (b : Behind) (r : Room) (d : ℕ) (from to : ℤ) (at : ℕ)
@@ -231,4 +266,6 @@ pub times_left : (b : Behind) (r : Room) (d : ℕ) (from to : ℤ) (at : ℕ)
     ≡ show (answer.Times (times_of from to (map times_line
     (filter (λ i. not (b.incident i.division i.number)) (incidents_opened d from to r)))))
 unfolding show_times incidents_opened
-times_left b r d from to at = ap (λ is. show (answer.Times (times_of from to (map times_line is)))) (filters_turned _ (λ i. not (b.incident i.division i.number)) r.incidents)
+times_left b r d from to at =
+    ap (λ is. show (answer.Times (times_of from to (map times_line is))))
+    (filters_turned _ (λ i. not (b.incident i.division i.number)) r.incidents)

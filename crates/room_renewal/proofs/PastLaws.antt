@@ -37,7 +37,8 @@ module _ (since : ℕ) (s : DivisionRows) (plan : List Area) where
       → row_at pair_cmp incident_key s.incidents (d, n) ≡ Some i
       → is_over since (room_of plan s) i ≡ incident_stays since (room_of plan s) d n
   unfolding incident_of
-  found_stays d n i e = sym (ap (λ o. is_some (keep (is_over since (room_of plan s)) o)) e ∙ kept_is (is_over since (room_of plan s)) i)
+  found_stays d n i e =
+      sym (ap (λ o. is_some (keep (is_over since (room_of plan s)) o)) e ∙ kept_is (is_over since (room_of plan s)) i)
 
   pub none_stays : (d n : ℕ) → row_at pair_cmp incident_key s.incidents (d, n) ≡ None
       → false ≡ incident_stays since (room_of plan s) d n

@@ -1,6 +1,7 @@
 -- The queue is the same without what stays behind.
 use Rattle.std.proofs.Common.{ap, eqb-true, sym, ◌∙◌}
-use Rattle.std.specs.Prelude.{Bool, None, Option, Some, cond, false, filter_map, nat_lt, not, refl, true, ℕ, ◌&&◌, ◌++◌, ◌==◌, ◌||◌, ◌≡◌}
+use Rattle.std.specs.Prelude.{Bool, None, Option, Some, cond, false, filter_map, nat_lt, not, refl, true, ℕ, ◌&&◌, ◌++◌}
+use Rattle.std.specs.Prelude.{◌==◌, ◌||◌, ◌≡◌}
 use Rattle.room_types.specs.Codes.{is_active, is_mobilised, is_normal}
 use Rattle.room_types.specs.declared.answers.Entry.{Entry}
 use Rattle.room_types.specs.declared.codes.Kind.{Kind}
@@ -11,10 +12,12 @@ use Rattle.room_types.specs.declared.tables.Vehicle.{Vehicle}
 use Rattle.room_model.proofs.Tests.{among_filter, and_same, filter_map_among}
 use Rattle.room_model.specs.Moments.{age}
 use Rattle.room_model.specs.Queries.{holders, open_turn}
-use Rattle.room_model.specs.Queue.{entries, exception, overdue, shift_over, slow, slow_incident, slow_turn, unanswered, uncovered, unread, unread_turn, unserved}
+use Rattle.room_model.specs.Queue.{entries, exception, overdue, shift_over, slow, slow_incident, slow_turn, unanswered}
+use Rattle.room_model.specs.Queue.{uncovered, unread, unread_turn, unserved}
 use Rattle.room_model.specs.Room.{Room}
 use Rattle.room_model.specs.WellFormed.{IsWellFormed}
-use Rattle.room_renewal.proofs.AskedAlike.{active_among, filter_map_passing, found_stays, incident_same, open_turn_same, report_settled, served_same}
+use Rattle.room_renewal.proofs.AskedAlike.{active_among, filter_map_passing, found_stays, incident_same, open_turn_same}
+use Rattle.room_renewal.proofs.AskedAlike.{report_settled, served_same}
 use Rattle.room_renewal.proofs.LeftBehind.{from_left, from_not, not_true}
 use Rattle.room_renewal.specs.Continuation.{StaysBehind}
 use Rattle.room_renewal.specs.Successor.{Behind, without}
@@ -41,17 +44,33 @@ module _ (since : ℕ) (b : Behind) (r : Room) (w : IsWellFormed r) (h : StaysBe
 
   unserved_by : (i : Incident) → b.incident i.division i.number ≡ false
       → unserved d at new i ≡ unserved d at r i
-  unserved_by i spared = ap (λ (x : Bool). cond x (Some (record { rank = 1; since = i.opened; number = i.number; callsign = None })) None) (and_same (i.division == d) _ _ (λ mine.
-      ap (λ (n : Kind → ℕ). is_active i.state && ((n Ambulance == 0 && (n Car == 0 && n Support == 0)) && nat_lt 180 (age at i.opened))) (λ j k. served_same since b r w h d i.number (ap (λ x. b.incident x i.number) (sym (eqb-true i.division d mine)) ∙ spared) k j)))
+  unserved_by i spared =
+      ap (λ (x : Bool). cond x (Some (record { rank = 1; since = i.opened; number = i.number; callsign = None })) None)
+      (and_same (i.division == d) _ _ (λ mine.
+      ap (λ (n : Kind → ℕ).
+      is_active i.state && ((n Ambulance == 0 && (n Car == 0 && n Support == 0)) && nat_lt 180 (age at i.opened)))
+      (λ j k.
+      served_same since b r w h d i.number (ap (λ x. b.incident x i.number) (sym (eqb-true i.division d mine)) ∙ spared)
+      k j)))
 
   unserved_same : filter_map (unserved d at new) new.incidents
       ≡ filter_map (unserved d at r) r.incidents
   unserved_same =
-      filter_map_among (unserved d at new) (unserved d at r) new.incidents (λ i m. unserved_by i (from_not _ (among_filter (λ i. not (b.incident i.division i.number)) r.incidents i m).1))
-      ∙ filter_map_passing (unserved d at r) (λ i. not (b.incident i.division i.number)) r.incidents (λ i m e. idle_none (i.division == d) (is_active i.state) _ _ (not_true (is_active i.state) (λ f. let spared = active_among since b r w h i m f in let stayed : not (b.incident i.division i.number) ≡ true = ap not spared in cc)))
+      filter_map_among (unserved d at new) (unserved d at r) new.incidents
+      (λ i m. unserved_by i (from_not _ (among_filter (λ i. not (b.incident i.division i.number)) r.incidents i m).1))
+      ∙ filter_map_passing (unserved d at r) (λ i. not (b.incident i.division i.number)) r.incidents
+      (λ i m e.
+      idle_none (i.division == d) (is_active i.state) _ _ (not_true (is_active i.state)
+      (λ f.
+      let spared = active_among since b r w h i m f in
+      let stayed : not (b.incident i.division i.number) ≡ true = ap not spared in cc)))
 
   unread_same : filter_map (unread d at new) r.vehicles ≡ filter_map (unread d at r) r.vehicles
-  unread_same = ap (λ (f : Vehicle → Option Entry). filter_map f r.vehicles) (λ j v. cond (v.holder == d && is_mobilised v.status) (unread_turn at v (open_turn_same since b r w h d v.callsign j)) None)
+  unread_same =
+      ap (λ (f : Vehicle → Option Entry). filter_map f r.vehicles)
+      (λ j v.
+      cond (v.holder == d && is_mobilised v.status) (unread_turn at v (open_turn_same since b r w h d v.callsign j))
+      None)
 
   slow_turn_same : (v : Vehicle) (o : Option Turn)
       → ((t : Turn) → o ≡ Some t → b.incident d t.incident ≡ false)
@@ -61,11 +80,17 @@ module _ (since : ℕ) (b : Behind) (r : Room) (w : IsWellFormed r) (h : StaysBe
 
   slow_by : (v : Vehicle) → slow d at new v ≡ slow d at r v
   slow_by v =
-      ap (λ o. cond (v.holder == d && is_mobilised v.status) (slow_turn d at new v o) None) (open_turn_same since b r w h d v.callsign)
-      ∙ ap (λ o. cond (v.holder == d && is_mobilised v.status) o None) (slow_turn_same v (open_turn d v.callsign r) (found_stays since b r w h d v.callsign))
+      ap (λ o. cond (v.holder == d && is_mobilised v.status) (slow_turn d at new v o) None)
+      (open_turn_same since b r w h d v.callsign)
+      ∙ ap (λ o. cond (v.holder == d && is_mobilised v.status) o None)
+      (slow_turn_same v (open_turn d v.callsign r) (found_stays since b r w h d v.callsign))
 
   exception_same : filter_map (exception d) new.reports ≡ filter_map (exception d) r.reports
-  exception_same = filter_map_passing (exception d) (λ x. not (b.report x.callsign x.number)) r.reports (λ x m e. settled_none (x.division == d) x.cleared (is_normal x.outcome) _ (report_settled since b r w h x m (from_left _ e)))
+  exception_same =
+      filter_map_passing (exception d) (λ x. not (b.report x.callsign x.number)) r.reports
+      (λ x m e.
+      settled_none (x.division == d) x.cleared (is_normal x.outcome) _
+      (report_settled since b r w h x m (from_left _ e)))
 
   uncovered_same : filter_map (uncovered d at new) r.points ≡ filter_map (uncovered d at r) r.points
   unfolding holders
@@ -74,7 +99,8 @@ module _ (since : ℕ) (b : Behind) (r : Room) (w : IsWellFormed r) (h : StaysBe
   pub entries_same : entries d at new ≡ entries d at r
   unfolding entries
   entries_same i =
-      unserved_same i ++ (unread_same i ++ (filter_map_among (slow d at new) (slow d at r) r.vehicles (λ v m. slow_by v) i
+      unserved_same i
+      ++ (unread_same i ++ (filter_map_among (slow d at new) (slow d at r) r.vehicles (λ v m. slow_by v) i
       ++ (exception_same i
       ++ (filter_map (overdue d at) r.loans
       ++ (filter_map (shift_over d at) r.vehicles

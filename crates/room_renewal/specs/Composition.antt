@@ -4,7 +4,9 @@ use Rattle.std.specs.Prelude.{List, None, [], map, ℕ, ◌++◌, ◌≡◌}
 use Rattle.room_types_keyed.specs.Keyed.{row_at}
 use Rattle.room_types.specs.Keys.{division_key}
 use Rattle.room_types.specs.declared.changes.Change.{Change}
-use Rattle.room_types.specs.declared.changes.Change.TheVariants.{PutAssignment, PutCall, PutDivision, PutIncident, PutLoan, PutOffer, PutPoint, PutReport, PutTurn, PutVehicle}
+use Rattle.room_types.specs.declared.changes.Change.TheVariants.{PutAssignment, PutCall, PutDivision, PutIncident}
+use Rattle.room_types.specs.declared.changes.Change.TheVariants.{PutLoan, PutOffer, PutPoint, PutReport, PutTurn}
+use Rattle.room_types.specs.declared.changes.Change.TheVariants.{PutVehicle}
 use Rattle.room_model.specs.Room.{Room}
 
 -- each row of the room is put, table after table

@@ -9,7 +9,7 @@ ghost use Rattle.room_types.specs.declared.asks.CallForm.{CallForm};
 ghost use Rattle.room_types.specs.declared.asks.Event.{Event};
 ghost use Rattle.room_types.specs.declared.asks.Press.{Press};
 ghost use Rattle.room_types.specs.declared.fleet.Terminal.{Terminal};
-ghost use Rattle.room_types.specs.declared.refusals.Refusal.TheVariants.{NoSuchIncident};
+ghost use Rattle.room_types.specs.declared.refusal_statuses.Refusal.TheVariants.{NoSuchIncident};
 ghost use Rattle.room_model.specs.Calls.{call_somewhere, new_call};
 ghost use Rattle.room_model.specs.DayTimes.{times_line, times_of};
 ghost use Rattle.room_model.specs.Decisions.{show};
@@ -54,7 +54,7 @@ pub fn a_successor_goes_on_alike()
         IsSuccessor since b (room_after e old) (room_after e new) }
 {}
 
-/// So do both rooms by any list of events in which nothing that stayed behind is sent again.
+/// Both rooms go on alike by any list of events in which nothing that stayed behind is sent again.
 pub fn rooms_go_on_alike()
     ensures renewed { (since : ℕ) (r : Room) (es : List Event) →
         IsWellFormed r → AreAddressed es r → NoneRepeatsThePast (left_behind since r) es →
@@ -89,8 +89,8 @@ pub fn the_past_is_not_found()
         room_after e new ≡ new }
 {}
 
-/// What stayed behind and is sent again changes nothing in the old room. In the new room such a call
-/// is decided as one that was never sent, and such a report is late, so it acts on nothing.
+/// What stayed behind and is sent again changes nothing in the old room. In the new room such a
+/// call is decided as one that was never sent, and such a report is late, so it acts on nothing.
 pub fn the_past_may_be_sent_again()
     ensures old { (since : ℕ) (b : Behind) (old new : Room) (e : Event) →
         IsSuccessor since b old new →
@@ -108,8 +108,8 @@ pub fn the_past_may_be_sent_again()
         IsTakenLate c p at new }
 {}
 
-/// A room is what its rows make of a room that has its plan and no rows but of its divisions, when
-/// they are put one after another.
+/// A room is what its rows make, put one after another, of a room with only its plan and the rows
+/// of its divisions.
 pub fn a_room_is_made_of_its_rows()
     ensures { (s r : Room) → IsInOrder s → IsInOrder r → IsBare s r → apply s (puts r) ≡ r }
 {}

@@ -6,8 +6,8 @@
 #![tactic(auto)]
 
 pub mod called_incidents;
-// The new room is a room, and goes on as the old one would.
 pub mod laws;
-pub mod past;
-mod puts;
+pub mod past_rows;
+mod put_changes;
 pub mod successor;
+// The new room is a room, and goes on as the old one would.

@@ -7,8 +7,8 @@ ghost use Rattle.room_renewal.specs.Composition.{puts};
 ghost use Rattle.room_renewal.specs.Successor.{renewed};
 ghost use Rattle.room_renewal.specs.Leftovers.{puts_left};
 
-use crate::past::Past;
-use crate::puts::{put_all, put_left};
+use crate::past_rows::Past;
+use crate::put_changes::{put_all, put_left};
 use room_types::changes::Change;
 use room_types::numbers::Moment;
 use room_types::slices::DivisionRows;

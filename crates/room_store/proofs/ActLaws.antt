@@ -24,13 +24,16 @@ use Rattle.sqlite_trees.specs.Tree.{Trees}
 module _ (old mid new : State) (layout : Layout) (known : Cache) (event : Event)
     (changes : List Change)
     (same : HasCleanDisk mid → IsUnchanged old mid)
-    (is : HasCleanDisk mid → (config : Configuration) (room : Room) → IsFor old.now.trees layout known event config room → changes ≡ changes_of (decided event room)) where
+    (is : HasCleanDisk mid → (config : Configuration) (room : Room) → IsFor old.now.trees layout known event config room
+    → changes ≡ changes_of (decided event room)) where
   -- what was written is the room after the event
   made : HasCleanDisk mid → (config : Configuration) (room : Room)
       → IsFor old.now.trees layout known event config room
       → ((r : Room) → Stands mid.now.trees config r → Stands new.now.trees config (apply r changes))
       → Stands new.now.trees config (room_after event room)
-  made clean config room h wrote = subst (λ cs. Stands new.now.trees config (apply room cs)) (is clean config room h) (wrote room (kept old mid (same clean) config room h.stands))
+  made clean config room h wrote =
+      subst (λ cs. Stands new.now.trees config (apply room cs)) (is clean config room h)
+      (wrote room (kept old mid (same clean) config room h.stands))
 
   pub acted : HasCleanDisk mid → Commits mid new (Stands mid.now.trees)
       (λ room. apply room changes) → Commits old new (IsFor old.now.trees layout known event)
@@ -47,24 +50,33 @@ module _ (old mid new : State) (layout : Layout) (known : Cache) (event : Event)
       → Stands db config (apply room changes))
       → Survives old new (λ db. (config : Configuration) (room : Room)
       → IsFor old.now.trees layout known event config room → Stands db config (room_after event room))
-  acted_survives read wrote = survives_then old mid new _ _ (λ db. (config : Configuration) (room : Room) → IsFor old.now.trees layout known event config room → Stands db config (room_after event room))
+  acted_survives read wrote =
+      survives_then old mid new _ _ (λ db.
+      (config : Configuration) (room : Room) → IsFor old.now.trees layout known event config room
+      → Stands db config (room_after event room))
       (λ _ db none. absurd none)
       (λ clean db left config room h.
       let early : HasCleanDisk mid = omega (arith, wrote.clean) in
-      subst (λ cs. Stands db config (apply room cs)) (is early config room h) (left config room (kept old mid (same early) config room h.stands)))
+      subst (λ cs. Stands db config (apply room cs)) (is early config room h)
+      (left config room (kept old mid (same early) config room h.stands)))
       read wrote
 
 -- before the reads and after them: what the changes lead to, the event leads to
 module _ (old mid : State) (layout : Layout) (known : Cache) (event : Event)
     (changes : List Change) (head : Head)
     (same : HasCleanDisk mid → IsUnchanged old mid)
-    (is : HasCleanDisk mid → (config : Configuration) (room : Room) → IsFor old.now.trees layout known event config room → changes ≡ changes_of (decided event room)) where
+    (is : HasCleanDisk mid → (config : Configuration) (room : Room) → IsFor old.now.trees layout known event config room
+    → changes ≡ changes_of (decided event room)) where
   pub reached : {db : Trees} → HasCleanDisk mid → (config : Configuration) (room : Room)
       → IsFor old.now.trees layout known event config room → Reaches changes head mid.now.trees db
       → IsHeadAfter event config.zone config.terminals room head
-  reached clean config room h reaches = subst (λ cs. IsHeadOf (digits_of digest_of config.zone) head config.terminals (apply room cs)) (is clean config room h) (reaches config room (kept old mid (same clean) config room h.stands)).1
+  reached clean config room h reaches =
+      subst (λ cs. IsHeadOf (digits_of digest_of config.zone) head config.terminals (apply room cs))
+      (is clean config room h) (reaches config room (kept old mid (same clean) config room h.stands)).1
 
   pub missed : HasCleanDisk mid → (config : Configuration) (room : Room)
       → IsFor old.now.trees layout known event config room → Misses changes head mid.now.trees
       → ¬ (IsHeadAfter event config.zone config.terminals room head)
-  missed clean config room h misses = subst (λ cs. ¬ (IsHeadOf (digits_of digest_of config.zone) head config.terminals (apply room cs))) (is clean config room h) (misses config room (kept old mid (same clean) config room h.stands))
+  missed clean config room h misses =
+      subst (λ cs. ¬ (IsHeadOf (digits_of digest_of config.zone) head config.terminals (apply room cs)))
+      (is clean config room h) (misses config room (kept old mid (same clean) config room h.stands))

@@ -5,20 +5,18 @@ use Rattle.room_place.specs.declared.plans.Area.{Area}
 use Rattle.room_types_keyed.specs.Keyed.{row_at}
 use Rattle.room_types.specs.Keys.{call_key, pair_cmp}
 use Rattle.room_types.specs.declared.answers.Answer.TheVariants.{Called}
-use Rattle.room_types.specs.declared.asks.Ask.{Ask}
 use Rattle.room_types.specs.declared.asks.Ask.TheVariants.{Call}
 use Rattle.room_types.specs.declared.asks.CallForm.{CallForm}
 use Rattle.room_types.specs.declared.asks.Event.{Event}
 use Rattle.room_types.specs.declared.asks.NewCall.{NewCall}
 use Rattle.room_types.specs.declared.asks.Who.TheVariants.{Position}
-use Rattle.room_types.specs.declared.refusals.Refusal.TheVariants.{OutsideArea, SerialReused}
+use Rattle.room_types.specs.declared.refusal_statuses.Refusal.TheVariants.{OutsideArea, SerialReused}
 use Rattle.room_types.specs.declared.tables.Call.{Call as Call'}
 use Rattle.room_model.specs.Calls.{new_call, same_call}
 use Rattle.room_model.specs.Decisions.{Verdict, refuse_if, show}
 use Rattle.room_model.specs.Queries.{kept_call}
 use Rattle.room_model.specs.Room.{Room}
 use Rattle.room_model.specs.Step.{decided}
-use Rattle.room_store.specs.ActedEvents.{IsIn}
 
 pub kept_is : (position serial : ℕ) (room : Room)
     → row_at pair_cmp call_key room.calls (position, serial) ≡ kept_call position serial room
@@ -48,16 +46,9 @@ module _ (event : Event) (position : ℕ) (form : CallForm) (areas : List Area) 
     pub nowhere : found ≡ None → division ≡ None → Err OutsideArea ≡ decided event room
     nowhere none outside = rw (who, ask, kept_at None none, place_is None outside) refl
 
-    -- and else it is for the division that it is placed in
-    pub is_in : (d : ℕ) → found ≡ None → division ≡ Some d → IsIn event.who event.ask d room
-    is_in d none there = rw who (form, ask, kept_at None none, place_is (Some d) there)
+    -- and else it is the division's that it is placed in
+    pub is_new : found ≡ None → kept_call position form.serial room ≡ None
+    is_new none = kept_at None none
 
--- The form of a call that is for a division is its own.
-pub placed_in : (ask : Ask) (position division : ℕ) (form : CallForm) (room : Room)
-    → ask ≡ Call form → IsIn (Position position) ask division room
-    → (kept_call position form.serial room ≡ None)
-    × (division_of room.plan form.place ≡ Some division)
-placed_in ask position division form room is there =
-    let both : Call form ≡ Call there.0 = sym is ∙ there.1 in
-    let same : form ≡ there.0 = cc in
-    rw same (there.2, there.3)
+    pub placed_in : (d : ℕ) → division ≡ Some d → division_of room.plan form.place ≡ Some d
+    placed_in d there = place_is (Some d) there

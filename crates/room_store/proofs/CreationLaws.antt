@@ -1,5 +1,6 @@
 -- A new room is well formed, and the terminals that it may have fit it.
-use Rattle.std.proofs.Common.{Bool, List, Some, [], ap, arith, cond, false, is_some, map, refl, subst, sym, true, zero, suc, ℕ, ◌&&◌, ◌+◌, ◌∙◌, ◌∷◌, ◌≡◌, ◌≤◌, ◌||◌}
+use Rattle.std.proofs.Common.{Bool, List, Some, [], ap, arith, cond, false, is_some, map, refl, subst, sym, true, zero}
+use Rattle.std.proofs.Common.{suc, ℕ, ◌&&◌, ◌+◌, ◌∙◌, ◌∷◌, ◌≡◌, ◌≤◌, ◌||◌}
 use Rattle.std.proofs.lemmas.Bool.{eqb-true}
 use Rattle.std.proofs.lemmas.Bool.Decides.{nat_tests}
 use Rattle.std.proofs.lemmas.Cmp.{nat_cmp_total, nat_list_cmp_total}
@@ -37,7 +38,8 @@ divisions_keyed : (passes : ℕ → Bool) (a k : ℕ)
     → IsKeyed nat_cmp division_key (divisions_to passes a k)
 divisions_keyed passes a zero = tt
 divisions_keyed passes a (suc k) =
-    subst (IsKeyed nat_cmp division_key) (divisions_more passes a k (a + k) refl) (keyed_if (passes (a + k)) (divisions_to passes a k) (new_division (a + k)) (divisions_keyed passes a k))
+    subst (IsKeyed nat_cmp division_key) (divisions_more passes a k (a + k) refl)
+    (keyed_if (passes (a + k)) (divisions_to passes a k) (new_division (a + k)) (divisions_keyed passes a k))
 
 one_division : (n d : ℕ) (rest : List ℕ) (passes here same among : Bool)
     → is_eq (nat_cmp d n) ≡ same → (same ≡ true → passes ≡ here)
@@ -46,7 +48,8 @@ one_division : (n d : ℕ) (rest : List ℕ) (passes here same among : Bool)
     ≡ here && (same || among)
 one_division n d rest true here true among is alike found = rw is (ap (λ b. b && true) (alike refl))
 one_division n d rest true here false among is alike found = rw is found
-one_division n d rest false here true among is alike found = found ∙ ap (λ b. b && among) (sym (alike refl)) ∙ ap (λ b. b && true) (alike refl)
+one_division n d rest false here true among is alike found =
+    found ∙ ap (λ b. b && among) (sym (alike refl)) ∙ ap (λ b. b && true) (alike refl)
 one_division n d rest false here false among is alike found = found
 
 none_here : (here : Bool) → false ≡ here && false
@@ -58,7 +61,9 @@ division_found : (passes : ℕ → Bool) (d : ℕ) (ns : List ℕ)
     → is_some (row_at nat_cmp division_key (map new_division (filter passes ns)) d) ≡ passes d
     && list_any (λ n. n == d) ns
 division_found passes d [] = none_here (passes d)
-division_found passes d (n ∷ ns) = one_division n d (filter passes ns) (passes n) (passes d) (n == d) (list_any (λ n. n == d) ns) (turned_number d n) (λ same. ap passes (eqb-true n d same)) (division_found passes d ns)
+division_found passes d (n ∷ ns) =
+    one_division n d (filter passes ns) (passes n) (passes d) (n == d) (list_any (λ n. n == d) ns) (turned_number d n)
+    (λ same. ap passes (eqb-true n d same)) (division_found passes d ns)
 
 one_to_nine : (d : ℕ) → 1 ≤ d → d ≤ 9 → list_any (λ n. n == d) division_numbers ≡ true
 one_to_nine d low high = grind (arith, nat_tests)
@@ -69,13 +74,15 @@ numbered_so : (plan : Layout) (d : ℕ) (has : Bool) → has_division plan.areas
 numbered_so plan d false is = refl
 numbered_so plan d true is =
     let any = Any-from_list_any (λ (area : Area). area.division == d) plan.areas is in
-    let within = numbered plan.areas plan.zone (λ area. Unit {0}) d plan.sound (any.0, any.1, any.2, any.3, (eqb-true _ _ any.4, tt)) in
+    let within = numbered plan.areas plan.zone (λ area. Unit {0}) d plan.sound
+    (any.0, any.1, any.2, any.3, (eqb-true _ _ any.4, tt)) in
     one_to_nine d within.0 within.1
 
 divisions_in_plan : (plan : Layout) (d : ℕ)
     → is_some (row_at nat_cmp division_key (new_divisions plan.areas) d) ≡ has_division plan.areas d
 unfolding new_divisions
-divisions_in_plan plan d = division_found (has_division plan.areas) d division_numbers ∙ numbered_so plan d (has_division plan.areas d) refl
+divisions_in_plan plan d =
+    division_found (has_division plan.areas) d division_numbers ∙ numbered_so plan d (has_division plan.areas d) refl
 
 new_keyed : (plan : Layout) → IsKeyed nat_cmp division_key (new_divisions plan.areas)
 unfolding new_divisions
@@ -121,21 +128,26 @@ module _ (may : Terminal → Bool) where
   one_put : (xs : List Terminal) (x : Terminal) → list_all may xs ≡ true → may x ≡ true
       → list_all may (put_row token_cmp terminal_key xs x) ≡ true
   one_put [] x all one = both_true (may x) true one refl
-  one_put (y ∷ xs) x all one = (elim (token_cmp x.token y.token) as (λ (o : Ordering). list_all may (match_ordering o (x ∷ y ∷ xs) (x ∷ xs) (y ∷ put_row token_cmp terminal_key xs x)) ≡ true) [
-    | Less ↦ both_true (may x) _ one all
-    | Equal ↦ both_true (may x) _ one (right_true (may y) _ all)
-    | Greater ↦ both_true (may y) _ (left_true (may y) _ all) (one_put xs x (right_true (may y) _ all) one)
-  ])
+  one_put (y ∷ xs) x all one =
+      (elim (token_cmp x.token y.token) as (λ (o : Ordering).
+      list_all may (match_ordering o (x ∷ y ∷ xs) (x ∷ xs) (y ∷ put_row token_cmp terminal_key xs x)) ≡ true) [
+        | Less ↦ both_true (may x) _ one all
+        | Equal ↦ both_true (may x) _ one (right_true (may y) _ all)
+        | Greater ↦ both_true (may y) _ (left_true (may y) _ all) (one_put xs x (right_true (may y) _ all) one)
+      ])
 
   all_put : (xs ts : List Terminal) → list_all may xs ≡ true → list_all may ts ≡ true
       → list_all may (put_all xs ts) ≡ true
   all_put xs [] all rest = all
-  all_put xs (t ∷ ts) all rest = all_put (put_row token_cmp terminal_key xs t) ts (one_put xs t all (left_true (may t) _ rest)) (right_true (may t) _ rest)
+  all_put xs (t ∷ ts) all rest =
+      all_put (put_row token_cmp terminal_key xs t) ts (one_put xs t all (left_true (may t) _ rest))
+      (right_true (may t) _ rest)
 
 put_keyed : (xs ts : List Terminal) → IsKeyed token_cmp terminal_key xs
     → IsKeyed token_cmp terminal_key (put_all xs ts)
 put_keyed xs [] h = h
-put_keyed xs (t ∷ ts) h = put_keyed (put_row token_cmp terminal_key xs t) ts (keyed_put token_cmp terminal_key nat_list_cmp_total xs t h)
+put_keyed xs (t ∷ ts) h =
+    put_keyed (put_row token_cmp terminal_key xs t) ts (keyed_put token_cmp terminal_key nat_list_cmp_total xs t h)
 
 -- the terminal at each token is of a user that the room may have
 user_at : (plan : Layout) (ts : List Terminal) → AreNewTerminals plan ts
@@ -144,7 +156,8 @@ user_at : (plan : Layout) (ts : List Terminal) → AreNewTerminals plan ts
 user_at plan ts new k t there =
     let may = λ (t : Terminal). may_use plan.areas t.who in
     subst (λ o. IfSome o (λ t. may t ≡ true)) there
-    (at_each_key token_cmp terminal_key nat_list_cmp_total exact_bytes may (λ k t. may t ≡ true) (λ t. (λ h. h, λ h. h)) (in_order ts) (all_put may [] ts refl new.users) k)
+    (at_each_key token_cmp terminal_key nat_list_cmp_total exact_bytes may (λ k t. may t ≡ true) (λ t. (λ h. h, λ h. h))
+    (in_order ts) (all_put may [] ts refl new.users) k)
 
 pub new_terminals_fit : (plan : Layout) (ts : List Terminal) → AreNewTerminals plan ts
     → AreTerminals (new_room plan) (in_order ts)

@@ -1,6 +1,7 @@
 -- Fleet rows enrolled: one whose fate was found by reads and then written, one in a store, and one
 -- more after others.
-use Rattle.std.proofs.Common.{IsTrue, List, ap, arith, inl, inr, refl, subst, sym, take, ℕ, [], ◌++◌, ◌+◌, ◌∙◌, ◌∷◌, ◌≡◌}
+use Rattle.std.proofs.Common.{IsTrue, List, ap, arith, inl, inr, refl, subst, sym, take, ℕ, [], ◌++◌, ◌+◌, ◌∙◌, ◌∷◌}
+use Rattle.std.proofs.Common.{◌≡◌}
 use Rattle.std.specs.Prelude.{◌⊎◌}
 use Rattle.std.proofs.lemmas.List.{append_assoc}
 use Rattle.sqlite.specs.Held.{state}
@@ -21,7 +22,8 @@ use Rattle.room_tables.proofs.RoomReads.{kept}
 use Rattle.room_store_writes.specs.EnrolledRows.{Enrols, StandsAfter}
 use Rattle.room_store_cache.specs.Cache.{KnowsNothing}
 use Rattle.room_model.specs.Fleets.{enrolled, fates_of}
-use Rattle.room_store.specs.FleetEnrolment.{MayBeEnrolled, StandsAfterRows, StandsInPlan, fate_in, room_after_rows, terminals_after_rows}
+use Rattle.room_store.specs.FleetEnrolment.{MayBeEnrolled, StandsAfterRows, StandsInPlan, fate_in, room_after_rows}
+use Rattle.room_store.specs.FleetEnrolment.{terminals_after_rows}
 use Rattle.room_store.specs.StoredRoom.{IsKept, IsRoom}
 use Rattle.room_store.proofs.KnownLaws.{knows_nothing, still_known}
 use Rattle.room_store.proofs.StoreLaws.{kept_stands}
@@ -31,13 +33,16 @@ use Rattle.room_store.specs.declared.store.Store.{Store}
 -- before the reads, after them, after the write
 module _ (old mid new : State) (layout : Layout) (row : FleetRow) (fate : RowFate)
     (same : HasCleanDisk mid → IsUnchanged old mid)
-    (is : HasCleanDisk mid → (config : Configuration) (room : Room) → StandsInPlan old.now.trees layout config room → fate ≡ fate_in row config room) where
+    (is : HasCleanDisk mid → (config : Configuration) (room : Room) → StandsInPlan old.now.trees layout config room
+    → fate ≡ fate_in row config room) where
   -- what was written is what the row's fate says
   made : HasCleanDisk mid → (config : Configuration) (room : Room) (trees : Trees)
       → StandsInPlan old.now.trees layout config room
       → (Stands mid.now.trees config room → StandsAfter fate row config room trees)
       → StandsAfter (fate_in row config room) row config room trees
-  made clean config room trees h wrote = subst (λ f. StandsAfter f row config room trees) (is clean config room h) (wrote (kept old mid (same clean) config room h.stands))
+  made clean config room trees h wrote =
+      subst (λ f. StandsAfter f row config room trees) (is clean config room h)
+      (wrote (kept old mid (same clean) config room h.stands))
 
   pub row_enrolled : HasCleanDisk mid → Enrols mid new row (Stands mid.now.trees) (λ _ _. fate)
       → Enrols old new row (StandsInPlan old.now.trees layout) (fate_in row)
@@ -54,7 +59,10 @@ module _ (old mid new : State) (layout : Layout) (row : FleetRow) (fate : RowFat
       → Survives old new (λ db. (config : Configuration) (room : Room)
       → StandsInPlan old.now.trees layout config room
       → StandsAfter (fate_in row config room) row config room db)
-  row_survives read wrote = survives_then old mid new _ _ (λ db. (config : Configuration) (room : Room) → StandsInPlan old.now.trees layout config room → StandsAfter (fate_in row config room) row config room db)
+  row_survives read wrote =
+      survives_then old mid new _ _ (λ db.
+      (config : Configuration) (room : Room) → StandsInPlan old.now.trees layout config room
+      → StandsAfter (fate_in row config room) row config room db)
       (λ _ db none. absurd none)
       (λ clean db left config room h.
       let early : HasCleanDisk mid = omega (arith, wrote.clean) in
@@ -98,7 +106,8 @@ pub store_survives : {S : Type 0} (g : Ghosts S) (old : Store S) (new : State) (
     → Stands db (config_of old.plan (terminals_enrolled room terminals row))
     (room_enrolled room terminals row))
 store_survives g old new row =
-    survives_weaker (state g old.conn) new _ _ (λ _ db left is_open terminals room is. left (config_of old.plan terminals) room (in_plan g old old row terminals room is is_open))
+    survives_weaker (state g old.conn) new _ _ (λ _ db left is_open terminals room is.
+    left (config_of old.plan terminals) room (in_plan g old old row terminals room is is_open))
 
 -- the room and its terminals after a row
 abbrev pub after_row : FleetRow → Room × List Terminal → Room × List Terminal
@@ -113,7 +122,8 @@ fates_then : (rows : List FleetRow) (row : FleetRow) (r : Room) (ts : List Termi
     → fates_of (rows ++ row ∷ []) r ts ≡ fates_of rows r ts
     ++ fate_of (room_after_rows rows r ts) (terminals_after_rows rows r ts) row ∷ []
 fates_then [] row r ts = refl
-fates_then (x ∷ rows) row r ts = ap (λ l. fate_of r ts x ∷ l) (fates_then rows row (room_enrolled r ts x) (terminals_enrolled r ts x))
+fates_then (x ∷ rows) row r ts =
+    ap (λ l. fate_of r ts x ∷ l) (fates_then rows row (room_enrolled r ts x) (terminals_enrolled r ts x))
 
 -- the first rows, and the one after them
 module _ (rows : List FleetRow) (i : ℕ) (row : FleetRow)
@@ -129,7 +139,8 @@ module _ (rows : List FleetRow) (i : ℕ) (row : FleetRow)
       → new ≡ was ++ fates_of (take (i + 1) rows) r ts
   told_more r ts was mid new before pushed =
       let one = fate_of (room_after_rows (take i rows) r ts) (terminals_after_rows (take i rows) r ts) row ∷ [] in
-      pushed ∙ ap (λ l. l ++ one) before ∙ append_assoc was (fates_of (take i rows) r ts) one ∙ ap (λ l. was ++ l) (sym (ap (λ l. fates_of l r ts) more ∙ fates_then (take i rows) row r ts))
+      pushed ∙ ap (λ l. l ++ one) before ∙ append_assoc was (fates_of (take i rows) r ts) one
+      ∙ ap (λ l. was ++ l) (sym (ap (λ l. fates_of l r ts) more ∙ fates_then (take i rows) row r ts))
 
   -- A stop in the row after the first ones leaves what is there after some of the first rows, or
   -- after this one too.
@@ -145,11 +156,17 @@ module _ (rows : List FleetRow) (i : ℕ) (row : FleetRow)
       → IsRoom g mid ts r → Stands db (config_of mid.plan (terminals_enrolled r ts row))
       (room_enrolled r ts row))
       → Survives (state g first.conn) (state g new.conn) (MayBeEnrolled g first rows)
-  rows_survive g first mid new same still done before last = survives_then (state g first.conn) (state g mid.conn) (state g new.conn) _ _ (MayBeEnrolled g first rows) (λ _ db left. left)
+  rows_survive g first mid new same still done before last =
+      survives_then (state g first.conn) (state g mid.conn) (state g new.conn) _ _ (MayBeEnrolled g first rows)
+      (λ _ db left. left)
       (λ clean db left is_open ts r is.
       let early : HasCleanDisk (state g mid.conn) = omega (arith, last.clean) in
-      let there = left (still early is_open) (terminals_after_rows (take i rows) r ts) (room_after_rows (take i rows) r ts) (done early ts r is) in
-      (i + 1, subst (λ (p : Room × List Terminal). Stands db (config_of first.plan p.1) p.0) (sym (enrolled_more r ts)) (rw same at there)))
+      let there = left (still early is_open) (terminals_after_rows (take i rows) r ts)
+      (room_after_rows (take i rows) r ts) (done early ts r is) in (
+        i + 1,
+        subst (λ (p : Room × List Terminal). Stands db (config_of first.plan p.1) p.0) (sym (enrolled_more r ts))
+            (rw same at there),
+      ))
       before last
 
   -- What a stop leaves in that row, where what the first ones made was kept.
@@ -164,8 +181,11 @@ module _ (rows : List FleetRow) (i : ℕ) (row : FleetRow)
       → (db : Trees) → (state g new.conn).may_leave db
       → StandsAfterRows db first.plan rows ts r i ⊎ StandsAfterRows db first.plan rows ts r (i + 1)
   rows_left g first mid new ts r same kept is clean last db left = elim (last.crash clean db left) [
-    | inl before ↦ inl (rw same at (kept_stands g mid (terminals_after_rows (take i rows) r ts) (room_after_rows (take i rows) r ts) kept is db before))
+    | inl before ↦
+        inl (rw same at (kept_stands g mid (terminals_after_rows (take i rows) r ts)
+        (room_after_rows (take i rows) r ts) kept is db before))
     | inr after ↦
         inr (subst (λ (p : Room × List Terminal). Stands db (config_of first.plan p.1) p.0) (sym (enrolled_more r ts))
-        (rw same at (after kept.is_open (terminals_after_rows (take i rows) r ts) (room_after_rows (take i rows) r ts) is)))
+        (rw same at
+        (after kept.is_open (terminals_after_rows (take i rows) r ts) (room_after_rows (take i rows) r ts) is)))
   ]

@@ -11,7 +11,8 @@ use Rattle.room_types.specs.declared.fleet.RowFate.TheVariants.{Added, Refused, 
 use Rattle.room_types.specs.declared.fleet.Terminal.{Terminal}
 use Rattle.room_model.proofs.EnrolLaws.{exact_tokens, is_added, tokens_total}
 use Rattle.room_model.proofs.KeptCalls.{row_stays}
-use Rattle.room_model.specs.Enrol.{fate_of, new_terminal, terminal_at, terminal_key, terminals_by, terminals_enrolled, token_cmp}
+use Rattle.room_model.specs.Enrol.{fate_of, new_terminal, terminal_at, terminal_key, terminals_by, terminals_enrolled}
+use Rattle.room_model.specs.Enrol.{token_cmp}
 use Rattle.room_model.specs.Room.{Room}
 use Rattle.room_store_cache.specs.Cache.{IsCacheOf, KnowsNothing}
 use Rattle.room_store_cache.specs.Backlogs.{IsBacklogOf}
@@ -42,17 +43,24 @@ knows_none terminals known none = none_kept (IsOneOf terminals) known none
 pub looked_up : (terminals : List Terminal) (token : Token) (t : Terminal)
     → Some t ≡ terminal_at token terminals → IsOneOf terminals t
 looked_up terminals token t is =
-    let key : t.token ≡ token = subst (λ o. IfSome o (λ u. u.token ≡ token)) (sym is) (row_key token_cmp terminal_key tokens_total exact_tokens terminals token) in
+    let key : t.token
+    ≡ token =
+    subst (λ o. IfSome o (λ u. u.token ≡ token)) (sym is)
+    (row_key token_cmp terminal_key tokens_total exact_tokens terminals token) in
     subst (λ k. terminal_at k terminals ≡ Some t) (sym key) (sym is)
 
 module _ (room : Room) (terminals : List Terminal) (row : FleetRow) where
   -- a terminal stays one of them when a row is enrolled, since the row's token was free
   stays : (fate : RowFate) → fate_of room terminals row ≡ fate → (t : Terminal)
       → IsOneOf terminals t → IsOneOf (terminals_by fate row terminals) t
-  stays Added is t one = row_stays token_cmp terminal_key tokens_total exact_tokens terminals (new_terminal row) t (is_added room terminals row is).new_token t.token one
+  stays Added is t one =
+      row_stays token_cmp terminal_key tokens_total exact_tokens terminals (new_terminal row) t
+      (is_added room terminals row is).new_token t.token one
   stays Same is t one = one
   stays (Refused why) is t one = one
 
   pub still_known : (known : List Terminal) → AreTerminalsOf known terminals
       → AreTerminalsOf known (terminals_enrolled room terminals row)
-  still_known known = All-weaker (IsOneOf terminals) (IsOneOf (terminals_enrolled room terminals row)) (stays (fate_of room terminals row) refl) known
+  still_known known =
+      All-weaker (IsOneOf terminals) (IsOneOf (terminals_enrolled room terminals row))
+      (stays (fate_of room terminals row) refl) known

@@ -8,7 +8,7 @@ use Rattle.sqlite.proofs.StateLemmas.{survives_then, survives_weaker}
 use Rattle.sqlite_trees.specs.Tree.{Trees}
 use Rattle.sqlite_trees.specs.declared.store.Store.{Ghosts}
 use Rattle.room_tables_schema.specs.FileConnections.{HasRoomSchema}
-use Rattle.room_tables_laws.specs.Outcomes.{Keeps}
+use Rattle.room_tables_schema.specs.Outcomes.{Keeps}
 use Rattle.room_store_writes.specs.Transactions.{IsSettled, Leaves}
 use Rattle.room_store.specs.StoredRoom.{ShowsRoom}
 
@@ -30,7 +30,8 @@ pub survives_more : (old new : State) (P : Trees → Type 0) → Survives old ne
 survives_more old new P none = survives_weaker old new (λ _. ⊥) P (λ _ db never. absurd never) none
 
 pub left_unchanged : (old new : State) → IsUnchanged old new → Leaves old new
-left_unchanged old new is = record { was_open = λ _. is.0.was_open; now_is = λ _. is.0.now_is; committed_is = λ _. is.0.committed_is }
+left_unchanged old new is =
+    record { was_open = λ _. is.0.was_open; now_is = λ _. is.0.now_is; committed_is = λ _. is.0.committed_is }
 
 -- what a second call leaves that the first one left
 pub left_then : (old mid new : State) → Leaves old mid → Leaves mid new → Leaves old new
@@ -46,7 +47,8 @@ left_later old mid new is left = left_then old mid new (left_unchanged old mid i
 -- after which a read leaves no more to a stop
 pub survives_read : (old mid new : State) (P : Trees → Type 0) → Survives old mid P
     → Survives mid new (λ _. ⊥) → Survives old new P
-survives_read old mid new P one two = survives_then old mid new P (λ _. ⊥) P (λ _ db left. left) (λ _ db never. absurd never) one two
+survives_read old mid new P one two =
+    survives_then old mid new P (λ _. ⊥) P (λ _ db left. left) (λ _ db never. absurd never) one two
 
 -- a read that failed may have undone a transaction, and there was none
 pub left_failed : (old new : State) → IsAsCommitted old → Keeps old new → Leaves old new

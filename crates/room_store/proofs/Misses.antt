@@ -32,4 +32,6 @@ pub reaches_weaker : (changes : List Change) (head : Head) (old new : State) (fr
     → Survives old new (λ db. (config : Configuration) (room : Room) → Stands from config room
     → Stands db config (apply room changes))
 reaches_weaker changes head old new from =
-    survives_weaker old new (Reaches changes head from) (λ db. (config : Configuration) (room : Room) → Stands from config room → Stands db config (apply room changes)) (λ _ db left config room h. (left config room h).0)
+    survives_weaker old new (Reaches changes head from)
+    (λ db. (config : Configuration) (room : Room) → Stands from config room → Stands db config (apply room changes))
+    (λ _ db left config room h. (left config room h).0)

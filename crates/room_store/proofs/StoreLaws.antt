@@ -1,5 +1,6 @@
 -- A store's room, before and after an event.
-use Rattle.std.proofs.Common.{Bool, Err, IsTrue, List, Ok, Result, [], ap, false, inl, inr, subst, sym, true, ◌∙◌, ◌∷◌, ◌≡◌}
+use Rattle.std.proofs.Common.{Bool, Err, IsTrue, List, Ok, Result, [], ap, false, inl, inr, subst, sym, true, ◌∙◌, ◌∷◌}
+use Rattle.std.proofs.Common.{◌≡◌}
 use Rattle.std.specs.Prelude.{OnErr, OnOk}
 use Rattle.sqlite.specs.Effect.{Database}
 use Rattle.sqlite.specs.Held.{state}
@@ -50,7 +51,10 @@ room_left g old new terminals room left same known cache is = record {
   plan = rw same is.plan;
   known = known;
   cache = cache;
-  tables = λ is_open. rw same (subst (λ (db : Database). Stands db.trees (config_of old.plan terminals) room) (sym (left.now_is is_open)) (is.tables (left.was_open is_open)));
+  tables =
+      λ is_open.
+      rw same (subst (λ (db : Database). Stands db.trees (config_of old.plan terminals) room)
+      (sym (left.now_is is_open)) (is.tables (left.was_open is_open)));
 }
 
 module _ {S : Type 0} (g : Ghosts S) (old new : Store S) (event : Event)
@@ -60,7 +64,8 @@ module _ {S : Type 0} (g : Ghosts S) (old new : Store S) (event : Event)
   pub for_room : IsTrue (state g old.conn).is_open
       → IsFor (state g old.conn).now.trees old.plan old.cache event (config_of old.plan terminals)
       room
-  for_room is_open = record { stands = is.tables is_open; formed = is.formed; plan = is.plan; cache = is.cache; addressed = addressed }
+  for_room is_open =
+      record { stands = is.tables is_open; formed = is.formed; plan = is.plan; cache = is.cache; addressed = addressed }
 
   pub room_moved : IsNumbered event.ask → new.plan ≡ old.plan → new.terminals ≡ old.terminals
       → IsCacheOf new.cache (room_after event room)
@@ -87,7 +92,8 @@ pub event_survives : {S : Type 0} (g : Ghosts S) (old : Store S) (new : State) (
     → IsRoom g old terminals room → IsAddressed event room
     → Stands db (config_of old.plan terminals) (room_after event room))
 event_survives g old new event =
-    survives_weaker (state g old.conn) new _ _ (λ _ db left is_open terminals room is addressed. left (config_of old.plan terminals) room (for_room g old old event terminals room is addressed is_open))
+    survives_weaker (state g old.conn) new _ _ (λ _ db left is_open terminals room is addressed.
+    left (config_of old.plan terminals) room (for_room g old old event terminals room is addressed is_open))
 
 -- a failed call left two things
 pub err_both : {T E : Type 0} (r : Result T E) (P Q : Type 0) → OnErr r P → OnErr r Q
@@ -108,14 +114,19 @@ pub settled_kept : {S : Type 0} (g : Ghosts S) (held : Store S)
     → ((db : Trees) → IsTrue (state g held.conn).is_open → (state g held.conn).may_leave db
     → db ≡ (state g held.conn).committed.trees)
     → IsSettled (state g held.conn) → IsKept g held
-settled_kept g held leaves settled = record { is_open = settled.is_open; alone = λ db left. leaves db settled.is_open left ∙ ap (λ (b : Database). b.trees) settled.committed }
+settled_kept g held leaves settled = record {
+  is_open = settled.is_open;
+  alone = λ db left. leaves db settled.is_open left ∙ ap (λ (b : Database). b.trees) settled.committed;
+}
 
 -- what is kept, a stop leaves
 pub kept_stands : {S : Type 0} (g : Ghosts S) (held : Store S) (terminals : List Terminal)
     (room : Room) → IsKept g held → IsRoom g held terminals room
     → (db : Trees) → (state g held.conn).may_leave db
     → Stands db (config_of held.plan terminals) room
-kept_stands g held terminals room kept is db left = subst (λ (trees : Trees). Stands trees (config_of held.plan terminals) room) (sym (kept.alone db left)) (is.tables kept.is_open)
+kept_stands g held terminals room kept is db left =
+    subst (λ (trees : Trees). Stands trees (config_of held.plan terminals) room) (sym (kept.alone db left))
+    (is.tables kept.is_open)
 
 module _ {S : Type 0} (g : Ghosts S) (old new : Store S) (same : new.plan ≡ old.plan)
     (clean : HasCleanDisk (state g new.conn)) (kept : IsKept g old) where
@@ -136,7 +147,8 @@ module _ {S : Type 0} (g : Ghosts S) (old new : Store S) (same : new.plan ≡ ol
       → Survives (state g old.conn) (state g new.conn) (λ _. ⊥)
       → LeavesOneOf g new terminals (room ∷ [])
   looked_left terminals room is survives db left =
-      let before : (state g old.conn).may_leave db = elim (survives.crash clean db left) [ inl before ↦ before | inr none ↦ absurd none ] in
+      let before : (state g old.conn).may_leave db = elim (survives.crash clean db left)
+      [ inl before ↦ before | inr none ↦ absurd none ] in
       inl (rw same (kept_stands g old terminals room kept is db before))
 
   -- Where an event was acted on, a stop leaves the room before it or after it.

@@ -14,8 +14,8 @@ use Rattle.room_store_cache.specs.Partitions.{AreKnown}
 use Rattle.room_types.specs.declared.answers.Answer.{Answer}
 use Rattle.room_types.specs.declared.changes.Change.{Change}
 use Rattle.room_types.specs.declared.decisions.Decision.{Decision}
-use Rattle.room_types.specs.declared.refusals.Refusal.{Refusal}
-use Rattle.room_types.specs.declared.refusals.Refusal.TheVariants as refusal
+use Rattle.room_types.specs.declared.refusal_statuses.Refusal.{Refusal}
+use Rattle.room_types.specs.declared.refusal_statuses.Refusal.TheVariants as refusal
 use Rattle.room_store.specs.EventDecisions.{in_parts, unless_out_of_memory}
 use Rattle.room_store.specs.StoreFaults.{refusal_of}
 
@@ -32,7 +32,8 @@ pub machines : (r : Result Decision Refusal)
 machines (Ok x) = λ wanted is. sym is
 machines (Err refusal.Memory) = tt
 machines (Err refusal.Storage) = tt
-machines (Err e) = λ wanted decides. ⊎_elim (λ is. sym is) (λ m. let no : e ≡ refusal.Memory = m.0 in absurd (cc)) decides
+machines (Err e) =
+    λ wanted decides. ⊎_elim (λ is. sym is) (λ m. let no : e ≡ refusal.Memory = m.0 in absurd (cc)) decides
 
 -- a read that failed decides nothing
 unsaid_of : (f : Fault) (P : Verdict → Type 0) → IfOk (unless_out_of_memory (Err (refusal_of f))) P
@@ -69,6 +70,17 @@ parted (Err e) parts is = absurd (cc)
 pub not_parted : (r : Result Verdict Refusal) (e : Refusal) → Err e ≡ in_parts r → r ≡ Err e
 not_parted (Ok d) e is = absurd (cc)
 not_parted (Err x) e is = let same : x ≡ e = cc in ap Err same
+
+-- the fleet was filled, and what else is known stays as it was
+pub filled : {before : Cache} {room : Room} (fleet : Fleet) → HasFleetOf fleet room
+    → IsCacheOf before room → IsCacheOf (record before { fleet = fleet }) room
+filled fleet has is = record {
+  fleet = λ _. has;
+  backlogs = is.backlogs;
+  incident_views = is.incident_views;
+  recent_incidents = is.recent_incidents;
+  shown_lists = is.shown_lists;
+}
 
 -- where the fleet is known, all is that a division's request reads
 pub all_known : {known : Cache} {room : Room} → HasFleetOf known.fleet room → IsCacheOf known room

@@ -1,14 +1,8 @@
 -- What acting on an event makes of the tables.
-use Rattle.std.specs.Prelude.{None, Some, ℕ, ◌≡◌}
+use Rattle.std.specs.Prelude.{◌≡◌}
 use Rattle.sqlite_trees.specs.Tree.{Trees}
-use Rattle.room_place.specs.Plans.{Layout, division_of}
-use Rattle.room_types.specs.declared.asks.Ask.{Ask}
-use Rattle.room_types.specs.declared.asks.Ask.TheVariants.{Call}
-use Rattle.room_types.specs.declared.asks.CallForm.{CallForm}
+use Rattle.room_place.specs.Plans.{Layout}
 use Rattle.room_types.specs.declared.asks.Event.{Event}
-use Rattle.room_types.specs.declared.asks.Who.{Who}
-use Rattle.room_types.specs.declared.asks.Who.TheVariants.{Crew, Desk, Position}
-use Rattle.room_model.specs.Queries.{kept_call}
 use Rattle.room_model.specs.Room.{Room}
 use Rattle.room_model.specs.Step.{IsAddressed}
 use Rattle.room_model.specs.WellFormed.{IsWellFormed}
@@ -26,10 +20,3 @@ pub record IsFor (trees : Trees) (layout : Layout) (known : Cache) (event : Even
   pub plan : room.plan ≡ layout.areas
   pub cache : IsCacheOf known room
   pub addressed : IsAddressed event room
-
--- This is for the division: its desk asks it, or it is a call that is placed in it and not kept.
-abbrev pub IsIn : Who → Ask → ℕ → Room → Type 0
-IsIn (Desk d) ask division room = d ≡ division
-IsIn (Position p) ask division room = (form : CallForm) × (ask ≡ Call form)
-    × (kept_call p form.serial room ≡ None) × (division_of room.plan form.place ≡ Some division)
-IsIn (Crew c) ask division room = ⊥

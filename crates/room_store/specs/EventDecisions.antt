@@ -4,8 +4,8 @@ use Rattle.room_model.specs.Decisions.{Verdict, answer_of, changes_of}
 use Rattle.room_types.specs.declared.answers.Answer.{Answer}
 use Rattle.room_types.specs.declared.changes.Change.{Change}
 use Rattle.room_types.specs.declared.decisions.Decision.{Decision}
-use Rattle.room_types.specs.declared.refusals.Refusal.{Refusal}
-use Rattle.room_types.specs.declared.refusals.Refusal.TheVariants as refusal
+use Rattle.room_types.specs.declared.refusal_statuses.Refusal.{Refusal}
+use Rattle.room_types.specs.declared.refusal_statuses.Refusal.TheVariants as refusal
 
 -- The decision or the refusal, which is to be the machine's. Where memory or storage is wanting,
 -- nothing is decided.

@@ -3,8 +3,8 @@ use Rattle.room_model.specs.declared.digests.Miss.{Miss}
 use Rattle.room_model.specs.declared.digests.Miss.TheVariants as miss
 use Rattle.room_store_file.specs.declared.digest_changes.Undone.{Undone}
 use Rattle.room_store_file.specs.declared.digest_changes.Undone.TheVariants as undone
-use Rattle.room_types.specs.declared.refusals.Refusal.{Refusal}
-use Rattle.room_types.specs.declared.refusals.Refusal.TheVariants as refusal
+use Rattle.room_types.specs.declared.refusal_statuses.Refusal.{Refusal}
+use Rattle.room_types.specs.declared.refusal_statuses.Refusal.TheVariants as refusal
 use Rattle.room_tables_schema.specs.declared.database_faults.Fault.{Fault}
 use Rattle.room_tables_schema.specs.declared.database_faults.Fault.TheVariants.{Memory, Storage}
 

@@ -4,10 +4,10 @@ ghost use Rattle.std.specs.Fn.{FnOnceReturnsAt};
 ghost use Rattle.sqlite.specs.Held.{state};
 ghost use Rattle.sqlite.specs.State.{HasCleanDisk, Survives};
 ghost use Rattle.room_tables_schema.specs.FileConnections.{HasRoomSchema};
-ghost use Rattle.room_tables_laws.specs.Outcomes.{ReadsOnly};
+ghost use Rattle.room_tables_schema.specs.Outcomes.{ReadsOnly};
 ghost use Rattle.room_types.specs.declared.answers.Answer.{Answer as Told};
-ghost use Rattle.room_types.specs.declared.refusals.Refusal.{Refusal as Why};
-ghost use Rattle.room_types.specs.declared.refusals.Refusal.TheVariants.{Memory};
+ghost use Rattle.room_types.specs.declared.refusal_statuses.Refusal.{Refusal as Why};
+ghost use Rattle.room_types.specs.declared.refusal_statuses.Refusal.TheVariants.{Memory};
 ghost use Rattle.room_model.specs.Decisions.{changes_of};
 ghost use Rattle.room_model.specs.Events.{IsNumbered};
 ghost use Rattle.room_model.specs.Room.{Room};
@@ -28,7 +28,7 @@ use room_types::answers::{Answer, Listed};
 use room_types::asks::{Ask, Event};
 use room_types::changes::Change;
 use room_types::decisions::Decision;
-use room_types::refusals::Refusal;
+use room_types::refusal_statuses::Refusal;
 use sqlite::{Alter, Connection};
 use std::alloc::Global;
 
@@ -135,7 +135,8 @@ pub(crate) fn prepare<S: Alter, F: FnOnce(&Result<Answer, Refusal>) -> Result<Ve
     }
 }
 
-// The changes of a decision, and the answer: a refusal too, unless memory or storage is wanting.
+// The changes of a decision, and the answer: a refusal too, unless memory was refused or storage
+// failed.
 fn parts(
     alloc: Global,
     decision: Result<Decision, Refusal>,

@@ -3,29 +3,29 @@ ghost use Rattle.std.specs.Prelude.{◌≡◌, IsTrue, IfOk};
 ghost use Rattle.sqlite.specs.Held.{state};
 ghost use Rattle.sqlite.specs.State.{HasCleanDisk};
 ghost use Rattle.room_tables_schema.specs.FileConnections.{HasRoomSchema};
-ghost use Rattle.room_tables_laws.specs.Outcomes.{ReadsOnly};
-ghost use Rattle.room_core.specs.DecisionRows.{AreRead};
+ghost use Rattle.room_tables_schema.specs.Outcomes.{ReadsOnly};
 ghost use Rattle.room_types.specs.declared.asks.Ask.TheVariants.{Call as CallAsk};
 ghost use Rattle.room_types.specs.declared.asks.Who.TheVariants.{Position};
 ghost use Rattle.room_model.specs.Calls.{new_call, show_last_serial};
-ghost use Rattle.room_model.specs.Decisions.{Decides};
 ghost use Rattle.room_model.specs.Reports.{take_report};
 ghost use Rattle.room_model.specs.Room.{Room};
 ghost use Rattle.room_model.specs.RoomSlices.{room_of};
-ghost use Rattle.room_model.specs.Step.{IsAddressed, crew_asks, decided};
+ghost use Rattle.room_model.specs.Step.{crew_asks, decided, desk_asks};
 ghost use Rattle.room_model.specs.WellFormed.{IsWellFormed};
+ghost use Rattle.room_model.specs.Working.{working};
 ghost use Rattle.room_tables.specs.Stands.{Configuration};
 ghost use Rattle.room_tables.specs.FoundRows.{Finds};
-ghost use Rattle.room_store.specs.ActedEvents.{IsFor, IsIn};
+ghost use Rattle.room_store.specs.ActedEvents.{IsFor};
 ghost use Rattle.room_store.specs.EventDecisions.{unless_out_of_memory};
 ghost use Rattle.room_store_cache.specs.CrewParts.{HasVehicle};
 ghost use Rattle.room_store_cache.specs.Partitions.{AreKnown};
 ghost use Rattle.room_store_cache.specs.Cache.{HasFleetOf, IsCacheOf};
 
 use crate::store_faults::refusal_of;
-use room_core::call_decisions::{decide_again, decide_call, decide_last_serial};
-use room_core::crew_decisions::{decide_last, decide_order, decide_report, decide_report_again};
+use room_core::call_decisions::{decide_call, decide_last_serial};
+use room_core::crew_decisions::{decide_last, decide_order, decide_report};
 use room_core::desk_decisions::decide_desk;
+use room_core::repeated_messages::{decide_repeated_call, decide_repeated_report};
 use room_place::plans::{DivisionNumber, Plan};
 use room_store_cache::cache::Cache;
 use room_store_cache::crew_reads::{load_crew, load_report};
@@ -33,12 +33,13 @@ use room_store_cache::fleets::Fleet;
 use room_store_cache::working_rows::load_working;
 use room_tables::call_table::last_serial;
 use room_tables::table_loads::row_at;
+use room_tables_schema::database_faults::Fault;
 use room_types::asks::{Ask, CallForm, Event, NewCall, Press, Who};
 use room_types::callsign::Callsign;
 use room_types::crews::CrewSlice;
 use room_types::decisions::Decision;
 use room_types::numbers::{Moment, PositionNumber};
-use room_types::refusals::Refusal;
+use room_types::refusal_statuses::Refusal;
 use room_types::slices::Slice;
 use room_types::tables::{Call, Vehicle};
 use sqlite::{Alter, Connection};
@@ -68,33 +69,11 @@ pub(crate) fn decide<S: Alter>(
     ensures reads { ReadsOnly S.Store conn.old conn.new (unless_out_of_memory result) }
 {
     match cache.fleet.fill(alloc, conn) {
-        Ok(()) => decide_known(alloc, conn, plan, cache, event),
-        Err(fault) => Err(refusal_of(fault)),
+        Ok(()) => {}
+        Err(fault) => return Err(refusal_of(fault)),
     }
-}
-
-// The same where the fleet is known.
-fn decide_known<S: Alter>(
-    alloc: Global,
-    conn: &mut Connection<S>,
-    plan: &Plan,
-    cache: &mut Cache,
-    event: &Event,
-) -> Result<Decision, Refusal>
-    requires room { HasRoomSchema S.Store conn.old }
-    requires open { HasCleanDisk (state S.Store conn.old)
-        → IsTrue (state S.Store conn.old).is_open }
-    ensures decided { Finds S.Store conn.old conn.new (unless_out_of_memory result) (λ room x.
-        IsWellFormed room → room.plan ≡ plan.now.areas → IsAddressed event.now room
-        → HasFleetOf cache.old.fleet room → IsCacheOf cache.old room → x ≡ decided event.now room) }
-    ensures cache { Finds S.Store conn.old conn.new (unless_out_of_memory result) (λ room _.
-        IsWellFormed room → room.plan ≡ plan.now.areas → IsAddressed event.now room
-        → HasFleetOf cache.old.fleet room → IsCacheOf cache.old room
-        → IsCacheOf cache.new room) }
-    ensures reads { ReadsOnly S.Store conn.old conn.new (unless_out_of_memory result) }
-{
     match &event.who {
-        Who::Desk(division) => for_division(alloc, conn, plan, cache, *division, event),
+        Who::Desk(division) => for_desk(alloc, conn, plan, cache, *division, event),
         Who::Crew(callsign) => {
             for_crew(
                 alloc,
@@ -113,8 +92,8 @@ fn decide_known<S: Alter>(
     }
 }
 
-// What is for a division: what its desk asks, or a call that is placed in it and not kept.
-fn for_division<S: Alter>(
+// What a division's desk asks.
+fn for_desk<S: Alter>(
     alloc: Global,
     conn: &mut Connection<S>,
     plan: &Plan,
@@ -126,43 +105,46 @@ fn for_division<S: Alter>(
     requires open { HasCleanDisk (state S.Store conn.old)
         → IsTrue (state S.Store conn.old).is_open }
     ensures decided { Finds S.Store conn.old conn.new (unless_out_of_memory result) (λ room x.
-        IsWellFormed room → room.plan ≡ plan.now.areas
-        → IsIn event.now.who event.now.ask division room → AreKnown cache.old room
-        → x ≡ decided event.now room) }
+        IsWellFormed room → room.plan ≡ plan.now.areas → AreKnown cache.old room
+        → x ≡ desk_asks division event.now.ask event.now.at room) }
     ensures known { Finds S.Store conn.old conn.new (unless_out_of_memory result) (λ room _.
         IsWellFormed room → AreKnown cache.old room → AreKnown cache.new room) }
     ensures fleet { cache.new.fleet ≡ cache.old.fleet }
     ensures reads { ReadsOnly S.Store conn.old conn.new (unless_out_of_memory result) }
 {
-    let rows = match load_working(alloc, conn, division, &event.ask, event.at, cache) {
-        Ok(rows) => rows,
+    let slice = match load_slice(alloc, conn, division, event, cache) {
+        Ok(slice) => slice,
         Err(fault) => return Err(refusal_of(fault)),
     };
-    match Slice::build(division, rows) {
-        Some(slice) => {
-            let decision = decide_on(alloc, plan, &slice, event);
-            drop(slice);
-            decision
-        }
-        None => Err(Refusal::Storage),
-    }
+    let decision = decide_desk(alloc, plan, &slice, &event.ask, event.at);
+    drop(slice);
+    decision
 }
 
-// What is decided of it on the division's rows. Nothing else is for a division.
-fn decide_on(alloc: Global, plan: &Plan, slice: &Slice, event: &Event) -> Result<Decision, Refusal>
-    ensures { (room : Room) → IsWellFormed room → room.plan ≡ plan.now.areas
-        → AreRead slice.now.division event.now.ask event.now.at
-        (room_of room.plan slice.now.rows) room
-        → IsIn event.now.who event.now.ask slice.now.division room
-        → Decides (decided event.now room) result }
+// The rows of a division that its desk's request reads, or a call that is placed in it.
+fn load_slice<S: Alter>(
+    alloc: Global,
+    conn: &mut Connection<S>,
+    division: DivisionNumber,
+    event: &Event,
+    cache: &mut Cache,
+) -> Result<Slice, Fault>
+    requires room { HasRoomSchema S.Store conn.old }
+    requires open { HasCleanDisk (state S.Store conn.old)
+        → IsTrue (state S.Store conn.old).is_open }
+    ensures division { IfOk result (λ x. x.division ≡ division) }
+    ensures rows { Finds S.Store conn.old conn.new result (λ room x. IsWellFormed room
+        → AreKnown cache.old room
+        → room_of room.plan x.rows ≡ working division event.now.ask event.now.at room) }
+    ensures known { Finds S.Store conn.old conn.new result (λ room _. IsWellFormed room
+        → AreKnown cache.old room → AreKnown cache.new room) }
+    ensures fleet { cache.new.fleet ≡ cache.old.fleet }
+    ensures reads { ReadsOnly S.Store conn.old conn.new result }
 {
-    match &event.who {
-        Who::Desk(_) => decide_desk(alloc, plan, slice, &event.ask, event.at),
-        Who::Position(position) => match &event.ask {
-            Ask::Call(form) => decide_call(alloc, slice, &new_call(*position, form, event.at)),
-            _ => Err(Refusal::WrongRole),
-        },
-        Who::Crew(_) => Err(Refusal::WrongRole),
+    let rows = load_working(alloc, conn, division, &event.ask, event.at, cache)?;
+    match Slice::build(division, rows) {
+        Some(slice) => Ok(slice),
+        None => Err(Fault::Storage),
     }
 }
 
@@ -223,7 +205,7 @@ fn for_report<S: Alter>(
         Err(fault) => return Err(refusal_of(fault)),
     };
     if let Some(kept) = found {
-        return decide_report_again(alloc, &kept, press);
+        return decide_repeated_report(alloc, &kept, press);
     }
     let rows = match load_crew(conn, fleet, vehicle) {
         Ok(rows) => rows,
@@ -259,13 +241,20 @@ fn for_call<S: Alter>(
         Ok(found) => found,
         Err(fault) => return Err(refusal_of(fault)),
     };
-    match found {
-        Some(kept) => decide_again(alloc, &kept, &new_call(position, form, event.at)),
-        None => match plan.division_of(form.place) {
-            Some(division) => for_division(alloc, conn, plan, cache, division, event),
-            None => Err(Refusal::OutsideArea),
-        },
+    let call = new_call(position, form, event.at);
+    if let Some(kept) = found {
+        return decide_repeated_call(alloc, &kept, &call);
     }
+    let Some(division) = plan.division_of(form.place) else {
+        return Err(Refusal::OutsideArea);
+    };
+    let slice = match load_slice(alloc, conn, division, event, cache) {
+        Ok(slice) => slice,
+        Err(fault) => return Err(refusal_of(fault)),
+    };
+    let decision = decide_call(alloc, &slice, &call);
+    drop(slice);
+    decision
 }
 
 // The greatest serial of a position's calls.

@@ -4,7 +4,7 @@ ghost use Rattle.sqlite.specs.Held.{state};
 ghost use Rattle.sqlite.specs.State.{HasCleanDisk, Survives};
 ghost use Rattle.sqlite_trees.specs.Tree.{Trees};
 ghost use Rattle.room_tables_schema.specs.FileConnections.{HasRoomSchema};
-ghost use Rattle.room_tables_laws.specs.Outcomes.{ReadsOnly};
+ghost use Rattle.room_tables_schema.specs.Outcomes.{ReadsOnly};
 ghost use Rattle.room_types.specs.declared.fleet.RowFate.TheVariants as told;
 ghost use Rattle.room_types.specs.declared.fleet.Terminal.{Terminal as Known};
 ghost use Rattle.room_model.specs.Enrol.{fate_by, fate_of, is_crews_terminal, is_same_vehicle, room_enrolled, terminals_enrolled};
@@ -28,7 +28,7 @@ use room_tables_schema::database_faults::Fault;
 use room_types::asks::Who;
 use room_types::callsign::Callsign;
 use room_types::fleet::{FleetRow, RowFate, Terminal};
-use room_types::refusals::Refusal;
+use room_types::refusal_statuses::Refusal;
 use room_types::tables::Vehicle;
 use sqlite::{Alter, Connection};
 

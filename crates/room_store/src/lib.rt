@@ -1,4 +1,6 @@
-//! The room in its tables.
+//! The room in its tables: each event is decided on the rows that it reads, and written in one
+//! transaction, after which the tables stand for the room after it. What is known beside them
+//! follows.
 #![tactic(auto)]
 
 mod acted_events;

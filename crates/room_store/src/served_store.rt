@@ -14,7 +14,7 @@ use crate::store::Store;
 use room_model::rooms::Room;
 use room_types::answers::Answer;
 use room_types::asks::{Event, Who};
-use room_types::refusals::Refusal;
+use room_types::refusal_statuses::Refusal;
 use room_types::token::Token;
 use sqlite::Alter;
 use std::alloc::Global;

@@ -6,8 +6,8 @@ ghost use Rattle.sqlite.specs.State.{HasCleanDisk, Survives};
 ghost use Rattle.sqlite_trees.specs.Tree.{Trees};
 ghost use Rattle.room_types.specs.declared.answers.Answer.{Answer as Told};
 ghost use Rattle.room_types.specs.declared.fleet.Terminal.{Terminal as Known};
-ghost use Rattle.room_types.specs.declared.refusals.Refusal.{Refusal as Why};
-ghost use Rattle.room_types.specs.declared.refusals.Refusal.TheVariants.{Memory};
+ghost use Rattle.room_types.specs.declared.refusal_statuses.Refusal.{Refusal as Why};
+ghost use Rattle.room_types.specs.declared.refusal_statuses.Refusal.TheVariants.{Memory};
 ghost use Rattle.room_model.specs.Room.{Room};
 ghost use Rattle.room_model.specs.Shares.{AgreeOn};
 ghost use Rattle.room_model.specs.Step.{IsAddressed, answer_to, room_after};
@@ -34,7 +34,7 @@ use room_tables::terminal_table::terminal_at;
 use room_tables_schema::schema_tests::is_room;
 use room_types::answers::Answer;
 use room_types::asks::{Event, Who};
-use room_types::refusals::Refusal;
+use room_types::refusal_statuses::Refusal;
 use room_types::token::Token;
 use sqlite::{Alter, Connection};
 use std::alloc::Global;
@@ -107,7 +107,7 @@ impl<S: Alter> Store<S> {
             → OnOk result (IsTrue (state S.Store self.old.conn).is_open
             → IsTrue (state S.Store self.new.conn).is_open) }
         ensures wants { IfErr result IsWant }
-        // After a failure nothing is known of the room any more, but terminals.
+        // After a failure only terminals are known of the room.
         ensures failed { OnErr result (KnowsNothing self.new.cache) }
         ensures survives { Survives (state S.Store self.old.conn) (state S.Store self.new.conn)
             (λ _. ⊥) }
@@ -148,7 +148,7 @@ impl<S: Alter> Store<S> {
         ensures ready { IsReady S.Store self.new }
         ensures plan { self.new.plan ≡ self.old.plan }
         ensures known { self.new.terminals ≡ self.old.terminals }
-        // After a failure nothing is known of the room any more, but terminals.
+        // After a failure only terminals are known of the room.
         ensures failed { OnErr result (KnowsNothing self.new.cache) }
         ensures bytes { HasCleanDisk (state S.Store self.new.conn)
             → IfOk result (λ bytes. (terminals : List Known) (room : Room)
@@ -216,7 +216,7 @@ impl<S: Alter> Store<S> {
         ensures ready { IsReady S.Store self.new }
         ensures plan { self.new.plan ≡ self.old.plan }
         ensures known { self.new.terminals ≡ self.old.terminals }
-        // After a failure nothing is known of the room any more, but terminals.
+        // After a failure only terminals are known of the room.
         ensures failed { OnErr result (KnowsNothing self.new.cache) }
         ensures bytes { HasCleanDisk (state S.Store self.new.conn)
             → IfOk result (λ bytes. (terminals : List Known) (room : Room)

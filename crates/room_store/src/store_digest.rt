@@ -11,11 +11,11 @@ ghost use Rattle.room_store.specs.StoredRoom.{IsKept, IsReady, IsRoom, LeavesOne
 use crate::store::Store;
 use crate::store_faults::refusal_of;
 use room_model::digests::{Digested, Head, Miss, Version};
-use room_store_file::table_digest::digest_in;
+use room_store_file::room_digest::digest_in;
 use room_tables_schema::database_faults::Fault;
 use room_types::answers::Answer;
 use room_types::asks::Event;
-use room_types::refusals::Refusal;
+use room_types::refusal_statuses::Refusal;
 use sqlite::Alter;
 use std::alloc::Global;
 
@@ -37,8 +37,8 @@ impl<S: Alter> Digested for Store<S> {
     }
 }
 
-/// The digest of this version of the room with its terminals. The room stays as it was. A refusal is
-/// of memory or of storage.
+/// The digest of this version of the room with its terminals. The room stays as it was. A refusal
+/// is of memory or of storage.
 pub fn digest_of_room<S: Alter>(store: &mut Store<S>, version: Version) -> Result<[u8; 32], Refusal>
     requires ready { IsReady S.Store store.old }
     ensures ready { IsReady S.Store store.new }

@@ -4,7 +4,7 @@ ghost use Rattle.std.specs.Prelude.{◌≡◌};
 ghost use Rattle.room_store.specs.StoreFaults.{refusal_of};
 
 use room_tables_schema::database_faults::Fault;
-use room_types::refusals::Refusal;
+use room_types::refusal_statuses::Refusal;
 
 /// The refusal by which a fault is reported.
 pub(crate) fn refusal_of(fault: Fault) -> Refusal

@@ -15,11 +15,13 @@ pub found_here : (c : Callsign) (v : Vehicle) (room : Room)
     → row_at callsign_cmp vehicle_key room.vehicles c ≡ Some v
     → (v.callsign ≡ c) × HasVehicle v room
 found_here c v room there =
-    let same : v.callsign ≡ c = sym (row_key callsign_cmp vehicle_key callsigns_total exact_callsigns room.vehicles c v there) in
+    let same : v.callsign
+    ≡ c = sym (row_key callsign_cmp vehicle_key callsigns_total exact_callsigns room.vehicles c v there) in
     (same, rw (sym same) at there)
 
 pub turn_of_order : (c : Callsign) (room : Room) {n m : ℕ} {found : Option Turn} → n ≡ m
     → found ≡ row_at numbered_cmp turn_key room.turns (c, n)
     → keep (λ t. is_none t.ended) (row_at numbered_cmp turn_key room.turns (c, m))
     ≡ keep (λ t. is_none t.ended) found
-turn_of_order c room e f = ap (keep (λ t. is_none t.ended)) (ap (λ k. row_at numbered_cmp turn_key room.turns (c, k)) (sym e) ∙ sym f)
+turn_of_order c room e f =
+    ap (keep (λ t. is_none t.ended)) (ap (λ k. row_at numbered_cmp turn_key room.turns (c, k)) (sym e) ∙ sym f)

@@ -3,7 +3,7 @@ use Rattle.std.proofs.Common.{Bool, Some, arith, cond, refl, sym, ℕ, ◌&&◌,
 use Rattle.std.proofs.lemmas.Bool.Decides.{nat_tests}
 use Rattle.std.specs.Ordering.{is_eq, nat_cmp}
 use Rattle.std.specs.Prelude.{◌==◌}
-use Rattle.room_tables_laws.proofs.Comparisons.{is_eq-then}
+use Rattle.room_tables_schema.proofs.Comparisons.{is_eq-then}
 use Rattle.room_types_keyed.proofs.KeyedLaws.{row_put}
 use Rattle.room_types_keyed.specs.Keyed.{drop_row, put_row}
 use Rattle.room_types.specs.Keys.{incident_key, numbered_cmp, pair_cmp, turn_key}
@@ -33,7 +33,13 @@ pub incident_put : (x : IncidentView) (i : Incident) (room : Room) (own : Bool)
     → IsIncidentViewOf (record x { incident = cond own (Some i) x.incident })
     (apply_one room (PutIncident i))
 incident_put x i room own is known = record {
-  incident = rw (row_put pair_cmp incident_key pairs_total room.incidents i (x.division, x.number), pair_is x.division x.number i.division i.number, is, known.incident) refl;
+  incident =
+      rw (
+        row_put pair_cmp incident_key pairs_total room.incidents i (x.division, x.number),
+        pair_is x.division x.number i.division i.number,
+        is,
+        known.incident,
+      ) refl;
   turns = known.turns;
 }
 
@@ -46,5 +52,7 @@ pub turn_put : (x : IncidentView) (t : Turn) (room : Room) (own : Bool)
     }) (apply_one room (PutTurn t))
 turn_put x t room own is in_order known = record {
   incident = known.incident;
-  turns = pass_put numbered_cmp turn_key numbered_total (λ t. t.incident == x.number && t.division == x.division) x.turns room.turns t own (is ∙ sym (turned x.division x.number t.division t.incident)) in_order.turns known.turns;
+  turns =
+      pass_put numbered_cmp turn_key numbered_total (λ t. t.incident == x.number && t.division == x.division) x.turns
+      room.turns t own (is ∙ sym (turned x.division x.number t.division t.incident)) in_order.turns known.turns;
 }

@@ -27,7 +27,9 @@ met_read t r here = record { here = here; others = λ k other. refl }
 
 pub met_made : (t : Turn) (r : Room) → HasMet t r (apply_one r (PutTurn t))
 met_made t r = record {
-  here = row_put numbered_cmp turn_key numbered_total r.turns t (turn_key t) ∙ rw (tied_itself numbered_total (turn_key t)) refl;
+  here =
+      row_put numbered_cmp turn_key numbered_total r.turns t (turn_key t)
+      ∙ rw (tied_itself numbered_total (turn_key t)) refl;
   others = λ k other. row_put numbered_cmp turn_key numbered_total r.turns t k ∙ rw other refl;
 }
 
@@ -38,15 +40,28 @@ module _ (t : Turn) (before after : Room) (met : HasMet t before after) (known :
 
   -- it is kept in its key's place
   pub met_kept : AreTurnsOf (put_row numbered_cmp turn_key known t) after
-  met_kept k = rw (row_put numbered_cmp turn_key numbered_total known t k) ((elim (is_eq (numbered_cmp k (turn_key t))) as (λ (b : Bool). is_eq (numbered_cmp k (turn_key t)) ≡ b → IfSome (cond b (Some t) (row_at numbered_cmp turn_key known k)) (λ x. row_at numbered_cmp turn_key after.turns k ≡ Some x)) [
-    | true ↦ λ same. rw (has_own k same) met.here
-    | false ↦ λ other. rw (met.others k other) (are k)
-  ]) refl)
+  met_kept k =
+      rw (row_put numbered_cmp turn_key numbered_total known t k)
+      ((elim (is_eq (numbered_cmp k (turn_key t))) as (λ (b : Bool).
+      is_eq (numbered_cmp k (turn_key t)) ≡ b
+      → IfSome (cond b (Some t) (row_at numbered_cmp turn_key known k))
+      (λ x. row_at numbered_cmp turn_key after.turns k ≡ Some x)) [
+        | true ↦ λ same. rw (has_own k same) met.here
+        | false ↦ λ other. rw (met.others k other) (are k)
+      ]) refl)
 
   -- or nothing is
   pub met_dropped : IsKeyed numbered_cmp turn_key known
       → AreTurnsOf (drop_row numbered_cmp turn_key known (turn_key t)) after
-  met_dropped keyed k = (elim (is_eq (numbered_cmp k (turn_key t))) as (λ (b : Bool). is_eq (numbered_cmp k (turn_key t)) ≡ b → IfSome (row_at numbered_cmp turn_key (drop_row numbered_cmp turn_key known (turn_key t)) k) (λ x. row_at numbered_cmp turn_key after.turns k ≡ Some x)) [
-    | true ↦ λ same. rw (has_own k same, row_drop_same numbered_cmp turn_key numbered_total known (turn_key t) keyed) tt
-    | false ↦ λ other. rw (row_drop_other numbered_cmp turn_key numbered_total known (turn_key t) k other, met.others k other) (are k)
-  ]) refl
+  met_dropped keyed k =
+      (elim (is_eq (numbered_cmp k (turn_key t))) as (λ (b : Bool).
+      is_eq (numbered_cmp k (turn_key t)) ≡ b
+      → IfSome (row_at numbered_cmp turn_key (drop_row numbered_cmp turn_key known (turn_key t)) k)
+      (λ x. row_at numbered_cmp turn_key after.turns k ≡ Some x)) [
+        | true ↦
+            λ same. rw (has_own k same, row_drop_same numbered_cmp turn_key numbered_total known (turn_key t) keyed) tt
+        | false ↦
+            λ other.
+            rw (row_drop_other numbered_cmp turn_key numbered_total known (turn_key t) k other, met.others k other)
+            (are k)
+      ]) refl

@@ -24,7 +24,8 @@ module _ {R K : Type 0} (cmp : K → K → Ordering) (key : R → K) (total : Is
   put_all_above : (x : R) (more rows : List R) → IsBelowAll cmp key (key x) more
       → put_all cmp key more (x ∷ rows) ≡ x ∷ put_all cmp key more rows
   put_all_above x [] rows h = refl
-  put_all_above x (m ∷ more) rows h = ap (put_all cmp key more) (put_above x m rows h.0) ∙ put_all_above x more (put_row cmp key rows m) h.1
+  put_all_above x (m ∷ more) rows h =
+      ap (put_all cmp key more) (put_above x m rows h.0) ∙ put_all_above x more (put_row cmp key rows m) h.1
 
   put_itself : (x : R) (rows : List R) → put_row cmp key (x ∷ rows) x ≡ x ∷ rows
   put_itself x rows = rw (tied_itself total (key x)) refl
@@ -38,11 +39,15 @@ module _ {R K : Type 0} (cmp : K → K → Ordering) (key : R → K) (total : Is
   pub at_key : (table : List R) (k : K) → IsKeyed cmp key table
       → filter (λ y. is_eq (cmp k (key y))) table ≡ listed (row_at cmp key table k)
   at_key [] k h = refl
-  at_key (x ∷ table) k h = (elim (cmp k (key x)) as (λ (o : Ordering). cmp k (key x) ≡ o → cond (is_eq o) (x ∷ filter (λ y. is_eq (cmp k (key y))) table) (filter (λ y. is_eq (cmp k (key y))) table) ≡ listed (cond (is_eq o) (Some x) (row_at cmp key table k))) [
-    | Less ↦ λ e. at_key table k h.1
-    | Equal ↦ λ e. ap (λ l. x ∷ l) (none_of x k table e h.0)
-    | Greater ↦ λ e. at_key table k h.1
-  ]) refl
+  at_key (x ∷ table) k h =
+      (elim (cmp k (key x)) as (λ (o : Ordering).
+      cmp k (key x) ≡ o
+      → cond (is_eq o) (x ∷ filter (λ y. is_eq (cmp k (key y))) table) (filter (λ y. is_eq (cmp k (key y))) table)
+      ≡ listed (cond (is_eq o) (Some x) (row_at cmp key table k))) [
+        | Less ↦ λ e. at_key table k h.1
+        | Equal ↦ λ e. ap (λ l. x ∷ l) (none_of x k table e h.0)
+        | Greater ↦ λ e. at_key table k h.1
+      ]) refl
 
   module _ (first second : R → Bool) where
     one_more : (b c : Bool) (x : R) (table : List R) → IsBelowAll cmp key (key x) table
@@ -52,9 +57,15 @@ module _ {R K : Type 0} (cmp : K → K → Ordering) (key : R → K) (total : Is
         (cond b (x ∷ filter first table) (filter first table))
         ≡ cond (b || c) (x ∷ filter (λ y. first y || second y) table)
         (filter (λ y. first y || second y) table)
-    one_more true true x table h e = ap (put_all cmp key (filter second table)) (put_itself x _) ∙ put_all_above x _ _ (below_filter cmp key total second (key x) table h) ∙ ap (λ l. x ∷ l) e
-    one_more true false x table h e = put_all_above x _ _ (below_filter cmp key total second (key x) table h) ∙ ap (λ l. x ∷ l) e
-    one_more false true x table h e = ap (put_all cmp key (filter second table)) (put_below cmp key total (filter first table) x (below_filter cmp key total first (key x) table h)) ∙ put_all_above x _ _ (below_filter cmp key total second (key x) table h) ∙ ap (λ l. x ∷ l) e
+    one_more true true x table h e =
+        ap (put_all cmp key (filter second table)) (put_itself x _)
+        ∙ put_all_above x _ _ (below_filter cmp key total second (key x) table h) ∙ ap (λ l. x ∷ l) e
+    one_more true false x table h e =
+        put_all_above x _ _ (below_filter cmp key total second (key x) table h) ∙ ap (λ l. x ∷ l) e
+    one_more false true x table h e =
+        ap (put_all cmp key (filter second table))
+        (put_below cmp key total (filter first table) x (below_filter cmp key total first (key x) table h))
+        ∙ put_all_above x _ _ (below_filter cmp key total second (key x) table h) ∙ ap (λ l. x ∷ l) e
     one_more false false x table h e = e
 
     -- the rows of a table that pass one test, put among those that pass another

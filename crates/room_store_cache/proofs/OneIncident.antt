@@ -1,5 +1,6 @@
 -- What a request reads of one incident, where it reads its turns.
-use Rattle.std.proofs.Common.{Bool, None, Option, Some, ap, cond, eqb-true, false, is_some, refl, sym, true, ℕ, ◌&&◌, ◌∙◌, ◌≡◌, ◌||◌}
+use Rattle.std.proofs.Common.{Bool, None, Option, Some, ap, cond, eqb-true, false, is_some, refl, sym, true, ℕ, ◌&&◌}
+use Rattle.std.proofs.Common.{◌∙◌, ◌≡◌, ◌||◌}
 use Rattle.std.proofs.lemmas.Bool.{eq-eqb}
 use Rattle.std.specs.Prelude.{filter, ◌==◌}
 use Rattle.room_types.specs.Codes.{is_active}
@@ -13,7 +14,8 @@ use Rattle.room_types_keyed.specs.Keyed.{IsKeyed, keep, row_at}
 use Rattle.room_model.proofs.Tests.{both_true, or_left, row_key}
 use Rattle.room_model.specs.Queries.{incident_of}
 use Rattle.room_model.specs.Room.{Room}
-use Rattle.room_model.specs.Working.{names_incident, names_opening, names_turn, reads_active, reads_incident, reads_number, working}
+use Rattle.room_model.specs.Working.{names_incident, names_opening, names_turn, reads_active, reads_incident}
+use Rattle.room_model.specs.Working.{reads_number, working}
 use Rattle.room_store_cache.proofs.QueueReads.{passes}
 use Rattle.room_store_cache.proofs.Filters.{and_none, filter_and, filter_as, or_assoc}
 
@@ -22,7 +24,8 @@ read_here : (i : Incident) (own shown active named opened : Bool) → own ≡ tr
     → (shown && is_some (cond active (Some i) None)) || named ≡ true
     → own && ((shown && active) || (named || opened)) ≡ true
 read_here i own shown active named opened e h =
-    both_true own _ e (or_assoc (shown && active) named opened ∙ or_left ((shown && active) || named) opened (ap (λ b. (shown && b) || named) (sym (passes active i)) ∙ h))
+    both_true own _ e (or_assoc (shown && active) named opened
+    ∙ or_left ((shown && active) || named) opened (ap (λ b. (shown && b) || named) (sym (passes active i)) ∙ h))
 
 its_own : (own same reads names : Bool) → (same ≡ true → reads ≡ true)
     → (own && (reads || names)) && same ≡ same && own
@@ -38,10 +41,12 @@ module _ (a : Ask) (n d at : ℕ) (room : Room) (read : reads_number d a room n 
   unfolding incident_of
   row_read None e = refl
   row_read (Some i) e =
-      let key : (d, n) ≡ incident_key i = row_key pair_cmp incident_key pairs_total exact_pair room.incidents (d, n) i e in
+      let key : (d, n)
+      ≡ incident_key i = row_key pair_cmp incident_key pairs_total exact_pair room.incidents (d, n) i e in
       let number : n ≡ i.number = ap (λ k. k.1) key in
       let own : (i.division == d) ≡ true = eq-eqb i.division d (ap (λ k. k.0) (sym key)) in
-      rw (read_here i (i.division == d) (reads_active a) (is_active i.state) (names_incident a i.number) (names_opening a at i) own (rw (e, number) at read)) refl
+      rw (read_here i (i.division == d) (reads_active a) (is_active i.state) (names_incident a i.number)
+      (names_opening a at i) own (rw (e, number) at read)) refl
 
   -- it reads the division's incident of this number
   pub incident_read : IsKeyed pair_cmp incident_key room.incidents
@@ -52,7 +57,9 @@ module _ (a : Ask) (n d at : ℕ) (room : Room) (read : reads_number d a room n 
   its_turn : (t : Turn)
       → ((t.division == d) && (reads_number d a room t.incident || names_turn d a room t))
       && (t.incident == n) ≡ (t.incident == n) && (t.division == d)
-  its_turn t = its_own (t.division == d) (t.incident == n) (reads_number d a room t.incident) (names_turn d a room t) (λ same. ap (reads_number d a room) (eqb-true t.incident n same) ∙ read)
+  its_turn t =
+      its_own (t.division == d) (t.incident == n) (reads_number d a room t.incident) (names_turn d a room t)
+      (λ same. ap (reads_number d a room) (eqb-true t.incident n same) ∙ read)
 
   -- and all its turns
   pub turns_read : filter (λ t. t.incident == n) (working d a at room).turns

@@ -1,5 +1,6 @@
 -- What a queue reads: what waits in a division, and the turns of its active incidents.
-use Rattle.std.proofs.Common.{Bool, List, None, Option, Some, [], ap, arith, cond, false, get_or, is_some, length, map, refl, subst, suc, sym, true, zero, ℕ, ◌&&◌, ◌<◌, ◌∙◌, ◌∷◌, ◌≡◌, ◌||◌}
+use Rattle.std.proofs.Common.{Bool, List, None, Option, Some, [], ap, arith, cond, false, get_or, is_some, length, map}
+use Rattle.std.proofs.Common.{refl, subst, suc, sym, true, zero, ℕ, ◌&&◌, ◌<◌, ◌∙◌, ◌∷◌, ◌≡◌, ◌||◌}
 use Rattle.std.proofs.lemmas.Bool.{eq-eqb}
 use Rattle.std.specs.Ordering.{is_eq}
 use Rattle.std.specs.Prelude.{filter, ◌==◌}
@@ -20,7 +21,8 @@ use Rattle.room_store_cache.proofs.Filters.{filter_as, filter_owned, or_none, pa
 -- a queue names nothing: of these rows it reads what waits
 pub waiting_rows : {X : Type 0} (own p : X → Bool) (xs : List X)
     → filter own (filter (λ x. own x && (p x || false)) xs) ≡ filter (λ x. own x && p x) xs
-waiting_rows own p xs = filter_owned own (λ x. p x || false) xs ∙ filter_as _ _ xs (λ x. ap (λ b. own x && b) (or_none (p x)))
+waiting_rows own p xs =
+    filter_owned own (λ x. p x || false) xs ∙ filter_as _ _ xs (λ x. ap (λ b. own x && b) (or_none (p x)))
 
 abbrev pub number_of : Incident → ℕ
 number_of i = i.number
@@ -58,10 +60,14 @@ pub numbers_of : (d : ℕ) (reads : Incident → Bool) (xs : List Incident) (n :
 numbers_of d reads [] n h = refl
 numbers_of d reads (x ∷ xs) n h =
     let same = is_eq (pair_cmp (d, n) (incident_key x)) in
-    let gone = λ (e : same ≡ true). let key : (d, n) ≡ incident_key x = exact_pair (d, n) (incident_key x) (is_equal _ e) in
-    ap (λ o. is_some (keep reads o)) (row_below pair_cmp incident_key pairs_total xs (d, n) (subst (λ k. IsBelowAll pair_cmp incident_key k xs) (sym key) h.0)) in
+    let gone = λ (e : same ≡ true).
+    let key : (d, n) ≡ incident_key x = exact_pair (d, n) (incident_key x) (is_equal _ e) in
+    ap (λ o. is_some (keep reads o))
+    (row_below pair_cmp incident_key pairs_total xs (d, n)
+    (subst (λ k. IsBelowAll pair_cmp incident_key k xs) (sym key) h.0)) in
     contains_cond n (x.division == d && reads x) x _
-    ∙ one_step same (x.division == d) (x.number == n) (reads x) _ _ (pair_turned d n x.division x.number) (numbers_of d reads xs n h.1) gone
+    ∙ one_step same (x.division == d) (x.number == n) (reads x) _ _ (pair_turned d n x.division x.number)
+    (numbers_of d reads xs n h.1) gone
     ∙ sym (kept_cond reads same x (row_at pair_cmp incident_key xs (d, n)))
 
 pub kept_alike : (p q : Incident → Bool) → ((i : Incident) → p i ≡ q i) → (o : Option Incident)
@@ -72,8 +78,10 @@ kept_alike p q e (Some i) = ap (λ (b : Bool). is_some (cond b (Some i) None)) (
 has_number : (xs : List Incident) (i : ℕ) (x : Incident) → i < length xs → x ≡ get_or xs i x
     → contains x.number (map number_of xs) ≡ true
 has_number [] i x inside here = absurd (omega (arith, inside))
-has_number (y ∷ xs) zero x inside here = or_left (y.number == x.number) _ (eq-eqb y.number x.number (ap number_of (sym here)))
-has_number (y ∷ xs) (suc i) x inside here = or_right (y.number == x.number) _ (has_number xs i x (omega (arith, inside)) here)
+has_number (y ∷ xs) zero x inside here =
+    or_left (y.number == x.number) _ (eq-eqb y.number x.number (ap number_of (sym here)))
+has_number (y ∷ xs) (suc i) x inside here =
+    or_right (y.number == x.number) _ (has_number xs i x (omega (arith, inside)) here)
 
 -- it reads the turns of an incident that it shows
 pub shown_read : (d at : ℕ) (room : Room) → IsKeyed pair_cmp incident_key room.incidents
@@ -83,5 +91,7 @@ pub shown_read : (d at : ℕ) (room : Room) → IsKeyed pair_cmp incident_key ro
 unfolding incident_of
 shown_read d at room keyed i x inside here =
     or_none _
-    ∙ sym (numbers_of d (reads_incident Queue at) room.incidents x.number keyed ∙ kept_alike (reads_incident Queue at) (λ i. is_active i.state) (λ i. or_none (is_active i.state)) (incident_of d x.number room))
+    ∙ sym (numbers_of d (reads_incident Queue at) room.incidents x.number keyed
+    ∙ kept_alike (reads_incident Queue at) (λ i. is_active i.state) (λ i. or_none (is_active i.state))
+    (incident_of d x.number room))
     ∙ has_number (working d Queue at room).incidents i x inside here

@@ -51,4 +51,7 @@ pub known_near : (from : ℕ) (known all : List Incident) (d : ℕ) (form : Call
     → filter (may_have d form at) known ≡ filter (may_have d form at) all
 known_near from known all d form at before are =
     ap (filter (may_have d form at)) are
-    ∙ filter_filter (may_have d form at) (opened_since from) all (λ i yes. linked_since from at i.opened before (left_true _ (is_around i.place form.place) (right_true (i.division == d) _ yes)))
+    ∙ filter_filter (may_have d form at) (opened_since from) all
+    (λ i yes.
+    linked_since from at i.opened before
+    (left_true _ (is_around i.place form.place) (right_true (i.division == d) _ yes)))

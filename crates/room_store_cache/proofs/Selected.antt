@@ -1,5 +1,6 @@
 -- What a request reads of incidents, their turns and reports, as its row says it.
-use Rattle.std.proofs.Common.{Bool, List, [], ap, arith, false, is_some, not, refl, sym, true, ℕ, ◌&&◌, ◌++◌, ◌∙◌, ◌∷◌, ◌≡◌, ◌||◌}
+use Rattle.std.proofs.Common.{Bool, List, [], ap, arith, false, is_some, not, refl, sym, true, ℕ, ◌&&◌, ◌++◌, ◌∙◌, ◌∷◌}
+use Rattle.std.proofs.Common.{◌≡◌, ◌||◌}
 use Rattle.std.proofs.lemmas.Bool.Decides.{nat_tests}
 use Rattle.std.specs.Prelude.{◌==◌}
 use Rattle.room_types_keyed.specs.Keyed.{keep}
@@ -16,7 +17,8 @@ use Rattle.room_model.specs.Working.{reads_exceptions, reads_incident, reads_num
 use Rattle.room_store_cache.specs.IncidentNumbers.{contains}
 use Rattle.room_store_cache.proofs.Filters.{and_none, or_assoc, or_none}
 use Rattle.room_store_cache.specs.Partitions.{any}
-use Rattle.room_store_cache.specs.RequestReads.{Selects, is_read, is_report, names, names_one, opens, reads_turns, shows, shows_exceptions}
+use Rattle.room_store_cache.specs.RequestReads.{Selects, is_read, is_report, names, names_one, opens, reads_turns}
+use Rattle.room_store_cache.specs.RequestReads.{shows, shows_exceptions}
 use Rattle.room_store_cache.specs.declared.request_reads.Incidents.{Incidents}
 use Rattle.room_store_cache.specs.declared.request_reads.Incidents.TheVariants as incidents
 use Rattle.room_store_cache.specs.declared.request_reads.Reads.{Reads}
@@ -43,14 +45,21 @@ reported_as (reports.One r) y = refl
 
 module _ {d : ℕ} {a : Ask} {x : Reads} (selects : Selects d a x) where
   pub incident_is : (at : ℕ) (i : Incident) → is_read x.incidents at i ≡ reads_incident a at i
-  incident_is at i = read_as x.incidents at i ∙ sym (λ j. (selects.active j && is_active i.state) || (selects.named i.number j || selects.opened at i j))
+  incident_is at i =
+      read_as x.incidents at i
+      ∙ sym (λ j. (selects.active j && is_active i.state) || (selects.named i.number j || selects.opened at i j))
 
   pub number_is : (room : Room) (n : ℕ)
       → reads_turns d x.incidents room n ≡ reads_number d a room n
-  number_is room n = sym (λ j. (selects.active j && is_some (keep (λ i. is_active i.state) (incident_of d n room))) || selects.named n j)
+  number_is room n =
+      sym
+      (λ j. (selects.active j && is_some (keep (λ i. is_active i.state) (incident_of d n room))) || selects.named n j)
 
   pub report_is : (y : Report) → is_report x.reports y ≡ reads_report a y
-  report_is y = reported_as x.reports y ∙ sym (λ j. (selects.exceptions j && (not (is_normal y.outcome) && not y.cleared)) || selects.report y.callsign y.number j)
+  report_is y =
+      reported_as x.reports y
+      ∙ sym (λ j.
+      (selects.exceptions j && (not (is_normal y.outcome) && not y.cleared)) || selects.report y.callsign y.number j)
 
 -- only a queue reads the exceptions
 pub queue_only : (a : Ask) → reads_exceptions a ≡ true → a ≡ ask.Queue
@@ -108,9 +117,10 @@ one_more false false there = refl
 pub own_contains : (own : Bool) (n : ℕ) (ms : List ℕ)
     → any (λ m. (n == m) && own) ms ≡ own && contains n ms
 own_contains own n [] = sym (and_none own)
-own_contains own n (m ∷ ms) = (λ i. (same_back n m i && own) || own_contains own n ms i) ∙ one_more own (m == n) (contains n ms)
+own_contains own n (m ∷ ms) =
+    (λ i. (same_back n m i && own) || own_contains own n ms i) ∙ one_more own (m == n) (contains n ms)
 
--- a division's row that passes the one test or the other
-pub and_either : (own b c : Bool) → (own && b) || (own && c) ≡ own && (b || c)
-and_either true b c = refl
-and_either false b c = refl
+-- a division's row of one of two numbers
+pub one_of_two : (own b c : Bool) → (own && b) || ((own && c) || false) ≡ own && (b || c)
+one_of_two true b c = ap (λ x. b || x) (or_none c)
+one_of_two false b c = refl

@@ -1,5 +1,6 @@
 -- Which incidents that are read a list has, and which it hasn't.
-use Rattle.std.proofs.Common.{Bool, List, None, Option, Some, ap, cond, false, is_some, map, not, refl, sym, true, ℕ, ◌&&◌, ◌∙◌, ◌≡◌, ◌||◌}
+use Rattle.std.proofs.Common.{Bool, List, None, Option, Some, ap, cond, false, is_some, map, not, refl, sym, true, ℕ}
+use Rattle.std.proofs.Common.{◌&&◌, ◌∙◌, ◌≡◌, ◌||◌}
 use Rattle.std.proofs.lemmas.Bool.{eq-eqb}
 use Rattle.std.specs.Prelude.{filter, ◌==◌}
 use Rattle.room_types_keyed.proofs.KeyedLaws.{row_filter}
@@ -85,7 +86,8 @@ module _ (d at : ℕ) (room : Room) (in_order : IsInOrder room) (incidents : Lis
   list_shows n =
       ap (λ is. is_among d is n) (are ∙ filter_owned (owns_incident d) (reads_incident ask.Incidents at) room.incidents)
       ∙ among_read d (reads_incident ask.Incidents at) room.incidents in_order.incidents n
-      ∙ kept_alike (reads_incident ask.Incidents at) (λ i. is_active i.state) (λ i. or_none (is_active i.state)) (incident_of d n room)
+      ∙ kept_alike (reads_incident ask.Incidents at) (λ i. is_active i.state) (λ i. or_none (is_active i.state))
+      (incident_of d n room)
       ∙ sym (or_none _)
 
   pub list_calls : filter (owns_call d) (working d ask.Incidents at room).calls

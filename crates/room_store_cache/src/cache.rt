@@ -36,7 +36,7 @@ impl Cache {
         }
     }
 
-    /// Nothing is known any more.
+    /// Nothing is known from now on.
     pub fn forget(&mut self)
         ensures { KnowsNothing self.new }
     {

@@ -5,24 +5,17 @@ ghost use Rattle.sqlite.specs.State.{HasCleanDisk};
 ghost use Rattle.room_tables.specs.FoundRows.{Finds};
 ghost use Rattle.room_tables_schema.specs.FileConnections.{HasRoomSchema};
 ghost use Rattle.room_tables_schema.specs.declared.database_faults.Fault.TheVariants.{Memory};
-ghost use Rattle.room_tables_laws.specs.Outcomes.{ReadsOnly};
-ghost use Rattle.room_types.specs.Codes.{is_active};
+ghost use Rattle.room_tables_schema.specs.Outcomes.{ReadsOnly};
 ghost use Rattle.room_model.specs.Room.{IsInOrder, Room};
-ghost use Rattle.room_store_cache.specs.Backlogs.{AreBacklogsOf};
-ghost use Rattle.room_store_cache.specs.IncidentViews.{AreIncidentViewsOf};
 ghost use Rattle.room_store_cache.specs.IncidentNumbers.{contains};
 ghost use Rattle.room_store_cache.specs.RecentIncidents.{AreRecent};
 ghost use Rattle.room_store_cache.specs.Partitions.{AreKnown};
 ghost use Rattle.room_store_cache.specs.RequestReads.{is_read, reads_turns};
-ghost use Rattle.room_store_cache.specs.declared.request_reads.Incidents.TheVariants.{Two};
 
-use crate::backlogs::Backlogs;
 use crate::cache::Cache;
 use crate::cached_rows::own_rows;
-use crate::incident_views::IncidentViews;
+use crate::partitions::{Partition, load_parts};
 use crate::request_reads::Incidents;
-use crate::row_unions::{add_all, listed};
-use crate::selections::load_one;
 use room_place::plans::DivisionNumber;
 use room_tables::incident_table::{active_incidents, incidents_opened};
 use room_tables_schema::database_faults::Fault;
@@ -55,88 +48,19 @@ pub fn load_incidents<S: Alter>(
 {
     match *incidents {
         Incidents::Nothing => Ok(Rows::new(alloc)),
-        Incidents::Active => load_active(alloc, conn, division, &cache.backlogs),
+        Incidents::Active => match cache.backlogs.get(division) {
+            Some(backlog) => own_rows(alloc, &backlog.incidents, division),
+            None => active_incidents(alloc, conn, division),
+        },
         Incidents::Opened(from, to) => incidents_opened(alloc, conn, from, to, division),
         Incidents::Near(form) => cache
             .recent_incidents
             .near(alloc, conn, division, &form, at),
-        Incidents::One(number) => load_incident(
-            alloc,
-            conn,
-            division,
-            number,
-            &cache.incident_views,
-        ),
+        Incidents::One(number) => Incident::load_part(alloc, conn, cache, division, &number),
         Incidents::Two(number, into) => {
-            load_two(alloc, conn, division, number, into, &cache.incident_views)
+            let none = Rows::new(alloc);
+            load_parts::<Incident, S>(alloc, conn, cache, division, &[number, into], none)
         }
-    }
-}
-
-// The active incidents.
-fn load_active<S: Alter>(
-    alloc: Global,
-    conn: &mut Connection<S>,
-    division: DivisionNumber,
-    known: &Backlogs,
-) -> Result<Rows<Incident>, Fault>
-    requires room { HasRoomSchema S.Store conn.old }
-    requires open { HasCleanDisk (state S.Store conn.old)
-        → IsTrue (state S.Store conn.old).is_open }
-    ensures rows { Finds S.Store conn.old conn.new result (λ room x.
-        AreBacklogsOf known.now.kept.items room
-        → x ≡ filter (λ i. i.division == division && is_active i.state) room.incidents) }
-    ensures reads { ReadsOnly S.Store conn.old conn.new result }
-{
-    match known.get(division) {
-        Some(backlog) => own_rows(alloc, &backlog.incidents, division),
-        None => active_incidents(alloc, conn, division),
-    }
-}
-
-// Two incidents, by their numbers.
-fn load_two<S: Alter>(
-    alloc: Global,
-    conn: &mut Connection<S>,
-    division: DivisionNumber,
-    number: Number,
-    other: Number,
-    known: &IncidentViews,
-) -> Result<Rows<Incident>, Fault>
-    requires room { HasRoomSchema S.Store conn.old }
-    requires open { HasCleanDisk (state S.Store conn.old)
-        → IsTrue (state S.Store conn.old).is_open }
-    ensures rows { Finds S.Store conn.old conn.new result (λ room x. IsInOrder room
-        → AreIncidentViewsOf known.now.kept.items room
-        → x ≡ filter (λ i. i.division == division && is_read (Two number other) 0 i)
-        room.incidents) }
-    ensures reads { ReadsOnly S.Store conn.old conn.new result }
-{
-    let mut incidents = load_incident(alloc, conn, division, number, known)?;
-    let more = load_incident(alloc, conn, division, other, known)?;
-    add_all(&mut incidents, &more)?;
-    Ok(incidents)
-}
-
-// The incident of a number, if there is one.
-fn load_incident<S: Alter>(
-    alloc: Global,
-    conn: &mut Connection<S>,
-    division: DivisionNumber,
-    number: Number,
-    known: &IncidentViews,
-) -> Result<Rows<Incident>, Fault>
-    requires room { HasRoomSchema S.Store conn.old }
-    requires open { HasCleanDisk (state S.Store conn.old)
-        → IsTrue (state S.Store conn.old).is_open }
-    ensures rows { Finds S.Store conn.old conn.new result (λ room x. IsInOrder room
-        → AreIncidentViewsOf known.now.kept.items room
-        → x ≡ filter (λ i. i.division == division && number == i.number) room.incidents) }
-    ensures reads { ReadsOnly S.Store conn.old conn.new result }
-{
-    match known.get(division, number) {
-        Some(incident_view) => listed(alloc, incident_view.incident),
-        None => load_one::<Incident, S>(alloc, conn, division, &(division, number)),
     }
 }
 

@@ -1,5 +1,5 @@
-//! Parts of a division's calls, turns and reports that are known or that an index finds, and the
-//! load of all that are in some.
+//! Parts of a division's incidents, calls, turns and reports that are known or that an index finds,
+//! and the load of all that are in some.
 ghost use Rattle.std.specs.Prelude.{◌≡◌, ◌==◌, ◌&&◌, ◌||◌, ℕ, Bool, filter, not, IsTrue};
 ghost use Rattle.sqlite.specs.Held.{state};
 ghost use Rattle.sqlite.specs.State.{HasCleanDisk};
@@ -7,12 +7,13 @@ ghost use Rattle.room_types.specs.Codes.{outcome_number};
 ghost use Rattle.room_types_keyed.specs.Keyed.{IsKeyed};
 ghost use Rattle.room_tables.specs.FoundRows.{Finds};
 ghost use Rattle.room_tables_schema.specs.FileConnections.{HasRoomSchema};
-ghost use Rattle.room_tables_laws.specs.Outcomes.{ReadsOnly};
+ghost use Rattle.room_tables_schema.specs.Outcomes.{ReadsOnly};
 ghost use Rattle.room_store_cache.specs.Partitions.{AreKnown, any};
 
 use crate::cache::Cache;
 use crate::cached_rows::own_rows;
-use crate::row_unions::add_all;
+use crate::row_unions::{add_all, listed};
+use crate::selections::load_one;
 use room_place::plans::DivisionNumber;
 use room_tables::call_table::calls_of;
 use room_tables::report_table::uncleared_reports;
@@ -22,7 +23,7 @@ use room_tables_schema::database_faults::Fault;
 use room_types::codes::Outcome;
 use room_types::numbers::Number;
 use room_types::rows::Rows;
-use room_types::tables::{Call, Report, Turn};
+use room_types::tables::{Call, Incident, Report, Turn};
 use sqlite::{Alter, Connection};
 use std::alloc::Global;
 
@@ -75,6 +76,27 @@ pub fn load_parts<R: Partition, S: Alter>(
         add_all(&mut rows, &more)?;
     }
     Ok(rows)
+}
+
+// The incident of a number, if there is one.
+impl Partition for Incident {
+    type Part = Number;
+
+    ghost is_in = { λ d n i. i.division == d && n == i.number };
+
+    fn load_part<S: Alter>(
+        alloc: Global,
+        conn: &mut Connection<S>,
+        known: &Cache,
+        division: DivisionNumber,
+        part: &Number,
+    ) -> Result<Rows<Incident>, Fault> {
+        let number = *part;
+        match known.incident_views.get(division, number) {
+            Some(incident_view) => listed(alloc, incident_view.incident),
+            None => load_one::<Incident, S>(alloc, conn, division, &(division, number)),
+        }
+    }
 }
 
 // The calls of an incident.

@@ -1,11 +1,13 @@
-//! The incidents opened from a moment on, and those of them that a call may be linked to.
+//! The incidents opened from a moment on, and those of them that a call may be linked to. Those
+//! within 200 m east or west and 200 m north or south are decided on: none further off is within
+//! 200 m, and those in the corners of that square are few.
 ghost use Rattle.std.specs.Prelude.{◌≡◌, ◌+◌, ◌-◌, ◌≤◌, ◌==◌, ◌&&◌, None, filter, IsTrue, IfErr, IfOk, IfSome, OnOk};
 ghost use Rattle.sqlite.specs.Held.{state};
 ghost use Rattle.sqlite.specs.State.{HasCleanDisk};
 ghost use Rattle.room_tables.specs.FoundRows.{Finds};
 ghost use Rattle.room_tables_schema.specs.FileConnections.{HasRoomSchema};
 ghost use Rattle.room_tables_schema.specs.declared.database_faults.Fault.TheVariants.{Memory};
-ghost use Rattle.room_tables_laws.specs.Outcomes.{ReadsOnly};
+ghost use Rattle.room_tables_schema.specs.Outcomes.{ReadsOnly};
 ghost use Rattle.room_types.specs.declared.asks.Ask.TheVariants.{Call};
 ghost use Rattle.room_model.specs.Room.{Room};
 ghost use Rattle.room_model.specs.Working.{names_opening};
@@ -19,7 +21,7 @@ use room_tables::incident_table::incidents_since;
 use room_tables_schema::database_faults::Fault;
 use room_types::asks::CallForm;
 use room_types::changes::Change;
-use room_types::links::{LINK_METRES, LINK_SECONDS};
+use room_types::link_limits::{LINK_METRES, LINK_SECONDS};
 use room_types::numbers::Moment;
 use room_types::rows::Rows;
 use room_types::tables::Incident;

@@ -5,7 +5,7 @@ ghost use Rattle.room_types_keyed.specs.Keyed.{IsKeyed, keep};
 ghost use Rattle.room_tables.specs.FoundRows.{Finds};
 ghost use Rattle.room_tables_schema.specs.FileConnections.{HasRoomSchema};
 ghost use Rattle.room_tables_schema.specs.declared.database_faults.Fault.TheVariants.{Memory};
-ghost use Rattle.room_tables_laws.specs.Outcomes.{ReadsOnly};
+ghost use Rattle.room_tables_schema.specs.Outcomes.{ReadsOnly};
 ghost use Rattle.room_store_cache.specs.Selections.{reaches};
 
 use crate::cached_rows::own_rows;

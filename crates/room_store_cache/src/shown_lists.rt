@@ -98,7 +98,7 @@ impl ShownLists {
         }
     }
 
-    // Keeps a list in the place of the one of its division, where memory is not refused.
+    // Keeps a list instead of the one of its division, where memory is not refused.
     fn put(&mut self, list: ShownList)
         ensures { (room : Room) → AreShownListsOf self.old.kept.items room
             → IsShownListOf list room → AreShownListsOf self.new.kept.items room }

@@ -21,7 +21,7 @@ pub trait View {
         ensures { (room : Room) → IsInOrder room → is_so self.old room
             → is_so self.new (apply_one room change.now) };
 
-    /// Nothing is known any more.
+    /// Nothing is known from now on.
     fn forget(&mut self)
         ensures { is_empty self.new };
 }

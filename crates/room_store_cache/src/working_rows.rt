@@ -1,15 +1,15 @@
 //! The rows of a division that a request reads: of the fleet those known, others from the tables.
-ghost use Rattle.std.specs.Prelude.{◌≡◌, ◌&&◌, ◌==◌, ℕ, Bool, filter, not, true, IsTrue, IfErr, IfOk};
+ghost use Rattle.std.specs.Prelude.{◌≡◌, ◌&&◌, ◌==◌, ℕ, Bool, filter, not, IsTrue, IfErr, IfOk};
 ghost use Rattle.sqlite.specs.Held.{state};
 ghost use Rattle.sqlite.specs.State.{HasCleanDisk};
 ghost use Rattle.room_tables.specs.FoundRows.{Finds};
-ghost use Rattle.room_tables_laws.specs.Outcomes.{ReadsOnly};
+ghost use Rattle.room_tables_schema.specs.Outcomes.{ReadsOnly};
 ghost use Rattle.room_types.specs.declared.asks.Ask.{Ask as AskModel};
 ghost use Rattle.room_types.specs.declared.tables.Turn.{Turn};
 ghost use Rattle.room_model.specs.Queries.{held};
 ghost use Rattle.room_model.specs.Room.{IsInOrder, Room};
 ghost use Rattle.room_model.specs.RoomSlices.{room_of};
-ghost use Rattle.room_model.specs.Working.{is_last_turn, reads_active, reads_number, working};
+ghost use Rattle.room_model.specs.Working.{is_last_turn, reads_number, working};
 ghost use Rattle.room_tables_schema.specs.declared.database_faults.Fault.TheVariants.{Memory};
 ghost use Rattle.room_tables_schema.specs.FileConnections.{HasRoomSchema};
 ghost use Rattle.room_store_cache.specs.Backlogs.{AreBacklogsOf};
@@ -29,7 +29,6 @@ use crate::known_parts::{KnownPart, known_part};
 use crate::partitions::load_parts;
 use crate::request_reads::{Incidents, Reads, Reports, reads_of};
 use crate::selections::{load_one, owned_row, part_of};
-use crate::shown_lists::ShownLists;
 use room_place::plans::DivisionNumber;
 use room_tables_schema::database_faults::Fault;
 use room_types::asks::Ask;
@@ -113,28 +112,13 @@ fn fill(
         return;
     }
     match reads.incidents {
-        Incidents::Active => fill_list(alloc, &mut cache.shown_lists, division, reads, rows),
+        Incidents::Active => {
+            if reads.calls {
+                cache.shown_lists.fill(alloc, division, rows);
+            }
+        }
         Incidents::One(number) => cache.incident_views.fill(alloc, division, number, rows),
         _ => {}
-    }
-}
-
-// Keeps what a list shows.
-fn fill_list(
-    alloc: Global,
-    lists: &mut ShownLists,
-    division: DivisionNumber,
-    reads: &Reads,
-    rows: &DivisionRows,
-)
-    ensures { (room : Room) (ask : AskModel) (at : ℕ) → IsInOrder room
-        → Selects division ask reads.now → reads_active ask ≡ true
-        → room_of room.plan rows.now ≡ working division ask at room
-        → AreShownListsOf lists.old.kept.items room
-        → AreShownListsOf lists.new.kept.items room }
-{
-    if reads.calls {
-        lists.fill(alloc, division, rows);
     }
 }
 

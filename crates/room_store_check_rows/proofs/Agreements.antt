@@ -48,4 +48,5 @@ pub each : {R K : Type 0} (cmp : K → K → Ordering) (key : R → K) (total : 
     (exact : CmpEqualImpliesEq cmp) (p : R → Bool) (P : K → R → Type 0)
     (decides : (x : R) → Decides (p x) (P (key x) x)) (xs : List R) → IsKeyed cmp key xs
     → Decides (list_all p xs) ((k : K) → IfSome (row_at cmp key xs k) (P k))
-each cmp key total exact p P decides xs in_order = (at_each_key cmp key total exact p P decides xs, from_each_key cmp key total exact p P decides xs in_order)
+each cmp key total exact p P decides xs in_order =
+    (at_each_key cmp key total exact p P decides xs, from_each_key cmp key total exact p P decides xs in_order)

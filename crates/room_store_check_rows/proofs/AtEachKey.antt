@@ -11,8 +11,10 @@ use Rattle.room_place.specs.Plans.{has_division}
 use Rattle.room_place.specs.declared.plans.Area.{Area}
 use Rattle.room_types.specs.Codes.{is_merged}
 use Rattle.room_types_keyed.specs.Keyed.{row_at}
-use Rattle.room_types.specs.Keys.{assignment_key, call_key, callsign_cmp, division_key, incident_key, loan_key, numbered_cmp, offer_key, pair_cmp, point_key, report_key, turn_key, vehicle_key}
-use Rattle.room_types.specs.Orders.{callsigns_total, exact_callsigns, exact_number, exact_numbered, exact_pair, numbered_total, pairs_total}
+use Rattle.room_types.specs.Keys.{assignment_key, call_key, callsign_cmp, division_key, incident_key, loan_key}
+use Rattle.room_types.specs.Keys.{numbered_cmp, offer_key, pair_cmp, point_key, report_key, turn_key, vehicle_key}
+use Rattle.room_types.specs.Orders.{callsigns_total, exact_callsigns, exact_number, exact_numbered, exact_pair}
+use Rattle.room_types.specs.Orders.{numbered_total, pairs_total}
 use Rattle.room_types.specs.Slices.{assignment_at, division_at, vehicle_at}
 use Rattle.room_types.specs.Texts.{Callsign}
 use Rattle.room_types.specs.declared.slices.DivisionRows.{DivisionRows}
@@ -25,7 +27,8 @@ use Rattle.room_model.specs.WellFormed.{CallAgrees, NumberAgrees, OpenedAgrees}
 use Rattle.room_store_check_rows.specs.Fits.{has_row, is_opened, loan_at, offer_at, opens, rows_fit}
 use Rattle.room_store_check_rows.proofs.Agreements.{each}
 use Rattle.room_store_check_rows.proofs.PassingRows.{passed, passing}
-use Rattle.room_store_check_rows.proofs.RowLaws.{ReportFits, TurnFits, VehicleFits, call_decides, incident_decides, report_decides, three, turn_decides, vehicle_decides}
+use Rattle.room_store_check_rows.proofs.RowLaws.{ReportFits, TurnFits, VehicleFits, call_decides, incident_decides}
+use Rattle.room_store_check_rows.proofs.RowLaws.{report_decides, three, turn_decides, vehicle_decides}
 
 kept_decides : {B : Type 0} (merged b : Bool) → Decides b B
     → Decides (merged || b) (merged ≡ false → B)
@@ -34,7 +37,9 @@ kept_decides false b d = (λ h e. d.0 h, λ f. d.1 (f refl))
 
 opens_decides : (i : Incident) (c : Call)
     → Decides (opens i c) ((c.division ≡ i.division) × (c.incident ≡ i.number) × (c.at ≡ i.opened))
-opens_decides i c = Decides-like _ (λ h. (sym h.0, sym h.1, sym h.2)) (λ h. (sym h.0, sym h.1, sym h.2)) (three _ _ _ (Decides-eqb _ _) (Decides-eqb _ _) (Decides-eqb _ _))
+opens_decides i c =
+    Decides-like _ (λ h. (sym h.0, sym h.1, sym h.2)) (λ h. (sym h.0, sym h.1, sym h.2))
+    (three _ _ _ (Decides-eqb _ _) (Decides-eqb _ _) (Decides-eqb _ _))
 
 module _ (plan : List Area) (s : DivisionRows) where
   abbrev r : Room
@@ -74,7 +79,9 @@ module _ (plan : List Area) (s : DivisionRows) where
           there = found.there;
           same = (opens_decides i found.row).0 found.passes;
         },
-    λ opening. (rw opening.there at (passed {R = Call} {K = ℕ × ℕ} pair_cmp call_key pairs_total exact_pair (opens i) s.calls (opening.position, opening.serial))) ((opens_decides i opening.first_call).1 opening.same),
+    λ opening.
+        (rw opening.there at (passed {R = Call} {K = ℕ × ℕ} pair_cmp call_key pairs_total exact_pair (opens i) s.calls
+        (opening.position, opening.serial))) ((opens_decides i opening.first_call).1 opening.same),
   )
 
   pub fits_decides : IsInOrder r → Decides
@@ -94,19 +101,36 @@ module _ (plan : List Area) (s : DivisionRows) where
         numbers = h.0.1.1.1.1.1;
         opened = h.1;
       })
-      (λ h. (((h.have_rows, (h.divisions, h.points)), ((h.vehicles, (h.loans, (h.offers, h.assignments))), (h.turns, (h.reports, (h.calls, h.numbers))))), h.opened))
+      (λ h. (
+        (
+          (h.have_rows, (h.divisions, h.points)),
+          ((h.vehicles, (h.loans, (h.offers, h.assignments))), (h.turns, (h.reports, (h.calls, h.numbers)))),
+        ),
+        h.opened,
+      ))
       (Decides-and _ _
       (Decides-and _ _
       (Decides-and _ _ (itself _) (Decides-and _ _
-      (each nat_cmp division_key nat_cmp_total exact_number _ (λ d x. has_division plan d ≡ true) (λ x. itself _) s.divisions o.divisions)
-      (each pair_cmp point_key pairs_total exact_pair _ (λ k p. has_division plan p.division ≡ true) (λ p. itself _) s.points o.points)))
+      (each nat_cmp division_key nat_cmp_total exact_number _ (λ d x. has_division plan d ≡ true) (λ x. itself _)
+      s.divisions o.divisions)
+      (each pair_cmp point_key pairs_total exact_pair _ (λ k p. has_division plan p.division ≡ true) (λ p. itself _)
+      s.points o.points)))
       (Decides-and _ _
-      (Decides-and _ _ (each callsign_cmp vehicle_key callsigns_total exact_callsigns _ (VehicleFits plan s) (vehicle_decides plan s) s.vehicles o.vehicles)
-      (Decides-and _ _ (each callsign_cmp loan_key callsigns_total exact_callsigns _ (λ c l. is_some (vehicle_at c s) ≡ true) (λ l. itself _) s.loans o.loans)
-      (Decides-and _ _ (each callsign_cmp offer_key callsigns_total exact_callsigns _ (λ c l. is_some (vehicle_at c s) ≡ true) (λ l. itself _) s.offers o.offers)
-      (each callsign_cmp assignment_key callsigns_total exact_callsigns _ (λ c l. is_some (vehicle_at c s) ≡ true) (λ l. itself _) s.assignments o.assignments))))
-      (Decides-and _ _ (each numbered_cmp turn_key numbered_total exact_numbered _ (TurnFits plan s) (turn_decides plan s) s.turns o.turns)
-      (Decides-and _ _ (each numbered_cmp report_key numbered_total exact_numbered _ (ReportFits plan s) (report_decides plan s) s.reports o.reports)
-      (Decides-and _ _ (each pair_cmp call_key pairs_total exact_pair _ (λ k c. CallAgrees r (Some c)) (call_decides plan s) s.calls o.calls)
-      (each pair_cmp incident_key pairs_total exact_pair _ (λ k i. NumberAgrees r (Some i)) (incident_decides plan s) s.incidents o.incidents))))))
-      (each pair_cmp incident_key pairs_total exact_pair _ (λ k i. OpenedAgrees r (Some i)) (opened_decides o) s.incidents o.incidents))
+      (Decides-and _ _ (each callsign_cmp vehicle_key callsigns_total exact_callsigns _ (VehicleFits plan s)
+      (vehicle_decides plan s) s.vehicles o.vehicles)
+      (Decides-and _ _ (each callsign_cmp loan_key callsigns_total exact_callsigns _
+      (λ c l. is_some (vehicle_at c s) ≡ true) (λ l. itself _) s.loans o.loans)
+      (Decides-and _ _ (each callsign_cmp offer_key callsigns_total exact_callsigns _
+      (λ c l. is_some (vehicle_at c s) ≡ true) (λ l. itself _) s.offers o.offers)
+      (each callsign_cmp assignment_key callsigns_total exact_callsigns _ (λ c l. is_some (vehicle_at c s) ≡ true)
+      (λ l. itself _) s.assignments o.assignments))))
+      (Decides-and _ _ (each numbered_cmp turn_key numbered_total exact_numbered _ (TurnFits plan s)
+      (turn_decides plan s) s.turns o.turns)
+      (Decides-and _ _ (each numbered_cmp report_key numbered_total exact_numbered _ (ReportFits plan s)
+      (report_decides plan s) s.reports o.reports)
+      (Decides-and _ _ (each pair_cmp call_key pairs_total exact_pair _ (λ k c. CallAgrees r (Some c))
+      (call_decides plan s) s.calls o.calls)
+      (each pair_cmp incident_key pairs_total exact_pair _ (λ k i. NumberAgrees r (Some i)) (incident_decides plan s)
+      s.incidents o.incidents))))))
+      (each pair_cmp incident_key pairs_total exact_pair _ (λ k i. OpenedAgrees r (Some i)) (opened_decides o)
+      s.incidents o.incidents))

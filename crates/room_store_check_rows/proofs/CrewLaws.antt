@@ -5,7 +5,8 @@ use Rattle.std.specs.Ordering.{is_eq, ordering_reverse}
 use Rattle.std.specs.Prelude.{◌||◌}
 use Rattle.std.specs.declared.cmp.Ordering.TheVariants.{Equal, Greater, Less}
 use Rattle.std.specs.declared.cmp.Ordering.{Ordering}
-use Rattle.std.proofs.Common.{Bool, List, None, Some, [], ap, cond, false, inl, inr, refl, subst, sym, true, ◌∙◌, ◌∷◌, ◌≡◌, ◌⊎◌}
+use Rattle.std.proofs.Common.{Bool, List, None, Some, [], ap, cond, false, inl, inr, refl, subst, sym, true, ◌∙◌, ◌∷◌}
+use Rattle.std.proofs.Common.{◌≡◌, ◌⊎◌}
 use Rattle.std.proofs.lemmas.Bool.{false_from_ne_true, false≢true, or_parts}
 use Rattle.std.proofs.lemmas.Cmp.{tied_itself}
 use Rattle.room_types_keyed.specs.Keyed.{IsKeyed}
@@ -38,12 +39,16 @@ has_crew c ts = list_any (λ t. is_crew c t.who) ts
 pub crew_found : (c : Callsign) (ts : List Terminal) → IsKeyed token_cmp terminal_key ts
     → has_crew c ts ≡ true → (k : Token) × (terminal_at k ts ≡ Some (crew k c))
 crew_found c ts in_order h =
-    let found = passing token_cmp terminal_key callsigns_total exact_callsigns (λ t. is_crew c t.who) ts in_order h in
-    (found.row.token, found.there ∙ ap (λ w. Some (record { token = found.row.token; who = w })) (who_is c found.row.who found.passes))
+    let found = passing token_cmp terminal_key callsigns_total exact_callsigns (λ t. is_crew c t.who) ts in_order h in (
+      found.row.token,
+      found.there ∙ ap (λ w. Some (record { token = found.row.token; who = w })) (who_is c found.row.who found.passes),
+    )
 
 pub crew_there : (c : Callsign) (ts : List Terminal) (k : Token)
     → terminal_at k ts ≡ Some (crew k c) → has_crew c ts ≡ true
-crew_there c ts k e = (rw e at (passed {R = Terminal} {K = Token} token_cmp terminal_key callsigns_total exact_callsigns (λ t. is_crew c t.who) ts k)) (its_crew c)
+crew_there c ts k e =
+    (rw e at (passed {R = Terminal} {K = Token} token_cmp terminal_key callsigns_total exact_callsigns
+    (λ t. is_crew c t.who) ts k)) (its_crew c)
 
 turned : (o : Ordering) → is_eq (ordering_reverse o) ≡ is_eq o
 turned Less = refl
@@ -54,7 +59,8 @@ turned Greater = refl
 crew_first : (c : Callsign) (w : Who) (xs : List Callsign)
     → list_any (same_callsign c) (cons_option (crew_of w) xs)
     ≡ (is_crew c w || list_any (same_callsign c) xs)
-crew_first c (Crew k) xs = ap (λ b. b || list_any (same_callsign c) xs) (ap is_eq (callsigns_total.antisymm c k) ∙ turned (callsign_cmp k c))
+crew_first c (Crew k) xs =
+    ap (λ b. b || list_any (same_callsign c) xs) (ap is_eq (callsigns_total.antisymm c k) ∙ turned (callsign_cmp k c))
 crew_first c (Desk d) xs = refl
 crew_first c (Position p) xs = refl
 
@@ -71,12 +77,18 @@ AreApart (t ∷ ts) = ((c : Callsign) → is_crew c t.who ≡ true → has_crew 
 first_or_later : (c : Callsign) (t : Terminal) (ts : List Terminal) (k : Token)
     → terminal_at k (t ∷ ts) ≡ Some (crew k c)
     → ((k ≡ t.token) × (is_crew c t.who ≡ true)) ⊎ (terminal_at k ts ≡ Some (crew k c))
-first_or_later c t ts k = (elim (is_eq (token_cmp k t.token)) as (λ (b : Bool). is_eq (token_cmp k t.token) ≡ b → cond b (Some t) (terminal_at k ts) ≡ Some (crew k c) → ((k ≡ t.token) × (is_crew c t.who ≡ true)) ⊎ (terminal_at k ts ≡ Some (crew k c))) [
-  | true ↦ λ q e.
-      let same : t ≡ crew k c = cc in
-      inl (exact_callsigns _ _ ((Equal-is (token_cmp k t.token)).0 q), ap (λ (t : Terminal). is_crew c t.who) same ∙ its_crew c)
-  | false ↦ λ q e. inr e
-]) refl
+first_or_later c t ts k =
+    (elim (is_eq (token_cmp k t.token)) as (λ (b : Bool).
+    is_eq (token_cmp k t.token) ≡ b → cond b (Some t) (terminal_at k ts) ≡ Some (crew k c)
+    → ((k ≡ t.token) × (is_crew c t.who ≡ true)) ⊎ (terminal_at k ts ≡ Some (crew k c))) [
+      | true ↦ λ q e.
+          let same : t ≡ crew k c = cc in
+          inl (
+            exact_callsigns _ _ ((Equal-is (token_cmp k t.token)).0 q),
+            ap (λ (t : Terminal). is_crew c t.who) same ∙ its_crew c,
+          )
+      | false ↦ λ q e. inr e
+    ]) refl
 
 pub one_crew : (c : Callsign) (ts : List Terminal) → AreApart ts → (j k : Token)
     → terminal_at j ts ≡ Some (crew j c) → terminal_at k ts ≡ Some (crew k c) → j ≡ k
@@ -93,7 +105,8 @@ one_crew c (t ∷ ts) apart j k e g = elim (first_or_later c t ts j e) [
 ]
 
 abbrev pub IsOneEach : List Terminal → Type 0
-IsOneEach ts = (j k : Token) (c : Callsign) → terminal_at j ts ≡ Some (crew j c) → terminal_at k ts ≡ Some (crew k c) → j ≡ k
+IsOneEach ts =
+    (j k : Token) (c : Callsign) → terminal_at j ts ≡ Some (crew j c) → terminal_at k ts ≡ Some (crew k c) → j ≡ k
 
 pub apart_from_one : (ts : List Terminal) → IsKeyed token_cmp terminal_key ts → IsOneEach ts
     → AreApart ts
@@ -102,9 +115,15 @@ apart_from_one (t ∷ ts) in_order one =
     let kept = behind token_cmp terminal_key callsigns_total exact_callsigns t ts in (
       λ c e. false_from_ne_true _ (λ any.
           let found = crew_found c ts in_order.1 any in
-          let here : terminal_at t.token (t ∷ ts) ≡ Some (crew t.token c) = rw (tied_itself callsigns_total t.token) (ap (λ w. Some (record { token = t.token; who = w })) (who_is c t.who e)) in
+          let here : terminal_at t.token (t ∷ ts)
+          ≡ Some (crew t.token c) =
+          rw (tied_itself callsigns_total t.token)
+          (ap (λ w. Some (record { token = t.token; who = w })) (who_is c t.who e)) in
           let same : t.token ≡ found.0 = one t.token found.0 c here (kept found.0 _ in_order.0 found.1) in
-          let gone : None ≡ Some (crew found.0 c) = sym (row_below token_cmp terminal_key callsigns_total ts t.token in_order.0) ∙ ap (λ k. terminal_at k ts) same ∙ found.1 in
+          let gone : None
+          ≡ Some (crew found.0 c) =
+          sym (row_below token_cmp terminal_key callsigns_total ts t.token in_order.0) ∙ ap (λ k. terminal_at k ts) same
+          ∙ found.1 in
           cc),
       apart_from_one ts in_order.1 (λ j k c e g. one j k c (kept j _ in_order.0 e) (kept k _ in_order.0 g)),
     )
@@ -127,7 +146,12 @@ distinct_first : (w : Who) (xs : List Callsign)
     → ((c : Callsign) → is_crew c w ≡ true → list_any (same_callsign c) xs ≡ false)
     × IsDistinct same_callsign xs
 unfolding IsDistinct
-distinct_first (Crew k) xs h = (λ c e. subst (λ a. list_any (same_callsign a) xs ≡ false) (exact_callsigns k c ((Equal-is (callsign_cmp k c)).0 e)) (none_like _ xs h.0), h.1)
+distinct_first (Crew k) xs h = (
+  λ c e.
+      subst (λ a. list_any (same_callsign a) xs ≡ false) (exact_callsigns k c ((Equal-is (callsign_cmp k c)).0 e))
+      (none_like _ xs h.0),
+  h.1,
+)
 distinct_first (Desk d) xs h = (λ c e. absurd (false≢true e), h)
 distinct_first (Position p) xs h = (λ c e. absurd (false≢true e), h)
 
@@ -150,4 +174,5 @@ pub distinct_from_apart : (ts : List Terminal) → AreApart ts
     → IsDistinct same_callsign (crews_of ts)
 unfolding IsDistinct
 distinct_from_apart [] h = tt
-distinct_from_apart (t ∷ ts) h = first_distinct t.who (crews_of ts) (λ c e. crew_told c ts ∙ h.0 c e) (distinct_from_apart ts h.1)
+distinct_from_apart (t ∷ ts) h =
+    first_distinct t.who (crews_of ts) (λ c e. crew_told c ts ∙ h.0 c e) (distinct_from_apart ts h.1)

@@ -4,7 +4,8 @@ use Rattle.std.specs.Bool.{Decides}
 use Rattle.std.specs.List.{list_all}
 use Rattle.std.specs.Option.{option_or}
 use Rattle.std.specs.Prelude.{IfSome, cond, is_none, is_some, nat_le, not, ◌&&◌, ◌||◌}
-use Rattle.std.proofs.Common.{Bool, List, None, Option, Some, [], ap, eq-eqb, false, refl, subst, sym, true, ℕ, ◌∙◌, ◌∷◌, ◌≡◌}
+use Rattle.std.proofs.Common.{Bool, List, None, Option, Some, [], ap, eq-eqb, false, refl, subst, sym, true, ℕ, ◌∙◌}
+use Rattle.std.proofs.Common.{◌∷◌, ◌≡◌}
 use Rattle.room_place.specs.Choice.{Among}
 use Rattle.room_place.specs.Plans.{Layout}
 use Rattle.room_place.specs.declared.plans.Area.{Area}
@@ -22,10 +23,14 @@ use Rattle.room_model.proofs.Tests.{row_among}
 use Rattle.room_model.specs.Room.{IsInOrder}
 use Rattle.room_model.specs.RoomSlices.{room_of}
 use Rattle.room_model.specs.WellFormed.{IsWellFormed}
-use Rattle.room_store_check_rows.specs.FirstFaults.{call_disagreement, first_disagreement, first_of, incident_disagreement, opening_fault, report_disagreement, standing_disagreement, told_fault, turn_disagreement, vehicle_disagreement}
+use Rattle.room_store_check_rows.specs.FirstFaults.{call_disagreement, first_disagreement, first_of}
+use Rattle.room_store_check_rows.specs.FirstFaults.{incident_disagreement, opening_fault, report_disagreement}
+use Rattle.room_store_check_rows.specs.FirstFaults.{standing_disagreement, told_fault, turn_disagreement}
+use Rattle.room_store_check_rows.specs.FirstFaults.{vehicle_disagreement}
 use Rattle.room_store_check_rows.specs.Fits.{has_last_report, has_open_turn, is_open}
 use Rattle.room_store_check_rows.specs.declared.disagreements.Disagreement.{Disagreement}
-use Rattle.room_store_check_rows.specs.HistoryChecks.{Tell, has_last_number, histories_fit, is_last, kept, kept_disagreement}
+use Rattle.room_store_check_rows.specs.HistoryChecks.{Tell, has_last_number, histories_fit, is_last, kept}
+use Rattle.room_store_check_rows.specs.HistoryChecks.{kept_disagreement}
 use Rattle.room_store_check_rows.proofs.FaultLaws.{first_alike, none_told}
 use Rattle.room_store_check_rows.proofs.OpeningLaws.{untold_unopened}
 use Rattle.room_store_check_rows.proofs.RowFaults.{search_tells}
@@ -33,10 +38,11 @@ use Rattle.room_store_check_rows.proofs.RowFaults.{search_tells}
 -- ---- what is kept of the rows at a vehicle's last numbers
 open_kept : (o : Option Turn) → is_open (keep (λ t. is_none t.ended) o) ≡ is_open o
 open_kept None = refl
-open_kept (Some t) = (elim (is_none t.ended) as (λ (b : Bool). is_none t.ended ≡ b → is_open (cond b (Some t) None) ≡ b) [
-  | true ↦ λ q. q
-  | false ↦ λ q. refl
-]) refl
+open_kept (Some t) =
+    (elim (is_none t.ended) as (λ (b : Bool). is_none t.ended ≡ b → is_open (cond b (Some t) None) ≡ b) [
+      | true ↦ λ q. q
+      | false ↦ λ q. refl
+    ]) refl
 
 last_kept : (vehicles : List Vehicle) (v : Vehicle) (o : Option Report)
     → row_at callsign_cmp vehicle_key vehicles v.callsign ≡ Some v
@@ -52,12 +58,14 @@ last_kept vehicles v (Some x) there named =
 module _ (plan : List Area) (s : DivisionRows) (o : IsInOrder (room_of plan s)) where
   turn_kept : (v : Vehicle) → has_open_turn (kept s) v ≡ has_open_turn s v
   turn_kept v = ap (λ b. not (is_busy v.status) || (nat_le 1 v.last_order && b))
-      (ap is_open (row_filter numbered_cmp turn_key numbered_total (λ t. is_none t.ended) s.turns (v.callsign, v.last_order) o.turns) ∙ open_kept _)
+      (ap is_open (row_filter numbered_cmp turn_key numbered_total (λ t. is_none t.ended) s.turns
+      (v.callsign, v.last_order) o.turns) ∙ open_kept _)
 
   report_kept : (v : Vehicle) → Among v s.vehicles
       → has_last_report (kept s) v ≡ has_last_report s v
   report_kept v there = ap (λ b. not (nat_le 1 v.last_report) || b)
-      (ap is_some (row_filter numbered_cmp report_key numbered_total (is_last s.vehicles) s.reports (v.callsign, v.last_report) o.reports)
+      (ap is_some (row_filter numbered_cmp report_key numbered_total (is_last s.vehicles) s.reports
+      (v.callsign, v.last_report) o.reports)
       ∙ last_kept s.vehicles v _ (row_among callsign_cmp vehicle_key callsigns_total s.vehicles v o.vehicles there)
       (row_key numbered_cmp report_key numbered_total exact_numbered s.reports (v.callsign, v.last_report)))
 
@@ -107,7 +115,12 @@ module _ (layout : Layout) (s : DivisionRows) (o : IsInOrder (room_of layout.are
       && is_none (first_of (call_disagreement s) s.calls))
 
   histories_told : histories_fit plan s ≡ histories
-  histories_told = rw (all_none (turn_disagreement plan s) s.turns, all_none (report_disagreement plan s) s.reports, all_none (call_disagreement s) s.calls) refl
+  histories_told =
+      rw (
+        all_none (turn_disagreement plan s) s.turns,
+        all_none (report_disagreement plan s) s.reports,
+        all_none (call_disagreement s) s.calls,
+      ) refl
 
   abbrev rest : Option Disagreement → Option Disagreement → Option Disagreement
   rest standing opening = option_or (option_or standing (first_of (incident_disagreement s) s.incidents)) opening
@@ -132,4 +145,5 @@ module _ (layout : Layout) (s : DivisionRows) (o : IsInOrder (room_of layout.are
       ∙ ap (λ b. b && is_none (kept_disagreement plan rows told)) fit
       ∙ ap (λ x. histories_fit plan s && is_none (kept_disagreement plan x told)) same
       ∙ verdict_told told tell in
-      subst (λ b. Decides b (IsWellFormed (room_of plan s))) (sym all) (none_told (room_of plan s) (first_disagreement plan s) _ (some_or_none _) (search_tells layout s o))
+      subst (λ b. Decides b (IsWellFormed (room_of plan s))) (sym all)
+      (none_told (room_of plan s) (first_disagreement plan s) _ (some_or_none _) (search_tells layout s o))

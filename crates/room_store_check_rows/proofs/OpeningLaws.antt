@@ -23,7 +23,10 @@ use Rattle.room_store_check_rows.proofs.FaultLaws.{first_alike}
 
 -- ---- one call more
 told_total : IsTotalOrder told_cmp
-told_total = then_total (then_total (on_total (λ (x : ℕ × ℕ × ℕ). x.0) nat_cmp_total) (on_total (λ (x : ℕ × ℕ × ℕ). x.1) nat_cmp_total)) (on_total (λ (x : ℕ × ℕ × ℕ). x.2) nat_cmp_total)
+told_total =
+    then_total
+    (then_total (on_total (λ (x : ℕ × ℕ × ℕ). x.0) nat_cmp_total) (on_total (λ (x : ℕ × ℕ × ℕ). x.1) nat_cmp_total))
+    (on_total (λ (x : ℕ × ℕ × ℕ). x.2) nat_cmp_total)
 
 or_last : (last before : Bool) → cond last true before ≡ (before || (last || false))
 or_last true true = refl
@@ -65,9 +68,13 @@ told_opening : (i : Incident) (cs : List Call)
     → list_any (λ c. is_eq (told_cmp (i.division, i.number, i.opened) (told_of c))) cs
     ≡ list_any (opens i) cs
 told_opening i [] = refl
-told_opening i (c ∷ cs) = rw (told_alike (i.division, i.number, i.opened) (c.division, c.incident, c.at), told_opening i cs) refl
+told_opening i (c ∷ cs) =
+    rw (told_alike (i.division, i.number, i.opened) (c.division, c.incident, c.at), told_opening i cs) refl
 
 -- so the search by what calls give is the search among the calls
 pub untold_unopened : (s : DivisionRows) (told : BTreeSet (ℕ × ℕ × ℕ)) → Tell s.calls told
     → first_of (told_fault told) s.incidents ≡ first_of (opening_fault s) s.incidents
-untold_unopened s told tell = first_alike _ _ s.incidents (λ i there. ap (λ b. unless (is_merged i.state || b) (wrong.Incident i.division i.number incident.NoCall)) (tell (i.division, i.number, i.opened) ∙ told_opening i s.calls))
+untold_unopened s told tell =
+    first_alike _ _ s.incidents (λ i there.
+    ap (λ b. unless (is_merged i.state || b) (wrong.Incident i.division i.number incident.NoCall))
+    (tell (i.division, i.number, i.opened) ∙ told_opening i s.calls))

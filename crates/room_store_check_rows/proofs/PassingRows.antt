@@ -17,13 +17,16 @@ module _ {R K : Type 0} (cmp : K → K → Ordering) (key : R → K) (total : Is
   -- a row stands behind one of a lower key
   pub behind : (x : R) (xs : List R) (k : K) (y : R) → IsBelowAll cmp key (key x) xs
       → row_at cmp key xs k ≡ Some y → row_at cmp key (x ∷ xs) k ≡ Some y
-  behind x xs k y below there = (elim (is_eq (cmp k (key x))) as (λ (b : Bool). is_eq (cmp k (key x)) ≡ b → cond b (Some x) (row_at cmp key xs k) ≡ Some y) [
-    | true ↦ λ q.
-        let same : k ≡ key x = exact _ _ ((Equal-is (cmp k (key x))).0 q) in
-        let gone : None ≡ Some y = sym (row_below cmp key total xs (key x) below) ∙ ap (row_at cmp key xs) (sym same) ∙ there in
-        cc
-    | false ↦ λ q. there
-  ]) refl
+  behind x xs k y below there =
+      (elim (is_eq
+      (cmp k (key x))) as (λ (b : Bool). is_eq (cmp k (key x)) ≡ b → cond b (Some x) (row_at cmp key xs k) ≡ Some y) [
+        | true ↦ λ q.
+            let same : k ≡ key x = exact _ _ ((Equal-is (cmp k (key x))).0 q) in
+            let gone : None
+            ≡ Some y = sym (row_below cmp key total xs (key x) below) ∙ ap (row_at cmp key xs) (sym same) ∙ there in
+            cc
+        | false ↦ λ q. there
+      ]) refl
 
   module _ (p : R → Bool) where
     -- a row that passes
@@ -36,7 +39,14 @@ module _ {R K : Type 0} (cmp : K → K → Ordering) (key : R → K) (total : Is
     passing [] in_order h = absurd (false≢true h)
     passing (x ∷ xs) in_order h = (elim (p x) as (λ (b : Bool). p x ≡ b → b || list_any p xs ≡ true → Passes (x ∷ xs)) [
       | true ↦ λ q any. record { row = x; there = rw (tied_itself total (key x)) refl; passes = q }
-      | false ↦ λ q any. let found = passing xs in_order.1 any in record { row = found.row; there = behind x xs (key found.row) found.row in_order.0 found.there; passes = found.passes }
+      | false ↦
+          λ q any.
+          let found = passing xs in_order.1 any in
+          record {
+            row = found.row;
+            there = behind x xs (key found.row) found.row in_order.0 found.there;
+            passes = found.passes;
+          }
     ]) refl h
 
     -- and back
@@ -49,7 +59,9 @@ module _ {R K : Type 0} (cmp : K → K → Ordering) (key : R → K) (total : Is
     pub passed : (xs : List R) (k : K)
         → IfSome (row_at cmp key xs k) (λ x. p x ≡ true → list_any p xs ≡ true)
     passed [] k = tt
-    passed (x ∷ xs) k = (elim (is_eq (cmp k (key x))) as (λ (b : Bool). IfSome (cond b (Some x) (row_at cmp key xs k)) (λ y. p y ≡ true → p x || list_any p xs ≡ true)) [
-      | true ↦ λ h. ap (λ b. b || list_any p xs) h
-      | false ↦ later x xs (row_at cmp key xs k) (passed xs k)
-    ])
+    passed (x ∷ xs) k =
+        (elim (is_eq (cmp k (key x))) as (λ (b : Bool).
+        IfSome (cond b (Some x) (row_at cmp key xs k)) (λ y. p y ≡ true → p x || list_any p xs ≡ true)) [
+          | true ↦ λ h. ap (λ b. b || list_any p xs) h
+          | false ↦ later x xs (row_at cmp key xs k) (passed xs k)
+        ])

@@ -2,7 +2,8 @@
 use Rattle.std.specs.Bool.{Decides}
 use Rattle.std.specs.List.{list_all}
 use Rattle.std.specs.Prelude.{IfSome, is_none, is_some, ◌&&◌, ◌==◌, ◌||◌}
-use Rattle.std.proofs.Common.{Bool, List, None, Option, Some, [], ap, eq-eqb, false, refl, subst, sym, true, ℕ, ◌∙◌, ◌∷◌, ◌≡◌, ◌≤◌}
+use Rattle.std.proofs.Common.{Bool, List, None, Option, Some, [], ap, eq-eqb, false, refl, subst, sym, true, ℕ, ◌∙◌}
+use Rattle.std.proofs.Common.{◌∷◌, ◌≡◌, ◌≤◌}
 use Rattle.std.proofs.lemmas.Bool.Decides.{Decides-like, same_from_decides}
 use Rattle.std.proofs.lemmas.Bool.{and_parts, eqb-true, false_from_ne_true, false≢true, le-leb}
 use Rattle.std.proofs.lemmas.List.Folds.{Any-from_list_any}
@@ -21,7 +22,9 @@ use Rattle.room_types.specs.declared.tables.Vehicle.{Vehicle}
 use Rattle.room_types.proofs.SentLaws.{itself}
 use Rattle.room_model.specs.Room.{IsInOrder, Room}
 use Rattle.room_model.specs.RoomSlices.{room_of}
-use Rattle.room_model.specs.WellFormed.{AreInPlan, AssignmentAgrees, CallAgrees, IsWellFormed, LastAgrees, LoanAgrees, NumberAgrees, OfferAgrees, OpenAgrees, OpenedAgrees, PostAgrees, ReportAgrees, SameIncident, TurnAgrees, TurnIsActive}
+use Rattle.room_model.specs.WellFormed.{AreInPlan, AssignmentAgrees, CallAgrees, IsWellFormed, LastAgrees, LoanAgrees}
+use Rattle.room_model.specs.WellFormed.{NumberAgrees, OfferAgrees, OpenAgrees, OpenedAgrees, PostAgrees, ReportAgrees}
+use Rattle.room_model.specs.WellFormed.{SameIncident, TurnAgrees, TurnIsActive}
 use Rattle.room_model.proofs.Tests.{both_true, or_right}
 use Rattle.room_store_check_rows.specs.Fits.{is_open, is_opened, report_at, rows_fit}
 use Rattle.room_store_check_rows.proofs.Agreements.{has_vehicle, joined, lift, lower, there_if, told}
@@ -52,13 +55,15 @@ covers : (f : ℕ → Bool) (areas : List Area) → ((d : ℕ) → has_division 
     → list_all (λ a. f a.division) areas ≡ true
 covers f [] h = refl
 covers f (a ∷ areas) h =
-    let here : f a.division ≡ true = h a.division (ap (λ b. b || has_division areas a.division) (eq-eqb a.division a.division refl)) in
+    let here : f a.division
+    ≡ true = h a.division (ap (λ b. b || has_division areas a.division) (eq-eqb a.division a.division refl)) in
     both_true _ _ here (covers f areas (λ d there. h d (or_right (a.division == d) _ there)))
 
 pub in_range : (layout : Layout) (d : ℕ) → has_division layout.areas d ≡ true → is_division d ≡ true
 in_range layout d h =
     let any = Any-from_list_any (λ (a : Area). a.division == d) layout.areas h in
-    let range = numbered layout.areas layout.zone (λ a. Unit {0}) d layout.sound (any.0, any.1, any.2, any.3, (eqb-true _ _ any.4, tt)) in
+    let range = numbered layout.areas layout.zone (λ a. Unit {0}) d layout.sound
+    (any.0, any.1, any.2, any.3, (eqb-true _ _ any.4, tt)) in
     both_true _ _ (le-leb _ _ range.0) (le-leb _ _ range.1)
 
 module _ (layout : Layout) (s : DivisionRows) where
@@ -80,12 +85,15 @@ module _ (layout : Layout) (s : DivisionRows) where
       rw e at h.in_turn
   turn_joined c n (Some v) None e g f = λ last. false_from_ne_true _ (λ busy.
       let h : VehicleFits plan s c v = rw e at (f.vehicles c) in
-      let there : is_open (turn_at c n s) ≡ true = subst (λ m. is_open (turn_at c m s) ≡ true) (sym last) (h.turn busy).1 in
+      let there : is_open (turn_at c n s)
+      ≡ true = subst (λ m. is_open (turn_at c m s) ≡ true) (sym last) (h.turn busy).1 in
       false≢true (rw g at there))
 
   division_told : Fits plan s → (d : ℕ) → is_some (division_at d s) ≡ has_division plan d
-  division_told f d = same_from_decides _ _
-      (told (division_at d s) (f.divisions d), λ h. (and_parts _ _ (covered (λ n. is_division n && is_some (division_at n s)) plan d f.have_rows h)).1)
+  division_told f d = same_from_decides _ _ (
+    told (division_at d s) (f.divisions d),
+    λ h. (and_parts _ _ (covered (λ n. is_division n && is_some (division_at n s)) plan d f.have_rows h)).1,
+  )
       (itself _)
 
   planned : Fits plan s → AreInPlan r
@@ -101,17 +109,34 @@ module _ (layout : Layout) (s : DivisionRows) where
   well_formed : IsInOrder r → Fits plan s → IsWellFormed r
   well_formed o f = record {
     order = o;
-    loans = λ c. joined LoanAgrees tt _ _ (IfSome_then _ (f.vehicles c) (λ v (h : VehicleFits plan s c v). h.loan)) (f.loans c);
-    offers = λ c. joined (OfferAgrees plan) tt _ _ (IfSome_then _ (f.vehicles c) (λ v (h : VehicleFits plan s c v). h.offer)) (f.offers c);
-    assignments = λ c. joined AssignmentAgrees tt _ _ (IfSome_then _ (f.vehicles c) (λ v (h : VehicleFits plan s c v). h.assignment)) (f.assignments c);
+    loans =
+        λ c.
+        joined LoanAgrees tt _ _ (IfSome_then _ (f.vehicles c) (λ v (h : VehicleFits plan s c v). h.loan)) (f.loans c);
+    offers =
+        λ c.
+        joined (OfferAgrees plan) tt _ _ (IfSome_then _ (f.vehicles c) (λ v (h : VehicleFits plan s c v). h.offer))
+        (f.offers c);
+    assignments =
+        λ c.
+        joined AssignmentAgrees tt _ _ (IfSome_then _ (f.vehicles c) (λ v (h : VehicleFits plan s c v). h.assignment))
+        (f.assignments c);
     turns = λ c n. turn_joined c n _ _ refl refl f;
-    same_incident = λ c n. lift (SameIncident (assignment_at c s)) (no_turn _) _ (IfSome_then _ (f.turns (c, n)) (λ t (h : TurnFits plan s (c, n) t). h.as_assigned));
-    active = λ c n. lift (TurnIsActive r) tt _ (IfSome_then _ (f.turns (c, n)) (λ t (h : TurnFits plan s (c, n) t). h.active));
+    same_incident =
+        λ c n.
+        lift (SameIncident (assignment_at c s)) (no_turn _) _
+        (IfSome_then _ (f.turns (c, n)) (λ t (h : TurnFits plan s (c, n) t). h.as_assigned));
+    active =
+        λ c n.
+        lift (TurnIsActive r) tt _ (IfSome_then _ (f.turns (c, n)) (λ t (h : TurnFits plan s (c, n) t). h.active));
     calls = λ p n. lift (CallAgrees r) tt _ (f.calls (p, n));
     opened = λ d n. lift (OpenedAgrees r) tt _ (f.opened (d, n));
     numbers = λ d n. lift (NumberAgrees r) tt _ (f.numbers (d, n));
-    reports = λ c n. lift (ReportAgrees (vehicle_at c s) n) (no_report (vehicle_at c s) n) _ (IfSome_then _ (f.reports (c, n)) (λ x (h : ReportFits plan s (c, n) x). h.numbered));
-    last_reports = λ c. lift (LastAgrees r) tt _ (IfSome_then _ (f.vehicles c) (λ v (h : VehicleFits plan s c v). h.report));
+    reports =
+        λ c n.
+        lift (ReportAgrees (vehicle_at c s) n) (no_report (vehicle_at c s) n) _
+        (IfSome_then _ (f.reports (c, n)) (λ x (h : ReportFits plan s (c, n) x). h.numbered));
+    last_reports =
+        λ c. lift (LastAgrees r) tt _ (IfSome_then _ (f.vehicles c) (λ v (h : VehicleFits plan s c v). h.report));
     posts = λ c. lift (PostAgrees r) tt _ (IfSome_then _ (f.vehicles c) (λ v (h : VehicleFits plan s c v). h.post));
     plan = planned f;
   }
@@ -158,7 +183,9 @@ module _ (layout : Layout) (s : DivisionRows) where
 
   fitting : IsWellFormed r → Fits plan s
   fitting w = record {
-    have_rows = covers (λ d. is_division d && is_some (division_at d s)) plan (λ d h. both_true _ _ (in_range layout d h) (w.plan.divisions d ∙ h));
+    have_rows =
+        covers (λ d. is_division d && is_some (division_at d s)) plan
+        (λ d h. both_true _ _ (in_range layout d h) (w.plan.divisions d ∙ h));
     divisions = λ d. there_if _ _ (w.plan.divisions d);
     points = λ k. w.plan.points k.0 k.1;
     vehicles = λ c. vehicle_of w c _ refl;

@@ -4,14 +4,16 @@ use Rattle.std.specs.List.{list_all, list_any}
 use Rattle.std.specs.Option.{option_or}
 use Rattle.std.specs.Ordering.{nat_cmp}
 use Rattle.std.specs.Prelude.{IfSome, is_none, is_some, nat_le, not, option_map, ◌&&◌, ◌==◌, ◌||◌}
-use Rattle.std.proofs.Common.{Bool, List, None, Option, Some, [], ap, arith, eq-eqb, false, inl, inr, refl, subst, sym, true, ℕ, ◌<◌, ◌∙◌, ◌∷◌, ◌≡◌, ◌≤◌, ◌⊎◌}
+use Rattle.std.proofs.Common.{Bool, List, None, Option, Some, [], ap, arith, eq-eqb, false, inl, inr, refl, subst, sym}
+use Rattle.std.proofs.Common.{true, ℕ, ◌<◌, ◌∙◌, ◌∷◌, ◌≡◌, ◌≤◌, ◌⊎◌}
 use Rattle.std.proofs.lemmas.Bool.Decides.{Decides-and, Decides-or, nat_tests}
 use Rattle.std.proofs.lemmas.Bool.{false≢true, or_parts}
 use Rattle.room_place.specs.Choice.{Among}
 use Rattle.room_place.specs.Plans.{Layout, has_division, is_division}
 use Rattle.room_place.specs.declared.plans.Area.{Area}
 use Rattle.room_types.specs.Codes.{is_busy, is_merged}
-use Rattle.room_types.specs.Keys.{assignment_key, call_key, incident_key, loan_key, offer_key, point_key, report_key, turn_key, vehicle_key, division_key}
+use Rattle.room_types.specs.Keys.{assignment_key, call_key, incident_key, loan_key, offer_key, point_key, report_key}
+use Rattle.room_types.specs.Keys.{turn_key, vehicle_key, division_key}
 use Rattle.room_types.specs.Slices.{assignment_at, division_at, incident_at, turn_at, vehicle_at}
 use Rattle.room_types.specs.Texts.{Callsign}
 use Rattle.room_types.specs.declared.slices.DivisionRows.{DivisionRows}
@@ -28,9 +30,19 @@ use Rattle.room_model.specs.Room.{IsInOrder, Room}
 use Rattle.room_model.specs.RoomSlices.{room_of}
 use Rattle.room_model.specs.WellFormed.{AssignmentAgrees, IsWellFormed, LoanAgrees, OfferAgrees, OpenAgrees}
 use Rattle.room_model.proofs.Tests.{or_right}
-use Rattle.room_store_check_rows.specs.FirstFaults.{area_disagreement, assignment_fault, call_disagreement, call_fault, division_disagreement, first_disagreement, first_of, incident_disagreement, loan_fault, offer_fault, open_fault, opening_fault, order_fault, point_disagreement, report_fault, rows_disagreement, turn_fault, unless, vehicle_fault}
-use Rattle.room_store_check_rows.specs.Fits.{assignment_fits, call_fits, divisions_fit, fleet_fits, has_last_report, has_open_turn, has_post, has_row, has_vehicle, incident_fits, is_as_assigned, is_given, is_in_turn, is_numbered, is_of, is_open, is_opened, is_over, loan_at, loan_fits, offer_at, offer_fits, open_fits, report_fits, rows_fit, turn_fits, vehicle_fits}
-use Rattle.room_store_check_rows.specs.Disagreements.{HasRow, IsCallFault, IsIncidentFault, IsOddly, IsOfNone, IsOpen, IsReportFault, IsTurnFault, IsVehicleFault, IsWrong, Tells, WasGiven}
+use Rattle.room_store_check_rows.specs.FirstFaults.{area_disagreement, assignment_fault, call_disagreement, call_fault}
+use Rattle.room_store_check_rows.specs.FirstFaults.{division_disagreement, first_disagreement, first_of}
+use Rattle.room_store_check_rows.specs.FirstFaults.{incident_disagreement, loan_fault, offer_fault, open_fault}
+use Rattle.room_store_check_rows.specs.FirstFaults.{opening_fault, order_fault, point_disagreement, report_fault}
+use Rattle.room_store_check_rows.specs.FirstFaults.{rows_disagreement, turn_fault, unless, vehicle_fault}
+use Rattle.room_store_check_rows.specs.Fits.{assignment_fits, call_fits, divisions_fit, fleet_fits, has_last_report}
+use Rattle.room_store_check_rows.specs.Fits.{has_open_turn, has_post, has_row, has_vehicle, incident_fits}
+use Rattle.room_store_check_rows.specs.Fits.{is_as_assigned, is_given, is_in_turn, is_numbered, is_of, is_open}
+use Rattle.room_store_check_rows.specs.Fits.{is_opened, is_over, loan_at, loan_fits, offer_at, offer_fits, open_fits}
+use Rattle.room_store_check_rows.specs.Fits.{report_fits, rows_fit, turn_fits, vehicle_fits}
+use Rattle.room_store_check_rows.specs.Disagreements.{HasRow, IsCallFault, IsIncidentFault, IsOddly, IsOfNone, IsOpen}
+use Rattle.room_store_check_rows.specs.Disagreements.{IsReportFault, IsTurnFault, IsVehicleFault, IsWrong, Tells}
+use Rattle.room_store_check_rows.specs.Disagreements.{WasGiven}
 use Rattle.room_store_check_rows.specs.declared.disagreements.CallFault.TheVariants as call
 use Rattle.room_store_check_rows.specs.declared.disagreements.Disagreement.TheVariants as wrong
 use Rattle.room_store_check_rows.specs.declared.disagreements.Disagreement.{Disagreement}
@@ -41,9 +53,13 @@ use Rattle.room_store_check_rows.specs.declared.disagreements.TurnFault.{TurnFau
 use Rattle.room_store_check_rows.specs.declared.disagreements.VehicleFault.TheVariants as vehicle
 use Rattle.room_store_check_rows.specs.declared.disagreements.VehicleFault.{VehicleFault}
 use Rattle.room_store_check_rows.proofs.AtEachKey.{opened_decides}
-use Rattle.room_store_check_rows.proofs.FaultLaws.{Finds, find_first, find_like, find_more, find_or, find_unless, not_so, regrouped, tells}
+use Rattle.room_store_check_rows.proofs.FaultLaws.{Finds, find_first, find_like, find_more, find_or, find_unless}
+use Rattle.room_store_check_rows.proofs.FaultLaws.{not_so, regrouped, tells}
 use Rattle.room_store_check_rows.proofs.RoomLaws.{in_range, well_formed_decides}
-use Rattle.room_store_check_rows.proofs.RowLaws.{as_assigned_decides, assignment_decides, at_most, call_decides, incident_decides, loan_decides, none_sent, numbered_decides, offer_decides, open_decides, over_decides, post_decides, vehicle_decides, active_decides}
+use Rattle.room_store_check_rows.proofs.RowLaws.{as_assigned_decides, assignment_decides, at_most, call_decides}
+use Rattle.room_store_check_rows.proofs.RowLaws.{incident_decides, loan_decides, none_sent, numbered_decides}
+use Rattle.room_store_check_rows.proofs.RowLaws.{offer_decides, open_decides, over_decides, post_decides}
+use Rattle.room_store_check_rows.proofs.RowLaws.{vehicle_decides, active_decides}
 
 pub absent : {X : Type 0} (o : Option X) → is_some o ≡ false → o ≡ None
 absent None e = refl
@@ -51,7 +67,9 @@ absent (Some x) e = absurd (false≢true (sym e))
 
 its_area : (a : Area) (areas : List Area) → Among a areas → has_division areas a.division ≡ true
 its_area a [] there = absurd there
-its_area a (x ∷ areas) (inl same) = ap (λ b. b || has_division areas a.division) (eq-eqb x.division a.division (ap (λ (y : Area). y.division) (sym same)))
+its_area a (x ∷ areas) (inl same) =
+    ap (λ b. b || has_division areas a.division)
+    (eq-eqb x.division a.division (ap (λ (y : Area). y.division) (sym same)))
 its_area a (x ∷ areas) (inr there) = or_right (x.division == a.division) _ (its_area a areas there)
 
 at_least : (m n : ℕ) → nat_le m n ≡ false → n < m
@@ -111,20 +129,23 @@ module _ (layout : Layout) (s : DivisionRows) where
       (offer_found v _ refl))
       (assignment_found v _ refl))
       (find_unless (IsVehicleFault r v) (has_open_turn s v) vehicle.NoTurn (no_turn v)))
-      (find_unless (IsVehicleFault r v) (has_last_report s v) vehicle.NoReport (not_so _ (Decides-or _ _ (none_sent _) (itself _)))))
+      (find_unless (IsVehicleFault r v) (has_last_report s v) vehicle.NoReport
+      (not_so _ (Decides-or _ _ (none_sent _) (itself _)))))
       (find_unless (IsVehicleFault r v) (has_post s v v.post) vehicle.Post (not_so _ (post_decides plan s v v.post))))
 
   -- ---- a turn
   odd : (v : Vehicle) (t : Turn) (ended : Option ℕ) → vehicle_at t.callsign s ≡ Some v
       → t.ended ≡ ended → open_fits v t ended ≡ false → IsOddly r t
   odd v t ended there is fails =
-      let differs : ¬ OpenAgrees v t.order t t.ended = subst (λ e. ¬ OpenAgrees v t.order t e) (sym is) (not_so _ (open_decides plan s v t ended) fails) in
+      let differs : ¬ OpenAgrees v t.order t t.ended = subst (λ e. ¬ OpenAgrees v t.order t e) (sym is)
+      (not_so _ (open_decides plan s v t ended) fails) in
       rw there differs
 
   open_found : (v : Vehicle) (t : Turn) (ended : Option ℕ) → vehicle_at t.callsign s ≡ Some v
       → t.ended ≡ ended → Finds (open_fits v t ended) (IsTurnFault r t) (open_fault v t ended)
   open_found v t None there is = find_unless (IsTurnFault r t) _ _ (λ fails. (is, odd v t None there is fails))
-  open_found v t (Some at) there is = find_unless (IsTurnFault r t) _ _ (λ fails. (ap is_some is, odd v t (Some at) there is fails))
+  open_found v t (Some at) there is =
+      find_unless (IsTurnFault r t) _ _ (λ fails. (ap is_some is, odd v t (Some at) there is fails))
 
   not_given : (v : Vehicle) (t : Turn) → vehicle_at t.callsign s ≡ Some v
       → nat_le 1 t.order && nat_le t.order v.last_order ≡ false
@@ -136,7 +157,9 @@ module _ (layout : Layout) (s : DivisionRows) where
   order_found : (t : Turn) (v : Option Vehicle) → vehicle_at t.callsign s ≡ v
       → Finds (is_in_turn t v) (IsTurnFault r t) (order_fault t v)
   order_found t None none = record { told = (refl, λ h. rw none at h) }
-  order_found t (Some v) there = find_like _ (is_in_turn t (Some v)) (regrouped (nat_le 1 t.order) (nat_le t.order v.last_order) (open_fits v t t.ended))
+  order_found t (Some v) there =
+      find_like _ (is_in_turn t (Some v))
+      (regrouped (nat_le 1 t.order) (nat_le t.order v.last_order) (open_fits v t t.ended))
       (find_or
       (find_unless (IsTurnFault r t) (nat_le 1 t.order && nat_le t.order v.last_order) turn.Order (not_given v t there))
       (open_found v t t.ended there refl))
@@ -146,15 +169,18 @@ module _ (layout : Layout) (s : DivisionRows) where
       (find_or (find_or (find_or
       (find_unless (IsTurnFault r t) (has_division plan t.division) turn.Division (λ fails. fails))
       (order_found t _ refl))
-      (find_unless (IsTurnFault r t) (is_as_assigned t (assignment_at t.callsign s)) turn.Incident (not_so _ (as_assigned_decides plan s t _))))
-      (find_unless (IsTurnFault r t) (is_over s t) turn.NotActive (not_so _ (over_decides plan s t.ended _ (active_decides plan s _)))))
+      (find_unless (IsTurnFault r t) (is_as_assigned t (assignment_at t.callsign s)) turn.Incident
+      (not_so _ (as_assigned_decides plan s t _))))
+      (find_unless (IsTurnFault r t) (is_over s t) turn.NotActive
+      (not_so _ (over_decides plan s t.ended _ (active_decides plan s _)))))
 
   -- ---- a report
   report_found : (x : Report) → Finds (report_fits plan s x) (IsReportFault r x)
       (report_fault plan s x)
   report_found x = find_or
       (find_unless (IsReportFault r x) (has_division plan x.division) report.Division (λ fails. fails))
-      (find_unless (IsReportFault r x) (is_numbered x (vehicle_at x.callsign s)) report.Number (not_so _ (numbered_decides plan s x _)))
+      (find_unless (IsReportFault r x) (is_numbered x (vehicle_at x.callsign s)) report.Number
+      (not_so _ (numbered_decides plan s x _)))
 
   -- ---- a call
   call_found : (c : Call) (i : Option Incident) → incident_at c.division c.incident s ≡ i
@@ -178,20 +204,42 @@ module _ (layout : Layout) (s : DivisionRows) where
   rows_found = find_like _ (rows_fit plan s) (simp regrouped)
       (find_or (find_or (find_or (find_or (find_or (find_or (find_or (find_or (find_or (find_or
       (find_first (IsWrong r) (has_row s) _ plan (λ a there. find_unless _ _ _ (no_row a there)))
-      (find_first (IsWrong r) (λ d. has_division plan d.number) _ s.divisions (λ d there. find_unless _ _ _ (λ fails. record { row = d; there = there; named = refl; holds = fails }))))
-      (find_first (IsWrong r) (λ p. has_division plan p.division) _ s.points (λ p there. find_unless _ _ _ (λ fails. record { row = p; there = there; named = refl; holds = fails }))))
-      (find_first (IsWrong r) (vehicle_fits plan s) _ s.vehicles (λ v there. find_more (IsVehicleFault r v) _ _ _ _ (λ fault holds. record { row = v; there = there; named = refl; holds = (refl, holds) }) (vehicle_found v))))
-      (find_first (IsWrong r) (λ l. has_vehicle s l.callsign) _ s.loans (λ l there. alone _ l.callsign _ (λ none. record { row = l; there = there; named = refl; holds = none }))))
-      (find_first (IsWrong r) (λ o. has_vehicle s o.callsign) _ s.offers (λ o there. alone _ o.callsign _ (λ none. record { row = o; there = there; named = refl; holds = none }))))
-      (find_first (IsWrong r) (λ a. has_vehicle s a.callsign) _ s.assignments (λ a there. alone _ a.callsign _ (λ none. record { row = a; there = there; named = refl; holds = none }))))
-      (find_first (IsWrong r) (turn_fits plan s) _ s.turns (λ t there. find_more (IsTurnFault r t) _ _ _ _ (λ fault holds. record { row = t; there = there; named = refl; holds = holds }) (turn_found t))))
-      (find_first (IsWrong r) (report_fits plan s) _ s.reports (λ x there. find_more (IsReportFault r x) _ _ _ _ (λ fault holds. record { row = x; there = there; named = refl; holds = holds }) (report_found x))))
-      (find_first (IsWrong r) (call_fits s) _ s.calls (λ c there. find_more (IsCallFault r c) _ _ _ _ (λ fault holds. record { row = c; there = there; named = refl; holds = holds }) (call_found c _ refl))))
-      (find_first (IsWrong r) (incident_fits s) _ s.incidents (λ i there. find_unless _ _ _ (λ fails. record { row = i; there = there; named = refl; holds = not_so _ (incident_decides plan s i) fails }))))
+      (find_first (IsWrong r) (λ d. has_division plan d.number) _ s.divisions
+      (λ d there. find_unless _ _ _ (λ fails. record { row = d; there = there; named = refl; holds = fails }))))
+      (find_first (IsWrong r) (λ p. has_division plan p.division) _ s.points
+      (λ p there. find_unless _ _ _ (λ fails. record { row = p; there = there; named = refl; holds = fails }))))
+      (find_first (IsWrong r) (vehicle_fits plan s) _ s.vehicles
+      (λ v there.
+      find_more (IsVehicleFault r v) _ _ _ _
+      (λ fault holds. record { row = v; there = there; named = refl; holds = (refl, holds) }) (vehicle_found v))))
+      (find_first (IsWrong r) (λ l. has_vehicle s l.callsign) _ s.loans
+      (λ l there. alone _ l.callsign _ (λ none. record { row = l; there = there; named = refl; holds = none }))))
+      (find_first (IsWrong r) (λ o. has_vehicle s o.callsign) _ s.offers
+      (λ o there. alone _ o.callsign _ (λ none. record { row = o; there = there; named = refl; holds = none }))))
+      (find_first (IsWrong r) (λ a. has_vehicle s a.callsign) _ s.assignments
+      (λ a there. alone _ a.callsign _ (λ none. record { row = a; there = there; named = refl; holds = none }))))
+      (find_first (IsWrong r) (turn_fits plan s) _ s.turns (λ t there.
+      find_more (IsTurnFault r t) _ _ _ _
+      (λ fault holds. record { row = t; there = there; named = refl; holds = holds }) (turn_found t))))
+      (find_first (IsWrong r) (report_fits plan s) _ s.reports
+      (λ x there.
+      find_more (IsReportFault r x) _ _ _ _
+      (λ fault holds. record { row = x; there = there; named = refl; holds = holds }) (report_found x))))
+      (find_first (IsWrong r) (call_fits s) _ s.calls (λ c there.
+      find_more (IsCallFault r c) _ _ _ _
+      (λ fault holds. record { row = c; there = there; named = refl; holds = holds }) (call_found c _ refl))))
+      (find_first (IsWrong r) (incident_fits s) _ s.incidents
+      (λ i there.
+      find_unless _ _ _
+      (λ fails. record { row = i; there = there; named = refl; holds = not_so _ (incident_decides plan s i) fails }))))
 
   opening_found : IsInOrder r → Finds (list_all (is_opened s) s.incidents) (IsWrong r)
       (first_of (opening_fault s) s.incidents)
-  opening_found o = find_first (IsWrong r) (is_opened s) (opening_fault s) s.incidents (λ i there. find_unless _ _ _ (λ fails. record { row = i; there = there; named = refl; holds = not_so _ (opened_decides plan s o i) fails }))
+  opening_found o =
+      find_first (IsWrong r) (is_opened s) (opening_fault s) s.incidents
+      (λ i there.
+      find_unless _ _ _
+      (λ fails. record { row = i; there = there; named = refl; holds = not_so _ (opened_decides plan s o i) fails }))
 
   -- what the search finds of rows in order is reported of their room
   pub search_tells : IsInOrder r → Tells r (first_disagreement plan s)

@@ -22,8 +22,12 @@ use Rattle.room_types.specs.declared.tables.Vehicle.{Vehicle}
 use Rattle.room_types.proofs.SentLaws.{itself}
 use Rattle.room_model.specs.Room.{Room}
 use Rattle.room_model.specs.RoomSlices.{room_of}
-use Rattle.room_model.specs.WellFormed.{AssignmentAgrees, CallAgrees, IsGiven, IsOfIncident, IsPost, LastAgrees, LoanAgrees, OfferAgrees, OpenAgrees, PostAgrees, ReportAgrees, SameIncident, TurnAgrees, TurnIsActive}
-use Rattle.room_store_check_rows.specs.Fits.{assignment_fits, call_fits, has_post, incident_fits, is_as_assigned, is_given, is_in_turn, is_numbered, is_of, is_open, loan_at, loan_fits, offer_at, offer_fits, open_fits, report_fits, turn_fits, vehicle_fits}
+use Rattle.room_model.specs.WellFormed.{AssignmentAgrees, CallAgrees, IsGiven, IsOfIncident, IsPost, LastAgrees}
+use Rattle.room_model.specs.WellFormed.{LoanAgrees, OfferAgrees, OpenAgrees, PostAgrees, ReportAgrees, SameIncident}
+use Rattle.room_model.specs.WellFormed.{TurnAgrees, TurnIsActive}
+use Rattle.room_store_check_rows.specs.Fits.{assignment_fits, call_fits, has_post, incident_fits, is_as_assigned}
+use Rattle.room_store_check_rows.specs.Fits.{is_given, is_in_turn, is_numbered, is_of, is_open, loan_at, loan_fits}
+use Rattle.room_store_check_rows.specs.Fits.{offer_at, offer_fits, open_fits, report_fits, turn_fits, vehicle_fits}
 
 -- ---- tests of tests
 pub idle : (b : Bool) → Decides (not b) (b ≡ false)
@@ -38,7 +42,8 @@ unless false q d e = (λ h x. absurd (false≢true (d.1 x)), λ f. refl)
 
 pub three : {P Q R : Type 0} (p q r : Bool) → Decides p P → Decides q Q → Decides r R
     → Decides (p && (q && r)) (P × Q × R)
-three p q r d e f = Decides-like _ (λ h. (h.0, h.1.0, h.1.1)) (λ h. (h.0, (h.1, h.2))) (Decides-and _ _ d (Decides-and _ _ e f))
+three p q r d e f =
+    Decides-like _ (λ h. (h.0, h.1.0, h.1.1)) (λ h. (h.0, (h.1, h.2))) (Decides-and _ _ d (Decides-and _ _ e f))
 
 -- ---- a vehicle
 pub loan_decides : (v : Vehicle) (l : Option Loan) → Decides (loan_fits v l) (LoanAgrees (Some v) l)
@@ -51,7 +56,8 @@ offer_decides plan v None = idle _
 offer_decides plan v (Some o) = Decides-like _
     (λ h. (h.0, h.1.0, h.1.1.0, h.1.1.1.0, h.1.1.1.1))
     (λ h. (h.0, (h.1, (h.2, (h.3, h.4)))))
-    (Decides-and _ _ (itself _) (Decides-and _ _ (Decides-eqb _ _) (Decides-and _ _ (Decides-eqb _ _) (Decides-and _ _ (Decides-not _ (Decides-eqb _ _)) (itself _)))))
+    (Decides-and _ _ (itself _) (Decides-and _ _ (Decides-eqb _ _)
+    (Decides-and _ _ (Decides-eqb _ _) (Decides-and _ _ (Decides-not _ (Decides-eqb _ _)) (itself _)))))
 
 pub assignment_decides : (v : Vehicle) (a : Option Assignment)
     → Decides (assignment_fits v a) (AssignmentAgrees (Some v) a)
@@ -82,9 +88,20 @@ module _ (plan : List Area) (s : DivisionRows) where
 
   pub vehicle_decides : (v : Vehicle) → Decides (vehicle_fits plan s v) (VehicleFits v.callsign v)
   vehicle_decides v = Decides-like _
-      (λ h. record { home = h.0; holder = h.1.0; loan = h.1.1.0; offer = h.1.1.1.0; assignment = h.1.1.1.1.0; turn = h.1.1.1.1.1.0; report = h.1.1.1.1.1.1.0; post = h.1.1.1.1.1.1.1 })
+      (λ h. record {
+        home = h.0;
+        holder = h.1.0;
+        loan = h.1.1.0;
+        offer = h.1.1.1.0;
+        assignment = h.1.1.1.1.0;
+        turn = h.1.1.1.1.1.0;
+        report = h.1.1.1.1.1.1.0;
+        post = h.1.1.1.1.1.1.1;
+      })
       (λ h. (h.home, (h.holder, (h.loan, (h.offer, (h.assignment, (h.turn, (h.report, h.post))))))))
-      (Decides-and _ _ (itself _) (Decides-and _ _ (itself _) (Decides-and _ _ (loan_decides v _) (Decides-and _ _ (offer_decides plan v _) (Decides-and _ _ (assignment_decides v _)
+      (Decides-and _ _ (itself _) (Decides-and _ _ (itself _)
+      (Decides-and _ _ (loan_decides v _)
+      (Decides-and _ _ (offer_decides plan v _) (Decides-and _ _ (assignment_decides v _)
       (Decides-and _ _ (unless _ _ (itself _) (Decides-and _ _ (at_most _ _) (itself _)))
       (Decides-and _ _ (Decides-or _ _ (none_sent _) (itself _)) (post_decides v v.post))))))))
 
@@ -123,7 +140,8 @@ module _ (plan : List Area) (s : DivisionRows) where
   turn_decides t = Decides-like _
       (λ h. record { planned = h.0; in_turn = h.1.0; as_assigned = h.1.1.0; active = h.1.1.1 })
       (λ h. (h.planned, (h.in_turn, (h.as_assigned, h.active))))
-      (Decides-and _ _ (itself _) (Decides-and _ _ (in_turn_decides t _) (Decides-and _ _ (as_assigned_decides t _) (over_decides t.ended _ (active_decides _)))))
+      (Decides-and _ _ (itself _) (Decides-and _ _ (in_turn_decides t _)
+      (Decides-and _ _ (as_assigned_decides t _) (over_decides t.ended _ (active_decides _)))))
 
   -- ---- a report
   pub numbered_decides : (x : Report) (v : Option Vehicle)
@@ -137,7 +155,9 @@ module _ (plan : List Area) (s : DivisionRows) where
 
   pub report_decides : (x : Report)
       → Decides (report_fits plan s x) (ReportFits (x.callsign, x.number) x)
-  report_decides x = Decides-like _ (λ h. record { planned = h.0; numbered = h.1 }) (λ h. (h.planned, h.numbered)) (Decides-and _ _ (itself _) (numbered_decides x _))
+  report_decides x =
+      Decides-like _ (λ h. record { planned = h.0; numbered = h.1 }) (λ h. (h.planned, h.numbered))
+      (Decides-and _ _ (itself _) (numbered_decides x _))
 
   -- ---- a call and an incident
   of_decides : (c : Call) (i : Option Incident) → Decides (is_of c i) (IsOfIncident c i)

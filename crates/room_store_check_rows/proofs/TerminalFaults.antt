@@ -6,7 +6,8 @@ use Rattle.std.specs.Option.{option_or}
 use Rattle.std.specs.Ordering.{is_eq}
 use Rattle.std.specs.declared.cmp.Ordering.TheVariants.{Equal}
 use Rattle.std.specs.Prelude.{cond, is_some, not, ◌&&◌, ◌==◌, ◌||◌}
-use Rattle.std.proofs.Common.{Bool, List, None, Option, Some, [], ap, eq-eqb, false, inl, inr, length, refl, subst, sym, true, ◌∙◌, ◌∷◌, ◌≡◌, ◌⊎◌}
+use Rattle.std.proofs.Common.{Bool, List, None, Option, Some, [], ap, eq-eqb, false, inl, inr, length, refl, subst, sym}
+use Rattle.std.proofs.Common.{true, ◌∙◌, ◌∷◌, ◌≡◌, ◌⊎◌}
 use Rattle.std.proofs.lemmas.Bool.{false≢true}
 use Rattle.std.proofs.lemmas.Cmp.{tied_itself}
 use Rattle.room_place.specs.Choice.{Among}
@@ -26,14 +27,16 @@ use Rattle.room_model.specs.Enrol.{AreTerminals, is_crew, terminal_key, token_cm
 use Rattle.room_model.specs.Room.{Room}
 use Rattle.room_model.specs.RoomSlices.{room_of}
 use Rattle.room_model.proofs.Tests.{or_right}
-use Rattle.room_store_check_rows.specs.TerminalCrews.{crew_again, crew_of, crews_fit, crews_of, has_subject, second_crew, subject_fault, terminals_fault, two_crews, uncrewed}
+use Rattle.room_store_check_rows.specs.TerminalCrews.{crew_again, crew_of, crews_fit, crews_of, has_subject}
+use Rattle.room_store_check_rows.specs.TerminalCrews.{second_crew, subject_fault, terminals_fault, two_crews, uncrewed}
 use Rattle.room_store_check_rows.specs.FirstFaults.{first_of}
 use Rattle.room_store_check_rows.specs.Fits.{has_vehicle}
 use Rattle.room_store_check_rows.specs.Misfits.{HasTerminal, HasTwoCrews, IsMisfit, TellsOf}
 use Rattle.room_store_check_rows.specs.declared.disagreements.TerminalFault.TheVariants as wrong
 use Rattle.room_store_check_rows.specs.declared.disagreements.TerminalFault.{TerminalFault}
 use Rattle.room_store_check_rows.proofs.CrewLaws.{AreApart, crew_told, has_crew, its_crew, who_is}
-use Rattle.room_store_check_rows.proofs.FaultLaws.{Finds, Told, find_first, find_like, find_or, find_unless, not_so, regrouped}
+use Rattle.room_store_check_rows.proofs.FaultLaws.{Finds, Told, find_first, find_like, find_or, find_unless, not_so}
+use Rattle.room_store_check_rows.proofs.FaultLaws.{regrouped}
 use Rattle.room_store_check_rows.proofs.RowFaults.{absent}
 use Rattle.room_store_check_rows.proofs.TerminalLaws.{apart_decides, terminals_decide}
 
@@ -50,15 +53,18 @@ behind w t ts h = record { terminal = h.terminal; there = inr h.there; is = h.is
 
 crew_there : (c : Callsign) (ts : List Terminal) → has_crew c ts ≡ true → HasTerminal (Crew c) ts
 crew_there c [] h = absurd (false≢true h)
-crew_there c (t ∷ ts) h = (elim (is_crew c t.who) as (λ (b : Bool). is_crew c t.who ≡ b → b || has_crew c ts ≡ true → HasTerminal (Crew c) (t ∷ ts)) [
-  | true ↦ λ q any. record { terminal = t; there = inl refl; is = who_is c t.who q }
-  | false ↦ λ q any. behind (Crew c) t ts (crew_there c ts any)
-]) refl h
+crew_there c (t ∷ ts) h =
+    (elim (is_crew c
+    t.who) as (λ (b : Bool). is_crew c t.who ≡ b → b || has_crew c ts ≡ true → HasTerminal (Crew c) (t ∷ ts)) [
+      | true ↦ λ q any. record { terminal = t; there = inl refl; is = who_is c t.who q }
+      | false ↦ λ q any. behind (Crew c) t ts (crew_there c ts any)
+    ]) refl h
 
 has_it : (c : Callsign) (ts : List Terminal) (t : Terminal) → Among t ts → t.who ≡ Crew c
     → has_crew c ts ≡ true
 has_it c [] t there is = absurd there
-has_it c (x ∷ xs) t (inl same) is = ap (λ b. b || has_crew c xs) (ap (λ (u : Terminal). is_crew c u.who) (sym same) ∙ ap (is_crew c) is ∙ its_crew c)
+has_it c (x ∷ xs) t (inl same) is =
+    ap (λ b. b || has_crew c xs) (ap (λ (u : Terminal). is_crew c u.who) (sym same) ∙ ap (is_crew c) is ∙ its_crew c)
 has_it c (x ∷ xs) t (inr later) is = or_right (is_crew c x.who) _ (has_it c xs t later is)
 
 no_crew : (c : Callsign) (ts : List Terminal) → has_crew c ts ≡ false → ¬ HasTerminal (Crew c) ts
@@ -99,12 +105,15 @@ alone c t ts is none k e =
 
 first_searched : (t : Terminal) (ts : List Terminal) (w : Who) → t.who ≡ w
     → (o : Option TerminalFault) → Searched ts o → Searched (t ∷ ts) (option_or (crew_again w ts) o)
-first_searched t ts (Crew c) is o h = (elim (has_crew c ts) as (λ (b : Bool). has_crew c ts ≡ b → Searched (t ∷ ts) (option_or (cond (not b) None (Some (wrong.TwoCrews c))) o)) [
-  | true ↦ λ q. inl (is, crew_there c ts q)
-  | false ↦ λ q. searched_later t ts (alone c t ts is q) o h
-]) refl
+first_searched t ts (Crew c) is o h =
+    (elim (has_crew c ts) as (λ (b : Bool).
+    has_crew c ts ≡ b → Searched (t ∷ ts) (option_or (cond (not b) None (Some (wrong.TwoCrews c))) o)) [
+      | true ↦ λ q. inl (is, crew_there c ts q)
+      | false ↦ λ q. searched_later t ts (alone c t ts is q) o h
+    ]) refl
 first_searched t ts (Desk d) is o h = searched_later t ts (λ k e. absurd (false≢true (ap (is_crew k) (sym is) ∙ e))) o h
-first_searched t ts (Position p) is o h = searched_later t ts (λ k e. absurd (false≢true (ap (is_crew k) (sym is) ∙ e))) o h
+first_searched t ts (Position p) is o h =
+    searched_later t ts (λ k e. absurd (false≢true (ap (is_crew k) (sym is) ∙ e))) o h
 
 searched : (ts : List Terminal) → Searched ts (second_crew ts)
 searched [] = tt
@@ -115,12 +124,16 @@ there_at : (xs : List Vehicle) (x : Vehicle) → Among x xs
     → is_some (row_at callsign_cmp vehicle_key xs x.callsign) ≡ true
 there_at [] x there = absurd there
 there_at (y ∷ ys) x (inl same) =
-    let tied : callsign_cmp x.callsign y.callsign ≡ Equal = subst (λ (u : Vehicle). callsign_cmp x.callsign u.callsign ≡ Equal) same (tied_itself callsigns_total x.callsign) in
+    let tied : callsign_cmp x.callsign y.callsign
+    ≡ Equal =
+    subst (λ (u : Vehicle). callsign_cmp x.callsign u.callsign ≡ Equal) same (tied_itself callsigns_total x.callsign) in
     rw tied refl
-there_at (y ∷ ys) x (inr later) = (elim (is_eq (callsign_cmp x.callsign y.callsign)) as (λ (b : Bool). is_some (cond b (Some y) (row_at callsign_cmp vehicle_key ys x.callsign)) ≡ true) [
-  | true ↦ refl
-  | false ↦ there_at ys x later
-])
+there_at (y ∷ ys) x (inr later) =
+    (elim (is_eq (callsign_cmp x.callsign
+    y.callsign)) as (λ (b : Bool). is_some (cond b (Some y) (row_at callsign_cmp vehicle_key ys x.callsign)) ≡ true) [
+      | true ↦ refl
+      | false ↦ there_at ys x later
+    ])
 
 pub unordered : (r : Room) (ts : List Terminal) → ¬ IsKeyed token_cmp terminal_key ts
     → TellsOf r ts (Some wrong.Token)
@@ -149,7 +162,8 @@ module _ (plan : List Area) (s : DivisionRows) (ts : List Terminal) (crews : BTr
   twice_is (wrong.Desk d) h = absurd h
 
   fewer : as_many ≡ false → (o : Option TerminalFault) → Searched ts o → Told false Misfit o
-  fewer q None apart = absurd (false≢true (sym q ∙ (apart_decides plan s ts crews in_order vehicles of_terminals).1 apart))
+  fewer q None apart =
+      absurd (false≢true (sym q ∙ (apart_decides plan s ts crews in_order vehicles of_terminals).1 apart))
   fewer q (Some x) h = (refl, twice_is x h)
 
   two_found : Finds as_many Misfit (two_crews ts crews)
@@ -163,8 +177,10 @@ module _ (plan : List Area) (s : DivisionRows) (ts : List Terminal) (crews : BTr
 
   subject_found : (t : Terminal) → Among t ts → (w : Who) → t.who ≡ w
       → Finds (has_subject plan s w) Misfit (subject_fault plan s w)
-  subject_found t there (Crew c) is = find_unless Misfit _ _ (λ fails. (record { terminal = t; there = there; is = is }, absent _ fails))
-  subject_found t there (Desk d) is = find_unless Misfit _ _ (λ fails. (record { terminal = t; there = there; is = is }, fails))
+  subject_found t there (Crew c) is =
+      find_unless Misfit _ _ (λ fails. (record { terminal = t; there = there; is = is }, absent _ fails))
+  subject_found t there (Desk d) is =
+      find_unless Misfit _ _ (λ fails. (record { terminal = t; there = there; is = is }, fails))
   subject_found t there (Position p) is = record { told = refl }
 
   -- what the search finds of terminals in order is reported of them and their room
@@ -172,5 +188,6 @@ module _ (plan : List Area) (s : DivisionRows) (ts : List Terminal) (crews : BTr
   terminals_tell = tells (room_of plan s) ts _ _ (terminals_decide plan s ts crews in_order vehicles of_terminals)
       (find_like _ (crews_fit plan s ts crews) (simp regrouped)
       (find_or (find_or two_found
-      (find_first Misfit (λ v. contains callsign_cmp crews v.callsign) _ s.vehicles (λ v there. find_unless _ _ _ (λ fails. (there_at s.vehicles v there, crewless v.callsign fails)))))
+      (find_first Misfit (λ v. contains callsign_cmp crews v.callsign) _ s.vehicles
+      (λ v there. find_unless _ _ _ (λ fails. (there_at s.vehicles v there, crewless v.callsign fails)))))
       (find_first Misfit (λ t. has_subject plan s t.who) _ ts (λ t there. subject_found t there t.who refl))))

@@ -24,7 +24,8 @@ use Rattle.room_model.specs.Enrol.{AreTerminals, terminal_at, terminal_key, toke
 use Rattle.room_model.specs.RoomSlices.{room_of}
 use Rattle.room_store_check_rows.specs.TerminalCrews.{crews_fit, crews_of, has_subject}
 use Rattle.room_store_check_rows.proofs.Agreements.{each, told}
-use Rattle.room_store_check_rows.proofs.CrewLaws.{AreApart, apart_from_distinct, apart_from_one, crew_found, crew_there, crew_told, distinct_from_apart, one_crew}
+use Rattle.room_store_check_rows.proofs.CrewLaws.{AreApart, apart_from_distinct, apart_from_one, crew_found, crew_there}
+use Rattle.room_store_check_rows.proofs.CrewLaws.{crew_told, distinct_from_apart, one_crew}
 
 module _ (plan : List Area) (s : DivisionRows) (ts : List Terminal) (crews : BTreeSet Callsign)
     (in_order : IsKeyed token_cmp terminal_key ts)
@@ -50,13 +51,18 @@ module _ (plan : List Area) (s : DivisionRows) (ts : List Terminal) (crews : BTr
       (λ h. record { apart = h.0; crewed = h.1.0; subjects = h.1.1 })
       (λ h. (h.apart, (h.crewed, h.subjects)))
       (Decides-and _ _ apart_decides (Decides-and _ _
-      (each callsign_cmp vehicle_key callsigns_total exact_callsigns _ (λ c v. contains callsign_cmp crews c ≡ true) (λ v. itself _) s.vehicles vehicles)
-      (each token_cmp terminal_key callsigns_total exact_callsigns _ (λ k t. has_subject plan s t.who ≡ true) (λ t. itself _) ts in_order)))
+      (each callsign_cmp vehicle_key callsigns_total exact_callsigns _ (λ c v. contains callsign_cmp crews c ≡ true)
+      (λ v. itself _) s.vehicles vehicles)
+      (each token_cmp terminal_key callsigns_total exact_callsigns _ (λ k t. has_subject plan s t.who ≡ true)
+      (λ t. itself _) ts in_order)))
 
   fitting : Fits → AreTerminals (room_of plan s) ts
   fitting f = record {
     keyed = in_order;
-    has_crew = λ c there. crew_found c ts in_order (sym (crew_told c ts) ∙ sym (of_terminals.0 c) ∙ told (vehicle_at c s) (f.crewed c) there);
+    has_crew =
+        λ c there.
+        crew_found c ts in_order
+        (sym (crew_told c ts) ∙ sym (of_terminals.0 c) ∙ told (vehicle_at c s) (f.crewed c) there);
     one_crew = λ j k c. one_crew c ts f.apart j k;
     crews = λ k c e. rw e at (f.subjects k);
     desks = λ k d e. rw e at (f.subjects k);

@@ -1,7 +1,8 @@
 -- Whether a row agrees with the rows that it names, as tests.
 use Rattle.std.specs.List.{list_all, list_any}
 use Rattle.std.specs.Ordering.{nat_cmp, ordering_then}
-use Rattle.std.specs.Prelude.{Bool, List, None, Option, Some, false, is_none, is_some, nat_le, not, true, ℕ, ◌&&◌, ◌==◌, ◌||◌}
+use Rattle.std.specs.Prelude.{Bool, List, None, Option, Some, false, is_none, is_some, nat_le, not, true, ℕ, ◌&&◌, ◌==◌}
+use Rattle.std.specs.Prelude.{◌||◌}
 use Rattle.std.specs.declared.cmp.Ordering.{Ordering}
 use Rattle.room_place.specs.Plans.{has_division, is_division}
 use Rattle.room_place.specs.declared.plans.Area.{Area}

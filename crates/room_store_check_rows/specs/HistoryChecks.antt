@@ -11,7 +11,9 @@ use Rattle.room_types.specs.declared.slices.DivisionRows.{DivisionRows}
 use Rattle.room_types.specs.declared.tables.Call.{Call}
 use Rattle.room_types.specs.declared.tables.Report.{Report}
 use Rattle.room_types.specs.declared.tables.Vehicle.{Vehicle}
-use Rattle.room_store_check_rows.specs.FirstFaults.{call_disagreement, first_of, incident_disagreement, report_disagreement, standing_disagreement, told_fault, turn_disagreement}
+use Rattle.room_store_check_rows.specs.FirstFaults.{call_disagreement, first_of, incident_disagreement}
+use Rattle.room_store_check_rows.specs.FirstFaults.{report_disagreement, standing_disagreement, told_fault}
+use Rattle.room_store_check_rows.specs.FirstFaults.{turn_disagreement}
 use Rattle.room_store_check_rows.specs.Fits.{told_cmp, told_of}
 use Rattle.room_store_check_rows.specs.declared.disagreements.Disagreement.{Disagreement}
 

@@ -2,7 +2,7 @@
 ghost use Rattle.std.specs.Prelude.{◌≡◌, ◌||◌, IfErr, IfOk};
 ghost use Rattle.std.specs.BTreeSet.{contains};
 ghost use Rattle.room_types.specs.Codes.{is_merged};
-ghost use Rattle.room_types.specs.declared.refusals.Refusal.TheVariants.{Memory};
+ghost use Rattle.room_types.specs.declared.refusal_statuses.Refusal.TheVariants.{Memory};
 ghost use Rattle.room_store_check_rows.specs.Fits.{told_cmp};
 ghost use Rattle.room_store_check_rows.specs.FirstFaults.{first_of, opening_fault, told_fault};
 ghost use Rattle.room_store_check_rows.specs.HistoryChecks.{Tell};
@@ -11,7 +11,7 @@ use crate::disagreements::{Disagreement, IncidentFault};
 use crate::history_checks::Openings;
 use crate::incident_checks::is_merged;
 use crate::room_checks::RoomRows;
-use room_types::refusals::Refusal;
+use room_types::refusal_statuses::Refusal;
 use room_types::tables::{Call, Incident};
 use std::alloc::{AllocError, Global};
 

@@ -1,6 +1,6 @@
 //! Whether the rows of all tables make a well-formed room, and else the first thing that is wrong.
 ghost use Rattle.std.specs.Prelude.{◌≡◌, ◌↔◌, IfErr, IfOk, IsTrue};
-ghost use Rattle.room_types.specs.declared.refusals.Refusal.TheVariants.{Memory};
+ghost use Rattle.room_types.specs.declared.refusal_statuses.Refusal.TheVariants.{Memory};
 ghost use Rattle.room_model.specs.Room.{IsInOrder};
 ghost use Rattle.room_model.specs.RoomSlices.{room_of};
 ghost use Rattle.room_model.specs.WellFormed.{IsWellFormed};
@@ -11,7 +11,7 @@ use crate::disagreements::Disagreement;
 use crate::first_disagreement::first_of;
 use crate::opening_calls::unopened;
 use room_place::plans::Plan;
-use room_types::refusals::Refusal;
+use room_types::refusal_statuses::Refusal;
 use room_types::slices::DivisionRows;
 use std::alloc::Global;
 

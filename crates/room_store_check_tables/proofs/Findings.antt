@@ -23,7 +23,7 @@ use Rattle.room_tables_rows.proofs.Moves.{one_zone}
 use Rattle.room_tables_rows.proofs.OneRoom.{one_config, one_room}
 use Rattle.room_tables_rows.proofs.PlanLaws.{numbered-injective}
 use Rattle.room_tables_rows.proofs.RowLaws.{area_faithful}
-use Rattle.room_tables_laws.proofs.TypedTables.{stands_for_one}
+use Rattle.room_tables_schema.proofs.TypedTables.{stands_for_one}
 use Rattle.room_store_writes.specs.Houses.{config_of}
 
 -- what failed gave nothing
@@ -65,9 +65,12 @@ pub held_is : (trees : Trees) (plan : Layout) (terminals : List Terminal) (room 
     → IsWellFormed room × AreTerminals room terminals
 held_is trees plan terminals room stands h =
     let same = one_room trees (config_of h.layout h.terminals) (config_of plan terminals) h.room room h.stands stands in
-    let config = one_config trees (config_of h.layout h.terminals) (config_of plan terminals) h.room room h.stands stands in
-    let theirs : h.terminals ≡ terminals = ap (λ (x : Configuration). x.terminals) config in
-    (subst IsWellFormed same h.formed, subst (λ r. AreTerminals r terminals) same (subst (AreTerminals h.room) theirs h.fits))
+    let config = one_config trees (config_of h.layout h.terminals) (config_of plan terminals) h.room room h.stands
+    stands in
+    let theirs : h.terminals ≡ terminals = ap (λ (x : Configuration). x.terminals) config in (
+      subst IsWellFormed same h.formed,
+      subst (λ r. AreTerminals r terminals) same (subst (AreTerminals h.room) theirs h.fits),
+    )
 
 -- a room that tables hold numbers its rows
 pub held_numbered : (trees : Trees) → HoldsRoom trees → AreAllNumbered trees
@@ -77,7 +80,10 @@ held_numbered trees holds = let h = holds.stands in search rules
 pub planless : (trees : Trees) → (AreAllNumbered trees → MakesNoPlan trees) → ¬ HoldsRoom trees
 planless trees none h =
     let found = none (held_numbered trees h) in
-    let areas : found.areas ≡ h.layout.areas = numbered-injective 1 found.areas h.room.plan (stands_for_one _ _ _ _ _ _ _ _ area_faithful found.areas_are h.stands.areas).0 ∙ h.planned in
+    let areas : found.areas
+    ≡ h.layout.areas =
+    numbered-injective 1 found.areas h.room.plan
+    (stands_for_one _ _ _ _ _ _ _ _ area_faithful found.areas_are h.stands.areas).0 ∙ h.planned in
     let zone : found.zone ≡ h.layout.zone = one_zone 2 trees found.zone h.layout.zone found.meta h.stands.meta in
     true≢false (sym h.layout.sound ∙ rw (areas, zone) at found.no_plan)
 

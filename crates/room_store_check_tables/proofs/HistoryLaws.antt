@@ -19,7 +19,8 @@ module _ {X : Type 0} (p : X → Bool) (before : List X) (x : X) (passes : p x �
   -- and they are in the order of their keys
   pub passing_keyed : {K : Type 0} (cmp : K → K → Ordering) (key : X → K) → IsTotalOrder cmp
       → IsKeyed cmp key (before ++ x ∷ []) → IsKeyed cmp key (filter p before ++ x ∷ [])
-  passing_keyed cmp key total keyed = subst (IsKeyed cmp key) passing_last (keyed_filter cmp key total p (before ++ x ∷ []) keyed)
+  passing_keyed cmp key total keyed =
+      subst (IsKeyed cmp key) passing_last (keyed_filter cmp key total p (before ++ x ∷ []) keyed)
 
 -- whether all pass, of one row more
 all_more : {X : Type 0} (p : X → Bool) (rows : List X) (x : X)
@@ -35,6 +36,9 @@ module _ {X Kept : Type 0} {disagreement : X → Option Disagreement}
       → AreJudged disagreement keeps well first rows fit kept
       → AreJudged disagreement keeps well first (rows ++ x ∷ []) fit' kept'
   judged_more x is more so_far = record {
-    agree = λ all. is ∙ ap (λ b. b && is_none (disagreement x)) (so_far.agree all) ∙ all_more (λ y. is_none (disagreement y)) rows x;
+    agree =
+        λ all.
+        is ∙ ap (λ b. b && is_none (disagreement x)) (so_far.agree all)
+        ∙ all_more (λ y. is_none (disagreement y)) rows x;
     keep = λ none. more (so_far.keep none);
   }

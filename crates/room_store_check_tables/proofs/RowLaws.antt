@@ -11,22 +11,24 @@ use Rattle.sqlite_trees.specs.Tree.{Trees}
 use Rattle.sqlite_trees.specs.declared.store.Store.{Ghosts}
 use Rattle.sqlite_value.specs.Order.{Row}
 use Rattle.room_types.specs.declared.slices.DivisionRows.{DivisionRows}
-use Rattle.room_tables_laws.proofs.ReadLaws.{fails_inside, told_inside}
-use Rattle.room_tables_laws.specs.Outcomes.{ReadsInside}
-use Rattle.room_tables_laws.specs.TableTrees.{AreNumbered}
+use Rattle.room_tables_schema.proofs.ReadLaws.{fails_inside, told_inside}
+use Rattle.room_tables_schema.specs.Outcomes.{ReadsInside}
+use Rattle.room_tables_schema.specs.TableTrees.{AreNumbered}
 use Rattle.room_tables_schema.specs.FileConnections.{HasRoomSchema}
-use Rattle.room_tables_schema.specs.Schema.{assignments_table, calls_table, divisions_table, incidents_table, loans_table, offers_table, points_table, reports_table, turns_table, vehicles_table}
+use Rattle.room_tables_schema.specs.Schema.{assignments_table, calls_table, divisions_table, incidents_table}
+use Rattle.room_tables_schema.specs.Schema.{loans_table, offers_table, points_table, reports_table, turns_table}
+use Rattle.room_tables_schema.specs.Schema.{vehicles_table}
 use Rattle.room_tables_schema.specs.declared.database_faults.Fault.{Fault}
-use Rattle.room_tables_rows.specs.AssignmentColumns.{assignment_row}
-use Rattle.room_tables_rows.specs.CallColumns.{call_row}
-use Rattle.room_tables_rows.specs.DivisionColumns.{division_row}
-use Rattle.room_tables_rows.specs.IncidentColumns.{incident_row}
-use Rattle.room_tables_rows.specs.LoanColumns.{loan_row}
-use Rattle.room_tables_rows.specs.OfferColumns.{offer_row}
-use Rattle.room_tables_rows.specs.PointColumns.{point_row}
-use Rattle.room_tables_rows.specs.ReportColumns.{report_row}
-use Rattle.room_tables_rows.specs.TurnColumns.{turn_row}
-use Rattle.room_tables_rows.specs.VehicleColumns.{vehicle_row}
+use Rattle.room_tables_rows.specs.AssignmentSql.{assignment_row}
+use Rattle.room_tables_rows.specs.CallSql.{call_row}
+use Rattle.room_tables_rows.specs.DivisionSql.{division_row}
+use Rattle.room_tables_rows.specs.IncidentSql.{incident_row}
+use Rattle.room_tables_rows.specs.LoanSql.{loan_row}
+use Rattle.room_tables_rows.specs.OfferSql.{offer_row}
+use Rattle.room_tables_rows.specs.PointSql.{point_row}
+use Rattle.room_tables_rows.specs.ReportSql.{report_row}
+use Rattle.room_tables_rows.specs.TurnSql.{turn_row}
+use Rattle.room_tables_rows.specs.VehicleSql.{vehicle_row}
 use Rattle.room_tables.proofs.Inside.{inside_then}
 use Rattle.room_tables.proofs.Told.{if_storage}
 use Rattle.room_tables.specs.Failures.{FailsAtLast, IfStorage, WentWell}
@@ -44,14 +46,16 @@ module _ {S T : Type 0} {g : Ghosts S} {a b : Held S} {before : Result (Unit {0}
       → ReadsInside {T = T} {E = Fault} g a b (Ok rows)
       → (HasCleanDisk (state g b) → Is (state g a).now.trees) → ReadsNext g a b before before Is Fails
   next_found is reads found =
-      subst (λ r. ReadsNext g a b r r Is Fails) (sym is) (record { found = found; reads = told_inside _ reads; why = λ clean. tt; stays = tt })
+      subst (λ r. ReadsNext g a b r r Is Fails) (sym is)
+      (record { found = found; reads = told_inside _ reads; why = λ clean. tt; stays = tt })
 
   pub next_failed : {x : Unit {0}} {e : Fault} → before ≡ Ok x
       → ReadsInside {T = T} {E = Fault} g a b (Err e)
       → (HasCleanDisk (state g b) → IfStorage (Fails (state g a) (state g b)) e)
       → ReadsNext g a b before (Err e) Is Fails
   next_failed {e = e} is reads why =
-      subst (λ r. ReadsNext g a b r (Err e) Is Fails) (sym is) (record { found = λ clean. tt; reads = fails_inside refl reads; why = why; stays = tt })
+      subst (λ r. ReadsNext g a b r (Err e) Is Fails) (sym is)
+      (record { found = λ clean. tt; reads = fails_inside refl reads; why = why; stays = tt })
 
 module _ {S T : Type 0} {g : Ghosts S} {a b : Held S} {before : Result (Unit {0}) Fault} where
   pub room_after : {x : Unit {0}} {rows : T} → before ≡ Ok x
@@ -59,13 +63,15 @@ module _ {S T : Type 0} {g : Ghosts S} {a b : Held S} {before : Result (Unit {0}
       → OnOk before (HasRoomSchema g b)
   room_after is reads room = subst (λ r. OnOk r (HasRoomSchema g b)) (sym is) (λ clean.
       let early : HasCleanDisk (state g a) = omega (arith, reads.survives.clean) in
-      ap (λ (db : Database). db.schema) (reads.ok clean).0.now_is ∙ subst (λ r. OnOk r (HasRoomSchema g a)) is room early)
+      ap (λ (db : Database). db.schema) (reads.ok clean).0.now_is
+      ∙ subst (λ r. OnOk r (HasRoomSchema g a)) is room early)
 
 pub next_none : {S : Type 0} {g : Ghosts S} {a : Held S} {before : Result (Unit {0}) Fault}
     {Is : Trees → Type 0} {Fails : State → State → Type 0} {e : Fault} → before ≡ Err e
     → ReadsNext g a a before before Is Fails
 next_none {g = g} {a = a} {Is = Is} {Fails = Fails} is =
-    subst (λ r. ReadsNext g a a r r Is Fails) (sym is) (record { found = λ clean. tt; reads = tt; why = tt; stays = (refl, refl) })
+    subst (λ r. ReadsNext g a a r r Is Fails) (sym is)
+    (record { found = λ clean. tt; reads = tt; why = tt; stays = (refl, refl) })
 
 -- ---- reads, one after another
 
@@ -78,7 +84,8 @@ fails_first {a = a} fails = record { before = a; well = inl refl; fails = fails 
 module _ {S T E : Type 0} {g : Ghosts S} {a b : Held S} {x : T}
     (reads : ReadsInside {T = T} {E = E} g a b (Ok x)) where
   well_then : (d : Held S) → WentWell g b d → WentWell g a d
-  well_then d (inl none) = inr (subst (λ h. ReadsInside {T = Unit {0}} {E = Fault} g a h (Ok tt)) (sym none) (told_inside (Ok tt) reads))
+  well_then d (inl none) =
+      inr (subst (λ h. ReadsInside {T = Unit {0}} {E = Fault} g a h (Ok tt)) (sym none) (told_inside (Ok tt) reads))
   well_then d (inr more) = inr (inside_then reads (Ok tt) more)
 
   pub fails_then : {c : Held S} → FailsInTables g b c → FailsInTables g a c
@@ -117,13 +124,22 @@ module _ {S : Type 0} {g : Ghosts S} {Is : Trees → Type 0} {Fails : State → 
       reads = inside_then so_far.reads after next.reads;
       found = λ clean.
           let early : HasCleanDisk (state g b) = omega (arith, next.reads.survives.clean) in
-          ok_then after _ _ (λ is. (so_far.found early, subst (λ (db : Database). Is db.trees) (so_far.reads.ok early).0.now_is is)) (next.found clean);
-      why = λ clean. IfErr-weaker after _ _ (λ e why. if_storage e why (λ f. fails_then so_far.reads (fails_first (at f)))) (next.why clean);
+          ok_then after _ _
+          (λ is. (so_far.found early, subst (λ (db : Database). Is db.trees) (so_far.reads.ok early).0.now_is is))
+          (next.found clean);
+      why =
+          λ clean.
+          IfErr-weaker after _ _ (λ e why. if_storage e why (λ f. fails_then so_far.reads (fails_first (at f))))
+          (next.why clean);
     }
     one_more (Err e) after so_far next at = record {
-      reads = subst (λ h. ReadsInside g a h after) (sym next.stays.0) (subst (ReadsInside g a b) (sym next.stays.1) so_far.reads);
+      reads =
+          subst (λ h. ReadsInside g a h after) (sym next.stays.0)
+          (subst (ReadsInside g a b) (sym next.stays.1) so_far.reads);
       found = λ clean. subst (λ r. OnOk r (P × Is (state g a).now.trees)) (sym next.stays.1) tt;
-      why = subst (λ h. TellsTable g a h after) (sym next.stays.0) (subst (TellsTable g a b) (sym next.stays.1) so_far.why);
+      why =
+          subst (λ h. TellsTable g a h after) (sym next.stays.0)
+          (subst (TellsTable g a b) (sym next.stays.1) so_far.why);
     }
 
     pub and_read : {before after : Result (Unit {0}) Fault} → ReadSoFar g a b before P

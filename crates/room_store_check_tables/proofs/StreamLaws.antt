@@ -1,5 +1,6 @@
 -- Rows of a file that are read and judged one at a time, outside a transaction.
-use Rattle.std.proofs.Common.{Bool, Err, IsTrue, List, Ok, Result, [], ap, arith, false, inl, inr, refl, subst, sym, true, ◌∙◌, ◌≡◌, ◌⊎◌}
+use Rattle.std.proofs.Common.{Bool, Err, IsTrue, List, Ok, Result, [], ap, arith, false, inl, inr, refl, subst, sym}
+use Rattle.std.proofs.Common.{true, ◌∙◌, ◌≡◌, ◌⊎◌}
 use Rattle.std.proofs.lemmas.Bool.{and_parts}
 use Rattle.std.specs.Prelude.{◌&&◌, ◌↔◌, ◌≢◌, ◌≤◌}
 use Rattle.std.specs.declared.cmp.Ordering.{Ordering}
@@ -20,8 +21,8 @@ use Rattle.room_model.specs.Room.{IsInOrder, Room}
 use Rattle.room_model.specs.RoomSlices.{room_of}
 use Rattle.room_model.specs.WellFormed.{IsWellFormed}
 use Rattle.room_model.proofs.Tests.{both_true}
-use Rattle.room_tables_laws.proofs.Refusals.{keeps_commit}
-use Rattle.room_tables_laws.specs.Outcomes.{CommitsNothing, Keeps, ReadsInside, ReadsOnly}
+use Rattle.room_tables_schema.proofs.Refusals.{keeps_commit}
+use Rattle.room_tables_schema.specs.Outcomes.{CommitsNothing, Keeps, ReadsInside, ReadsOnly}
 use Rattle.room_tables_schema.specs.Schema.{room_schema}
 use Rattle.room_tables.specs.Rowids.{AreAllNumbered}
 use Rattle.room_tables.specs.Stands.{Stands}
@@ -32,7 +33,9 @@ use Rattle.room_store_writes.specs.Houses.{config_of}
 use Rattle.room_store_writes.specs.Transactions.{Leaves}
 use Rattle.room_store_check_tables.proofs.Findings.{held_is, stands_with}
 use Rattle.room_store_check_tables.specs.HeldRooms.{HasConfiguration, HasRows, HoldsRoom, IsPlanOf, WritesNothing}
-use Rattle.room_store_check_tables.specs.StreamedPlan.{AreAssignments, AreBeside, AreDivisions, AreIncidents, AreLoans, AreOffers, ArePoints, AreRows, AreVehicles, HasJudged, IsFound, IsHistory, TellsSound}
+use Rattle.room_store_check_tables.specs.StreamedPlan.{AreAssignments, AreBeside, AreDivisions, AreIncidents, AreLoans}
+use Rattle.room_store_check_tables.specs.StreamedPlan.{AreOffers, ArePoints, AreRows, AreVehicles, HasJudged, IsFound}
+use Rattle.room_store_check_tables.specs.StreamedPlan.{IsHistory, TellsSound}
 use Rattle.room_store_check_tables.specs.ReadCauses.{FailsInTables, FailsToTake}
 use Rattle.room_store_check_tables.specs.declared.streamed_plan.JudgedRows.{JudgedRows}
 use Rattle.room_store_check_tables.specs.declared.streamed_plan.KeptHistory.{KeptHistory}
@@ -59,8 +62,13 @@ reads_nothing g a b r settled h = record { left = λ clean. left (kept_by r h cl
     kept_by (Err e) h clean = h.err clean
 
     left : Keeps (state g a) (state g b) → Leaves (state g a) (state g b)
-    left (inl same) = record { was_open = λ _. same.0.was_open; now_is = λ _. same.0.now_is; committed_is = λ _. same.0.committed_is }
-    left (inr back) = record { was_open = back.was_open; now_is = λ is_open. (back.undone is_open).0 ∙ sym (settled (back.was_open is_open)); committed_is = λ is_open. (back.undone is_open).1 }
+    left (inl same) =
+        record { was_open = λ _. same.0.was_open; now_is = λ _. same.0.now_is; committed_is = λ _. same.0.committed_is }
+    left (inr back) = record {
+      was_open = back.was_open;
+      now_is = λ is_open. (back.undone is_open).0 ∙ sym (settled (back.was_open is_open));
+      committed_is = λ is_open. (back.undone is_open).1;
+    }
 
 -- a read in a transaction commits nothing
 pub reads_commit : {S T E : Type 0} {g : Ghosts S} {a b : Held S} (r : Result T E)
@@ -70,7 +78,10 @@ reads_commit (Err e) h = record { kept = λ clean. keeps_commit _ _ (h.err clean
 
 -- nothing is written by what is not done
 pub none_done : {S : Type 0} (g : Ghosts S) (a : Held S) → WritesNothing (state g a) (state g a)
-none_done g a = record { left = λ clean. record { was_open = λ is_open. is_open; now_is = λ is_open. refl; committed_is = λ is_open. refl }; survives = unchanged_survives g a (λ _. ⊥) }
+none_done g a = record {
+  left = λ clean. record { was_open = λ is_open. is_open; now_is = λ is_open. refl; committed_is = λ is_open. refl };
+  survives = unchanged_survives g a (λ _. ⊥);
+}
 
 -- nor by two calls that write nothing
 pub nothing_then : (old mid new : State) → WritesNothing old mid → WritesNothing mid new
@@ -93,11 +104,21 @@ pub file_fails : {S : Type 0} (g : Ghosts S) (old mid new : Held S)
     → WritesNothing (state g old) (state g mid) → HasCleanDisk (state g mid)
     → (state g mid).faults ≤ (state g new).faults → (state g old).now.schema ≡ room_schema
     → (state g mid).now.schema ≢ room_schema ⊎ FailsInTables g mid new → FailsToTake g old new
-file_fails g old mid new nothing clean counts has (inl other) = inl (λ is_open. elim (nothing.survives.closes clean is_open) [
-  | inl still ↦ absurd (other (ap (λ (db : Database). db.schema) ((nothing.left clean).now_is still) ∙ has))
-  | inr more ↦ omega (arith, more, counts)
-])
-file_fails g old mid new nothing clean counts has (inr f) = inr (record { first = mid; last = new; same = (nothing.left clean).now_is; is_open = nothing.survives.closes clean; since = nothing.survives.counts; fails = f; until = omega arith })
+file_fails g old mid new nothing clean counts has (inl other) =
+    inl (λ is_open. elim (nothing.survives.closes clean is_open) [
+      | inl still ↦ absurd (other (ap (λ (db : Database). db.schema) ((nothing.left clean).now_is still) ∙ has))
+      | inr more ↦ omega (arith, more, counts)
+    ])
+file_fails g old mid new nothing clean counts has (inr f) =
+    inr (record {
+      first = mid;
+      last = new;
+      same = (nothing.left clean).now_is;
+      is_open = nothing.survives.closes clean;
+      since = nothing.survives.counts;
+      fails = f;
+      until = omega arith;
+    })
 
 -- ---- rows
 -- rows that took all rows of a table are these
@@ -105,7 +126,8 @@ pub all_taken : {X K : Type 0} {order : K → K → Ordering} {key : X → K} {r
     {of_room : Room → List X} {table : Table} {trees : Trees} {first taken : List X} → first ≡ []
     → ((rows : List X) × AreAll order key row of_room table trees rows
     × (first ≡ [] → taken ≡ rows)) → AreAll order key row of_room table trees taken
-all_taken {order = order} {key = key} {row = row} {of_room = of_room} {table = table} {trees = trees} none h = subst (AreAll order key row of_room table trees) (sym (h.2 none)) h.1
+all_taken {order = order} {key = key} {row = row} {of_room = of_room} {table = table} {trees = trees} none h =
+    subst (AreAll order key row of_room table trees) (sym (h.2 none)) h.1
 
 module _ (trees : Trees) (x : DivisionRows) where
   -- what was found in the tables, one after another, are the rows beside the history
@@ -231,7 +253,8 @@ module _ (plan : List Area) (x : DivisionRows) (terminals : List Terminal) where
 
   fit_kept : AreTerminals (room_of plan x) terminals
       → AreTerminals (room_of plan (kept x)) terminals
-  fit_kept h = record { keyed = h.keyed; has_crew = h.has_crew; one_crew = h.one_crew; crews = h.crews; desks = h.desks }
+  fit_kept h =
+      record { keyed = h.keyed; has_crew = h.has_crew; one_crew = h.one_crew; crews = h.crews; desks = h.desks }
 
 -- both tests say whether the room is well-formed and the terminals fit it
 pub sound_told : (plan : List Area) (terminals : List Terminal) (judged : JudgedRows)

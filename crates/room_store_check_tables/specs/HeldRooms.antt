@@ -11,21 +11,23 @@ use Rattle.room_types.specs.declared.slices.DivisionRows.{DivisionRows}
 use Rattle.room_model.specs.Enrol.{AreTerminals}
 use Rattle.room_model.specs.Room.{Room}
 use Rattle.room_model.specs.WellFormed.{IsWellFormed}
-use Rattle.room_tables_rows.specs.AreaColumns.{area_row}
-use Rattle.room_tables_rows.specs.AssignmentColumns.{assignment_row}
-use Rattle.room_tables_rows.specs.CallColumns.{call_row}
-use Rattle.room_tables_rows.specs.DivisionColumns.{division_row}
-use Rattle.room_tables_rows.specs.IncidentColumns.{incident_row}
-use Rattle.room_tables_rows.specs.LoanColumns.{loan_row}
-use Rattle.room_tables_rows.specs.MetaColumns.{meta_row}
-use Rattle.room_tables_rows.specs.OfferColumns.{offer_row}
-use Rattle.room_tables_rows.specs.PointColumns.{point_row}
-use Rattle.room_tables_rows.specs.ReportColumns.{report_row}
-use Rattle.room_tables_rows.specs.TerminalColumns.{terminal_row}
-use Rattle.room_tables_rows.specs.TurnColumns.{turn_row}
-use Rattle.room_tables_rows.specs.VehicleColumns.{vehicle_row}
-use Rattle.room_tables_laws.specs.Outcomes.{ReadsInside}
-use Rattle.room_tables_schema.specs.Schema.{areas_table, assignments_table, calls_table, divisions_table, incidents_table, loans_table, meta_table, offers_table, points_table, reports_table, terminals_table, turns_table, vehicles_table}
+use Rattle.room_tables_rows.specs.AreaSql.{area_row}
+use Rattle.room_tables_rows.specs.AssignmentSql.{assignment_row}
+use Rattle.room_tables_rows.specs.CallSql.{call_row}
+use Rattle.room_tables_rows.specs.DivisionSql.{division_row}
+use Rattle.room_tables_rows.specs.IncidentSql.{incident_row}
+use Rattle.room_tables_rows.specs.LoanSql.{loan_row}
+use Rattle.room_tables_rows.specs.MetaSql.{meta_row}
+use Rattle.room_tables_rows.specs.OfferSql.{offer_row}
+use Rattle.room_tables_rows.specs.PointSql.{point_row}
+use Rattle.room_tables_rows.specs.ReportSql.{report_row}
+use Rattle.room_tables_rows.specs.TerminalSql.{terminal_row}
+use Rattle.room_tables_rows.specs.TurnSql.{turn_row}
+use Rattle.room_tables_rows.specs.VehicleSql.{vehicle_row}
+use Rattle.room_tables_schema.specs.Outcomes.{ReadsInside}
+use Rattle.room_tables_schema.specs.Schema.{areas_table, assignments_table, calls_table, divisions_table}
+use Rattle.room_tables_schema.specs.Schema.{incidents_table, loans_table, meta_table, offers_table, points_table}
+use Rattle.room_tables_schema.specs.Schema.{reports_table, terminals_table, turns_table, vehicles_table}
 use Rattle.room_tables_schema.specs.declared.database_faults.Fault.{Fault}
 use Rattle.room_tables_schema.specs.declared.database_faults.Fault.TheVariants as fault
 use Rattle.room_tables.specs.Failures.{IfStorage}

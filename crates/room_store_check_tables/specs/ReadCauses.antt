@@ -7,33 +7,34 @@ use Rattle.sqlite.specs.State.{State}
 use Rattle.sqlite_disk.specs.Disk.{MoreFaults}
 use Rattle.sqlite_trees.specs.declared.store.Store.{Ghosts}
 use Rattle.sqlite_value.specs.Order.{Row}
-use Rattle.room_types.specs.Keys.{assignment_key, call_key, callsign_cmp, division_key, incident_key, loan_key, numbered_cmp, offer_key, pair_cmp, point_key, report_key, turn_key, vehicle_key}
+use Rattle.room_types.specs.Keys.{assignment_key, call_key, callsign_cmp, division_key, incident_key, loan_key}
+use Rattle.room_types.specs.Keys.{numbered_cmp, offer_key, pair_cmp, point_key, report_key, turn_key, vehicle_key}
 use Rattle.room_model.specs.Enrol.{terminal_key, token_cmp}
-use Rattle.room_tables_rows.specs.AssignmentColumns.{is_assignment_row, assignment_row}
-use Rattle.room_tables_rows.specs.CallColumns.{is_call_row, call_row}
-use Rattle.room_tables_rows.specs.DivisionColumns.{is_division_row, division_row}
-use Rattle.room_tables_rows.specs.IncidentColumns.{is_incident_row, incident_row}
-use Rattle.room_tables_rows.specs.LoanColumns.{is_loan_row, loan_row}
-use Rattle.room_tables_rows.specs.OfferColumns.{is_offer_row, offer_row}
-use Rattle.room_tables_rows.specs.PointColumns.{is_point_row, point_row}
-use Rattle.room_tables_rows.specs.ReportColumns.{is_report_row, report_row}
-use Rattle.room_tables_rows.specs.TurnColumns.{is_turn_row, turn_row}
-use Rattle.room_tables_rows.specs.VehicleColumns.{is_vehicle_row, vehicle_row}
-use Rattle.room_tables_rows.specs.MetaColumns.{is_meta_row}
-use Rattle.room_tables_rows.specs.TerminalColumns.{is_terminal_row, terminal_row}
-use Rattle.room_tables_rows.specs.declared.area_columns.TheConstants.{ALL_AREAS}
-use Rattle.room_tables_rows.specs.declared.assignment_columns.TheConstants.{ALL_ASSIGNMENTS}
-use Rattle.room_tables_rows.specs.declared.call_columns.TheConstants.{ALL_CALLS}
-use Rattle.room_tables_rows.specs.declared.division_columns.TheConstants.{ALL_DIVISIONS}
-use Rattle.room_tables_rows.specs.declared.incident_columns.TheConstants.{ALL_INCIDENTS}
-use Rattle.room_tables_rows.specs.declared.loan_columns.TheConstants.{ALL_LOANS}
-use Rattle.room_tables_rows.specs.declared.meta_columns.TheConstants.{ALL_META}
-use Rattle.room_tables_rows.specs.declared.offer_columns.TheConstants.{ALL_OFFERS}
-use Rattle.room_tables_rows.specs.declared.point_columns.TheConstants.{ALL_POINTS}
-use Rattle.room_tables_rows.specs.declared.report_columns.TheConstants.{ALL_REPORTS}
-use Rattle.room_tables_rows.specs.declared.terminal_columns.TheConstants.{ALL_TERMINALS}
-use Rattle.room_tables_rows.specs.declared.turn_columns.TheConstants.{ALL_TURNS}
-use Rattle.room_tables_rows.specs.declared.vehicle_columns.TheConstants.{ALL_VEHICLES}
+use Rattle.room_tables_rows.specs.AssignmentSql.{is_assignment_row, assignment_row}
+use Rattle.room_tables_rows.specs.CallSql.{is_call_row, call_row}
+use Rattle.room_tables_rows.specs.DivisionSql.{is_division_row, division_row}
+use Rattle.room_tables_rows.specs.IncidentSql.{is_incident_row, incident_row}
+use Rattle.room_tables_rows.specs.LoanSql.{is_loan_row, loan_row}
+use Rattle.room_tables_rows.specs.OfferSql.{is_offer_row, offer_row}
+use Rattle.room_tables_rows.specs.PointSql.{is_point_row, point_row}
+use Rattle.room_tables_rows.specs.ReportSql.{is_report_row, report_row}
+use Rattle.room_tables_rows.specs.TurnSql.{is_turn_row, turn_row}
+use Rattle.room_tables_rows.specs.VehicleSql.{is_vehicle_row, vehicle_row}
+use Rattle.room_tables_rows.specs.MetaSql.{is_meta_row}
+use Rattle.room_tables_rows.specs.TerminalSql.{is_terminal_row, terminal_row}
+use Rattle.room_tables_rows.specs.declared.area_sql.TheConstants.{ALL_AREAS}
+use Rattle.room_tables_rows.specs.declared.assignment_sql.TheConstants.{ALL_ASSIGNMENTS}
+use Rattle.room_tables_rows.specs.declared.call_sql.TheConstants.{ALL_CALLS}
+use Rattle.room_tables_rows.specs.declared.division_sql.TheConstants.{ALL_DIVISIONS}
+use Rattle.room_tables_rows.specs.declared.incident_sql.TheConstants.{ALL_INCIDENTS}
+use Rattle.room_tables_rows.specs.declared.loan_sql.TheConstants.{ALL_LOANS}
+use Rattle.room_tables_rows.specs.declared.meta_sql.TheConstants.{ALL_META}
+use Rattle.room_tables_rows.specs.declared.offer_sql.TheConstants.{ALL_OFFERS}
+use Rattle.room_tables_rows.specs.declared.point_sql.TheConstants.{ALL_POINTS}
+use Rattle.room_tables_rows.specs.declared.report_sql.TheConstants.{ALL_REPORTS}
+use Rattle.room_tables_rows.specs.declared.terminal_sql.TheConstants.{ALL_TERMINALS}
+use Rattle.room_tables_rows.specs.declared.turn_sql.TheConstants.{ALL_TURNS}
+use Rattle.room_tables_rows.specs.declared.vehicle_sql.TheConstants.{ALL_VEHICLES}
 use Rattle.room_tables_schema.specs.declared.database_faults.Fault.{Fault}
 use Rattle.room_tables.specs.Failures.{AreNoPlan, AreNoRows, AreNotJustOne, FailsAtLast, FailsToRead, TellsWhyAtLast}
 use Rattle.room_tables.specs.Rowids.{FailsAtRowids}

@@ -5,7 +5,8 @@ use Rattle.std.specs.Prelude.{Bool, IsTrue, List, [], filter, is_none, ◌&&◌,
 use Rattle.sqlite.specs.State.{State}
 use Rattle.sqlite_trees.specs.Tree.{Trees}
 use Rattle.room_place.specs.declared.plans.Area.{Area}
-use Rattle.room_types.specs.Keys.{assignment_key, call_key, callsign_cmp, division_key, incident_key, loan_key, numbered_cmp, offer_key, pair_cmp, point_key, report_key, turn_key, vehicle_key}
+use Rattle.room_types.specs.Keys.{assignment_key, call_key, callsign_cmp, division_key, incident_key, loan_key}
+use Rattle.room_types.specs.Keys.{numbered_cmp, offer_key, pair_cmp, point_key, report_key, turn_key, vehicle_key}
 use Rattle.room_types.specs.declared.fleet.Terminal.{Terminal}
 use Rattle.room_types.specs.declared.slices.DivisionRows.{DivisionRows}
 use Rattle.room_types.specs.declared.tables.Assignment.{Assignment}
@@ -22,17 +23,19 @@ use Rattle.room_model.specs.Enrol.{AreTerminals}
 use Rattle.room_model.specs.Room.{IsInOrder}
 use Rattle.room_model.specs.RoomSlices.{room_of}
 use Rattle.room_model.specs.WellFormed.{IsWellFormed}
-use Rattle.room_tables_rows.specs.AssignmentColumns.{assignment_row}
-use Rattle.room_tables_rows.specs.CallColumns.{call_row}
-use Rattle.room_tables_rows.specs.DivisionColumns.{division_row}
-use Rattle.room_tables_rows.specs.IncidentColumns.{incident_row}
-use Rattle.room_tables_rows.specs.LoanColumns.{loan_row}
-use Rattle.room_tables_rows.specs.OfferColumns.{offer_row}
-use Rattle.room_tables_rows.specs.PointColumns.{point_row}
-use Rattle.room_tables_rows.specs.ReportColumns.{report_row}
-use Rattle.room_tables_rows.specs.TurnColumns.{turn_row}
-use Rattle.room_tables_rows.specs.VehicleColumns.{vehicle_row}
-use Rattle.room_tables_schema.specs.Schema.{assignments_table, calls_table, divisions_table, incidents_table, loans_table, offers_table, points_table, reports_table, turns_table, vehicles_table}
+use Rattle.room_tables_rows.specs.AssignmentSql.{assignment_row}
+use Rattle.room_tables_rows.specs.CallSql.{call_row}
+use Rattle.room_tables_rows.specs.DivisionSql.{division_row}
+use Rattle.room_tables_rows.specs.IncidentSql.{incident_row}
+use Rattle.room_tables_rows.specs.LoanSql.{loan_row}
+use Rattle.room_tables_rows.specs.OfferSql.{offer_row}
+use Rattle.room_tables_rows.specs.PointSql.{point_row}
+use Rattle.room_tables_rows.specs.ReportSql.{report_row}
+use Rattle.room_tables_rows.specs.TurnSql.{turn_row}
+use Rattle.room_tables_rows.specs.VehicleSql.{vehicle_row}
+use Rattle.room_tables_schema.specs.Schema.{assignments_table, calls_table, divisions_table, incidents_table}
+use Rattle.room_tables_schema.specs.Schema.{loans_table, offers_table, points_table, reports_table, turns_table}
+use Rattle.room_tables_schema.specs.Schema.{vehicles_table}
 use Rattle.room_tables.specs.Rowids.{AreAllNumbered}
 use Rattle.room_tables.specs.RowStreams.{AreAll}
 use Rattle.room_store_check_rows.specs.FirstFaults.{call_disagreement, report_disagreement, turn_disagreement}

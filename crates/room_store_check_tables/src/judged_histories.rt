@@ -8,7 +8,7 @@ ghost use Rattle.room_types.specs.declared.slices.DivisionRows.{DivisionRows};
 ghost use Rattle.room_store_check_rows.specs.HistoryChecks.{Tell, is_last};
 ghost use Rattle.room_tables_schema.specs.FileConnections.{HasRoomSchema};
 ghost use Rattle.room_tables_schema.specs.declared.database_faults.Fault.TheVariants.{Memory};
-ghost use Rattle.room_tables_laws.specs.Outcomes.{ReadsOnly};
+ghost use Rattle.room_tables_schema.specs.Outcomes.{ReadsOnly};
 ghost use Rattle.room_tables.specs.Failures.{AreNoRows, TellsWhy};
 ghost use Rattle.room_tables.specs.RowStreams.{AreAll};
 ghost use Rattle.room_store_check_tables.specs.JudgedHistories.{AreJudged};

@@ -4,7 +4,7 @@ ghost use Rattle.sqlite.specs.Held.{state};
 ghost use Rattle.sqlite.specs.State.{HasCleanDisk};
 ghost use Rattle.room_tables_schema.specs.FileConnections.{HasRoomSchema};
 ghost use Rattle.room_tables_schema.specs.Schema.{room_schema};
-ghost use Rattle.room_tables_laws.specs.Outcomes.{ReadsOnly};
+ghost use Rattle.room_tables_schema.specs.Outcomes.{ReadsOnly};
 ghost use Rattle.room_tables.specs.Rowids.{AreAllNumbered};
 ghost use Rattle.room_tables.specs.RowStreams.{AreAll};
 ghost use Rattle.room_store_check_tables.specs.HeldRooms.{HasConfiguration, HoldsRoom, IsPlanOf, ReadsNext, WritesNothing};
@@ -245,8 +245,8 @@ fn judge_history<S: Alter>(
     })
 }
 
-// The plan of a configuration, where the rows that were judged make a well-formed room in it, and its
-// terminals fit this room.
+// The plan of a configuration, where the rows that were judged make a well-formed room in it, and
+// its terminals fit this room.
 fn plan_of_judged(
     alloc: Global,
     config: Configuration,

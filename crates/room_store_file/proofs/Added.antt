@@ -20,7 +20,9 @@ module _ {a : Sha256} where
 
 module _ {a b c : Sha256} where
   pub adds_both : {s t : List ℕ} → Adds a b s → Adds b c t → Adds a c (s ++ t)
-  adds_both {s = s} {t = t} one two = record { holds = λ before h. subst (Holds256 c) (append_assoc before s t) (two.holds (before ++ s) (one.holds before h)) }
+  adds_both {s = s} {t = t} one two = record {
+    holds = λ before h. subst (Holds256 c) (append_assoc before s t) (two.holds (before ++ s) (one.holds before h));
+  }
 
   -- some of what is left was added
   pub less_left : {all s t left : List ℕ} → left ≡ s ++ t → Adding a b all left → Adds b c s
@@ -42,4 +44,5 @@ module _ {a b c : Sha256} where
 
 -- nothing is left
 pub none_left : {a b : Sha256} {all left : List ℕ} → left ≡ [] → Adding a b all left → Adds a b all
-none_left {a = a} {b = b} is it = subst (Adds a b) (sym (append-nil it.done) ∙ ap (λ l. it.done ++ l) (sym is) ∙ it.parts) it.added
+none_left {a = a} {b = b} is it =
+    subst (Adds a b) (sym (append-nil it.done) ∙ ap (λ l. it.done ++ l) (sym is) ∙ it.parts) it.added

@@ -13,8 +13,8 @@ use Rattle.room_model.specs.RoomSlices.{room_of}
 use Rattle.room_tables.specs.Stands.{Configuration, Stands}
 use Rattle.room_tables_schema.specs.Schema.{room_tables}
 use Rattle.room_tables_schema.specs.Versions.{HasTables}
-use Rattle.room_tables_laws.proofs.Standing.{holds_still}
-use Rattle.room_tables_laws.specs.TableTrees.{AreNumbered}
+use Rattle.room_tables_schema.proofs.Standing.{holds_still}
+use Rattle.room_tables_schema.specs.TableTrees.{AreNumbered}
 use Rattle.room_store_writes.specs.Houses.{config_of}
 use Rattle.room_store_file.specs.ExaminedFile.{Explains, Weighs, wrong_of}
 use Rattle.room_store_file.specs.OpenedFile.{HasNoPlanBy, StandsBy}
@@ -30,8 +30,10 @@ pub weighed : (now : Database) → HasTables now.schema → (plan : Layout) (row
     (terminals : List Terminal)
     → Stands now.trees (config_of plan terminals) (room_of plan.areas rows) → (e : Wrong)
     → Weighs plan.areas rows terminals e → Explains now e
-weighed now has plan rows terminals stands (wrong.Rows x) h = (has, (plan, record { rows = rows; terminals = terminals; stands = stands; says = h }))
-weighed now has plan rows terminals stands (wrong.Terminals x) h = (has, (plan, record { rows = rows; terminals = terminals; stands = stands; says = h }))
+weighed now has plan rows terminals stands (wrong.Rows x) h =
+    (has, (plan, record { rows = rows; terminals = terminals; stands = stands; says = h }))
+weighed now has plan rows terminals stands (wrong.Terminals x) h =
+    (has, (plan, record { rows = rows; terminals = terminals; stands = stands; says = h }))
 weighed now has plan rows terminals stands wrong.Memory h = tt
 weighed now has plan rows terminals stands wrong.Storage h = absurd h
 weighed now has plan rows terminals stands wrong.OldRoom h = absurd h
@@ -55,7 +57,8 @@ still_numbered : (tables : List Table) (old new : Trees) → KeepsRows tables ol
     → AllByRecursion (λ t. AreNumbered (old t.tree)) tables
     → AllByRecursion (λ t. AreNumbered (new t.tree)) tables
 still_numbered [] old new rows all = tt
-still_numbered (t ∷ ts) old new rows all = (subst AreNumbered (sym rows.0) all.0, still_numbered ts old new rows.1 all.1)
+still_numbered (t ∷ ts) old new rows all =
+    (subst AreNumbered (sym rows.0) all.0, still_numbered ts old new rows.1 all.1)
 
 -- and make no plan if they made none
 still_planless : (old new : Trees) → KeepsRows room_tables old new → HasNoPlan new → HasNoPlan old
@@ -72,7 +75,8 @@ still_planless old new rows (inr none) = inr (record {
 pub no_plan_new : (tables : Tables) (trees : Trees) → (tables ≡ Whole) ⊎ (tables ≡ Unindexed)
     → HasNoPlanBy tables trees → HasNoPlan trees
 no_plan_new tables trees (inl is) none = let h = subst (λ t. HasNoPlanBy t trees) is none in subst HasNoPlan h.1 h.2
-no_plan_new tables trees (inr is) none = let h = subst (λ t. HasNoPlanBy t trees) is none in still_planless trees h.0 h.1 h.2
+no_plan_new tables trees (inr is) none =
+    let h = subst (λ t. HasNoPlanBy t trees) is none in still_planless trees h.0 h.1 h.2
 
 -- tables of this version stand for what a room's tables do
 pub stands_new : (tables : Tables) (trees : Trees) (config : Configuration) (room : Room)

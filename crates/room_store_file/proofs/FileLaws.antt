@@ -7,7 +7,7 @@ use Rattle.sqlite_schema.specs.declared.schema.Table.{Table}
 use Rattle.sqlite_catalog.specs.Change.{KeepsRows}
 use Rattle.sqlite_trees.specs.Tree.{Trees}
 use Rattle.sqlite.proofs.StateLemmas.{survives_then}
-use Rattle.room_tables_laws.proofs.Standing.{holds_still}
+use Rattle.room_tables_schema.proofs.Standing.{holds_still}
 use Rattle.room_place.specs.Plans.{Layout}
 use Rattle.room_types.specs.declared.fleet.Terminal.{Terminal}
 use Rattle.room_model.specs.Enrol.{AreTerminals}
@@ -18,7 +18,8 @@ use Rattle.room_tables_rows.proofs.OneRoom.{one_config, one_room}
 use Rattle.room_tables.specs.Stands.{Configuration, Stands}
 use Rattle.room_store_writes.specs.Houses.{config_of}
 use Rattle.room_store_writes.specs.Transactions.{Leaves}
-use Rattle.room_store_file.specs.OpenedFile.{Becomes, KeepsAllRows, KeepsFile, MayBeIndexed, MayBeMoved, MayBecome, Moves, Opens, Takes, schema_of}
+use Rattle.room_store_file.specs.OpenedFile.{Becomes, KeepsAllRows, KeepsFile, MayBeIndexed, MayBeMoved, MayBecome}
+use Rattle.room_store_file.specs.OpenedFile.{Moves, Opens, Takes, schema_of}
 use Rattle.room_store_check_tables.specs.HeldRooms.{HoldsRoom, WritesNothing}
 use Rattle.room_store_file.specs.declared.room_in_tables.Tables.{Tables}
 use Rattle.room_store_file.specs.declared.room_in_tables.Tables.TheVariants.{First, FirstUnindexed, Unindexed, Whole}
@@ -49,7 +50,9 @@ keeps_none (t ∷ ts) trees = (refl, keeps_none ts trees)
 
 -- tables that are as they were have all their rows
 pub all_rows : (before after : Database) → after ≡ before → KeepsAllRows before after
-all_rows before after same = subst (KeepsAllRows before) (sym same) (record { tables = refl; rows = keeps_none before.schema.tables before.trees })
+all_rows before after same =
+    subst (KeepsAllRows before) (sym same)
+    (record { tables = refl; rows = keeps_none before.schema.tables before.trees })
 
 rows_indexed : (before after : Database) → before.schema ≡ tables_schema
     → after.schema ≡ room_schema → KeepsRows room_tables before.trees after.trees
@@ -66,7 +69,8 @@ pub stands_before : (before after : Database) → after.schema ≡ room_schema
     → KeepsAllRows before after → (config : Configuration) (room : Room) → Stands before.trees config room
     → Stands after.trees config room
 stands_before before after is kept =
-    rows_kept before.trees after.trees (subst (λ ts. KeepsRows ts before.trees after.trees) (sym kept.tables ∙ ap (λ (s : Schema). s.tables) is) kept.rows)
+    rows_kept before.trees after.trees
+    (subst (λ ts. KeepsRows ts before.trees after.trees) (sym kept.tables ∙ ap (λ (s : Schema). s.tables) is) kept.rows)
 
 same_database : (a b : Database) → a.schema ≡ b.schema → a.trees ≡ b.trees → a ≡ b
 same_database a b schema trees i = record { schema = schema i; trees = trees i }
@@ -105,36 +109,47 @@ module _ (old new : State) where
         kept = record {
           was_open = λ _. it.was_open;
           rows = λ _. rows;
-          committed_rows = λ _. subst (KeepsAllRows old.committed) (sym it.settled.committed) (subst (λ (db : Database). KeepsAllRows db new.now) (settled it.was_open) rows);
+          committed_rows =
+              λ _.
+              subst (KeepsAllRows old.committed) (sym it.settled.committed)
+              (subst (λ (db : Database). KeepsAllRows db new.now) (settled it.was_open) rows);
           untouched = λ other. absurd (other has);
         };
       }
   takes_opens First has is settled it = absurd (elim is [ inl e ↦ (let x = e in cc) | inr e ↦ (let x = e in cc) ])
-  takes_opens FirstUnindexed has is settled it = absurd (elim is [ inl e ↦ (let x = e in cc) | inr e ↦ (let x = e in cc) ])
+  takes_opens FirstUnindexed has is settled it =
+      absurd (elim is [ inl e ↦ (let x = e in cc) | inr e ↦ (let x = e in cc) ])
 
   -- and one that is taken with the first version's is moved
   pub takes_moves : (tables : Tables) → old.now.schema ≡ schema_of tables
       → (tables ≡ First) ⊎ (tables ≡ FirstUnindexed) → Takes tables old new → Moves old new
   takes_moves Whole has is it = absurd (elim is [ inl e ↦ (let x = e in cc) | inr e ↦ (let x = e in cc) ])
   takes_moves Unindexed has is it = absurd (elim is [ inl e ↦ (let x = e in cc) | inr e ↦ (let x = e in cc) ])
-  takes_moves First has is it = record { settled = it.settled; schema = it.schema; moved = record { first = inl has; moved = it.becomes } }
-  takes_moves FirstUnindexed has is it = record { settled = it.settled; schema = it.schema; moved = record { first = inr has; moved = it.becomes } }
+  takes_moves First has is it =
+      record { settled = it.settled; schema = it.schema; moved = record { first = inl has; moved = it.becomes } }
+  takes_moves FirstUnindexed has is it =
+      record { settled = it.settled; schema = it.schema; moved = record { first = inr has; moved = it.becomes } }
 
 -- what a stop may leave of a file that is opened
 pub may_be_indexed : (tables : Tables) (before : Database) (trees : Trees)
     → before.schema ≡ schema_of tables → (tables ≡ Whole) ⊎ (tables ≡ Unindexed)
     → MayBecome tables before.trees trees → MayBeIndexed before trees
 may_be_indexed Whole before trees has is none = absurd none
-may_be_indexed Unindexed before trees has is rows = record { alone = has; rows = subst (λ ts. KeepsRows ts before.trees trees) (sym (ap (λ (s : Schema). s.tables) has)) rows }
+may_be_indexed Unindexed before trees has is rows = record {
+  alone = has;
+  rows = subst (λ ts. KeepsRows ts before.trees trees) (sym (ap (λ (s : Schema). s.tables) has)) rows;
+}
 may_be_indexed First before trees has is b = absurd (elim is [ inl e ↦ (let x = e in cc) | inr e ↦ (let x = e in cc) ])
-may_be_indexed FirstUnindexed before trees has is b = absurd (elim is [ inl e ↦ (let x = e in cc) | inr e ↦ (let x = e in cc) ])
+may_be_indexed FirstUnindexed before trees has is b =
+    absurd (elim is [ inl e ↦ (let x = e in cc) | inr e ↦ (let x = e in cc) ])
 
 -- and of one that is moved
 pub may_be_moved : (tables : Tables) (before : Database) (trees : Trees)
     → before.schema ≡ schema_of tables → (tables ≡ First) ⊎ (tables ≡ FirstUnindexed)
     → MayBecome tables before.trees trees → MayBeMoved before trees
 may_be_moved Whole before trees has is b = absurd (elim is [ inl e ↦ (let x = e in cc) | inr e ↦ (let x = e in cc) ])
-may_be_moved Unindexed before trees has is b = absurd (elim is [ inl e ↦ (let x = e in cc) | inr e ↦ (let x = e in cc) ])
+may_be_moved Unindexed before trees has is b =
+    absurd (elim is [ inl e ↦ (let x = e in cc) | inr e ↦ (let x = e in cc) ])
 may_be_moved First before trees has is b = record { first = inl has; moved = b }
 may_be_moved FirstUnindexed before trees has is b = record { first = inr has; moved = b }
 
@@ -151,7 +166,10 @@ module _ (old mid new : State) where
   left_then_opens same left opens = record {
     was_open = λ is_open. left.was_open (opens.was_open is_open);
     rows = λ is_open. subst (λ (db : Database). KeepsAllRows db new.now) same (opens.rows is_open);
-    committed_rows = λ is_open. subst (λ (db : Database). KeepsAllRows db new.committed) (left.committed_is (opens.was_open is_open)) (opens.committed_rows is_open);
+    committed_rows =
+        λ is_open.
+        subst (λ (db : Database). KeepsAllRows db new.committed) (left.committed_is (opens.was_open is_open))
+        (opens.committed_rows is_open);
     untouched = λ other.
         let two = opens.untouched (λ alone. other (subst (λ (db : Database). db.schema ≡ tables_schema) same alone)) in
         left_left left two;
@@ -159,9 +177,14 @@ module _ (old mid new : State) where
 
   -- what is looked at and then moved is moved
   pub moves_before : mid.now ≡ old.now → Moves mid new → Moves old new
-  moves_before same it = record { settled = it.settled; schema = it.schema; moved = subst (λ (db : Database). MayBeMoved db new.now.trees) same it.moved }
+  moves_before same it = record {
+    settled = it.settled;
+    schema = it.schema;
+    moved = subst (λ (db : Database). MayBeMoved db new.now.trees) same it.moved;
+  }
 
   -- after one look and another the tables are as they were
   pub looked_on : WritesNothing mid new → (HasCleanDisk mid → mid.now ≡ old.now)
       → (HasCleanDisk new → new.now ≡ mid.now) → HasCleanDisk new → new.now ≡ old.now
-  looked_on nothing one two clean = let early : HasCleanDisk mid = omega (arith, nothing.survives.clean) in two clean ∙ one early
+  looked_on nothing one two clean =
+      let early : HasCleanDisk mid = omega (arith, nothing.survives.clean) in two clean ∙ one early

@@ -8,9 +8,9 @@ use Rattle.sqlite_trees.specs.declared.store.Store.{Ghosts}
 use Rattle.room_types.specs.declared.changes.Change.{Change}
 use Rattle.room_model.specs.Room.{apply}
 use Rattle.room_tables.specs.Stands.{Stands}
-use Rattle.room_tables_laws.specs.Outcomes.{CommitsNothing, ReadsInside}
+use Rattle.room_tables_schema.specs.Outcomes.{CommitsNothing, ReadsInside}
 use Rattle.room_store_writes.specs.Transactions.{MakesAll}
-use Rattle.room_tables_laws.proofs.Refusals.{keeps_commit}
+use Rattle.room_tables_schema.proofs.Refusals.{keeps_commit}
 
 -- a read in a transaction commits nothing
 pub reads_commit : {S T E : Type 0} {g : Ghosts S} {a b : Held S} (r : Result T E)
@@ -32,5 +32,8 @@ pub made_seen : {old mid new : State} {changes : List Change} → IsUnchanged mi
 made_seen {changes = changes} same made = record {
   inside = same.0.mode ∙ made.inside;
   schema = ap (λ (db : Database). db.schema) same.0.now_is ∙ made.schema;
-  stands = λ config room h. subst (λ (db : Database). Stands db.trees config (apply room changes)) (sym same.0.now_is) (made.stands config room h);
+  stands =
+      λ config room h.
+      subst (λ (db : Database). Stands db.trees config (apply room changes)) (sym same.0.now_is)
+      (made.stands config room h);
 }

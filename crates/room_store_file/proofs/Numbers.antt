@@ -1,5 +1,6 @@
 -- A number in groups of seven bits, group by group.
-use Rattle.std.proofs.Common.{◌≡◌, ◌+◌, ◌/◌, ◌%◌, ◌<◌, ◌≤◌, ℕ, zero, suc, [], ◌∷◌, true, false, refl, ap, arith, nat_le, inl, inr}
+use Rattle.std.proofs.Common.{◌≡◌, ◌+◌, ◌/◌, ◌%◌, ◌<◌, ◌≤◌, ℕ, zero, suc, [], ◌∷◌, true, false, refl, ap, arith, nat_le}
+use Rattle.std.proofs.Common.{inl, inr}
 use Rattle.std.proofs.lemmas.Bool.{cases_lt}
 use Rattle.std.proofs.lemmas.Bool.Decides.{nat_tests}
 use Rattle.room_store_file.specs.DigestTexts.{groups, number_text}
@@ -30,4 +31,6 @@ number_ends (suc n) h = rw (small (suc n) h) refl
 pub number_goes_on : (n : ℕ) → 128 ≤ n → number_text n ≡ (128 + n % 128) ∷ number_text (n / 128)
 unfolding number_text
 number_goes_on zero h = absurd (omega arith)
-number_goes_on (suc n) h = rw (large (suc n) h) (ap (λ rest. (128 + suc n % 128) ∷ rest) (enough n (suc n / 128) (suc n / 128) (omega arith) (omega arith)))
+number_goes_on (suc n) h =
+    rw (large (suc n) h)
+    (ap (λ rest. (128 + suc n % 128) ∷ rest) (enough n (suc n / 128) (suc n / 128) (omega arith) (omega arith)))

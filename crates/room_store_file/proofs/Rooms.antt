@@ -11,22 +11,25 @@ use Rattle.room_model.specs.declared.digests.Version.{Version}
 use Rattle.room_model.specs.declared.digests.Version.TheVariants.{First, Second}
 use Rattle.room_types.specs.declared.fleet.Terminal.{Terminal}
 use Rattle.room_types.specs.Codes.{merged_into}
-use Rattle.room_tables_laws.specs.TypedRows.{IsFaithful, number_or_null}
+use Rattle.room_tables_schema.specs.TypedRows.{IsFaithful, number_or_null}
 use Rattle.room_tables_rows.proofs.PlanLaws.{numbered-injective}
-use Rattle.room_tables_rows.proofs.RowLaws.{area_faithful, assignment_faithful, call_faithful, division_faithful, incident_faithful, loan_faithful, meta_faithful, offer_faithful, point_faithful, report_faithful, terminal_faithful, turn_faithful, vehicle_faithful}
-use Rattle.room_tables_rows.specs.AreaColumns.{area_row}
-use Rattle.room_tables_rows.specs.AssignmentColumns.{assignment_row}
-use Rattle.room_tables_rows.specs.CallColumns.{call_row}
-use Rattle.room_tables_rows.specs.DivisionColumns.{division_row}
-use Rattle.room_tables_rows.specs.IncidentColumns.{incident_row}
-use Rattle.room_tables_rows.specs.LoanColumns.{loan_row}
-use Rattle.room_tables_rows.specs.MetaColumns.{meta_row}
-use Rattle.room_tables_rows.specs.OfferColumns.{offer_row}
-use Rattle.room_tables_rows.specs.PointColumns.{point_row}
-use Rattle.room_tables_rows.specs.ReportColumns.{report_row}
-use Rattle.room_tables_rows.specs.TerminalColumns.{crew_of, terminal_row}
-use Rattle.room_tables_rows.specs.TurnColumns.{turn_row}
-use Rattle.room_tables_rows.specs.VehicleColumns.{vehicle_row}
+use Rattle.room_tables_rows.proofs.RowLaws.{area_faithful, assignment_faithful, call_faithful, division_faithful}
+use Rattle.room_tables_rows.proofs.RowLaws.{incident_faithful, loan_faithful, meta_faithful, offer_faithful}
+use Rattle.room_tables_rows.proofs.RowLaws.{point_faithful, report_faithful, terminal_faithful, turn_faithful}
+use Rattle.room_tables_rows.proofs.RowLaws.{vehicle_faithful}
+use Rattle.room_tables_rows.specs.AreaSql.{area_row}
+use Rattle.room_tables_rows.specs.AssignmentSql.{assignment_row}
+use Rattle.room_tables_rows.specs.CallSql.{call_row}
+use Rattle.room_tables_rows.specs.DivisionSql.{division_row}
+use Rattle.room_tables_rows.specs.IncidentSql.{incident_row}
+use Rattle.room_tables_rows.specs.LoanSql.{loan_row}
+use Rattle.room_tables_rows.specs.MetaSql.{meta_row}
+use Rattle.room_tables_rows.specs.OfferSql.{offer_row}
+use Rattle.room_tables_rows.specs.PointSql.{point_row}
+use Rattle.room_tables_rows.specs.ReportSql.{report_row}
+use Rattle.room_tables_rows.specs.TerminalSql.{crew_of, terminal_row}
+use Rattle.room_tables_rows.specs.TurnSql.{turn_row}
+use Rattle.room_tables_rows.specs.VehicleSql.{vehicle_row}
 use Rattle.room_tables_rows.specs.Stands.{Configuration, numbered}
 use Rattle.room_store_file.specs.DigestTexts.{digest_text, table_text, tables_in, tables_of}
 use Rattle.room_store_file.proofs.Told.{IsStored, each_told, table_told}
@@ -55,13 +58,66 @@ rest_stored terminals room = (
     (
       all_stored division_row (λ x. (tt, (tt, tt))) room.divisions,
       (
-        all_stored incident_row (λ x. (tt, (tt, (tt, (tt, (tt, (tt, (tt, (tt, (tt, (number_or_none x.first_order, (tt, (number_or_none (merged_into x.state), tt))))))))))))) room.incidents,
+        all_stored incident_row
+            (λ x. (
+              tt,
+              (
+                tt,
+                (
+                  tt,
+                  (
+                    tt,
+                    (
+                      tt,
+                      (
+                        tt,
+                        (
+                          tt,
+                          (tt, (tt, (number_or_none x.first_order, (tt, (number_or_none (merged_into x.state), tt))))),
+                        ),
+                      ),
+                    ),
+                  ),
+                ),
+              ),
+            )) room.incidents,
         (
-          all_stored call_row (λ x. (tt, (tt, (tt, (tt, (tt, (tt, (tt, (tt, (tt, (tt, (tt, (tt, (tt, (tt, tt))))))))))))))) room.calls,
+          all_stored call_row
+              (λ x. (tt, (tt, (tt, (tt, (tt, (tt, (tt, (tt, (tt, (tt, (tt, (tt, (tt, (tt, tt))))))))))))))) room.calls,
           (
-            all_stored vehicle_row (λ x. (tt, (tt, (tt, (tt, (tt, (tt, (tt, (tt, (number_or_none x.post, (tt, (tt, tt)))))))))))) room.vehicles,
+            all_stored vehicle_row
+                (λ x. (tt, (tt, (tt, (tt, (tt, (tt, (tt, (tt, (number_or_none x.post, (tt, (tt, tt))))))))))))
+                room.vehicles,
             (
-              all_stored turn_row (λ x. (tt, (tt, (tt, (tt, (tt, (tt, (number_or_none x.acknowledged, (number_or_none x.scene, (number_or_none x.left, (number_or_none x.hospital, (number_or_none x.ended, (tt, tt))))))))))))) room.turns,
+              all_stored turn_row
+                  (λ x. (
+                    tt,
+                    (
+                      tt,
+                      (
+                        tt,
+                        (
+                          tt,
+                          (
+                            tt,
+                            (
+                              tt,
+                              (
+                                number_or_none x.acknowledged,
+                                (
+                                  number_or_none x.scene,
+                                  (
+                                    number_or_none x.left,
+                                    (number_or_none x.hospital, (number_or_none x.ended, (tt, tt))),
+                                  ),
+                                ),
+                              ),
+                            ),
+                          ),
+                        ),
+                      ),
+                    ),
+                  )) room.turns,
               (
                 all_stored assignment_row (λ x. (tt, (tt, (tt, (tt, (tt, (tt, (tt, tt)))))))) room.assignments,
                 (
@@ -69,7 +125,8 @@ rest_stored terminals room = (
                   (
                     all_stored loan_row (λ x. (tt, (tt, (tt, (tt, (tt, (tt, tt))))))) room.loans,
                     (
-                      all_stored report_row (λ x. (tt, (tt, (tt, (tt, (tt, (tt, (tt, (tt, (tt, (tt, (tt, tt)))))))))))) room.reports,
+                      all_stored report_row (λ x. (tt, (tt, (tt, (tt, (tt, (tt, (tt, (tt, (tt, (tt, (tt, tt))))))))))))
+                          room.reports,
                       (
                         all_stored offer_row (λ x. (tt, (tt, (tt, (tt, (tt, tt)))))) room.offers,
                         tt,
@@ -127,7 +184,8 @@ module _ (zone elsewhere : List ℕ) (terminals others : List Terminal) (room an
       → version ≡ Second → zone ≡ elsewhere
   same_zone First e is = absurd (cc is)
   same_zone Second e is =
-      let rows : map meta_row (zone ∷ []) ≡ map meta_row (elsewhere ∷ []) = ap (λ tables. slice_index_or tables 0 []) e in
+      let rows : map meta_row (zone ∷ [])
+      ≡ map meta_row (elsewhere ∷ []) = ap (λ tables. slice_index_or tables 0 []) e in
       let all : zone ∷ [] ≡ elsewhere ∷ [] = written meta_faithful (zone ∷ []) (elsewhere ∷ []) rows in
       cc
 
@@ -142,7 +200,9 @@ module _ (zone elsewhere : List ℕ) (terminals others : List Terminal) (room an
 
     same_room : room ≡ another
     same_room i = record {
-      plan = numbered-injective 1 room.plan another.plan (written area_faithful (numbered 1 room.plan) (numbered 1 another.plan) (at 0)) i;
+      plan =
+          numbered-injective 1 room.plan another.plan
+          (written area_faithful (numbered 1 room.plan) (numbered 1 another.plan) (at 0)) i;
       divisions = written division_faithful room.divisions another.divisions (at 2) i;
       incidents = written incident_faithful room.incidents another.incidents (at 3) i;
       calls = written call_faithful room.calls another.calls (at 4) i;

@@ -1,5 +1,6 @@
 -- Whole tables read, one after another.
-use Rattle.std.proofs.Common.{◌≡◌, ◌+◌, ◌<◌, ◌⊎◌, inl, inr, ℕ, List, [], ◌∷◌, Bool, true, Ok, Result, refl, sym, subst, ap, ◌∙◌, arith, []}
+use Rattle.std.proofs.Common.{◌≡◌, ◌+◌, ◌<◌, ◌⊎◌, inl, inr, ℕ, List, [], ◌∷◌, Bool, true, Ok, Result, refl, sym, subst}
+use Rattle.std.proofs.Common.{ap, ◌∙◌, arith, []}
 use Rattle.std.specs.List.{flat_map}
 use Rattle.sha2.specs.declared.Sha256.{Sha256}
 use Rattle.sqlite.specs.Held.{Held, state}
@@ -10,9 +11,9 @@ use Rattle.sqlite_trees.proofs.ListLemmas.{all_of, filter_all}
 use Rattle.sqlite_value.specs.Order.{Row}
 use Rattle.room_tables_schema.specs.FileConnections.{HasRoomSchema}
 use Rattle.room_tables_schema.specs.Schema.{room_schema}
-use Rattle.room_tables_laws.specs.Outcomes.{ReadsInside}
-use Rattle.room_tables_laws.proofs.ReadLaws.{told_inside}
-use Rattle.room_tables_laws.proofs.Selections.{selected}
+use Rattle.room_tables_schema.specs.Outcomes.{ReadsInside}
+use Rattle.room_tables_schema.proofs.ReadLaws.{told_inside}
+use Rattle.room_tables_schema.proofs.Selections.{selected}
 use Rattle.room_tables.proofs.Inside.{inside_then}
 use Rattle.room_store_file.specs.RowHash.{Adds}
 use Rattle.room_store_file.specs.WholeTableTexts.{ReadEach, ReadsTable}
@@ -25,7 +26,8 @@ pub shown_is : (text : List ℕ) (old new : State) (shown rows : List Row)
     → ReadsTable text old.now.trees rows → shown ≡ rows
 shown_is text old new shown rows has shows it =
     let every : Row → Bool = λ r. true in
-    selected room_schema text it.tree it.key it.more [] it.selects old new [] shown has shows rows every it.stands (λ r. refl) ∙ filter_all every rows (all_of _ (λ r. refl) rows)
+    selected room_schema text it.tree it.key it.more [] it.selects old new [] shown has shows rows every it.stands
+    (λ r. refl) ∙ filter_all every rows (all_of _ (λ r. refl) rows)
 
 -- ---- what was read
 
@@ -68,7 +70,8 @@ module _ {S : Type 0} {g : Ghosts S} {a b c : Held S} {reads : ℕ} {T E : Type 
 
 -- the tables that are left are those that these texts read, and what was read before them was added
 abbrev pub Left : List (List ℕ) → Trees → Sha256 → Sha256 → List ℕ → Type 0
-Left texts trees old now all = (tables : List (List Row)) × ReadEach texts trees tables × Adding old now all (flat_map table_text tables)
+Left texts trees old now all =
+    (tables : List (List Row)) × ReadEach texts trees tables × Adding old now all (flat_map table_text tables)
 
 module _ (trees : Trees) where
   pub left_all : (a : Sha256) (texts : List (List ℕ)) (tables : List (List Row))
@@ -80,7 +83,8 @@ module _ (trees : Trees) where
       → ((rows : List Row) → ReadsTable text trees rows → Adds b c (table_text rows))
       → Left texts trees a c all
   left_next text texts ([], reads, adding) next = absurd reads
-  left_next text texts (rows ∷ tables, reads, adding) next = (tables, reads.1, less_left refl adding (next rows reads.0))
+  left_next text texts (rows ∷ tables, reads, adding) next =
+      (tables, reads.1, less_left refl adding (next rows reads.0))
 
   pub left_none : {a b : Sha256} {all : List ℕ} → Left [] trees a b all → Adds a b all
   left_none ([], reads, adding) = none_left refl adding

@@ -1,6 +1,7 @@
 -- Tables that are taken: what they become holds the room that they held, and what an end of the
 -- transaction leaves.
-use Rattle.std.proofs.Common.{Err, IsTrue, List, Ok, Result, [], ap, arith, inl, inr, refl, subst, sym, ◌∙◌, ◌∷◌, ◌≡◌, ◌⊎◌}
+use Rattle.std.proofs.Common.{Err, IsTrue, List, Ok, Result, [], ap, arith, inl, inr, refl, subst, sym, ◌∙◌, ◌∷◌, ◌≡◌}
+use Rattle.std.proofs.Common.{◌⊎◌}
 use Rattle.std.proofs.lemmas.Bool.{eqb-false}
 use Rattle.std.specs.Prelude.{IfErr, IfOk, IsOk, OnErr, OnOk, ◌≢◌}
 use Rattle.std.specs.Result.{IsErrAnd}
@@ -13,7 +14,7 @@ use Rattle.sqlite_schema.specs.declared.schema.Table.{Table}
 use Rattle.sqlite_trees.specs.Tree.{Trees}
 use Rattle.sqlite_trees.specs.declared.store.Store.{Ghosts}
 use Rattle.room_model.specs.Room.{Room}
-use Rattle.room_tables_laws.specs.Outcomes.{ReadsInside}
+use Rattle.room_tables_schema.specs.Outcomes.{ReadsInside}
 use Rattle.room_tables_schema.specs.FileConnections.{MayWrite}
 use Rattle.room_tables_schema.specs.Definitions.{AddsLast}
 use Rattle.room_tables_schema.specs.Schema.{room_tables}
@@ -28,7 +29,8 @@ use Rattle.room_tables.specs.Writes.{Renews}
 use Rattle.room_store_writes.specs.Transactions.{Leaves}
 use Rattle.room_store_file.proofs.FileLaws.{rows_kept}
 use Rattle.room_store_file.specs.OpeningCauses.{FailsAtEnd, FailsBy, FailsInside}
-use Rattle.room_store_file.specs.OpenedFile.{Becomes, HasNoPlanBy, HoldsBy, HoldsFirstRoom, IsMoved, IsRoomOf, MayBecome, StandsBy, Takes, migrate_fault, open_fault, schema_of}
+use Rattle.room_store_file.specs.OpenedFile.{Becomes, HasNoPlanBy, HoldsBy, HoldsFirstRoom, IsMoved, IsRoomOf}
+use Rattle.room_store_file.specs.OpenedFile.{MayBecome, StandsBy, Takes, migrate_fault, open_fault, schema_of}
 use Rattle.room_store_check_tables.proofs.Findings.{planless}
 use Rattle.room_store_check_tables.specs.HeldRooms.{Holds, HoldsRoom, take_fault}
 use Rattle.room_store_file.specs.declared.migrated_file.MigrateFault.{MigrateFault}
@@ -47,14 +49,53 @@ is_moved old mid new adds renews =
     let only = renews.only.tables in
     let rows = adds.rows in
     record {
-      rows = (only.1.0 (eqb-false _ _ refl) ∙ rows.1.0, (only.1.1.0 (eqb-false _ _ refl) ∙ rows.1.1.0, (only.1.1.1.0 (eqb-false _ _ refl) ∙ rows.1.1.1.0, (only.1.1.1.1.0 (eqb-false _ _ refl) ∙ rows.1.1.1.1.0, (only.1.1.1.1.1.0 (eqb-false _ _ refl) ∙ rows.1.1.1.1.1.0, (only.1.1.1.1.1.1.0 (eqb-false _ _ refl) ∙ rows.1.1.1.1.1.1.0, (only.1.1.1.1.1.1.1.0 (eqb-false _ _ refl) ∙ rows.1.1.1.1.1.1.1.0, (only.1.1.1.1.1.1.1.1.0 (eqb-false _ _ refl) ∙ rows.1.1.1.1.1.1.1.1.0, (only.1.1.1.1.1.1.1.1.1.0 (eqb-false _ _ refl) ∙ rows.1.1.1.1.1.1.1.1.1.0, (only.1.1.1.1.1.1.1.1.1.1.0 (eqb-false _ _ refl) ∙ rows.1.1.1.1.1.1.1.1.1.1.0, (only.1.1.1.1.1.1.1.1.1.1.1.0 (eqb-false _ _ refl) ∙ rows.1.1.1.1.1.1.1.1.1.1.1.0, tt)))))))))));
-      stands = λ config room. (moves old mid new adds renews config room, moved_from old mid new adds renews config room);
+      rows = (
+        only.1.0 (eqb-false _ _ refl) ∙ rows.1.0,
+        (
+          only.1.1.0 (eqb-false _ _ refl) ∙ rows.1.1.0,
+          (
+            only.1.1.1.0 (eqb-false _ _ refl) ∙ rows.1.1.1.0,
+            (
+              only.1.1.1.1.0 (eqb-false _ _ refl) ∙ rows.1.1.1.1.0,
+              (
+                only.1.1.1.1.1.0 (eqb-false _ _ refl) ∙ rows.1.1.1.1.1.0,
+                (
+                  only.1.1.1.1.1.1.0 (eqb-false _ _ refl) ∙ rows.1.1.1.1.1.1.0,
+                  (
+                    only.1.1.1.1.1.1.1.0 (eqb-false _ _ refl) ∙ rows.1.1.1.1.1.1.1.0,
+                    (
+                      only.1.1.1.1.1.1.1.1.0 (eqb-false _ _ refl) ∙ rows.1.1.1.1.1.1.1.1.0,
+                      (
+                        only.1.1.1.1.1.1.1.1.1.0 (eqb-false _ _ refl) ∙ rows.1.1.1.1.1.1.1.1.1.0,
+                        (
+                          only.1.1.1.1.1.1.1.1.1.1.0 (eqb-false _ _ refl) ∙ rows.1.1.1.1.1.1.1.1.1.1.0,
+                          (only.1.1.1.1.1.1.1.1.1.1.1.0 (eqb-false _ _ refl) ∙ rows.1.1.1.1.1.1.1.1.1.1.1.0, tt),
+                        ),
+                      ),
+                    ),
+                  ),
+                ),
+              ),
+            ),
+          ),
+        ),
+      );
+      stands =
+          λ config room. (moves old mid new adds renews config room, moved_from old mid new adds renews config room);
     }
 
 -- what is held by some is held by others that stand for the same
 holds_more : {P Q : Configuration → Room → Type 0}
     → ((config : Configuration) (room : Room) → P config room → Q config room) → Holds P → Holds Q
-holds_more more h = record { layout = h.layout; terminals = h.terminals; room = h.room; planned = h.planned; stands = more _ _ h.stands; formed = h.formed; fits = h.fits }
+holds_more more h = record {
+  layout = h.layout;
+  terminals = h.terminals;
+  room = h.room;
+  planned = h.planned;
+  stands = more _ _ h.stands;
+  formed = h.formed;
+  fits = h.fits;
+}
 
 pub becomes_holds : (tables : Tables) (old new : Trees) → Becomes tables old new
     → HoldsBy tables old → HoldsRoom new
@@ -66,7 +107,9 @@ becomes_holds FirstUnindexed old new moved h = holds_more (λ config room. (move
 -- so they hold no room where what they become makes no plan
 pub planless_by : (tables : Tables) (trees : Trees) → HasNoPlanBy tables trees
     → ¬ HoldsBy tables trees
-planless_by tables trees (new, becomes, none) holds = planless new (λ all. elim none [ inl other ↦ absurd (other all) | inr no_plan ↦ no_plan ]) (becomes_holds tables trees new becomes holds)
+planless_by tables trees (new, becomes, none) holds =
+    planless new (λ all. elim none [ inl other ↦ absurd (other all) | inr no_plan ↦ no_plan ])
+    (becomes_holds tables trees new becomes holds)
 
 -- and what the others stand for, the first ones did
 keeps_back : (tables : List Table) (old new : Trees) → KeepsRows tables old new
@@ -77,7 +120,8 @@ keeps_back (t ∷ ts) old new rows = (sym rows.0, keeps_back ts old new rows.1)
 pub becomes_back : (tables : Tables) (old new : Trees) → Becomes tables old new
     → (config : Configuration) (room : Room) → Stands new config room → StandsBy tables old config room
 becomes_back Whole old new same config room h = subst (λ trees. Stands trees config room) same h
-becomes_back Unindexed old new rows config room h = rows_kept new old (keeps_back room_tables old new rows) config room h
+becomes_back Unindexed old new rows config room h =
+    rows_kept new old (keeps_back room_tables old new rows) config room h
 becomes_back First old new moved config room h = (moved.stands config room).1 h
 becomes_back FirstUnindexed old new moved config room h = (moved.stands config room).1 h
 
@@ -87,7 +131,8 @@ pub may_become : (tables : Tables) (old : State) (db : Trees)
     → (IsTrue old.is_open → old.now ≡ old.committed)
     → IsTrue old.is_open → Becomes tables old.now.trees db
     → old.may_leave db ⊎ MayBecome tables old.now.trees db
-may_become Whole old db stays settled is_open same = inl (subst old.may_leave (sym (same ∙ (λ i. (settled is_open i).trees))) (stays is_open))
+may_become Whole old db stays settled is_open same =
+    inl (subst old.may_leave (sym (same ∙ (λ i. (settled is_open i).trees))) (stays is_open))
 may_become Unindexed old db stays settled is_open b = inr b
 may_become First old db stays settled is_open b = inr b
 may_become FirstUnindexed old db stays settled is_open b = inr b
@@ -181,9 +226,14 @@ pub looked_takes : (tables : Tables) → tables ≡ Whole → (old new : State)
     → Leaves old new → IsTrue new.is_open → Takes tables old new
 looked_takes tables is old new has settled left is_open = record {
   was_open = left.was_open is_open;
-  settled = record { is_open = is_open; committed = left.committed_is is_open ∙ sym (settled (left.was_open is_open)) ∙ sym (left.now_is is_open) };
+  settled = record {
+    is_open = is_open;
+    committed = left.committed_is is_open ∙ sym (settled (left.was_open is_open)) ∙ sym (left.now_is is_open);
+  };
   schema = ap (λ (db : Database). db.schema) (left.now_is is_open) ∙ subst (λ t. old.now.schema ≡ schema_of t) is has;
-  becomes = subst (λ t. Becomes t old.now.trees new.now.trees) (sym is) (ap (λ (db : Database). db.trees) (left.now_is is_open));
+  becomes =
+      subst (λ t. Becomes t old.now.trees new.now.trees) (sym is)
+      (ap (λ (db : Database). db.trees) (left.now_is is_open));
 }
 
 -- tables that lack something are taken in a transaction
@@ -202,7 +252,8 @@ lacking g FirstUnindexed not old new r why = why
 pub first_is_old : (now : Database) → HasFirstTables now.schema → HoldsFirstRoom now.trees
     → IsRoomOf 1 now
 first_is_old now has h =
-    let begins : BeginsAsRoom now.schema = elim has [ inl is ↦ subst BeginsAsRoom (sym is) (refl, refl) | inr is ↦ subst BeginsAsRoom (sym is) (refl, refl) ] in
+    let begins : BeginsAsRoom now.schema = elim has
+    [ inl is ↦ subst BeginsAsRoom (sym is) (refl, refl) | inr is ↦ subst BeginsAsRoom (sym is) (refl, refl) ] in
     (begins, tells_held 1 h.layout.zone now.trees h.stands.meta)
 
 pub holds_new : (tables : Tables) (trees : Trees) → (tables ≡ Whole) ⊎ (tables ≡ Unindexed)
@@ -238,14 +289,21 @@ told_moved Storage is = cc
 -- what recorded the version may be followed by more
 pub renewed_on : {S T E : Type 0} (g : Ghosts S) (a b : Held S) (r : Result T E)
     → (HasCleanDisk (state g b) → OnOk r (Renews (state g a) (state g b))) → OnOk r (MayWrite g b)
-renewed_on g a b (Ok x) made = record { room = λ clean. (made clean).schema; inside = λ clean. (made clean).inside.mode }
+renewed_on g a b (Ok x) made =
+    record { room = λ clean. (made clean).schema; inside = λ clean. (made clean).inside.mode }
 renewed_on g a b (Err e) made = tt
 
 -- what may be followed by writes may be after a read
 pub may_write_on : {S T E : Type 0} (g : Ghosts S) (a b : Held S) (r : Result T E) → MayWrite g a
     → ReadsInside g a b r → OnOk r (MayWrite g b)
 may_write_on g a b (Ok x) may reads = record {
-  room = λ clean. let early : HasCleanDisk (state g a) = omega (arith, reads.survives.clean) in ap (λ (db : Database). db.schema) (reads.ok clean).0.now_is ∙ may.room early;
-  inside = λ clean. let early : HasCleanDisk (state g a) = omega (arith, reads.survives.clean) in (reads.ok clean).0.mode ∙ may.inside early;
+  room =
+      λ clean.
+      let early : HasCleanDisk (state g a) = omega (arith, reads.survives.clean) in
+      ap (λ (db : Database). db.schema) (reads.ok clean).0.now_is ∙ may.room early;
+  inside =
+      λ clean.
+      let early : HasCleanDisk (state g a) = omega (arith, reads.survives.clean) in
+      (reads.ok clean).0.mode ∙ may.inside early;
 }
 may_write_on g a b (Err e) may reads = tt

@@ -1,5 +1,6 @@
 -- Bytes from which it is read what they encode, whatever bytes come after them.
-use Rattle.std.proofs.Common.{◌≡◌, ◌+◌, ◌++◌, ◌/◌, ◌%◌, ◌<◌, ◌≤◌, ℕ, zero, suc, pos, negsuc, List, [], ◌∷◌, length, inl, inr, refl, sym, ap, ◌∙◌, arith, append_assoc}
+use Rattle.std.proofs.Common.{◌≡◌, ◌+◌, ◌++◌, ◌/◌, ◌%◌, ◌<◌, ◌≤◌, ℕ, zero, suc, pos, negsuc, List, [], ◌∷◌, length, inl}
+use Rattle.std.proofs.Common.{inr, refl, sym, ap, ◌∙◌, arith, append_assoc}
 use Rattle.std.proofs.lemmas.Bool.{cases_lt}
 use Rattle.std.specs.List.{AllByRecursion, flat_map}
 use Rattle.std.specs.Prelude.{⊤}
@@ -22,14 +23,18 @@ module _ (n m : ℕ) (s t : List ℕ) (e : number_text n ++ s ≡ number_text m 
 
   one_ends : n < 128 → 128 ≤ m → ⊥
   one_ends f g =
-      let same : n ∷ s ≡ (128 + m % 128) ∷ (number_text (m / 128) ++ t) = ap (λ l. l ++ s) (sym (number_ends n f)) ∙ e ∙ ap (λ l. l ++ t) (number_goes_on m g) in
+      let same : n ∷ s
+      ≡ (128 + m % 128) ∷ (number_text (m / 128) ++ t) =
+      ap (λ l. l ++ s) (sym (number_ends n f)) ∙ e ∙ ap (λ l. l ++ t) (number_goes_on m g) in
       let first : n ≡ 128 + m % 128 = cc in
       omega arith
 
   both_go_on : 128 ≤ n → 128 ≤ m → (n % 128 ≡ m % 128)
       × (number_text (n / 128) ++ s ≡ number_text (m / 128) ++ t)
   both_go_on f g =
-      let same : (128 + n % 128) ∷ (number_text (n / 128) ++ s) ≡ (128 + m % 128) ∷ (number_text (m / 128) ++ t) = ap (λ l. l ++ s) (sym (number_goes_on n f)) ∙ e ∙ ap (λ l. l ++ t) (number_goes_on m g) in
+      let same : (128 + n % 128) ∷ (number_text (n / 128) ++ s)
+      ≡ (128 + m % 128) ∷ (number_text (m / 128) ++ t) =
+      ap (λ l. l ++ s) (sym (number_goes_on n f)) ∙ e ∙ ap (λ l. l ++ t) (number_goes_on m g) in
       let first : 128 + n % 128 ≡ 128 + m % 128 = cc in
       (omega arith, cc)
 
@@ -63,14 +68,16 @@ module _ {X : Type 0} (Is : X → Type 0) (text : X → List ℕ) (told : IsTold
   each_told [] (y ∷ ys) s t f g same e = absurd (omega (arith, same))
   each_told (x ∷ xs) [] s t f g same e = absurd (omega (arith, same))
   each_told (x ∷ xs) (y ∷ ys) s t f g same e =
-      let first = told x y (flat_map text xs ++ s) (flat_map text ys ++ t) f.0 g.0 (sym (append_assoc (text x) (flat_map text xs) s) ∙ e ∙ append_assoc (text y) (flat_map text ys) t) in
+      let first = told x y (flat_map text xs ++ s) (flat_map text ys ++ t) f.0 g.0
+      (sym (append_assoc (text x) (flat_map text xs) s) ∙ e ∙ append_assoc (text y) (flat_map text ys) t) in
       let rest = each_told xs ys s t f.1 g.1 (omega (arith, same)) first.1 in
       (λ i. first.0 i ∷ rest.0 i, rest.1)
 
   pub list_told : IsTold (AllByRecursion Is) (list_text text)
   list_told xs ys s t f g e =
       let first = number_told (length xs) (length ys) (flat_map text xs ++ s) (flat_map text ys ++ t)
-      (sym (append_assoc (number_text (length xs)) (flat_map text xs) s) ∙ e ∙ append_assoc (number_text (length ys)) (flat_map text ys) t) in
+      (sym (append_assoc (number_text (length xs)) (flat_map text xs) s) ∙ e
+      ∙ append_assoc (number_text (length ys)) (flat_map text ys) t) in
       each_told xs ys s t f g first.0 first.1
 
 -- ---- values, rows and tables
@@ -100,16 +107,25 @@ bytes_told (x ∷ a) (y ∷ b) s t same e =
 sized_told : (a b s t : List ℕ) → (number_text (length a) ++ a)
     ++ s ≡ (number_text (length b) ++ b) ++ t → (a ≡ b) × (s ≡ t)
 sized_told a b s t e =
-    let first = number_told (length a) (length b) (a ++ s) (b ++ t) (sym (append_assoc (number_text (length a)) a s) ∙ e ∙ append_assoc (number_text (length b)) b t) in
+    let first = number_told (length a) (length b) (a ++ s) (b ++ t)
+    (sym (append_assoc (number_text (length a)) a s) ∙ e ∙ append_assoc (number_text (length b)) b t) in
     bytes_told a b s t first.0 first.1
 
 value_told : IsTold IsStored value_text
 unfolding first_of_bytes
 value_told Null Null s t f g e = let rest : s ≡ t = cc in (refl, rest)
-value_told (Int (pos n)) (Int (pos m)) s t f g e = let rest : number_text n ++ s ≡ number_text m ++ t = cc in let it = number_told n m s t rest in (ap (λ k. Int (pos k)) it.0, it.1)
-value_told (Int (negsuc n)) (Int (negsuc m)) s t f g e = let rest : number_text n ++ s ≡ number_text m ++ t = cc in let it = number_told n m s t rest in (ap (λ k. Int (negsuc k)) it.0, it.1)
-value_told (Text a) (Text b) s t f g e = let rest : (number_text (length a) ++ a) ++ s ≡ (number_text (length b) ++ b) ++ t = cc in let it = sized_told a b s t rest in (ap Text it.0, it.1)
-value_told (Blob a) (Blob b) s t f g e = let rest : (number_text (length a) ++ a) ++ s ≡ (number_text (length b) ++ b) ++ t = cc in let it = sized_told a b s t rest in (ap Blob it.0, it.1)
+value_told (Int (pos n)) (Int (pos m)) s t f g e =
+    let rest : number_text n ++ s ≡ number_text m ++ t = cc in
+    let it = number_told n m s t rest in (ap (λ k. Int (pos k)) it.0, it.1)
+value_told (Int (negsuc n)) (Int (negsuc m)) s t f g e =
+    let rest : number_text n ++ s ≡ number_text m ++ t = cc in
+    let it = number_told n m s t rest in (ap (λ k. Int (negsuc k)) it.0, it.1)
+value_told (Text a) (Text b) s t f g e =
+    let rest : (number_text (length a) ++ a) ++ s ≡ (number_text (length b) ++ b) ++ t = cc in
+    let it = sized_told a b s t rest in (ap Text it.0, it.1)
+value_told (Blob a) (Blob b) s t f g e =
+    let rest : (number_text (length a) ++ a) ++ s ≡ (number_text (length b) ++ b) ++ t = cc in
+    let it = sized_told a b s t rest in (ap Blob it.0, it.1)
 value_told (Real x) w s t f g e = absurd f
 value_told v (Real y) s t f g e = absurd g
 value_told (Int (pos n)) w s t f g e = absurd (omega (arith, ap first_of_bytes e))

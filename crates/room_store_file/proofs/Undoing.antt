@@ -13,4 +13,5 @@ pub told_another : {T U : Type 0} (result : Result T Undone) (done : Result U Un
 told_another (Ok x) done P why found = tt
 told_another (Err e) (Ok y) P (inl is) found = absurd (cc)
 told_another (Err e) (Err d) P (inl is) found = λ another. let same : d ≡ e = cc in found (same ∙ another)
-told_another (Err e) done P (inr want) found = λ another. let never : Want (fault_of want.0) ≡ Another = sym want.1 ∙ another in absurd (cc)
+told_another (Err e) done P (inr want) found =
+    λ another. let never : Want (fault_of want.0) ≡ Another = sym want.1 ∙ another in absurd (cc)

@@ -8,9 +8,9 @@ use Rattle.sqlite_value.specs.Order.{Row}
 use Rattle.room_model.specs.Room.{Room}
 use Rattle.room_model.specs.declared.digests.Version.TheVariants.{First, Second}
 use Rattle.room_tables_schema.specs.Schema.{room_schema}
-use Rattle.room_tables_laws.specs.Statements.{Selects}
-use Rattle.room_tables_laws.specs.TableTrees.{Holds}
-use Rattle.room_tables_rows.specs.MetaColumns.{meta_row}
+use Rattle.room_tables_schema.specs.Statements.{Selects}
+use Rattle.room_tables_schema.specs.TableTrees.{Holds}
+use Rattle.room_tables_rows.specs.MetaSql.{meta_row}
 use Rattle.room_tables_rows.specs.Stands.{Configuration, Stands, StandsFor, numbered, places}
 use Rattle.room_tables_rows.specs.Tables.{IsHeld}
 use Rattle.room_tables_rows.proofs.AreasTable.{all_areas_means, areas_held}
@@ -26,27 +26,54 @@ use Rattle.room_tables_rows.proofs.ReportsTable.{all_reports_means, reports_held
 use Rattle.room_tables_rows.proofs.TerminalsTable.{all_terminals_means, terminals_held}
 use Rattle.room_tables_rows.proofs.TurnsTable.{all_turns_means, turns_held}
 use Rattle.room_tables_rows.proofs.VehiclesTable.{all_vehicles_means, vehicles_held}
-use Rattle.room_tables_rows.specs.declared.area_columns.TheConstants.{ALL_AREAS}
-use Rattle.room_tables_rows.specs.declared.assignment_columns.TheConstants.{ALL_ASSIGNMENTS}
-use Rattle.room_tables_rows.specs.declared.call_columns.TheConstants.{ALL_CALLS}
-use Rattle.room_tables_rows.specs.declared.division_columns.TheConstants.{ALL_DIVISIONS}
-use Rattle.room_tables_rows.specs.declared.incident_columns.TheConstants.{ALL_INCIDENTS}
-use Rattle.room_tables_rows.specs.declared.loan_columns.TheConstants.{ALL_LOANS}
-use Rattle.room_tables_rows.specs.declared.meta_columns.TheConstants.{ALL_META}
-use Rattle.room_tables_rows.specs.declared.offer_columns.TheConstants.{ALL_OFFERS}
-use Rattle.room_tables_rows.specs.declared.point_columns.TheConstants.{ALL_POINTS}
-use Rattle.room_tables_rows.specs.declared.report_columns.TheConstants.{ALL_REPORTS}
-use Rattle.room_tables_rows.specs.declared.terminal_columns.TheConstants.{ALL_TERMINALS}
-use Rattle.room_tables_rows.specs.declared.turn_columns.TheConstants.{ALL_TURNS}
-use Rattle.room_tables_rows.specs.declared.vehicle_columns.TheConstants.{ALL_VEHICLES}
+use Rattle.room_tables_rows.specs.declared.area_sql.TheConstants.{ALL_AREAS}
+use Rattle.room_tables_rows.specs.declared.assignment_sql.TheConstants.{ALL_ASSIGNMENTS}
+use Rattle.room_tables_rows.specs.declared.call_sql.TheConstants.{ALL_CALLS}
+use Rattle.room_tables_rows.specs.declared.division_sql.TheConstants.{ALL_DIVISIONS}
+use Rattle.room_tables_rows.specs.declared.incident_sql.TheConstants.{ALL_INCIDENTS}
+use Rattle.room_tables_rows.specs.declared.loan_sql.TheConstants.{ALL_LOANS}
+use Rattle.room_tables_rows.specs.declared.meta_sql.TheConstants.{ALL_META}
+use Rattle.room_tables_rows.specs.declared.offer_sql.TheConstants.{ALL_OFFERS}
+use Rattle.room_tables_rows.specs.declared.point_sql.TheConstants.{ALL_POINTS}
+use Rattle.room_tables_rows.specs.declared.report_sql.TheConstants.{ALL_REPORTS}
+use Rattle.room_tables_rows.specs.declared.terminal_sql.TheConstants.{ALL_TERMINALS}
+use Rattle.room_tables_rows.specs.declared.turn_sql.TheConstants.{ALL_TURNS}
+use Rattle.room_tables_rows.specs.declared.vehicle_sql.TheConstants.{ALL_VEHICLES}
 use Rattle.room_store_file.specs.WholeTableTexts.{IsKnown, ReadEach, ReadsTable}
 use Rattle.room_store_file.specs.DigestTexts.{tables_in}
-use Rattle.room_store_file.specs.declared.table_digest.TheConstants.{WHOLE_TABLES}
+use Rattle.room_store_file.specs.declared.room_digest.TheConstants.{WHOLE_TABLES}
 
 -- ---- the tables but that of the zone
 
 pub first_known : AllByRecursion IsKnown (map (λ text. text.now) (drop 1 WHOLE_TABLES))
-first_known = (all_areas_means.plain, (all_terminals_means.plain, (all_divisions_means.plain, (all_incidents_means.plain, (all_calls_means.plain, (all_vehicles_means.plain, (all_turns_means.plain, (all_assignments_means.plain, (all_points_means.plain, (all_loans_means.plain, (all_reports_means.plain, (all_offers_means.plain, tt))))))))))))
+first_known = (
+  all_areas_means.plain,
+  (
+    all_terminals_means.plain,
+    (
+      all_divisions_means.plain,
+      (
+        all_incidents_means.plain,
+        (
+          all_calls_means.plain,
+          (
+            all_vehicles_means.plain,
+            (
+              all_turns_means.plain,
+              (
+                all_assignments_means.plain,
+                (
+                  all_points_means.plain,
+                  (all_loans_means.plain, (all_reports_means.plain, (all_offers_means.plain, tt))),
+                ),
+              ),
+            ),
+          ),
+        ),
+      ),
+    ),
+  ),
+)
 
 -- the text of a whole table reads what the table stands for
 reads_whole : {X K : Type 0} {order : K → K → Ordering} {key : X → K} {row : X → Row}
@@ -81,7 +108,8 @@ first_read trees config room h = (
             (
               reads_whole turns_held ALL_TURNS.now all_turns_means trees room.turns h.turns,
               (
-                reads_whole assignments_held ALL_ASSIGNMENTS.now all_assignments_means trees room.assignments h.assignments,
+                reads_whole assignments_held ALL_ASSIGNMENTS.now all_assignments_means trees room.assignments
+                    h.assignments,
                 (
                   reads_whole points_held ALL_POINTS.now all_points_means trees room.points h.points,
                   (

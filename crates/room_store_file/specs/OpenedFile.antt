@@ -13,8 +13,9 @@ use Rattle.room_model.specs.Room.{Room}
 use Rattle.room_tables_schema.specs.Definitions.{FailsAt}
 use Rattle.room_tables_schema.specs.DatabaseFaults.{fault_of}
 use Rattle.room_tables_schema.specs.declared.database_faults.Fault.{Fault}
-use Rattle.room_tables_schema.specs.Schema.{first_schema, first_tables, first_tables_schema, room_schema, room_tables, tables_schema}
-use Rattle.room_tables_rows.specs.declared.meta_columns.TheConstants.{ALL_META}
+use Rattle.room_tables_schema.specs.Schema.{first_schema, first_tables, first_tables_schema, room_schema, room_tables}
+use Rattle.room_tables_schema.specs.Schema.{tables_schema}
+use Rattle.room_tables_rows.specs.declared.meta_sql.TheConstants.{ALL_META}
 use Rattle.room_tables_schema.specs.Versions.{BeginsAsRoom, HasFirstTables}
 use Rattle.room_tables.specs.Failures.{FailsToRead}
 use Rattle.room_tables.specs.Stands.{Configuration, Stands, StandsInFirst}

@@ -4,7 +4,7 @@ use Rattle.sqlite.specs.Held.{Held, state}
 use Rattle.sqlite.specs.State.{IsRolledBack}
 use Rattle.sqlite_trees.specs.declared.store.Store.{Ghosts}
 use Rattle.room_tables_schema.specs.declared.database_faults.Fault.TheVariants as fault
-use Rattle.room_tables_laws.specs.Outcomes.{CommitsNothing}
+use Rattle.room_tables_schema.specs.Outcomes.{CommitsNothing}
 use Rattle.room_store_check_tables.specs.HeldRooms.{WritesNothing}
 use Rattle.room_store_check_tables.specs.ReadCauses.{FailsInTables, FailsToTake}
 use Rattle.room_store_check_tables.specs.declared.file_faults.FileFault.TheVariants.{Storage}

@@ -4,8 +4,8 @@ use Rattle.sqlite.specs.Given.{IsPlain}
 use Rattle.sqlite.specs.Listing.{understood}
 use Rattle.sqlite_trees.specs.Tree.{Trees}
 use Rattle.sqlite_value.specs.Order.{Row}
-use Rattle.room_tables_laws.specs.Statements.{Selects}
-use Rattle.room_tables_laws.specs.TableTrees.{Holds}
+use Rattle.room_tables_schema.specs.Statements.{Selects}
+use Rattle.room_tables_schema.specs.TableTrees.{Holds}
 use Rattle.room_tables_schema.specs.Schema.{room_schema}
 
 -- the text is one statement that a room's schema knows

@@ -7,12 +7,12 @@ ghost use Rattle.room_model.specs.Room.{Room, apply};
 ghost use Rattle.room_tables.specs.Stands.{Configuration, Stands};
 ghost use Rattle.room_tables_schema.specs.FileConnections.{HasRoomSchema, MayWrite};
 ghost use Rattle.room_tables_schema.specs.DatabaseFaults.{fault_of};
-ghost use Rattle.room_tables_laws.specs.Outcomes.{CommitsNothing};
+ghost use Rattle.room_tables_schema.specs.Outcomes.{CommitsNothing};
 ghost use Rattle.room_store_writes.specs.Transactions.{Commits, IsSettled, Leaves, MakesAll};
 ghost use Rattle.room_store_file.specs.DigestChanges.{Misses, Reaches};
 ghost use Rattle.room_store_file.specs.declared.digest_changes.Undone.TheVariants.{Another, Want};
 
-use crate::table_digest::digest_inside;
+use crate::room_digest::digest_inside;
 use room_model::digests::Head;
 use room_store_writes::transactions::{end, put_each};
 use room_tables_schema::database_faults::Fault;
@@ -24,7 +24,7 @@ use sqlite::{Alter, Connection, Error, Transaction};
 pub enum Undone {
     /// The room comes to another digest by them.
     Another,
-    /// Memory or storage is wanting.
+    /// Memory was refused, or storage failed.
     Want(Fault),
 }
 

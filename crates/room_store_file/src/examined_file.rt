@@ -18,7 +18,7 @@ use room_store_check_rows::summaries::{Summary, summary_of};
 use room_store_check_rows::terminal_checks::terminals_fault;
 use room_store_check_tables::file_faults::FileFault;
 use room_store_check_tables::whole_file::ReadFile;
-use room_tables_rows::meta_columns::FIRST_VERSION;
+use room_tables_rows::meta_sql::FIRST_VERSION;
 use sqlite::{Alter, Connection};
 use std::alloc::Global;
 use std::fmt;

@@ -8,6 +8,6 @@ pub mod examined_file;
 pub mod laws;
 pub mod migrated_file;
 pub mod opened_file;
+pub mod room_digest;
 pub mod room_in_tables;
 mod row_hash;
-pub mod table_digest;

@@ -16,7 +16,7 @@ use crate::opened_file::is_room_of;
 use crate::room_in_tables::{Tables, read_room_in};
 use room_place::plans::Plan;
 use room_store_check_tables::file_faults::FileFault;
-use room_tables_rows::meta_columns::{FIRST_VERSION, VERSION};
+use room_tables_rows::meta_sql::{FIRST_VERSION, VERSION};
 use room_tables_schema::database_faults::Fault;
 use room_tables_schema::schema_tests::{has_first_tables_alone, is_first};
 use sqlite::{Alter, Connection};

@@ -20,7 +20,7 @@ use crate::room_in_tables::{Tables, take};
 use room_place::plans::Plan;
 use room_store_check_tables::file_faults::FileFault;
 use room_tables::meta_table::is_of_version;
-use room_tables_rows::meta_columns::FIRST_VERSION;
+use room_tables_rows::meta_sql::FIRST_VERSION;
 use room_tables_schema::database_faults::Fault;
 use room_tables_schema::schema_tests::{begins_as_room, has_tables_alone, is_room};
 use sqlite::{Alter, Connection};

@@ -4,7 +4,7 @@
 ghost use Rattle.std.specs.Prelude.{◌≡◌, ◌⊎◌, Err, Ok, cond, false, IsOk, IsTrue, IfErr, IfOk, OnErr, OnOk};
 ghost use Rattle.sqlite.specs.Held.{state};
 ghost use Rattle.sqlite.specs.State.{HasCleanDisk, IsRolledBack, Shows, Survives};
-ghost use Rattle.room_tables_laws.specs.Outcomes.{CommitsNothing};
+ghost use Rattle.room_tables_schema.specs.Outcomes.{CommitsNothing};
 ghost use Rattle.room_model.specs.RoomSlices.{room_of};
 ghost use Rattle.room_tables_schema.specs.FileConnections.{MayWrite};
 ghost use Rattle.room_tables_schema.specs.Schema.{first_schema, first_tables_schema};
@@ -23,7 +23,7 @@ use room_store_check_tables::soundness::sound_plan;
 use room_store_check_tables::streamed_plan::stream_plan;
 use room_store_check_tables::whole_file::{ReadFile, read_whole};
 use room_tables::meta_table::tell_version;
-use room_tables_rows::meta_columns::VERSION;
+use room_tables_rows::meta_sql::VERSION;
 use room_tables_schema::database_faults::Fault;
 use room_tables_schema::table_creation::{make_indexes, make_last};
 use sqlite::{Alter, Connection, Transaction};

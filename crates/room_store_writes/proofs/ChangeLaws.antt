@@ -8,7 +8,9 @@ use Rattle.room_model.specs.Room.{Room}
 use Rattle.room_tables_rows.specs.Stands.{Configuration, Stands}
 use Rattle.room_store_writes.specs.TerminalChanges.{Explains, fault_in}
 use Rattle.room_store_writes.specs.declared.change_faults.ChangeFault.{ChangeFault}
-use Rattle.room_store_writes.specs.declared.change_faults.ChangeFault.TheVariants.{CrewsTerminal, Memory, NoDivision, NoTerminal, NoVehicle, Storage, TokenTaken}
+use Rattle.room_store_writes.specs.declared.change_faults.ChangeFault.TheVariants.{CrewsTerminal, Memory, NoDivision}
+use Rattle.room_store_writes.specs.declared.change_faults.ChangeFault.TheVariants.{NoTerminal, NoVehicle, Storage}
+use Rattle.room_store_writes.specs.declared.change_faults.ChangeFault.TheVariants.{TokenTaken}
 
 pub explained : (areas : List Area) (who : Who) (token : Option Token) (from : Trees)
     (fault : ChangeFault)

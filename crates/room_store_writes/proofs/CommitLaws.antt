@@ -1,5 +1,6 @@
 -- What a transaction leaves that was ended: committed where all went well, and undone where not.
-use Rattle.std.proofs.Common.{Err, IsTrue, List, Ok, Result, [], ap, arith, false, inl, subst, sym, true, ℕ, ◌∙◌, ◌∷◌, ◌≡◌}
+use Rattle.std.proofs.Common.{Err, IsTrue, List, Ok, Result, [], ap, arith, false, inl, subst, sym, true, ℕ, ◌∙◌, ◌∷◌}
+use Rattle.std.proofs.Common.{◌≡◌}
 use Rattle.std.proofs.lemmas.Result.{on_err_weaker, on_ok_weaker}
 use Rattle.std.specs.Prelude.{IsOk, OnErr, OnOk}
 use Rattle.sqlite.specs.Effect.{Database}
@@ -9,8 +10,8 @@ use Rattle.sqlite.proofs.Callers.{survives_begin}
 use Rattle.sqlite.proofs.StateLemmas.{survives_then}
 use Rattle.sqlite_trees.specs.Tree.{Trees}
 use Rattle.sqlite_trees.specs.declared.store.Store.{Ghosts}
-use Rattle.room_tables_laws.specs.Outcomes.{CommitsNothing, WritesInside}
-use Rattle.room_tables_laws.proofs.WriteLaws.{commits_none, write_commits}
+use Rattle.room_tables_schema.specs.Outcomes.{CommitsNothing, WritesInside}
+use Rattle.room_tables_schema.proofs.WriteLaws.{commits_none, write_commits}
 use Rattle.room_place.specs.declared.plans.Area.{Area}
 use Rattle.room_types.specs.declared.changes.Change.{Change}
 use Rattle.room_model.specs.Room.{Room, apply, apply_one}
@@ -37,7 +38,8 @@ pub may_on : {S T E : Type 0} (g : Ghosts S) (a b : Held S) (config_after : Conf
     (room_after : Room → Room) (r : Result T E)
     → (HasCleanDisk (state g b) → OnOk r (Changes (state g a) (state g b) config_after room_after))
     → OnOk r (MayWrite g b)
-may_on g a b config_after room_after (Ok x) made = record { room = λ clean. (made clean).schema; inside = λ clean. (made clean).inside.mode }
+may_on g a b config_after room_after (Ok x) made =
+    record { room = λ clean. (made clean).schema; inside = λ clean. (made clean).inside.mode }
 may_on g a b config_after room_after (Err e) made = tt
 
 module _ {S T E : Type 0} (g : Ghosts S) (a b : Held S) (config_after : Configuration → Configuration)
@@ -45,14 +47,18 @@ module _ {S T E : Type 0} (g : Ghosts S) (a b : Held S) (config_after : Configur
     (made : HasCleanDisk (state g b) → OnOk r (Changes (state g a) (state g b) config_after room_after)) where
   -- what changed them commits nothing
   pub put_commits : WritesInside g a b r → CommitsNothing g a b
-  put_commits wrote = write_commits r wrote (λ clean. ok_then r _ _ (λ (is : Changes (state g a) (state g b) config_after room_after). is.inside) (made clean))
+  put_commits wrote =
+      write_commits r wrote (λ clean.
+      ok_then r _ _ (λ (is : Changes (state g a) (state g b) config_after room_after). is.inside) (made clean))
 
 -- nor does the next area
 pub area_commits : {S T E : Type 0} (g : Ghosts S) (a b : Held S) (at : ℕ) (area : Area)
     (r : Result T E)
     → (HasCleanDisk (state g b) → OnOk r (AppendsArea (state g a) (state g b) at area))
     → WritesInside g a b r → CommitsNothing g a b
-area_commits g a b at area r made wrote = write_commits r wrote (λ clean. ok_then r _ _ (λ (is : AppendsArea (state g a) (state g b) at area). is.inside) (made clean))
+area_commits g a b at area r made wrote =
+    write_commits r wrote
+    (λ clean. ok_then r _ _ (λ (is : AppendsArea (state g a) (state g b) at area). is.inside) (made clean))
 
 -- what holds where both went well
 pub ok_both : {T E A B : Type 0} (r : Result T E) (done : Result A B) (P Q R : Type 0)
@@ -84,7 +90,9 @@ module _ {S : Type 0} (g : Ghosts S) (old last end : Held S) where
       → Survives (state g old) (state g end) P
   ended_survives done P inside ended holds =
       survives_then (state g old) (state g last) (state g end) _ _ P (λ _ db none. absurd none)
-      (λ clean db is. let early : HasCleanDisk (state g last) = omega (arith, ended.clean) in subst P (sym is.1) (when_ok done (P (state g last).now.trees) is.0 (holds early)))
+      (λ clean db is.
+      let early : HasCleanDisk (state g last) = omega (arith, ended.clean) in
+      subst P (sym is.1) (when_ok done (P (state g last).now.trees) is.0 (holds early)))
       (survives_begin g old (state g last) _ inside) ended
 
   pub undone_leaves : KeepsCommit (state g (record old { in_transaction = true })) (state g last)
@@ -93,7 +101,10 @@ module _ {S : Type 0} (g : Ghosts S) (old last end : Held S) where
       → Leaves (state g old) (state g end)
   undone_leaves kept back settled = record {
     was_open = λ is_open. kept.was_open (back.was_open is_open);
-    now_is = λ is_open. (back.undone is_open).0 ∙ kept.committed (back.was_open is_open) ∙ sym (settled (kept.was_open (back.was_open is_open)));
+    now_is =
+        λ is_open.
+        (back.undone is_open).0 ∙ kept.committed (back.was_open is_open)
+        ∙ sym (settled (kept.was_open (back.was_open is_open)));
     committed_is = λ is_open. (back.undone is_open).1 ∙ kept.committed (back.was_open is_open);
   }
 
@@ -112,10 +123,14 @@ pub record IsWhole {S A B : Type 0} (g : Ghosts S) (old end : Held S) (result : 
 module _ {S A B C D : Type 0} (g : Ghosts S) (old begun last end : Held S) (done : Result A B)
     (result : Result C D) (P : Trees → Trees → Type 0)
     (begins : begun ≡ record old { in_transaction = true })
-    (settled : HasCleanDisk (state g old) → IsTrue (state g old).is_open → (state g old).now ≡ (state g old).committed) (inside : CommitsNothing g begun last)
-    (made : HasCleanDisk (state g last) → OnOk done (((state g last).now.schema ≡ room_schema) × P (state g begun).now.trees (state g last).now.trees))
-    (well : OnOk result (IsOk done)) (committed : HasCleanDisk (state g end) → OnOk result (Shows (state g last) (state g end) (state g last).now (state g last).now false))
-    (undone : HasCleanDisk (state g end) → OnErr result (IsRolledBack (state g last) (state g end))) (ended : Survives (state g last) (state g end) (λ db. IsOk done × (db ≡ (state g last).now.trees))) where
+    (settled : HasCleanDisk (state g old) → IsTrue (state g old).is_open → (state g old).now ≡ (state g old).committed)
+    (inside : CommitsNothing g begun last)
+    (made : HasCleanDisk (state g last)
+    → OnOk done (((state g last).now.schema ≡ room_schema) × P (state g begun).now.trees (state g last).now.trees))
+    (well : OnOk result (IsOk done)) (committed : HasCleanDisk (state g end)
+    → OnOk result (Shows (state g last) (state g end) (state g last).now (state g last).now false))
+    (undone : HasCleanDisk (state g end) → OnErr result (IsRolledBack (state g last) (state g end)))
+    (ended : Survives (state g last) (state g end) (λ db. IsOk done × (db ≡ (state g last).now.trees))) where
   kept : CommitsNothing g (record old { in_transaction = true }) last
   kept = subst (λ h. CommitsNothing g h last) begins inside
 
@@ -137,8 +152,14 @@ module _ {S A B C D : Type 0} (g : Ghosts S) (old begun last end : Held S) (done
       ap (λ (db : Database). db.schema) is.now_is ∙ all.0,
       subst (λ (db : Database). P (state g old).now.trees db.trees) (sym is.now_is) (from_old all.1),
     ));
-    err = λ clean. on_err_weaker result (λ back. undone_leaves g old last end (kept.kept (last_clean clean)) back (settled (old_clean clean))) (undone clean);
-    survives = ended_survives g old last end done (P (state g old).now.trees) kept.survives ended (λ clean. on_ok_weaker done (λ all. from_old all.1) (made clean));
+    err =
+        λ clean.
+        on_err_weaker result
+        (λ back. undone_leaves g old last end (kept.kept (last_clean clean)) back (settled (old_clean clean)))
+        (undone clean);
+    survives =
+        ended_survives g old last end done (P (state g old).now.trees) kept.survives ended
+        (λ clean. on_ok_weaker done (λ all. from_old all.1) (made clean));
   }
 
 -- The tables stand for a room that these changes, the last ones, take to the room that all of them

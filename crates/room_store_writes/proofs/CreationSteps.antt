@@ -38,5 +38,7 @@ pub divisions_more : (passes : ℕ → Bool) (a k n : ℕ) → n ≡ a + k
     → cond (passes n) (put_row nat_cmp division_key (divisions_to passes a k) (new_division n))
     (divisions_to passes a k) ≡ divisions_to passes a (suc k)
 divisions_more passes a zero n e = let same : n ≡ a = omega arith in rw same (first (passes a) a)
-divisions_more passes a (suc k) n e = one_more (passes a) (passes n) a (new_division n) (filter passes (places_from (suc a) k)) (filter passes (places_from (suc a) (suc k)))
+divisions_more passes a (suc k) n e =
+    one_more (passes a) (passes n) a (new_division n) (filter passes (places_from (suc a) k))
+    (filter passes (places_from (suc a) (suc k)))
     (greater n a (omega arith)) (divisions_more passes (suc a) k n (omega arith))

@@ -1,5 +1,6 @@
 -- What the statements say that drop terminals, and what they make of a room.
-use Rattle.std.proofs.Common.{Bool, List, Ok, [], ap, false, filter, is_eq, map, not, refl, subst, sym, ℕ, ◌&&◌, ◌==◌, ◌∙◌, ◌∷◌, ◌≡◌}
+use Rattle.std.proofs.Common.{Bool, List, Ok, [], ap, false, filter, is_eq, map, not, refl, subst, sym, ℕ, ◌&&◌, ◌==◌}
+use Rattle.std.proofs.Common.{◌∙◌, ◌∷◌, ◌≡◌}
 use Rattle.sqlite.specs.Listing.{understood}
 use Rattle.sqlite.specs.State.{Executes, State}
 use Rattle.sqlite_schema.specs.Rules.{equal}
@@ -10,12 +11,12 @@ use Rattle.sqlite_value.specs.declared.keys.Collation.TheVariants.{Binary}
 use Rattle.sqlite_value.specs.declared.value.Value.TheVariants.{Null, Text}
 use Rattle.sqlite_value.proofs.OrderLemmas.{value_cmp-Null}
 use Rattle.sqlite.specs.Values.{or_null}
-use Rattle.room_tables_laws.proofs.Comparisons.{and_last, and_then, equal-numbers, equal-texts, equal-value_cmp}
-use Rattle.room_tables_laws.proofs.Deletions.{deleted}
-use Rattle.room_tables_laws.specs.Outcomes.{Inside}
-use Rattle.room_tables_laws.specs.Statements.{Deletes, equals}
-use Rattle.room_tables_laws.specs.TableTrees.{Holds}
-use Rattle.room_tables_laws.specs.TypedRows.{number}
+use Rattle.room_tables_schema.proofs.Comparisons.{and_last, and_then, equal-numbers, equal-texts, equal-value_cmp}
+use Rattle.room_tables_schema.proofs.Deletions.{deleted}
+use Rattle.room_tables_schema.specs.Outcomes.{Inside}
+use Rattle.room_tables_schema.specs.Statements.{Deletes, equals}
+use Rattle.room_tables_schema.specs.TableTrees.{Holds}
+use Rattle.room_tables_schema.specs.TypedRows.{number}
 use Rattle.room_types.specs.Texts.{Callsign}
 use Rattle.room_types.specs.declared.asks.Who.{Who}
 use Rattle.room_types.specs.declared.asks.Who.TheVariants.{Crew, Desk, Position}
@@ -26,7 +27,7 @@ use Rattle.room_tables_rows.proofs.Kept.{with_terminals}
 use Rattle.room_tables_rows.proofs.TerminalsTable.{terminals_alone}
 use Rattle.room_tables_rows.specs.Stands.{places}
 use Rattle.room_tables_rows.specs.Tables.{DeletesChosen}
-use Rattle.room_tables_rows.specs.TerminalColumns.{crew_of, number_of, role_of, terminal_row}
+use Rattle.room_tables_rows.specs.TerminalSql.{crew_of, number_of, role_of, terminal_row}
 use Rattle.room_tables_rows.specs.Writes.{Changes}
 use Rattle.room_store_writes.specs.TerminalHolders.{is_desk, is_position}
 use Rattle.room_store_writes.specs.declared.dropped_terminals.TheConstants.{DROP_CREWS, DROP_NUMBERED}
@@ -48,13 +49,17 @@ pub drops : (text : List ℕ) (params : Row) (chosen : Terminal → Bool)
     → Changes old new (λ config. record config { terminals = filter (λ t. not (chosen t)) config.terminals })
     (λ room. room)
 drops text params chosen means old new count has inside ran =
-    let it = deleted room_schema text 2 terminals_table terminals_alone means.terms means.deletes old new params count has ran in
+    let it = deleted room_schema text 2 terminals_table terminals_alone means.terms means.deletes old new params count
+    has ran in
     record {
       inside = inside;
       schema = it.0.schema_is ∙ has;
       stands = λ config room h.
-          let now = it.1 (places terminals_table) terminals_table.primary (map terminal_row config.terminals) means.chooses.test h.terminals means.chooses.tells in
-          with_terminals old.now new.now config room h it.0 _ (subst (Holds (places terminals_table) terminals_table.primary (new.now.trees 2)) (kept_rows means.chooses.test chosen means.chooses.same config.terminals) now);
+          let now = it.1 (places terminals_table) terminals_table.primary (map terminal_row config.terminals)
+          means.chooses.test h.terminals means.chooses.tells in
+          with_terminals old.now new.now config room h it.0 _
+          (subst (Holds (places terminals_table) terminals_table.primary (new.now.trees 2))
+          (kept_rows means.chooses.test chosen means.chooses.same config.terminals) now);
     }
 
 -- ---- a desk's, and a position's
@@ -85,10 +90,13 @@ position_by_numbers p (Desk d) = refl
 position_by_numbers p (Position q) = refl
 position_by_numbers p (Crew c) = refl
 
-pub drops_desk : (d : ℕ) → DeletesChosen terminals_table terminal_row 2 DROP_NUMBERED.now (number 0 ∷ number d ∷ []) (λ t. is_desk d t.who)
+pub drops_desk : (d : ℕ)
+    → DeletesChosen terminals_table terminal_row 2 DROP_NUMBERED.now (number 0 ∷ number d ∷ []) (λ t. is_desk d t.who)
 drops_desk d = by_numbers 0 d (λ t. is_desk d t.who) (λ x. desk_by_numbers d x.who)
 
-pub drops_position : (p : ℕ) → DeletesChosen terminals_table terminal_row 2 DROP_NUMBERED.now (number 1 ∷ number p ∷ []) (λ t. is_position p t.who)
+pub drops_position : (p : ℕ)
+    → DeletesChosen terminals_table terminal_row 2 DROP_NUMBERED.now (number 1 ∷ number p ∷ [])
+    (λ t. is_position p t.who)
 drops_position p = by_numbers 1 p (λ t. is_position p t.who) (λ x. position_by_numbers p x.who)
 
 -- ---- a crew's
@@ -104,9 +112,14 @@ crew_by_callsign c (Desk d) = no_crew c
 crew_by_callsign c (Position p) = no_crew c
 crew_by_callsign c (Crew k) = equal-texts k c
 
-pub drops_crew : (c : Callsign) → DeletesChosen terminals_table terminal_row 2 DROP_CREWS.now (Text c ∷ []) (λ t. is_crew c t.who)
+pub drops_crew : (c : Callsign)
+    → DeletesChosen terminals_table terminal_row 2 DROP_CREWS.now (Text c ∷ []) (λ t. is_crew c t.who)
 drops_crew c = record {
   terms = equals 4 0 ∷ [];
   deletes = drop_crews_means;
-  chooses = record { test = λ r. equal Binary (column r 3) (Text c); tells = λ r. and_last refl; same = λ x. crew_by_callsign c x.who };
+  chooses = record {
+    test = λ r. equal Binary (column r 3) (Text c);
+    tells = λ r. and_last refl;
+    same = λ x. crew_by_callsign c x.who;
+  };
 }

@@ -2,8 +2,8 @@
 use Rattle.std.proofs.Common.{not, Bool, Err, IsTrue, Ok, Result, ap, false, inl, ◌∙◌, ◌≡◌}
 use Rattle.sqlite.specs.Held.{Held}
 use Rattle.sqlite_trees.specs.declared.store.Store.{Ghosts}
-use Rattle.room_tables_laws.specs.Outcomes.{CommitsNothing, ReadsInside}
-use Rattle.room_tables_laws.proofs.Refusals.{keeps_commit}
+use Rattle.room_tables_schema.specs.Outcomes.{CommitsNothing, ReadsInside}
+use Rattle.room_tables_schema.proofs.Refusals.{keeps_commit}
 
 -- a read in a transaction commits nothing
 pub reads_commit : {S T E : Type 0} {g : Ghosts S} {a b : Held S} (r : Result T E)

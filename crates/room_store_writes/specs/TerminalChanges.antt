@@ -13,7 +13,9 @@ use Rattle.room_tables_schema.specs.declared.database_faults.Fault.{Fault}
 use Rattle.room_tables_schema.specs.declared.database_faults.Fault.TheVariants as fault
 use Rattle.room_store_writes.specs.TerminalHolders.{has_terminal, has_token, may_have, terminals_by}
 use Rattle.room_store_writes.specs.declared.change_faults.ChangeFault.{ChangeFault}
-use Rattle.room_store_writes.specs.declared.change_faults.ChangeFault.TheVariants.{CrewsTerminal, Memory, NoDivision, NoTerminal, NoVehicle, Storage, TokenTaken}
+use Rattle.room_store_writes.specs.declared.change_faults.ChangeFault.TheVariants.{CrewsTerminal, Memory, NoDivision}
+use Rattle.room_store_writes.specs.declared.change_faults.ChangeFault.TheVariants.{NoTerminal, NoVehicle, Storage}
+use Rattle.room_store_writes.specs.declared.change_faults.ChangeFault.TheVariants.{TokenTaken}
 
 -- how a failing machine is reported
 abbrev pub want_of : Fault → ChangeFault

@@ -16,7 +16,7 @@ use sqlite::Error;
 #[derive(Clone, Copy)]
 pub struct TokenChange {
     pub who: Who,
-    /// The one token that names it; none where it is to have no terminal any more.
+    /// The one token that names it; none where it is to have no terminal.
     pub token: Option<Token>,
 }
 
@@ -27,9 +27,9 @@ pub enum ChangeFault {
     NoDivision,
     /// No vehicle has the callsign.
     NoVehicle,
-    /// Who is to have no terminal any more has none.
+    /// Who is to have no terminal has none already.
     NoTerminal,
-    /// Who is to have no terminal any more is a vehicle's crew, which always has one.
+    /// Who is to have no terminal is a vehicle's crew, which always has one.
     CrewsTerminal,
     /// A terminal has the token.
     TokenTaken,

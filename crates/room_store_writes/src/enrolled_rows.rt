@@ -3,7 +3,7 @@ ghost use Rattle.std.specs.Prelude.{◌≡◌, false, OnOk, OnErr};
 ghost use Rattle.sqlite.specs.Held.{state};
 ghost use Rattle.sqlite.specs.State.{HasCleanDisk, Survives};
 ghost use Rattle.room_tables_schema.specs.FileConnections.{HasRoomSchema, MayWrite};
-ghost use Rattle.room_tables_laws.specs.Outcomes.{CommitsNothing};
+ghost use Rattle.room_tables_schema.specs.Outcomes.{CommitsNothing};
 ghost use Rattle.room_types.specs.declared.fleet.RowFate.TheVariants as told;
 ghost use Rattle.room_model.specs.Enrol.{new_terminal, new_vehicle, room_by};
 ghost use Rattle.room_model.specs.Room.{Room};

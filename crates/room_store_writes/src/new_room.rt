@@ -4,7 +4,7 @@ ghost use Rattle.std.specs.Prelude.{◌≡◌, ◌≤◌, [], cond, false, lengt
 ghost use Rattle.std.specs.Ordering.{nat_cmp};
 ghost use Rattle.sqlite.specs.Held.{state};
 ghost use Rattle.sqlite.specs.State.{HasCleanDisk, Survives};
-ghost use Rattle.room_tables_laws.specs.Outcomes.{CommitsNothing};
+ghost use Rattle.room_tables_schema.specs.Outcomes.{CommitsNothing};
 ghost use Rattle.room_place.specs.Plans.{has_division, most_areas};
 ghost use Rattle.room_types_keyed.specs.Keyed.{put_row};
 ghost use Rattle.room_types.specs.Keys.{division_key};

@@ -7,7 +7,7 @@ ghost use Rattle.room_tables_rows.specs.Stands.{Configuration, Stands};
 ghost use Rattle.room_tables_rows.specs.Writes.{Changes};
 ghost use Rattle.room_tables_schema.specs.FileConnections.{HasRoomSchema, MayWrite};
 ghost use Rattle.room_tables_schema.specs.Schema.{room_schema};
-ghost use Rattle.room_tables_laws.specs.Outcomes.{CommitsNothing, ReadsInside};
+ghost use Rattle.room_tables_schema.specs.Outcomes.{CommitsNothing, ReadsInside};
 ghost use Rattle.room_store_writes.specs.Transactions.{IsSettled, Leaves};
 ghost use Rattle.room_store_writes.specs.TerminalChanges.{Explains, Gives, fault_in, config_by};
 
@@ -21,9 +21,9 @@ use room_types::fleet::Terminal;
 use sqlite::{Alter, Connection, Transaction};
 use std::alloc::Global;
 
-/// Gives who only this token, or none, in one transaction; all other terminals and all rows of other
-/// tables stay. A fault leaves the room as it was. What a stop may leave is what it could before, or
-/// the room with the terminals afterwards.
+/// Gives who only this token, or none, in one transaction; all other terminals and all rows of
+/// other tables stay. A fault leaves the room as it was. What a stop may leave is what it could
+/// before, or the room with the terminals afterwards.
 pub fn change<S: Alter>(
     alloc: Global,
     conn: &mut Connection<S>,

@@ -9,8 +9,8 @@ ghost use Rattle.room_types.specs.declared.fleet.Terminal.{Terminal};
 ghost use Rattle.room_store_writes.specs.TerminalChanges.{fault_in};
 ghost use Rattle.room_store_writes.specs.TerminalHolders.{same_who, terminals_by, with_token, without};
 
-/// They fit the room as before: no two have one token, each vehicle's crew has one, each desk's
-/// division is in the plan.
+/// Changed terminals fit the room as before. No two have one token, each vehicle's crew has one,
+/// each desk's division is in the plan.
 pub fn changed_terminals_fit()
     ensures { (room : Room) (ts : List Terminal) (who : Who) (token : Option Token)
         → AreTerminals room ts → fault_in room.plan ts who token ≡ None
@@ -30,13 +30,13 @@ pub fn others_stay()
         → terminal_at k ts ≡ Some (record { token = k; who = other }) }
 {}
 
-/// Where who is to have none, no token names it any more.
+/// No token names who is to have none.
 pub fn none_is_left()
     ensures { (room : Room) (ts : List Terminal) (who : Who) (k : Token) → AreTerminals room ts
         → ¬ (terminal_at k (without who ts) ≡ Some (record { token = k; who = who })) }
 {}
 
-/// Where who has a new token, only that one names it.
+/// Only the new token names who gets one.
 pub fn one_token_is_left()
     ensures named { (ts : List Terminal) (who : Who) (k : Token)
         → terminal_at k (with_token who k ts) ≡ Some (record { token = k; who = who }) }

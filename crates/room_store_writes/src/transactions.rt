@@ -4,7 +4,7 @@ ghost use Rattle.sqlite.specs.Held.{state};
 ghost use Rattle.sqlite.specs.declared.error.Error.{Error as Failure};
 ghost use Rattle.sqlite.specs.State.{HasCleanDisk, IsRolledBack, Shows, Survives};
 ghost use Rattle.room_tables_schema.specs.FileConnections.{HasRoomSchema, MayWrite};
-ghost use Rattle.room_tables_laws.specs.Outcomes.{CommitsNothing};
+ghost use Rattle.room_tables_schema.specs.Outcomes.{CommitsNothing};
 ghost use Rattle.room_model.specs.Room.{Room, apply};
 ghost use Rattle.room_tables.specs.Stands.{Configuration, Stands};
 ghost use Rattle.room_tables.specs.Writes.{Makes};

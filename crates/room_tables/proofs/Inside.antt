@@ -4,10 +4,10 @@ use Rattle.sqlite.specs.Held.{Held}
 use Rattle.sqlite.specs.State.{IsUnchanged, State}
 use Rattle.sqlite.proofs.Callers.{unchanged_then}
 use Rattle.sqlite_trees.specs.declared.store.Store.{Ghosts}
-use Rattle.room_tables_laws.proofs.ReadLaws.{still}
-use Rattle.room_tables_laws.proofs.Refusals.{keeps_then}
+use Rattle.room_tables_schema.proofs.ReadLaws.{still}
+use Rattle.room_tables_schema.proofs.Refusals.{keeps_then}
 use Rattle.room_tables.proofs.RoomReads.{was_clean}
-use Rattle.room_tables_laws.specs.Outcomes.{ReadsInside}
+use Rattle.room_tables_schema.specs.Outcomes.{ReadsInside}
 use Rattle.room_tables_rows.specs.Writes.{Renews}
 
 module _ {S : Type 0} {g : Ghosts S} {a b c : Held S} {T E U F : Type 0} {x : T} where
@@ -30,7 +30,13 @@ pub read_renews : (old mid new : State) → IsUnchanged old mid → Renews mid n
 read_renews old mid new same it =
     let now = same.0.now_is in
     record {
-      inside = record { was_open = same.0.was_open; is_open = it.inside.is_open; now_is = it.inside.now_is; committed_is = it.inside.committed_is ∙ same.0.committed_is; mode = it.inside.mode };
+      inside = record {
+        was_open = same.0.was_open;
+        is_open = it.inside.is_open;
+        now_is = it.inside.now_is;
+        committed_is = it.inside.committed_is ∙ same.0.committed_is;
+        mode = it.inside.mode;
+      };
       schema = it.schema;
       only = rw now at it.only;
       zone = it.zone;

@@ -8,7 +8,7 @@ use Rattle.sqlite.specs.State.{Executes, IsUnchanged, State}
 use Rattle.room_model.specs.Room.{Room, apply_one}
 use Rattle.room_types.specs.declared.changes.Change.{Change}
 use Rattle.room_types.specs.declared.changes.Change.TheVariants as change
-use Rattle.room_tables_laws.specs.Outcomes.{Inside}
+use Rattle.room_tables_schema.specs.Outcomes.{Inside}
 use Rattle.room_tables_schema.specs.Schema.{room_schema}
 use Rattle.room_tables_rows.specs.Tables.{InsertsRow, IsDropped, IsOverwritten, IsTable, Texts}
 use Rattle.room_tables_rows.specs.Writes.{Changes, Makes}
@@ -36,7 +36,8 @@ module _ {old new : State} {text : List ℕ} {params : Row} (it : Ran text param
     pub drops : {drop : K → Change} {drop_text : List ℕ}
         → IsDropped order key row key_row table rows drop drop_text → (k : K)
         → (text ≡ drop_text) × (params ≡ key_row k) → Makes old new (drop k)
-    drops dropped k same = drop_makes is _ _ dropped k old new it.count it.room it.inside (rw (same.0, same.1) at it.ran)
+    drops dropped k same =
+        drop_makes is _ _ dropped k old new it.count it.room it.inside (rw (same.0, same.1) at it.ran)
 
   pub makes : (made : Change) → IsStatement text params made → Makes old new made
   makes (change.PutDivision row) same = puts divisions_are row same
@@ -67,14 +68,16 @@ module _ (old new : State) (text : List ℕ) (params : Row) (count : ℕ)
       (is : IsTable order key row key_row table rows put texts) (over : List ℕ)
       → IsOverwritten table row rows over → (x : X) → text ≡ over → params ≡ row x
       → Overwrites old new count (put x)
-  overwrites_in is over written x same values = overwrite_makes is over written x old new count has inside (rw (same, values) at ran)
+  overwrites_in is over written x same values =
+      overwrite_makes is over written x old new count has inside (rw (same, values) at ran)
 
   inserts_in : {X K : Type 0} {order : K → K → Ordering} {key : X → K} {row : X → Row}
       {key_row : K → Row} {table : Table} {rows : Room → List X} {put : X → Change} {texts : Texts}
       (is : IsTable order key row key_row table rows put texts) (insertion : List ℕ)
       → InsertsRow table row is.is_held.at insertion → (x : X) → text ≡ insertion → params ≡ row x
       → Makes old new (put x)
-  inserts_in is insertion inserts x same values = insert_makes is insertion inserts x old new count has inside (rw (same, values) at ran)
+  inserts_in is insertion inserts x same values =
+      insert_makes is insertion inserts x old new count has inside (rw (same, values) at ran)
 
   -- a row was inserted
   pub inserted : (put : List ℕ) (made : Change) → AreInsertions text put params made
@@ -106,7 +109,13 @@ Stays old new = Changes old new (λ config. config) (λ room. room)
 put_after : (old mid new : State) (made : Change) → Stays old mid → Makes mid new made
     → Makes old new made
 put_after old mid new made before put = record {
-  inside = record { was_open = before.inside.was_open; is_open = put.inside.is_open; now_is = put.inside.now_is; committed_is = put.inside.committed_is ∙ before.inside.committed_is; mode = put.inside.mode };
+  inside = record {
+    was_open = before.inside.was_open;
+    is_open = put.inside.is_open;
+    now_is = put.inside.now_is;
+    committed_is = put.inside.committed_is ∙ before.inside.committed_is;
+    mode = put.inside.mode;
+  };
   schema = put.schema;
   stands = λ config room h. put.stands config room (before.stands config room h);
 }

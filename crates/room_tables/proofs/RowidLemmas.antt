@@ -1,5 +1,6 @@
 -- The rowids of all tables, and whether they rise from row to row.
-use Rattle.std.proofs.Common.{◌≡◌, ◌++◌, ℕ, ℤ, List, [], ◌∷◌, map, Option, Some, None, Less, Bool, true, false, IsTrue, refl, sym, subst, ◌∙◌, true≢false, arith}
+use Rattle.std.proofs.Common.{◌≡◌, ◌++◌, ℕ, ℤ, List, [], ◌∷◌, map, Option, Some, None, Less, Bool, true, false, IsTrue}
+use Rattle.std.proofs.Common.{refl, sym, subst, ◌∙◌, true≢false, arith}
 use Rattle.std.proofs.lemmas.Int.{ints}
 use Rattle.std.specs.Option.{option_partial_cmp}
 use Rattle.std.specs.Ordering.{int_cmp, partial_le}
@@ -18,9 +19,9 @@ use Rattle.sqlite_schema.specs.declared.command.Command.TheVariants.{Select}
 use Rattle.sqlite.specs.Given.{IsPlain}
 use Rattle.sqlite.specs.Listing.{understood, reads_listing}
 use Rattle.sqlite.proofs.Callers.{command_of}
-use Rattle.room_tables_laws.specs.Statements.{table_query}
+use Rattle.room_tables_schema.specs.Statements.{table_query}
 use Rattle.sqlite.specs.Values.{or_null}
-use Rattle.room_tables_laws.specs.TableTrees.{AreNumbered, RowidsRise}
+use Rattle.room_tables_schema.specs.TableTrees.{AreNumbered, RowidsRise}
 use Rattle.room_tables_schema.specs.Schema.{room_schema, room_tables}
 use Rattle.room_tables.specs.Rowids.{SelectsRowids, SelectEach, AreAllNumbered, TellsRise, integer_in, last_rowid}
 use Rattle.room_tables.specs.declared.rowids.TheConstants.{ROWIDS}
@@ -35,7 +36,11 @@ RiseFrom last (r ∷ rows) = (is_int (rowid r) ≡ true) × (value_cmp last (row
 above_all : (last : Value) (rows : List Row) → RiseFrom last rows
     → AllByRecursion (λ r. value_cmp last (rowid r) ≡ Less) rows
 above_all last [] h = tt
-above_all last (r ∷ rows) h = (h.1, all_weaker _ (λ s. value_cmp last (rowid s) ≡ Less) (λ s. value_cmp_total.trans last (rowid r) (rowid s) h.1) rows (above_all (rowid r) rows h.2))
+above_all last (r ∷ rows) h = (
+  h.1,
+  all_weaker _ (λ s. value_cmp last (rowid s) ≡ Less) (λ s. value_cmp_total.trans last (rowid r) (rowid s) h.1) rows
+      (above_all (rowid r) rows h.2),
+)
 
 rises : (last : Value) (rows : List Row) → RiseFrom last rows → RowidsRise rows
 rises last [] h = (tt, tt)
@@ -56,7 +61,10 @@ above_Null (Blob b) h = absurd (true≢false (sym h))
 
 -- NULL is below all integers
 pub rise_from_Null : (rows : List Row) → RiseFrom Null rows ↔ RowidsRise rows
-rise_from_Null rows = (rises Null rows, λ h. rise_on Null rows (all_weaker _ (λ r. value_cmp Null (rowid r) ≡ Less) (λ r. above_Null (rowid r)) rows h.1) h)
+rise_from_Null rows = (
+  rises Null rows,
+  λ h. rise_on Null rows (all_weaker _ (λ r. value_cmp Null (rowid r) ≡ Less) (λ r. above_Null (rowid r)) rows h.1) h,
+)
 
 -- the comparison of what two values are as integers, where none is below all
 abbrev pub is_at_most : Option ℤ → Option ℤ → Bool
@@ -66,14 +74,16 @@ is_at_most = partial_le (option_partial_cmp (λ m n. Some (int_cmp m n)))
 above : (last : Option ℤ) (v : Value) → is_at_most (integer_in v) last ≡ false
     → (is_int v ≡ true) × (value_cmp (or_null Int last) v ≡ Less) × (or_null Int (integer_in v) ≡ v)
 above None (Int n) h = (refl, value_cmp-Null (Int n), refl)
-above (Some m) (Int n) h = (refl, (let below : int_cmp m n ≡ Less = grind (arith, ints) in value_cmp-Int m n ∙ below), refl)
+above (Some m) (Int n) h =
+    (refl, (let below : int_cmp m n ≡ Less = grind (arith, ints) in value_cmp-Int m n ∙ below), refl)
 above None v h = absurd (true≢false h)
 above (Some m) v h = absurd (true≢false h)
 
 not_above : (last : Option ℤ) (v : Value) → is_at_most (integer_in v) last ≡ true → is_int v ≡ true
     → value_cmp (or_null Int last) v ≡ Less → ⊥
 not_above None (Int n) h int up = absurd (true≢false (sym h))
-not_above (Some m) (Int n) h int up = let below : int_cmp m n ≡ Less = sym (value_cmp-Int m n) ∙ up in grind (arith, ints)
+not_above (Some m) (Int n) h int up =
+    let below : int_cmp m n ≡ Less = sym (value_cmp-Int m n) ∙ up in grind (arith, ints)
 not_above last v h int up = absurd (true≢false (sym int))
 
 -- ---- one rowid more
@@ -102,7 +112,8 @@ module _ (shown : List Row) (r : Row) where
       let before = (rise_from_Null shown).1 h.0 in
       let rest = rise_more Null shown r before is.0 (subst (λ v. value_cmp v (rowid r) ≡ Less) h.1 is.1) in
       ((rise_from_Null (shown ++ r ∷ [])).0 rest, is.2 ∙ sym (end_more Null shown r))
-  goes_on false last h up = λ all. h ((rise_from_Null shown).0 (rise_less Null shown r ((rise_from_Null (shown ++ r ∷ [])).1 all)).0)
+  goes_on false last h up =
+      λ all. h ((rise_from_Null shown).0 (rise_less Null shown r ((rise_from_Null (shown ++ r ∷ [])).1 all)).0)
 
   -- and one that is ends it
   pub ends : (rise : Bool) (last : Option ℤ) → TellsRise shown rise last
@@ -110,7 +121,8 @@ module _ (shown : List Row) (r : Row) where
   ends true last h down all =
       let rest = rise_less Null shown r ((rise_from_Null (shown ++ r ∷ [])).1 all) in
       not_above last (rowid r) down rest.1 (subst (λ v. value_cmp v (rowid r) ≡ Less) (sym h.1) rest.2)
-  ends false last h down all = h ((rise_from_Null shown).0 (rise_less Null shown r ((rise_from_Null (shown ++ r ∷ [])).1 all)).0)
+  ends false last h down all =
+      h ((rise_from_Null shown).0 (rise_less Null shown r ((rise_from_Null (shown ++ r ∷ [])).1 all)).0)
 
 -- whether all rise
 pub tells : (shown : List Row) (rise : Bool) (last : Option ℤ) → TellsRise shown rise last
@@ -126,17 +138,52 @@ computed : {text : List ℕ} {tree : ℕ} {names : List (List ℕ)}
     ≡ Select (record { lets = []; body = table_query tree (0 ∷ []) (0 ∷ []) [] }) names
     → IsPlain (understood room_schema text) → reads_listing room_schema text ≡ false
     → SelectsRowids text tree
-computed {names = names} command plain unlisted = record { names = names; command = command; plain = plain; unlisted = unlisted }
+computed {names = names} command plain unlisted =
+    record { names = names; command = command; plain = plain; unlisted = unlisted }
 
 pub select_each : SelectEach (map (λ text. text.now) ROWIDS) room_tables
 unfolding understood everything
-select_each =
-    (computed refl (refl, refl) refl, (computed refl (refl, refl) refl, (computed refl (refl, refl) refl, (computed refl (refl, refl) refl, (computed refl (refl, refl) refl, (computed refl (refl, refl) refl, (computed refl (refl, refl) refl, (computed refl (refl, refl) refl, (computed refl (refl, refl) refl, (computed refl (refl, refl) refl, (computed refl (refl, refl) refl, (computed refl (refl, refl) refl, (computed refl (refl, refl) refl, tt)))))))))))))
+select_each = (
+  computed refl (refl, refl) refl,
+  (
+    computed refl (refl, refl) refl,
+    (
+      computed refl (refl, refl) refl,
+      (
+        computed refl (refl, refl) refl,
+        (
+          computed refl (refl, refl) refl,
+          (
+            computed refl (refl, refl) refl,
+            (
+              computed refl (refl, refl) refl,
+              (
+                computed refl (refl, refl) refl,
+                (
+                  computed refl (refl, refl) refl,
+                  (
+                    computed refl (refl, refl) refl,
+                    (
+                      computed refl (refl, refl) refl,
+                      (computed refl (refl, refl) refl, (computed refl (refl, refl) refl, tt)),
+                    ),
+                  ),
+                ),
+              ),
+            ),
+          ),
+        ),
+      ),
+    ),
+  ),
+)
 
 -- After some tables that are numbered: the texts that are left select the rowids of the tables that
 -- are left, on which the answer hangs.
 abbrev pub Left : Trees → List (List ℕ) → Type 0
-Left trees texts = (tables : List Table) × SelectEach texts tables × (AllByRecursion (λ table. AreNumbered (trees table.tree)) tables ↔ AreAllNumbered trees)
+Left trees texts =
+    (tables : List Table) × SelectEach texts tables
+    × (AllByRecursion (λ table. AreNumbered (trees table.tree)) tables ↔ AreAllNumbered trees)
 
 pub none_left : (trees : Trees) → Left trees [] → AreAllNumbered trees
 none_left trees ([], selects, answer) = answer.0 tt
@@ -152,7 +199,8 @@ module _ (trees : Trees) (text : List ℕ) (texts : List (List ℕ)) (is_so : Bo
   -- a table that is numbered leaves the answer to the tables after it
   pub less_left : Left trees (text ∷ texts) → IsTrue is_so → Left trees texts
   less_left ([], selects, answer) numbered = absurd selects
-  less_left (table ∷ tables, selects, answer) numbered = (tables, selects.1, (λ h. answer.0 ((tells table.tree selects.0).0 numbered, h), λ h. (answer.1 h).1))
+  less_left (table ∷ tables, selects, answer) numbered =
+      (tables, selects.1, (λ h. answer.0 ((tells table.tree selects.0).0 numbered, h), λ h. (answer.1 h).1))
 
   -- and any other table answers it
   pub one_numbered : Left trees (text ∷ texts) → AreAllNumbered trees → IsTrue is_so

@@ -1,5 +1,7 @@
 -- A table whose rows are read one at a time.
-use Rattle.std.proofs.Common.{◌≡◌, ◌++◌, ◌-◌, ◌⊎◌, inl, inr, suc, List, [], ◌∷◌, map, length, Bool, true, false, IsTrue, Option, Some, None, Result, Ok, Err, IfOk, IfErr, refl, sym, ap, subst, ◌∙◌, true≢false, Ordering, Less, arith}
+use Rattle.std.proofs.Common.{◌≡◌, ◌++◌, ◌-◌, ◌⊎◌, inl, inr, suc, List, [], ◌∷◌, map, length, Bool, true, false, IsTrue}
+use Rattle.std.proofs.Common.{Option, Some, None, Result, Ok, Err, IfOk, IfErr, refl, sym, ap, subst, ◌∙◌, true≢false}
+use Rattle.std.proofs.Common.{Ordering, Less, arith}
 use Rattle.std.proofs.lemmas.List.{map-append, append_assoc}
 use Rattle.std.specs.Cmp.{IsTotalOrder}
 use Rattle.std.specs.List.{slice_get}
@@ -27,7 +29,9 @@ none_last (x ∷ y ∷ xs) e = let none : y ∷ xs ≡ [] = none_last (y ∷ xs)
 pub last_got : {X : Type 0} (xs : List X) → slice_get xs (length xs - 1) ≡ last_of xs
 last_got [] = refl
 last_got (x ∷ []) = refl
-last_got (x ∷ y ∷ xs) = let past : length (x ∷ y ∷ xs) - 1 ≡ suc (length (y ∷ xs) - 1) = omega arith in ap (slice_get (x ∷ y ∷ xs)) past ∙ last_got (y ∷ xs)
+last_got (x ∷ y ∷ xs) =
+    let past : length (x ∷ y ∷ xs) - 1 ≡ suc (length (y ∷ xs) - 1) = omega arith in
+    ap (slice_get (x ∷ y ∷ xs)) past ∙ last_got (y ∷ xs)
 
 module _ {X K T : Type 0} (is_row : Row → Bool) (order : K → K → Ordering) (key : X → K)
     (row : X → Row) (takes : T → List X → T → Type 0) where
@@ -39,8 +43,13 @@ module _ {X K T : Type 0} (is_row : Row → Bool) (order : K → K → Ordering)
       → (first now : T) (shown : List Row) (r : Row) (x : X) (rows : List X) → map row rows ≡ shown
       → row x ≡ r → IsKeyed order key rows → put_row order key rows x ≡ rows ++ x ∷ []
       → takes first (rows ++ x ∷ []) now → Taken first (shown ++ r ∷ []) now (Some x) (Ok tt)
-  taken_next total first now shown r x rows are is keyed put takes_it =
-      (rows ++ x ∷ [], map-append row rows (x ∷ []) ∙ ap (λ l. l ++ row x ∷ []) are ∙ ap (λ y. shown ++ y ∷ []) is, subst (IsKeyed order key) put (keyed_put order key total rows x keyed), sym (last_end rows x), takes_it)
+  taken_next total first now shown r x rows are is keyed put takes_it = (
+    rows ++ x ∷ [],
+    map-append row rows (x ∷ []) ∙ ap (λ l. l ++ row x ∷ []) are ∙ ap (λ y. shown ++ y ∷ []) is,
+    subst (IsKeyed order key) put (keyed_put order key total rows x keyed),
+    sym (last_end rows x),
+    takes_it,
+  )
 
   -- by what became of it
   pub by_result : (first now : T) (shown : List Row) (last : Option X) (P : Type 0)
@@ -53,8 +62,10 @@ module _ {X K T : Type 0} (is_row : Row → Bool) (order : K → K → Ordering)
   pub stays : (first now : T) (shown : List Row) (r : Row) (last : Option X) (fault : Fault)
       → Taken first shown now last (Err fault) → Taken first (shown ++ r ∷ []) now last (Err fault)
   stays first now shown r last Memory h = tt
-  stays first now shown r last Storage (inl h) = inl (h.0, h.1, h.2 ++ r ∷ [], sym (append_assoc h.0 (h.1 ∷ h.2) (r ∷ [])) ∙ ap (λ l. l ++ r ∷ []) h.3, h.4)
-  stays first now shown r last Storage (inr h) = inr (h.0, h.1 ++ r ∷ [], sym (append_assoc (map row h.0) h.1 (r ∷ [])) ∙ ap (λ l. l ++ r ∷ []) h.2, h.3)
+  stays first now shown r last Storage (inl h) =
+      inl (h.0, h.1, h.2 ++ r ∷ [], sym (append_assoc h.0 (h.1 ∷ h.2) (r ∷ [])) ∙ ap (λ l. l ++ r ∷ []) h.3, h.4)
+  stays first now shown r last Storage (inr h) =
+      inr (h.0, h.1 ++ r ∷ [], sym (append_assoc (map row h.0) h.1 (r ∷ [])) ∙ ap (λ l. l ++ r ∷ []) h.2, h.3)
 
   -- so it is of a result that is none
   pub stays_failed : (first now : T) (shown : List Row) (r : Row) (last : Option X)
@@ -105,4 +116,5 @@ module _ {X K : Type 0} (order : K → K → Ordering) (key : X → K) (total : 
   pub put_end : (xs : List X) (x : X) → IsKeyed order key (xs ++ x ∷ [])
       → put_row order key xs x ≡ xs ++ x ∷ []
   put_end [] x h = refl
-  put_end (y ∷ xs) x h = rw (total.antisymm (key x) (key y), end_above (key y) xs x h.0) (ap (λ ys. y ∷ ys) (put_end xs x h.1))
+  put_end (y ∷ xs) x h =
+      rw (total.antisymm (key x) (key y), end_above (key y) xs x h.0) (ap (λ ys. y ∷ ys) (put_end xs x h.1))

@@ -4,29 +4,30 @@ use Rattle.sqlite_value.specs.Order.{Row}
 use Rattle.sqlite.specs.State.{Executes, State}
 use Rattle.room_types.specs.declared.changes.Change.{Change}
 use Rattle.room_types.specs.declared.changes.Change.TheVariants as change
-use Rattle.room_tables_laws.specs.Outcomes.{Inside}
+use Rattle.room_tables_schema.specs.Outcomes.{Inside}
 use Rattle.room_tables_schema.specs.Schema.{room_schema}
 use Rattle.room_tables_rows.specs.KeyColumns.{text_cells}
-use Rattle.room_tables_rows.specs.DivisionColumns.{division_row}
-use Rattle.room_tables_rows.specs.IncidentColumns.{incident_row}
-use Rattle.room_tables_rows.specs.CallColumns.{call_row}
-use Rattle.room_tables_rows.specs.VehicleColumns.{vehicle_row}
-use Rattle.room_tables_rows.specs.TurnColumns.{turn_row}
-use Rattle.room_tables_rows.specs.AssignmentColumns.{assignment_row}
-use Rattle.room_tables_rows.specs.PointColumns.{point_row}
-use Rattle.room_tables_rows.specs.LoanColumns.{loan_row}
-use Rattle.room_tables_rows.specs.OfferColumns.{offer_row}
-use Rattle.room_tables_rows.specs.ReportColumns.{report_row}
-use Rattle.room_tables_rows.specs.declared.division_columns.TheConstants.{PUT_DIVISION}
-use Rattle.room_tables_rows.specs.declared.incident_columns.TheConstants.{INSERT_INCIDENT, OVERWRITE_INCIDENT, PUT_INCIDENT}
-use Rattle.room_tables_rows.specs.declared.call_columns.TheConstants.{INSERT_CALL, PUT_CALL}
-use Rattle.room_tables_rows.specs.declared.vehicle_columns.TheConstants.{OVERWRITE_VEHICLE, PUT_VEHICLE}
-use Rattle.room_tables_rows.specs.declared.turn_columns.TheConstants.{INSERT_TURN, OVERWRITE_TURN, PUT_TURN}
-use Rattle.room_tables_rows.specs.declared.assignment_columns.TheConstants.{DROP_ASSIGNMENT, INSERT_ASSIGNMENT, PUT_ASSIGNMENT}
-use Rattle.room_tables_rows.specs.declared.point_columns.TheConstants.{PUT_POINT}
-use Rattle.room_tables_rows.specs.declared.loan_columns.TheConstants.{DROP_LOAN, PUT_LOAN}
-use Rattle.room_tables_rows.specs.declared.offer_columns.TheConstants.{DROP_OFFER, PUT_OFFER}
-use Rattle.room_tables_rows.specs.declared.report_columns.TheConstants.{INSERT_REPORT, PUT_REPORT}
+use Rattle.room_tables_rows.specs.DivisionSql.{division_row}
+use Rattle.room_tables_rows.specs.IncidentSql.{incident_row}
+use Rattle.room_tables_rows.specs.CallSql.{call_row}
+use Rattle.room_tables_rows.specs.VehicleSql.{vehicle_row}
+use Rattle.room_tables_rows.specs.TurnSql.{turn_row}
+use Rattle.room_tables_rows.specs.AssignmentSql.{assignment_row}
+use Rattle.room_tables_rows.specs.PointSql.{point_row}
+use Rattle.room_tables_rows.specs.LoanSql.{loan_row}
+use Rattle.room_tables_rows.specs.OfferSql.{offer_row}
+use Rattle.room_tables_rows.specs.ReportSql.{report_row}
+use Rattle.room_tables_rows.specs.declared.division_sql.TheConstants.{PUT_DIVISION}
+use Rattle.room_tables_rows.specs.declared.incident_sql.TheConstants.{INSERT_INCIDENT, OVERWRITE_INCIDENT, PUT_INCIDENT}
+use Rattle.room_tables_rows.specs.declared.call_sql.TheConstants.{INSERT_CALL, PUT_CALL}
+use Rattle.room_tables_rows.specs.declared.vehicle_sql.TheConstants.{OVERWRITE_VEHICLE, PUT_VEHICLE}
+use Rattle.room_tables_rows.specs.declared.turn_sql.TheConstants.{INSERT_TURN, OVERWRITE_TURN, PUT_TURN}
+use Rattle.room_tables_rows.specs.declared.assignment_sql.TheConstants.{DROP_ASSIGNMENT, INSERT_ASSIGNMENT}
+use Rattle.room_tables_rows.specs.declared.assignment_sql.TheConstants.{PUT_ASSIGNMENT}
+use Rattle.room_tables_rows.specs.declared.point_sql.TheConstants.{PUT_POINT}
+use Rattle.room_tables_rows.specs.declared.loan_sql.TheConstants.{DROP_LOAN, PUT_LOAN}
+use Rattle.room_tables_rows.specs.declared.offer_sql.TheConstants.{DROP_OFFER, PUT_OFFER}
+use Rattle.room_tables_rows.specs.declared.report_sql.TheConstants.{INSERT_REPORT, PUT_REPORT}
 use Rattle.room_tables.specs.declared.row_changes.WritePlan.{WritePlan}
 use Rattle.room_tables.specs.declared.row_changes.WritePlan.TheVariants.{Statement, Inserting, Overwriting, Settling}
 

@@ -1,5 +1,6 @@
 -- What a fault says. Memory may run out at any time; storage is reported for a cause.
-use Rattle.std.specs.Prelude.{IfErr, Result, ◌≡◌, ◌≤◌, ◌++◌, ◌⊎◌, ⊤, ℕ, suc, List, ◌∷◌, map, length, Bool, false, Err, Ok}
+use Rattle.std.specs.Prelude.{IfErr, Result, ◌≡◌, ◌≤◌, ◌++◌, ◌⊎◌, ⊤, ℕ, suc, List, ◌∷◌, map, length, Bool, false, Err}
+use Rattle.std.specs.Prelude.{Ok}
 use Rattle.std.specs.declared.cmp.Ordering.{Ordering}
 use Rattle.sqlite_value.specs.Order.{Row}
 use Rattle.sqlite.specs.Held.{Held, state}
@@ -8,8 +9,8 @@ use Rattle.sqlite.specs.State.{HasCleanDisk, ExecutesInside, FailsToQuery, Shown
 use Rattle.sqlite.specs.declared.error.Error.{Error}
 use Rattle.room_place.specs.declared.plans.Area.{Area}
 use Rattle.room_types_keyed.specs.Keyed.{IsKeyed}
-use Rattle.room_tables_laws.specs.Outcomes.{ReadsInside}
-use Rattle.room_tables_rows.specs.AreaColumns.{is_area_row, area_row}
+use Rattle.room_tables_schema.specs.Outcomes.{ReadsInside}
+use Rattle.room_tables_rows.specs.AreaSql.{is_area_row, area_row}
 use Rattle.room_tables_schema.specs.DatabaseFaults.{fault_of}
 use Rattle.room_tables_schema.specs.declared.database_faults.Fault.{Fault}
 use Rattle.room_tables_schema.specs.declared.database_faults.Fault.TheVariants.{Memory, Storage}

@@ -7,7 +7,7 @@ use Rattle.sqlite_trees.specs.Tree.{Trees}
 use Rattle.sqlite_schema.specs.declared.schema.Table.{Table}
 use Rattle.room_types_keyed.specs.Keyed.{IsKeyed}
 use Rattle.room_model.specs.Room.{Room}
-use Rattle.room_tables_laws.specs.TableTrees.{AreNumbered}
+use Rattle.room_tables_schema.specs.TableTrees.{AreNumbered}
 use Rattle.room_tables_schema.specs.declared.database_faults.Fault.{Fault}
 use Rattle.room_tables_rows.specs.Stands.{Configuration, Stands, StandsFor}
 use Rattle.room_tables.specs.Failures.{AreNoRows, IfStorage}

@@ -8,8 +8,8 @@ use Rattle.sqlite_value.specs.Order.{Row}
 use Rattle.sqlite.specs.State.{State}
 use Rattle.sqlite.specs.Values.{or_null}
 use Rattle.sqlite_trees.specs.Tree.{Trees, rowid}
-use Rattle.room_tables_laws.specs.Statements.{Selects}
-use Rattle.room_tables_laws.specs.TableTrees.{AreNumbered, RowidsRise}
+use Rattle.room_tables_schema.specs.Statements.{Selects}
+use Rattle.room_tables_schema.specs.TableTrees.{AreNumbered, RowidsRise}
 use Rattle.room_tables_schema.specs.Schema.{room_schema, room_tables}
 use Rattle.room_tables.specs.Failures.{FailsToRead}
 

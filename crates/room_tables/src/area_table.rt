@@ -3,23 +3,23 @@
 ghost use Rattle.std.specs.Prelude.{◌≡◌, map, IfOk, OnOk, IfErr, []};
 ghost use Rattle.sqlite.specs.Held.{state};
 ghost use Rattle.sqlite.specs.State.{HasCleanDisk};
-ghost use Rattle.room_tables_laws.specs.TableTrees.{AreNumbered};
-ghost use Rattle.room_tables_laws.specs.Outcomes.{ReadsInside, WritesInside};
-ghost use Rattle.room_tables_rows.specs.AreaColumns.{area_row};
+ghost use Rattle.room_tables_schema.specs.TableTrees.{AreNumbered};
+ghost use Rattle.room_tables_schema.specs.Outcomes.{ReadsInside, WritesInside};
+ghost use Rattle.room_tables_rows.specs.AreaSql.{area_row};
 ghost use Rattle.room_tables_schema.specs.Schema.{areas_table};
 ghost use Rattle.room_tables_schema.specs.FileConnections.{HasRoomSchema, MayWrite};
 ghost use Rattle.room_tables_rows.specs.Stands.{StandsFor, numbered};
 ghost use Rattle.room_tables_rows.specs.Writes.{AppendsArea};
-ghost use Rattle.room_tables_rows.specs.declared.area_columns.TheConstants.{ALL_AREAS, PUT_AREA};
+ghost use Rattle.room_tables_rows.specs.declared.area_sql.TheConstants.{ALL_AREAS, PUT_AREA};
 ghost use Rattle.room_tables.specs.Failures.{AreNoPlan, IfStorage, TellsWhy, TellsWhyUnwritten};
 ghost use Rattle.room_tables.specs.FoundRows.{Finds};
 
 use crate::change_statements::run;
 use room_place::plans::Area;
-use room_tables_laws::queries::select_inside;
-use room_tables_rows::area_columns::{ALL_AREAS, PUT_AREA, area_columns};
+use room_tables_rows::area_sql::{ALL_AREAS, PUT_AREA, area_columns};
 use room_tables_rows::column_values::Stored;
 use room_tables_schema::database_faults::Fault;
+use room_tables_schema::queries::select_inside;
 use sqlite::{Alter, Row, Transaction};
 use std::alloc::Global;
 

@@ -2,11 +2,11 @@
 
 ghost use Rattle.room_types.specs.declared.changes.Change.TheVariants as change;
 ghost use Rattle.room_tables_schema.specs.Schema.{assignments_table};
-ghost use Rattle.room_tables_rows.specs.declared.assignment_columns.TheConstants.{ALL_ASSIGNMENTS, ASSIGNMENT_AT, PUT_ASSIGNMENT};
+ghost use Rattle.room_tables_rows.specs.declared.assignment_sql.TheConstants.{ALL_ASSIGNMENTS, ASSIGNMENT_AT, PUT_ASSIGNMENT};
 ghost use Rattle.room_tables_rows.proofs.AssignmentsTable.{assignments_are};
 
 use crate::room_table::{Statements, Table};
-use room_tables_rows::assignment_columns::{ALL_ASSIGNMENTS, ASSIGNMENT_AT, PUT_ASSIGNMENT};
+use room_tables_rows::assignment_sql::{ALL_ASSIGNMENTS, ASSIGNMENT_AT, PUT_ASSIGNMENT};
 use room_types::tables::Assignment;
 
 impl Table for Assignment {

@@ -1,15 +1,15 @@
 //! Calls in their table.
 
 ghost use Rattle.std.specs.Prelude.{◌≡◌, ◌==◌, ◌&&◌, filter, max, [], ◌∷◌};
-ghost use Rattle.room_tables_laws.specs.TypedRows.{number};
-ghost use Rattle.room_tables_laws.specs.Outcomes.{ReadsOnly};
+ghost use Rattle.room_tables_schema.specs.TypedRows.{number};
+ghost use Rattle.room_tables_schema.specs.Outcomes.{ReadsOnly};
 ghost use Rattle.room_types.specs.declared.changes.Change.TheVariants as change;
 ghost use Rattle.room_types.specs.Keys.{pair_cmp, call_key};
 ghost use Rattle.room_model.specs.Queries.{greatest_serial, last_serial};
-ghost use Rattle.room_tables_rows.specs.CallColumns.{is_call_row, call_row};
+ghost use Rattle.room_tables_rows.specs.CallSql.{is_call_row, call_row};
 ghost use Rattle.room_tables_schema.specs.Schema.{calls_table};
 ghost use Rattle.room_tables_schema.specs.FileConnections.{HasRoomSchema};
-ghost use Rattle.room_tables_rows.specs.declared.call_columns.TheConstants.{ALL_CALLS, CALLS_BY, CALLS_OF, CALL_AT, PUT_CALL};
+ghost use Rattle.room_tables_rows.specs.declared.call_sql.TheConstants.{ALL_CALLS, CALLS_BY, CALLS_OF, CALL_AT, PUT_CALL};
 ghost use Rattle.room_tables_rows.proofs.CallsTable.{calls_are};
 ghost use Rattle.room_tables.specs.Failures.{AreNoRows, TellsWhy};
 ghost use Rattle.room_tables.specs.FoundRows.{Finds};
@@ -18,7 +18,7 @@ use crate::loaded_rows::load;
 use crate::room_table::{Statements, Table};
 use crate::row_streams::{TypedRowSink, each_shown};
 use room_place::plans::DivisionNumber;
-use room_tables_rows::call_columns::{ALL_CALLS, CALL_AT, CALLS_BY, CALLS_OF, PUT_CALL};
+use room_tables_rows::call_sql::{ALL_CALLS, CALL_AT, CALLS_BY, CALLS_OF, PUT_CALL};
 use room_tables_rows::column_values::Field;
 use room_tables_schema::database_faults::Fault;
 use room_types::numbers::{LastNumber, Number, PositionNumber};

@@ -7,10 +7,10 @@ ghost use Rattle.sqlite.specs.Values.{bound};
 ghost use Rattle.room_tables.specs.Failures.{TellsWhyUnwritten};
 ghost use Rattle.room_tables.specs.ChangeStatements.{Ran};
 ghost use Rattle.room_tables_schema.specs.FileConnections.{MayWrite};
-ghost use Rattle.room_tables_laws.specs.Outcomes.{WritesInside};
+ghost use Rattle.room_tables_schema.specs.Outcomes.{WritesInside};
 
-use room_tables_laws::statements::write;
 use room_tables_schema::database_faults::Fault;
+use room_tables_schema::statements::write;
 use sqlite::{Alter, Transaction};
 use sqlite_value::value::ValueRef;
 

@@ -2,11 +2,11 @@
 
 ghost use Rattle.room_types.specs.declared.changes.Change.TheVariants as change;
 ghost use Rattle.room_tables_schema.specs.Schema.{divisions_table};
-ghost use Rattle.room_tables_rows.specs.declared.division_columns.TheConstants.{ALL_DIVISIONS, DIVISION_AT, PUT_DIVISION};
+ghost use Rattle.room_tables_rows.specs.declared.division_sql.TheConstants.{ALL_DIVISIONS, DIVISION_AT, PUT_DIVISION};
 ghost use Rattle.room_tables_rows.proofs.DivisionsTable.{divisions_are};
 
 use crate::room_table::{Statements, Table};
-use room_tables_rows::division_columns::{ALL_DIVISIONS, DIVISION_AT, PUT_DIVISION};
+use room_tables_rows::division_sql::{ALL_DIVISIONS, DIVISION_AT, PUT_DIVISION};
 use room_types::tables::Division;
 
 impl Table for Division {

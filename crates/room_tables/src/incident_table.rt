@@ -3,16 +3,16 @@
 ghost use Rattle.std.specs.Prelude.{◌≡◌, ◌==◌, ◌&&◌, filter, pos, int_le, int_lt, [], ◌∷◌};
 ghost use Rattle.sqlite_value.specs.declared.value.Value.TheVariants.{Int};
 ghost use Rattle.sqlite.specs.Held.{state};
-ghost use Rattle.room_tables_laws.specs.TypedRows.{number};
-ghost use Rattle.room_tables_laws.specs.Outcomes.{ReadsOnly};
+ghost use Rattle.room_tables_schema.specs.TypedRows.{number};
+ghost use Rattle.room_tables_schema.specs.Outcomes.{ReadsOnly};
 ghost use Rattle.room_types.specs.Codes.{is_active, state_number};
 ghost use Rattle.room_types.specs.declared.changes.Change.TheVariants as change;
 ghost use Rattle.room_types.specs.declared.codes.State.TheVariants.{Active};
 ghost use Rattle.room_types.specs.Keys.{pair_cmp, incident_key};
-ghost use Rattle.room_tables_rows.specs.IncidentColumns.{is_incident_row, incident_row};
+ghost use Rattle.room_tables_rows.specs.IncidentSql.{is_incident_row, incident_row};
 ghost use Rattle.room_tables_schema.specs.Schema.{incidents_table};
 ghost use Rattle.room_tables_schema.specs.FileConnections.{HasRoomSchema};
-ghost use Rattle.room_tables_rows.specs.declared.incident_columns.TheConstants.{ACTIVE_INCIDENTS, ALL_INCIDENTS, INCIDENTS_OPENED, INCIDENTS_SINCE, INCIDENT_AT, PUT_INCIDENT};
+ghost use Rattle.room_tables_rows.specs.declared.incident_sql.TheConstants.{ACTIVE_INCIDENTS, ALL_INCIDENTS, INCIDENTS_OPENED, INCIDENTS_SINCE, INCIDENT_AT, PUT_INCIDENT};
 ghost use Rattle.room_tables_rows.proofs.IncidentsTable.{incidents_are};
 ghost use Rattle.room_tables.specs.Failures.{AreNoRows, TellsWhy};
 ghost use Rattle.room_tables.specs.FoundRows.{Finds};
@@ -21,7 +21,7 @@ use crate::loaded_rows::load;
 use crate::room_table::{Statements, Table};
 use room_place::plans::DivisionNumber;
 use room_tables_rows::column_values::{Field, second};
-use room_tables_rows::incident_columns::{
+use room_tables_rows::incident_sql::{
     ACTIVE_INCIDENTS, ALL_INCIDENTS, INCIDENT_AT, INCIDENTS_OPENED, INCIDENTS_SINCE, PUT_INCIDENT,
 };
 use room_tables_schema::database_faults::Fault;

@@ -2,11 +2,11 @@
 
 ghost use Rattle.room_types.specs.declared.changes.Change.TheVariants as change;
 ghost use Rattle.room_tables_schema.specs.Schema.{loans_table};
-ghost use Rattle.room_tables_rows.specs.declared.loan_columns.TheConstants.{ALL_LOANS, LOAN_AT, PUT_LOAN};
+ghost use Rattle.room_tables_rows.specs.declared.loan_sql.TheConstants.{ALL_LOANS, LOAN_AT, PUT_LOAN};
 ghost use Rattle.room_tables_rows.proofs.LoansTable.{loans_are};
 
 use crate::room_table::{Statements, Table};
-use room_tables_rows::loan_columns::{ALL_LOANS, LOAN_AT, PUT_LOAN};
+use room_tables_rows::loan_sql::{ALL_LOANS, LOAN_AT, PUT_LOAN};
 use room_types::tables::Loan;
 
 impl Table for Loan {

@@ -3,8 +3,8 @@
 ghost use Rattle.std.specs.Prelude.{◌≡◌, ◌↔◌, false, [], ◌∷◌, string_bytes, IsTrue, IfOk, OnOk, IfErr};
 ghost use Rattle.sqlite.specs.Held.{state};
 ghost use Rattle.sqlite.specs.State.{HasCleanDisk};
-ghost use Rattle.room_tables_laws.specs.Outcomes.{ReadsInside, ReadsOnly, WritesInside};
-ghost use Rattle.room_tables_rows.specs.MetaColumns.{is_meta_row, meta_row, version_row};
+ghost use Rattle.room_tables_schema.specs.Outcomes.{ReadsInside, ReadsOnly, WritesInside};
+ghost use Rattle.room_tables_rows.specs.MetaSql.{is_meta_row, meta_row, version_row};
 ghost use Rattle.room_tables_schema.specs.Definitions.{IsBlank};
 ghost use Rattle.room_tables_schema.specs.Schema.{meta_table};
 ghost use Rattle.room_tables_schema.specs.Versions.{BeginsAsRoom};
@@ -12,15 +12,15 @@ ghost use Rattle.room_tables_schema.specs.FileConnections.{HasRoomSchema, MayWri
 ghost use Rattle.room_tables_rows.specs.Stands.{Stands, StandsFor, empty_room};
 ghost use Rattle.room_tables_rows.specs.MetaVersions.{IsOfVersion, OneTells};
 ghost use Rattle.room_tables_rows.specs.Writes.{Changes, Renews};
-ghost use Rattle.room_tables_rows.specs.declared.meta_columns.TheConstants.{ALL_META, PUT_META};
+ghost use Rattle.room_tables_rows.specs.declared.meta_sql.TheConstants.{ALL_META, PUT_META};
 ghost use Rattle.room_tables.specs.Failures.{AreNotJustOne, IfStorage, TellsWhy, TellsWhyUnwritten};
 
 use crate::change_statements::run;
-use room_tables_laws::queries::{select, select_inside};
-use room_tables_rows::meta_columns::{
+use room_tables_rows::meta_sql::{
     ALL_META, FIRST_VERSION, PUT_META, meta_columns, tells_version, zone_of,
 };
 use room_tables_schema::database_faults::Fault;
+use room_tables_schema::queries::{select, select_inside};
 use sqlite::{Alter, Connection, Row, Transaction};
 use std::alloc::Global;
 

@@ -2,11 +2,11 @@
 
 ghost use Rattle.room_types.specs.declared.changes.Change.TheVariants as change;
 ghost use Rattle.room_tables_schema.specs.Schema.{offers_table};
-ghost use Rattle.room_tables_rows.specs.declared.offer_columns.TheConstants.{ALL_OFFERS, OFFER_AT, PUT_OFFER};
+ghost use Rattle.room_tables_rows.specs.declared.offer_sql.TheConstants.{ALL_OFFERS, OFFER_AT, PUT_OFFER};
 ghost use Rattle.room_tables_rows.proofs.OffersTable.{offers_are};
 
 use crate::room_table::{Statements, Table};
-use room_tables_rows::offer_columns::{ALL_OFFERS, OFFER_AT, PUT_OFFER};
+use room_tables_rows::offer_sql::{ALL_OFFERS, OFFER_AT, PUT_OFFER};
 use room_types::tables::Offer;
 
 impl Table for Offer {

@@ -1,16 +1,16 @@
 //! Reports in their table.
 
 ghost use Rattle.std.specs.Prelude.{◌≡◌, false, ◌==◌, ◌&&◌, filter, not, [], ◌∷◌};
-ghost use Rattle.room_tables_laws.specs.TypedRows.{number};
-ghost use Rattle.room_tables_laws.specs.Outcomes.{ReadsOnly};
+ghost use Rattle.room_tables_schema.specs.TypedRows.{number};
+ghost use Rattle.room_tables_schema.specs.Outcomes.{ReadsOnly};
 ghost use Rattle.room_types.specs.Codes.{outcome_number};
 ghost use Rattle.room_types.specs.declared.changes.Change.TheVariants as change;
 ghost use Rattle.room_types.specs.Keys.{numbered_cmp, report_key};
 ghost use Rattle.room_tables_rows.specs.ColumnValues.{outcome_code, truth};
-ghost use Rattle.room_tables_rows.specs.ReportColumns.{is_report_row, report_row};
+ghost use Rattle.room_tables_rows.specs.ReportSql.{is_report_row, report_row};
 ghost use Rattle.room_tables_schema.specs.Schema.{reports_table};
 ghost use Rattle.room_tables_schema.specs.FileConnections.{HasRoomSchema};
-ghost use Rattle.room_tables_rows.specs.declared.report_columns.TheConstants.{ALL_REPORTS, PUT_REPORT, REPORT_AT, UNCLEARED_REPORTS};
+ghost use Rattle.room_tables_rows.specs.declared.report_sql.TheConstants.{ALL_REPORTS, PUT_REPORT, REPORT_AT, UNCLEARED_REPORTS};
 ghost use Rattle.room_tables_rows.proofs.ReportsTable.{reports_are};
 ghost use Rattle.room_tables.specs.Failures.{AreNoRows, TellsWhy};
 ghost use Rattle.room_tables.specs.FoundRows.{Finds};
@@ -19,7 +19,7 @@ use crate::loaded_rows::load;
 use crate::room_table::{Statements, Table};
 use room_place::plans::DivisionNumber;
 use room_tables_rows::column_values::Field;
-use room_tables_rows::report_columns::{ALL_REPORTS, PUT_REPORT, REPORT_AT, UNCLEARED_REPORTS};
+use room_tables_rows::report_sql::{ALL_REPORTS, PUT_REPORT, REPORT_AT, UNCLEARED_REPORTS};
 use room_tables_schema::database_faults::Fault;
 use room_types::codes::Outcome;
 use room_types::rows::Rows;

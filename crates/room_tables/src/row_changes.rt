@@ -7,7 +7,7 @@ ghost use Rattle.sqlite.specs.Values.{bound};
 ghost use Rattle.room_tables.specs.Failures.{TellsWhyUnwritten};
 ghost use Rattle.room_tables.specs.ChangeStatements.{AreInsertions, AreStatements, IsWritePlan};
 ghost use Rattle.room_tables_schema.specs.FileConnections.{MayWrite};
-ghost use Rattle.room_tables_laws.specs.Outcomes.{CommitsNothing, WritesInside};
+ghost use Rattle.room_tables_schema.specs.Outcomes.{CommitsNothing, WritesInside};
 ghost use Rattle.room_types.specs.declared.changes.Change.{Change as ChangeModel};
 ghost use Rattle.room_types.specs.declared.changes.Change.TheVariants.{Settle};
 ghost use Rattle.room_tables_rows.specs.Writes.{Makes};
@@ -17,20 +17,20 @@ use crate::change_statements::run;
 use crate::loaded_rows::row_of;
 use crate::room_table::Table;
 use room_place::plans::DivisionNumber;
-use room_tables_laws::queries::select_inside;
-use room_tables_laws::statements::{insert, write};
-use room_tables_rows::assignment_columns::{DROP_ASSIGNMENT, INSERT_ASSIGNMENT, PUT_ASSIGNMENT};
-use room_tables_rows::call_columns::{INSERT_CALL, PUT_CALL};
-use room_tables_rows::division_columns::PUT_DIVISION;
-use room_tables_rows::incident_columns::{INSERT_INCIDENT, OVERWRITE_INCIDENT, PUT_INCIDENT};
-use room_tables_rows::loan_columns::{DROP_LOAN, PUT_LOAN};
-use room_tables_rows::offer_columns::{DROP_OFFER, PUT_OFFER};
-use room_tables_rows::point_columns::PUT_POINT;
-use room_tables_rows::report_columns::{INSERT_REPORT, PUT_REPORT};
+use room_tables_rows::assignment_sql::{DROP_ASSIGNMENT, INSERT_ASSIGNMENT, PUT_ASSIGNMENT};
+use room_tables_rows::call_sql::{INSERT_CALL, PUT_CALL};
+use room_tables_rows::division_sql::PUT_DIVISION;
+use room_tables_rows::incident_sql::{INSERT_INCIDENT, OVERWRITE_INCIDENT, PUT_INCIDENT};
+use room_tables_rows::loan_sql::{DROP_LOAN, PUT_LOAN};
+use room_tables_rows::offer_sql::{DROP_OFFER, PUT_OFFER};
+use room_tables_rows::point_sql::PUT_POINT;
+use room_tables_rows::report_sql::{INSERT_REPORT, PUT_REPORT};
 use room_tables_rows::stored_rows::{Columns, StoredRow};
-use room_tables_rows::turn_columns::{INSERT_TURN, OVERWRITE_TURN, PUT_TURN};
-use room_tables_rows::vehicle_columns::{OVERWRITE_VEHICLE, PUT_VEHICLE, VEHICLE_AT};
+use room_tables_rows::turn_sql::{INSERT_TURN, OVERWRITE_TURN, PUT_TURN};
+use room_tables_rows::vehicle_sql::{OVERWRITE_VEHICLE, PUT_VEHICLE, VEHICLE_AT};
 use room_tables_schema::database_faults::Fault;
+use room_tables_schema::queries::select_inside;
+use room_tables_schema::statements::{insert, write};
 use room_types::callsign::Callsign;
 use room_types::changes::Change;
 use room_types::codes::Status;
@@ -52,7 +52,8 @@ pub fn put<X: Table, S: Alter>(tx: &mut Transaction<'_, S>, row: &X) -> Result<(
     run(tx, X::statements().put, row.columns().as_slice())
 }
 
-/// Gives a vehicle, where it is there, this holder and makes it available.
+/// Gives a vehicle, where it is there, this holder and makes it available. Of a failure of storage
+/// no cause is known.
 pub fn settle<S: Alter>(
     tx: &mut Transaction<'_, S>,
     callsign: &Callsign,
@@ -164,7 +165,9 @@ fn overwrite<S: Alter>(
     Ok(())
 }
 
-/// Applies one change of the room's rows.
+/// Applies one change of the room's rows. An UPDATE that finds no row leaves another count of
+/// changed rows than before, so a failure after it isn't as if nothing had been called: who calls
+/// it undoes the transaction. Of a failure of storage no cause is known.
 pub fn apply<S: Alter>(tx: &mut Transaction<'_, S>, change: &Change) -> Result<(), Fault>
     requires inside { MayWrite S.Store tx.old.conn.now }
     ensures ok { HasCleanDisk (state S.Store tx.new.conn.now)

@@ -10,14 +10,14 @@ ghost use Rattle.sqlite_value.specs.Order.{Row as Cells};
 ghost use Rattle.room_types_keyed.specs.Keyed.{IsKeyed, put_row};
 ghost use Rattle.room_tables_schema.specs.FileConnections.{HasRoomSchema};
 ghost use Rattle.room_tables_schema.specs.declared.database_faults.Fault.TheVariants.{Memory};
-ghost use Rattle.room_tables_laws.specs.Outcomes.{ReadsOnly};
+ghost use Rattle.room_tables_schema.specs.Outcomes.{ReadsOnly};
 ghost use Rattle.room_tables.specs.Failures.{AreNoRows, TellsWhy};
 ghost use Rattle.room_tables.specs.RowStreams.{AreAll, AreRead, AreShown, AreTaken, last_of};
 
 use crate::room_table::Table;
-use room_tables_laws::query_streams::{RowSink, stream};
 use room_tables_rows::column_values::Stored;
 use room_tables_schema::database_faults::Fault;
+use room_tables_schema::query_streams::{RowSink, stream};
 use room_types::rows::{Row, Rows};
 use sqlite::{Alter, Connection};
 use sqlite_value::value::ValueRef;

@@ -6,17 +6,17 @@ ghost use Rattle.sqlite_value.specs.declared.value.Value.TheVariants.{Null};
 ghost use Rattle.sqlite_trees.specs.Tree.{rowid};
 ghost use Rattle.sqlite.specs.Held.{state};
 ghost use Rattle.sqlite.specs.State.{HasCleanDisk};
-ghost use Rattle.room_tables_laws.specs.TableTrees.{AreNumbered, RowidsRise};
-ghost use Rattle.room_tables_laws.specs.Outcomes.{ReadsInside, ReadsOnly};
+ghost use Rattle.room_tables_schema.specs.TableTrees.{AreNumbered, RowidsRise};
+ghost use Rattle.room_tables_schema.specs.Outcomes.{ReadsInside, ReadsOnly};
 ghost use Rattle.room_tables_schema.specs.Schema.{room_tables};
 ghost use Rattle.room_tables_schema.specs.FileConnections.{HasRoomSchema};
 ghost use Rattle.room_tables.specs.Failures.{TellsWhy, TellsWhyAtLast};
 ghost use Rattle.room_tables.specs.Rowids.{AreAllNumbered, FailsAtRowids, SelectEach};
 ghost use Rattle.room_tables.specs.Rowids.{SelectsRowids, TellsRise, integer_in};
 
-use room_tables_laws::queries::select_inside;
-use room_tables_laws::query_streams::{RowSink, stream};
 use room_tables_schema::database_faults::Fault;
+use room_tables_schema::queries::select_inside;
+use room_tables_schema::query_streams::{RowSink, stream};
 use sqlite::{Alter, Connection, Row, Transaction};
 use sqlite_value::value::ValueRef;
 

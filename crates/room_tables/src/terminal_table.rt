@@ -4,27 +4,25 @@ ghost use Rattle.std.specs.Prelude.{◌≡◌, false, map, IsTrue, IfOk, OnOk, I
 ghost use Rattle.sqlite_value.specs.declared.value.Value.TheVariants.{Text};
 ghost use Rattle.sqlite.specs.Held.{state};
 ghost use Rattle.sqlite.specs.State.{HasCleanDisk};
-ghost use Rattle.room_tables_laws.specs.TableTrees.{AreNumbered};
-ghost use Rattle.room_tables_laws.specs.Outcomes.{ReadsInside, ReadsOnly, WritesInside};
+ghost use Rattle.room_tables_schema.specs.TableTrees.{AreNumbered};
+ghost use Rattle.room_tables_schema.specs.Outcomes.{ReadsInside, ReadsOnly, WritesInside};
 ghost use Rattle.room_types_keyed.specs.Keyed.{IsKeyed, put_row};
 ghost use Rattle.room_model.specs.Enrol.{terminal_at as found_terminal, terminal_key, token_cmp};
-ghost use Rattle.room_tables_rows.specs.TerminalColumns.{terminal_row, is_terminal_row};
+ghost use Rattle.room_tables_rows.specs.TerminalSql.{terminal_row, is_terminal_row};
 ghost use Rattle.room_tables_schema.specs.Schema.{terminals_table};
 ghost use Rattle.room_tables_schema.specs.FileConnections.{HasRoomSchema, MayWrite};
 ghost use Rattle.room_tables_rows.specs.Stands.{StandsFor};
 ghost use Rattle.room_tables_rows.specs.Writes.{Changes};
-ghost use Rattle.room_tables_rows.specs.declared.terminal_columns.TheConstants.{ALL_TERMINALS, PUT_TERMINAL, TERMINAL_AT};
+ghost use Rattle.room_tables_rows.specs.declared.terminal_sql.TheConstants.{ALL_TERMINALS, PUT_TERMINAL, TERMINAL_AT};
 ghost use Rattle.room_tables.specs.Failures.{AreMoreThanOne, AreNoRows, IfStorage, TellsWhy, TellsWhyUnwritten};
 ghost use Rattle.room_tables.specs.FoundRows.{FindsInConfiguration};
 
 use crate::change_statements::run;
 use crate::loaded_rows::find;
-use room_tables_laws::queries::select_inside;
 use room_tables_rows::column_values::{Field, Stored};
-use room_tables_rows::terminal_columns::{
-    ALL_TERMINALS, PUT_TERMINAL, TERMINAL_AT, terminal_columns,
-};
+use room_tables_rows::terminal_sql::{ALL_TERMINALS, PUT_TERMINAL, TERMINAL_AT, terminal_columns};
 use room_tables_schema::database_faults::Fault;
+use room_tables_schema::queries::select_inside;
 use room_types::fleet::Terminal;
 use room_types::token::Token;
 use sqlite::{Alter, Connection, Row, Transaction};

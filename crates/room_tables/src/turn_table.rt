@@ -1,14 +1,14 @@
 //! Turns in their table.
 
 ghost use Rattle.std.specs.Prelude.{◌≡◌, ◌==◌, ◌&&◌, filter, [], ◌∷◌};
-ghost use Rattle.room_tables_laws.specs.TypedRows.{number};
-ghost use Rattle.room_tables_laws.specs.Outcomes.{ReadsOnly};
+ghost use Rattle.room_tables_schema.specs.TypedRows.{number};
+ghost use Rattle.room_tables_schema.specs.Outcomes.{ReadsOnly};
 ghost use Rattle.room_types.specs.declared.changes.Change.TheVariants as change;
 ghost use Rattle.room_types.specs.Keys.{numbered_cmp, turn_key};
-ghost use Rattle.room_tables_rows.specs.TurnColumns.{is_turn_row, turn_row};
+ghost use Rattle.room_tables_rows.specs.TurnSql.{is_turn_row, turn_row};
 ghost use Rattle.room_tables_schema.specs.Schema.{turns_table};
 ghost use Rattle.room_tables_schema.specs.FileConnections.{HasRoomSchema};
-ghost use Rattle.room_tables_rows.specs.declared.turn_columns.TheConstants.{ALL_TURNS, PUT_TURN, TURNS_OF, TURN_AT};
+ghost use Rattle.room_tables_rows.specs.declared.turn_sql.TheConstants.{ALL_TURNS, PUT_TURN, TURNS_OF, TURN_AT};
 ghost use Rattle.room_tables_rows.proofs.TurnsTable.{turns_are};
 ghost use Rattle.room_tables.specs.Failures.{AreNoRows, TellsWhy};
 ghost use Rattle.room_tables.specs.FoundRows.{Finds};
@@ -17,7 +17,7 @@ use crate::loaded_rows::load;
 use crate::room_table::{Statements, Table};
 use room_place::plans::DivisionNumber;
 use room_tables_rows::column_values::Field;
-use room_tables_rows::turn_columns::{ALL_TURNS, PUT_TURN, TURN_AT, TURNS_OF};
+use room_tables_rows::turn_sql::{ALL_TURNS, PUT_TURN, TURN_AT, TURNS_OF};
 use room_tables_schema::database_faults::Fault;
 use room_types::numbers::Number;
 use room_types::rows::Rows;

@@ -1,19 +1,22 @@
 -- What the statements on the table calls say, and what they make of a room. (Written by tools/tables.py.)
 use Rattle.room_model.specs.Room.{Room}
-use Rattle.room_tables_laws.proofs.ColumnValues.{cast-Int}
-use Rattle.room_tables_laws.proofs.Comparisons.{and_last, and_then, conflict_of_two, equal-numbers, is_eq-then, tie-numbers}
-use Rattle.room_tables_laws.proofs.StoredRows.{stores_row}
-use Rattle.room_tables_laws.specs.Statements.{Inserts, Selects, StandsAlone, Stores, Upserts, equals, row_update, row_values}
-use Rattle.room_tables_laws.specs.TypedRows.{number}
 use Rattle.room_tables_rows.proofs.Kept.{with_calls}
 use Rattle.room_tables_rows.proofs.Loads.{Shows, chosen_rows}
 use Rattle.room_tables_rows.proofs.RowLaws.{call_faithful}
-use Rattle.room_tables_rows.specs.CallColumns.{call_row}
+use Rattle.room_tables_rows.specs.CallSql.{call_row}
 use Rattle.room_tables_rows.specs.KeyColumns.{pair_cells}
 use Rattle.room_tables_rows.specs.Stands.{Configuration}
 use Rattle.room_tables_rows.specs.Tables.{InsertsRow, IsHeld, IsTable, PutsRow, SelectsChosen}
-use Rattle.room_tables_rows.specs.declared.call_columns.TheConstants.{ALL_CALLS, CALLS_BY, CALLS_OF, CALL_AT, INSERT_CALL, PUT_CALL}
+use Rattle.room_tables_rows.specs.declared.call_sql.TheConstants.{ALL_CALLS, CALLS_BY, CALLS_OF, CALL_AT, INSERT_CALL}
+use Rattle.room_tables_rows.specs.declared.call_sql.TheConstants.{PUT_CALL}
+use Rattle.room_tables_schema.proofs.ColumnValues.{cast-Int}
+use Rattle.room_tables_schema.proofs.Comparisons.{and_last, and_then, conflict_of_two, equal-numbers, is_eq-then}
+use Rattle.room_tables_schema.proofs.Comparisons.{tie-numbers}
+use Rattle.room_tables_schema.proofs.StoredRows.{stores_row}
 use Rattle.room_tables_schema.specs.Schema.{calls_table, room_schema}
+use Rattle.room_tables_schema.specs.Statements.{Inserts, Selects, StandsAlone, Stores, Upserts, equals, row_update}
+use Rattle.room_tables_schema.specs.Statements.{row_values}
+use Rattle.room_tables_schema.specs.TypedRows.{number}
 use Rattle.room_types.specs.Keys.{call_key, pair_cmp}
 use Rattle.room_types.specs.declared.changes.Change.TheVariants.{PutCall}
 use Rattle.room_types.specs.declared.tables.Call.{Call}
@@ -32,52 +35,133 @@ pub calls_alone : StandsAlone room_schema 5 calls_table
 calls_alone = record { is_there = refl; unreferenced = λ olds news. refl; uncounted = refl }
 
 abbrev pub calls_held : IsHeld pair_cmp call_key call_row calls_table all_of
-calls_held = record { faithful = call_faithful; others = (3 ∷ 4 ∷ 5 ∷ 6 ∷ 7 ∷ 8 ∷ 9 ∷ 10 ∷ 11 ∷ 12 ∷ 13 ∷ 14 ∷ []); places_are = refl; at = 5; alone = calls_alone; held = λ trees config room h. h.calls }
+calls_held = record {
+  faithful = call_faithful;
+  others = (3 ∷ 4 ∷ 5 ∷ 6 ∷ 7 ∷ 8 ∷ 9 ∷ 10 ∷ 11 ∷ 12 ∷ 13 ∷ 14 ∷ []);
+  places_are = refl;
+  at = 5;
+  alone = calls_alone;
+  held = λ trees config room h. h.calls;
+}
 
-pub all_calls_means : Selects room_schema ALL_CALLS.now 7 (1 ∷ 2 ∷ 3 ∷ 4 ∷ 5 ∷ 6 ∷ 7 ∷ 8 ∷ 9 ∷ 10 ∷ 11 ∷ 12 ∷ 13 ∷ 14 ∷ []) (1 ∷ 2 ∷ []) ([])
+pub all_calls_means : Selects room_schema ALL_CALLS.now 7
+    (1 ∷ 2 ∷ 3 ∷ 4 ∷ 5 ∷ 6 ∷ 7 ∷ 8 ∷ 9 ∷ 10 ∷ 11 ∷ 12 ∷ 13 ∷ 14 ∷ []) (1 ∷ 2 ∷ []) ([])
 unfolding understood everything
 all_calls_means = record { names = _; command = refl; plain = (refl, refl); unlisted = refl }
 
-pub call_at_means : Selects room_schema CALL_AT.now 7 (1 ∷ 2 ∷ 3 ∷ 4 ∷ 5 ∷ 6 ∷ 7 ∷ 8 ∷ 9 ∷ 10 ∷ 11 ∷ 12 ∷ 13 ∷ 14 ∷ []) (1 ∷ 2 ∷ []) (equals 1 0 ∷ equals 2 1 ∷ [])
+pub call_at_means : Selects room_schema CALL_AT.now 7 (1 ∷ 2 ∷ 3 ∷ 4 ∷ 5 ∷ 6 ∷ 7 ∷ 8 ∷ 9 ∷ 10 ∷ 11 ∷ 12 ∷ 13 ∷ 14 ∷ [])
+    (1 ∷ 2 ∷ []) (equals 1 0 ∷ equals 2 1 ∷ [])
 unfolding understood everything
 call_at_means = record { names = _; command = refl; plain = (refl, refl); unlisted = refl }
 
-pub call_at_chooses : (j k : ℕ) → SelectsChosen calls_table call_row CALL_AT.now (number j ∷ number k ∷ []) (λ x. is_eq (pair_cmp (j, k) (call_key x)))
-call_at_chooses j k = record { terms = equals 1 0 ∷ equals 2 1 ∷ []; selects = call_at_means; chooses = record { test = λ r. equal Binary (column r 0) (number j) && equal Binary (column r 1) (number k); tells = λ r. and_then refl (and_last refl); same = λ x. and_then (tie-numbers x.position j) (tie-numbers x.serial k) ∙ sym (is_eq-then (nat_cmp j x.position) (nat_cmp k x.serial)) } }
+pub call_at_chooses : (j k : ℕ)
+    → SelectsChosen calls_table call_row CALL_AT.now (number j ∷ number k ∷ [])
+    (λ x. is_eq (pair_cmp (j, k) (call_key x)))
+call_at_chooses j k = record {
+  terms = equals 1 0 ∷ equals 2 1 ∷ [];
+  selects = call_at_means;
+  chooses = record {
+    test = λ r. equal Binary (column r 0) (number j) && equal Binary (column r 1) (number k);
+    tells = λ r. and_then refl (and_last refl);
+    same =
+        λ x.
+        and_then (tie-numbers x.position j) (tie-numbers x.serial k)
+        ∙ sym (is_eq-then (nat_cmp j x.position) (nat_cmp k x.serial));
+  };
+}
 
-pub calls_of_means : Selects room_schema CALLS_OF.now 7 (1 ∷ 2 ∷ 3 ∷ 4 ∷ 5 ∷ 6 ∷ 7 ∷ 8 ∷ 9 ∷ 10 ∷ 11 ∷ 12 ∷ 13 ∷ 14 ∷ []) (1 ∷ 2 ∷ []) (equals 4 0 ∷ equals 3 1 ∷ [])
+pub calls_of_means : Selects room_schema CALLS_OF.now 7
+    (1 ∷ 2 ∷ 3 ∷ 4 ∷ 5 ∷ 6 ∷ 7 ∷ 8 ∷ 9 ∷ 10 ∷ 11 ∷ 12 ∷ 13 ∷ 14 ∷ []) (1 ∷ 2 ∷ []) (equals 4 0 ∷ equals 3 1 ∷ [])
 unfolding understood everything
 calls_of_means = record { names = _; command = refl; plain = (refl, refl); unlisted = refl }
 
-pub calls_of_chooses : (d n : ℕ) → SelectsChosen calls_table call_row CALLS_OF.now (number n ∷ number d ∷ []) (λ x. x.incident == n && x.division == d)
-calls_of_chooses d n = record { terms = equals 4 0 ∷ equals 3 1 ∷ []; selects = calls_of_means; chooses = record { test = λ r. equal Binary (column r 3) (number n) && equal Binary (column r 2) (number d); tells = λ r. and_then refl (and_last refl); same = λ x. and_then (equal-numbers x.incident n) (equal-numbers x.division d) } }
+pub calls_of_chooses : (d n : ℕ)
+    → SelectsChosen calls_table call_row CALLS_OF.now (number n ∷ number d ∷ [])
+    (λ x. x.incident == n && x.division == d)
+calls_of_chooses d n = record {
+  terms = equals 4 0 ∷ equals 3 1 ∷ [];
+  selects = calls_of_means;
+  chooses = record {
+    test = λ r. equal Binary (column r 3) (number n) && equal Binary (column r 2) (number d);
+    tells = λ r. and_then refl (and_last refl);
+    same = λ x. and_then (equal-numbers x.incident n) (equal-numbers x.division d);
+  };
+}
 
-pub calls_of_are : (d n : ℕ) → Shows call_row CALLS_OF.now (number n ∷ number d ∷ []) (λ found config room. found ≡ filter (λ x. x.incident == n && x.division == d) room.calls)
-calls_of_are d n = chosen_rows calls_held CALLS_OF.now (number n ∷ number d ∷ []) (λ x. x.incident == n && x.division == d) (calls_of_chooses d n)
+pub calls_of_are : (d n : ℕ)
+    → Shows call_row CALLS_OF.now (number n ∷ number d ∷ [])
+    (λ found config room. found ≡ filter (λ x. x.incident == n && x.division == d) room.calls)
+calls_of_are d n =
+    chosen_rows calls_held CALLS_OF.now (number n ∷ number d ∷ []) (λ x. x.incident == n && x.division == d)
+    (calls_of_chooses d n)
 
-pub calls_by_means : Selects room_schema CALLS_BY.now 7 (1 ∷ 2 ∷ 3 ∷ 4 ∷ 5 ∷ 6 ∷ 7 ∷ 8 ∷ 9 ∷ 10 ∷ 11 ∷ 12 ∷ 13 ∷ 14 ∷ []) (1 ∷ 2 ∷ []) (equals 1 0 ∷ [])
+pub calls_by_means : Selects room_schema CALLS_BY.now 7
+    (1 ∷ 2 ∷ 3 ∷ 4 ∷ 5 ∷ 6 ∷ 7 ∷ 8 ∷ 9 ∷ 10 ∷ 11 ∷ 12 ∷ 13 ∷ 14 ∷ []) (1 ∷ 2 ∷ []) (equals 1 0 ∷ [])
 unfolding understood everything
 calls_by_means = record { names = _; command = refl; plain = (refl, refl); unlisted = refl }
 
 pub calls_by_chooses : (p : ℕ) → SelectsChosen calls_table call_row CALLS_BY.now (number p ∷ []) (λ x. x.position == p)
-calls_by_chooses p = record { terms = equals 1 0 ∷ []; selects = calls_by_means; chooses = record { test = λ r. equal Binary (column r 0) (number p); tells = λ r. and_last refl; same = λ x. equal-numbers x.position p } }
+calls_by_chooses p = record {
+  terms = equals 1 0 ∷ [];
+  selects = calls_by_means;
+  chooses = record {
+    test = λ r. equal Binary (column r 0) (number p);
+    tells = λ r. and_last refl;
+    same = λ x. equal-numbers x.position p;
+  };
+}
 
-pub calls_by_are : (p : ℕ) → Shows call_row CALLS_BY.now (number p ∷ []) (λ found config room. found ≡ filter (λ x. x.position == p) room.calls)
+pub calls_by_are : (p : ℕ)
+    → Shows call_row CALLS_BY.now (number p ∷ [])
+    (λ found config room. found ≡ filter (λ x. x.position == p) room.calls)
 calls_by_are p = chosen_rows calls_held CALLS_BY.now (number p ∷ []) (λ x. x.position == p) (calls_by_chooses p)
 
 pub put_call_means : Upserts room_schema PUT_CALL.now 5 calls_table (1 ∷ 2 ∷ []) 14 (row_values 14) (row_update 14)
 unfolding understood everything
 put_call_means = record { command = refl; plain = (refl, refl) }
 
-pub call_stores : (x : Call) → Stores room_schema calls_table (1 ∷ 2 ∷ 3 ∷ 4 ∷ 5 ∷ 6 ∷ 7 ∷ 8 ∷ 9 ∷ 10 ∷ 11 ∷ 12 ∷ 13 ∷ 14 ∷ []) (1 ∷ 2 ∷ []) 14 (row_values 14) (row_update 14) (call_row x)
+pub call_stores : (x : Call)
+    → Stores room_schema calls_table (1 ∷ 2 ∷ 3 ∷ 4 ∷ 5 ∷ 6 ∷ 7 ∷ 8 ∷ 9 ∷ 10 ∷ 11 ∷ 12 ∷ 13 ∷ 14 ∷ []) (1 ∷ 2 ∷ []) 14
+    (row_values 14) (row_update 14) (call_row x)
 unfolding Rattle.sqlite_value.specs.Keys.first_key
-call_stores x = stores_row room_schema calls_table (1 ∷ 2 ∷ 3 ∷ 4 ∷ 5 ∷ 6 ∷ 7 ∷ 8 ∷ 9 ∷ 10 ∷ 11 ∷ 12 ∷ 13 ∷ 14 ∷ []) (1 ∷ 2 ∷ []) 14 (call_row x)
-    (cast-Int _, (cast-Int _, (cast-Int _, (cast-Int _, (cast-Int _, (cast-Int _, (cast-Int _, (cast-Int _, (cast-Int _, (cast-Int _, (cast-Int _, (cast-Int _, (refl, (cast-Int _, tt)))))))))))))) refl (λ id. refl) (λ id r. conflict_of_two (column r 1) (column r 2) (number x.position) (number x.serial) refl refl) (λ id r. refl) (λ id r. refl)
+call_stores x =
+    stores_row room_schema calls_table (1 ∷ 2 ∷ 3 ∷ 4 ∷ 5 ∷ 6 ∷ 7 ∷ 8 ∷ 9 ∷ 10 ∷ 11 ∷ 12 ∷ 13 ∷ 14 ∷ []) (1 ∷ 2 ∷ []) 14
+    (call_row x) (
+      cast-Int _,
+      (
+        cast-Int _,
+        (
+          cast-Int _,
+          (
+            cast-Int _,
+            (
+              cast-Int _,
+              (
+                cast-Int _,
+                (
+                  cast-Int _,
+                  (cast-Int _, (cast-Int _, (cast-Int _, (cast-Int _, (cast-Int _, (refl, (cast-Int _, tt))))))),
+                ),
+              ),
+            ),
+          ),
+        ),
+      ),
+    ) refl (λ id. refl)
+    (λ id r. conflict_of_two (column r 1) (column r 2) (number x.position) (number x.serial) refl refl) (λ id r. refl)
+    (λ id r. refl)
 
 pub call_puts : PutsRow calls_table call_row 5 PUT_CALL.now
-call_puts = record { columns = 14; values = row_values 14; update = row_update 14; upserts = put_call_means; stores = call_stores }
+call_puts = record {
+  columns = 14;
+  values = row_values 14;
+  update = row_update 14;
+  upserts = put_call_means;
+  stores = call_stores;
+}
 
-pub calls_are : IsTable pair_cmp call_key call_row pair_cells calls_table (λ room. room.calls) PutCall (record { all = ALL_CALLS.now; at = CALL_AT.now; put = PUT_CALL.now })
+pub calls_are : IsTable pair_cmp call_key call_row pair_cells calls_table (λ room. room.calls) PutCall
+    (record { all = ALL_CALLS.now; at = CALL_AT.now; put = PUT_CALL.now })
 calls_are = record {
   is_held = calls_held;
   selects_all = all_calls_means;
@@ -92,4 +176,10 @@ insert_call_means = record { command = refl; plain = (refl, refl) }
 
 pub call_inserts : InsertsRow calls_table call_row calls_are.is_held.at INSERT_CALL.now
 unfolding calls_are
-call_inserts = record { columns = 14; values = row_values 14; update = row_update 14; inserts = insert_call_means; stores = call_stores }
+call_inserts = record {
+  columns = 14;
+  values = row_values 14;
+  update = row_update 14;
+  inserts = insert_call_means;
+  stores = call_stores;
+}

@@ -1,18 +1,19 @@
 -- What the statements on the table divisions say, and what they make of a room. (Written by tools/tables.py.)
 use Rattle.room_model.specs.Room.{Room}
-use Rattle.room_tables_laws.proofs.ColumnValues.{cast-Int, cast-Null}
-use Rattle.room_tables_laws.proofs.Comparisons.{and_last, conflict_of_one, tie-numbers}
-use Rattle.room_tables_laws.proofs.StoredRows.{stores_rowid}
-use Rattle.room_tables_laws.specs.Statements.{Selects, StandsAlone, Stores, Upserts, equals, rowid_update, rowid_values}
-use Rattle.room_tables_laws.specs.TypedRows.{number}
 use Rattle.room_tables_rows.proofs.Kept.{with_divisions}
 use Rattle.room_tables_rows.proofs.RowLaws.{division_faithful}
-use Rattle.room_tables_rows.specs.DivisionColumns.{division_row}
+use Rattle.room_tables_rows.specs.DivisionSql.{division_row}
 use Rattle.room_tables_rows.specs.KeyColumns.{number_cells}
 use Rattle.room_tables_rows.specs.Stands.{Configuration}
 use Rattle.room_tables_rows.specs.Tables.{IsHeld, IsTable, PutsRow, SelectsChosen}
-use Rattle.room_tables_rows.specs.declared.division_columns.TheConstants.{ALL_DIVISIONS, DIVISION_AT, PUT_DIVISION}
+use Rattle.room_tables_rows.specs.declared.division_sql.TheConstants.{ALL_DIVISIONS, DIVISION_AT, PUT_DIVISION}
+use Rattle.room_tables_schema.proofs.ColumnValues.{cast-Int, cast-Null}
+use Rattle.room_tables_schema.proofs.Comparisons.{and_last, conflict_of_one, tie-numbers}
+use Rattle.room_tables_schema.proofs.StoredRows.{stores_rowid}
 use Rattle.room_tables_schema.specs.Schema.{divisions_table, room_schema}
+use Rattle.room_tables_schema.specs.Statements.{Selects, StandsAlone, Stores, Upserts, equals, rowid_update}
+use Rattle.room_tables_schema.specs.Statements.{rowid_values}
+use Rattle.room_tables_schema.specs.TypedRows.{number}
 use Rattle.room_types.specs.Keys.{division_key}
 use Rattle.room_types.specs.declared.changes.Change.TheVariants.{PutDivision}
 use Rattle.room_types.specs.declared.tables.Division.{Division}
@@ -31,7 +32,14 @@ pub divisions_alone : StandsAlone room_schema 3 divisions_table
 divisions_alone = record { is_there = refl; unreferenced = λ olds news. refl; uncounted = refl }
 
 abbrev pub divisions_held : IsHeld nat_cmp division_key division_row divisions_table all_of
-divisions_held = record { faithful = division_faithful; others = (2 ∷ []); places_are = refl; at = 3; alone = divisions_alone; held = λ trees config room h. h.divisions }
+divisions_held = record {
+  faithful = division_faithful;
+  others = (2 ∷ []);
+  places_are = refl;
+  at = 3;
+  alone = divisions_alone;
+  held = λ trees config room h. h.divisions;
+}
 
 pub all_divisions_means : Selects room_schema ALL_DIVISIONS.now 4 (0 ∷ 2 ∷ []) (0 ∷ []) ([])
 unfolding understood everything
@@ -41,22 +49,42 @@ pub division_at_means : Selects room_schema DIVISION_AT.now 4 (0 ∷ 2 ∷ []) (
 unfolding understood everything
 division_at_means = record { names = _; command = refl; plain = (refl, refl); unlisted = refl }
 
-pub division_at_chooses : (k : ℕ) → SelectsChosen divisions_table division_row DIVISION_AT.now (number k ∷ []) (λ x. is_eq (nat_cmp k (division_key x)))
-division_at_chooses k = record { terms = equals 0 0 ∷ []; selects = division_at_means; chooses = record { test = λ r. equal Binary (column r 0) (number k); tells = λ r. and_last refl; same = λ x. tie-numbers x.number k } }
+pub division_at_chooses : (k : ℕ)
+    → SelectsChosen divisions_table division_row DIVISION_AT.now (number k ∷ [])
+    (λ x. is_eq (nat_cmp k (division_key x)))
+division_at_chooses k = record {
+  terms = equals 0 0 ∷ [];
+  selects = division_at_means;
+  chooses = record {
+    test = λ r. equal Binary (column r 0) (number k);
+    tells = λ r. and_last refl;
+    same = λ x. tie-numbers x.number k;
+  };
+}
 
-pub put_division_means : Upserts room_schema PUT_DIVISION.now 3 divisions_table (0 ∷ []) 2 (rowid_values 2) (rowid_update 2)
+pub put_division_means : Upserts room_schema PUT_DIVISION.now 3 divisions_table (0 ∷ []) 2 (rowid_values 2)
+    (rowid_update 2)
 unfolding understood everything
 put_division_means = record { command = refl; plain = (refl, refl) }
 
-pub division_stores : (x : Division) → Stores room_schema divisions_table (0 ∷ 2 ∷ []) (0 ∷ []) 2 (rowid_values 2) (rowid_update 2) (division_row x)
+pub division_stores : (x : Division)
+    → Stores room_schema divisions_table (0 ∷ 2 ∷ []) (0 ∷ []) 2 (rowid_values 2) (rowid_update 2) (division_row x)
 unfolding Rattle.sqlite_value.specs.Keys.first_key
 division_stores x = stores_rowid room_schema divisions_table (0 ∷ 2 ∷ []) (0 ∷ []) 2 _ _
-    (cast-Null, (cast-Int _, tt)) refl refl (λ r. conflict_of_one (column r 0) (number x.number) refl) (λ r. refl) (λ r. refl)
+    (cast-Null, (cast-Int _, tt)) refl refl (λ r. conflict_of_one (column r 0) (number x.number) refl) (λ r. refl)
+    (λ r. refl)
 
 pub division_puts : PutsRow divisions_table division_row 3 PUT_DIVISION.now
-division_puts = record { columns = 2; values = rowid_values 2; update = rowid_update 2; upserts = put_division_means; stores = division_stores }
+division_puts = record {
+  columns = 2;
+  values = rowid_values 2;
+  update = rowid_update 2;
+  upserts = put_division_means;
+  stores = division_stores;
+}
 
-pub divisions_are : IsTable nat_cmp division_key division_row number_cells divisions_table (λ room. room.divisions) PutDivision (record { all = ALL_DIVISIONS.now; at = DIVISION_AT.now; put = PUT_DIVISION.now })
+pub divisions_are : IsTable nat_cmp division_key division_row number_cells divisions_table (λ room. room.divisions)
+    PutDivision (record { all = ALL_DIVISIONS.now; at = DIVISION_AT.now; put = PUT_DIVISION.now })
 divisions_are = record {
   is_held = divisions_held;
   selects_all = all_divisions_means;

@@ -1,5 +1,6 @@
 -- Lists of rows: one that is read row by row, and the row of a key.
-use Rattle.std.proofs.Common.{◌≡◌, ◌++◌, ◌-◌, ℕ, zero, suc, List, [], ◌∷◌, length, filter, true, false, cond, Option, Some, None, refl, sym, ap, ◌∙◌, arith, Ordering, Less, Equal, Greater, is_eq, is_lt}
+use Rattle.std.proofs.Common.{◌≡◌, ◌++◌, ◌-◌, ℕ, zero, suc, List, [], ◌∷◌, length, filter, true, false, cond, Option}
+use Rattle.std.proofs.Common.{Some, None, refl, sym, ap, ◌∙◌, arith, Ordering, Less, Equal, Greater, is_eq, is_lt}
 use Rattle.std.specs.Cmp.{IsTotalOrder}
 use Rattle.std.specs.List.{slice_get}
 use Rattle.std.proofs.lemmas.Option.{slice_get_within}
@@ -24,7 +25,10 @@ found_at cmp key k xs found is = sym (first-listed found) ∙ ap first is ∙ go
   where
     go : (l : List _) → first (filter (λ x. is_eq (cmp k (key x))) l) ≡ row_at cmp key l k
     go [] = refl
-    go (x ∷ l) = elim (is_eq (cmp k (key x))) as (λ b. first (cond b (x ∷ filter (λ y. is_eq (cmp k (key y))) l) (filter (λ y. is_eq (cmp k (key y))) l)) ≡ cond b (Some x) (row_at cmp key l k)) [ true ↦ refl | false ↦ go l ]
+    go (x ∷ l) =
+        elim (is_eq (cmp k (key x))) as (λ b.
+        first (cond b (x ∷ filter (λ y. is_eq (cmp k (key y))) l) (filter (λ y. is_eq (cmp k (key y))) l))
+        ≡ cond b (Some x) (row_at cmp key l k)) [ true ↦ refl | false ↦ go l ]
 
 pub is_less : (o : Ordering) → is_lt o ≡ true → o ≡ Less
 is_less Less e = refl
@@ -47,7 +51,10 @@ module _ {X K : Type 0} (cmp : K → K → Ordering) (key : X → K) (total : Is
   put_after (x ∷ []) r (suc i) z keyed n e l = absurd (omega arith)
   put_after (x ∷ y ∷ xs) r zero z keyed n e l = absurd (omega arith)
   put_after (x ∷ y ∷ xs) r (suc i) z keyed n e l =
-      rw (total.antisymm (key r) (key x), total.trans (key x) (key z) (key r) (below_found (key x) (y ∷ xs) i z keyed.0 e) l) (ap (λ ys. x ∷ ys) (put_after (y ∷ xs) r i z keyed.1 (omega arith) e l))
+      rw (
+        total.antisymm (key r) (key x),
+        total.trans (key x) (key z) (key r) (below_found (key x) (y ∷ xs) i z keyed.0 e) l,
+      ) (ap (λ ys. x ∷ ys) (put_after (y ∷ xs) r i z keyed.1 (omega arith) e l))
 
   -- a row with a key above the last is put at the end
   pub put_last : (xs : List X) (r z : X) → IsKeyed cmp key xs

@@ -1,24 +1,26 @@
 -- Where only one table changed, the tables stand for the room with that table's rows. (Written by tools/tables.py.)
 use Rattle.room_model.specs.Room.{Room}
 use Rattle.room_place.specs.declared.plans.Area.{Area}
-use Rattle.room_tables_laws.proofs.Standing.{holds_none, holds_still}
-use Rattle.room_tables_laws.specs.Outcomes.{Only}
-use Rattle.room_tables_rows.specs.AreaColumns.{area_row}
-use Rattle.room_tables_rows.specs.AssignmentColumns.{assignment_row}
-use Rattle.room_tables_rows.specs.CallColumns.{call_row}
-use Rattle.room_tables_rows.specs.DivisionColumns.{division_row}
-use Rattle.room_tables_rows.specs.IncidentColumns.{incident_row}
-use Rattle.room_tables_rows.specs.LoanColumns.{loan_row}
-use Rattle.room_tables_rows.specs.MetaColumns.{meta_row}
-use Rattle.room_tables_rows.specs.OfferColumns.{offer_row}
-use Rattle.room_tables_rows.specs.PointColumns.{point_row}
-use Rattle.room_tables_rows.specs.ReportColumns.{report_row}
+use Rattle.room_tables_rows.specs.AreaSql.{area_row}
+use Rattle.room_tables_rows.specs.AssignmentSql.{assignment_row}
+use Rattle.room_tables_rows.specs.CallSql.{call_row}
+use Rattle.room_tables_rows.specs.DivisionSql.{division_row}
+use Rattle.room_tables_rows.specs.IncidentSql.{incident_row}
+use Rattle.room_tables_rows.specs.LoanSql.{loan_row}
+use Rattle.room_tables_rows.specs.MetaSql.{meta_row}
+use Rattle.room_tables_rows.specs.OfferSql.{offer_row}
+use Rattle.room_tables_rows.specs.PointSql.{point_row}
+use Rattle.room_tables_rows.specs.ReportSql.{report_row}
 use Rattle.room_tables_rows.specs.Stands.{Configuration, Stands, StandsFor, empty_room, numbered}
-use Rattle.room_tables_rows.specs.TerminalColumns.{terminal_row}
-use Rattle.room_tables_rows.specs.TurnColumns.{turn_row}
-use Rattle.room_tables_rows.specs.VehicleColumns.{vehicle_row}
+use Rattle.room_tables_rows.specs.TerminalSql.{terminal_row}
+use Rattle.room_tables_rows.specs.TurnSql.{turn_row}
+use Rattle.room_tables_rows.specs.VehicleSql.{vehicle_row}
+use Rattle.room_tables_schema.proofs.Standing.{holds_none, holds_still}
 use Rattle.room_tables_schema.specs.Definitions.{IsBlank}
-use Rattle.room_tables_schema.specs.Schema.{areas_table, assignments_table, calls_table, divisions_table, incidents_table, loans_table, meta_table, offers_table, points_table, reports_table, room_schema, terminals_table, turns_table, vehicles_table}
+use Rattle.room_tables_schema.specs.Outcomes.{Only}
+use Rattle.room_tables_schema.specs.Schema.{areas_table, assignments_table, calls_table, divisions_table}
+use Rattle.room_tables_schema.specs.Schema.{incidents_table, loans_table, meta_table, offers_table, points_table}
+use Rattle.room_tables_schema.specs.Schema.{reports_table, room_schema, terminals_table, turns_table, vehicles_table}
 use Rattle.room_types.specs.declared.fleet.Terminal.{Terminal}
 use Rattle.room_types.specs.declared.tables.Assignment.{Assignment}
 use Rattle.room_types.specs.declared.tables.Call.{Call}
@@ -35,7 +37,8 @@ use Rattle.std.proofs.Common.{List, [], refl, ℕ, ◌∙◌, ◌∷◌}
 use Rattle.std.proofs.lemmas.Bool.{eqb-false}
 
 module _ (old new : Database) (config : Configuration) (room : Room) (h : Stands old.trees config room) where
-  pub with_meta : Only room_schema 0 old new → (zone : List ℕ) → StandsFor new.trees meta_table meta_row (zone ∷ []) → Stands new.trees (record config { zone = zone }) room
+  pub with_meta : Only room_schema 0 old new → (zone : List ℕ) → StandsFor new.trees meta_table meta_row (zone ∷ [])
+      → Stands new.trees (record config { zone = zone }) room
   with_meta only zone is =
       let at = only.tables in record {
         meta = is;
@@ -53,7 +56,9 @@ module _ (old new : Database) (config : Configuration) (room : Room) (h : Stands
         offers = holds_still _ _ _ _ _ (at.1.1.1.1.1.1.1.1.1.1.1.1.0 (eqb-false _ _ refl)) h.offers;
       }
 
-  pub with_areas : Only room_schema 1 old new → (plan : List Area) → StandsFor new.trees areas_table area_row (numbered 1 plan) → Stands new.trees config (record room { plan = plan })
+  pub with_areas : Only room_schema 1 old new → (plan : List Area)
+      → StandsFor new.trees areas_table area_row (numbered 1 plan)
+      → Stands new.trees config (record room { plan = plan })
   with_areas only plan is =
       let at = only.tables in record {
         meta = holds_still _ _ _ _ _ (at.0 (eqb-false _ _ refl)) h.meta;
@@ -71,7 +76,9 @@ module _ (old new : Database) (config : Configuration) (room : Room) (h : Stands
         offers = holds_still _ _ _ _ _ (at.1.1.1.1.1.1.1.1.1.1.1.1.0 (eqb-false _ _ refl)) h.offers;
       }
 
-  pub with_terminals : Only room_schema 2 old new → (terminals : List Terminal) → StandsFor new.trees terminals_table terminal_row terminals → Stands new.trees (record config { terminals = terminals }) room
+  pub with_terminals : Only room_schema 2 old new → (terminals : List Terminal)
+      → StandsFor new.trees terminals_table terminal_row terminals
+      → Stands new.trees (record config { terminals = terminals }) room
   with_terminals only terminals is =
       let at = only.tables in record {
         meta = holds_still _ _ _ _ _ (at.0 (eqb-false _ _ refl)) h.meta;
@@ -89,7 +96,9 @@ module _ (old new : Database) (config : Configuration) (room : Room) (h : Stands
         offers = holds_still _ _ _ _ _ (at.1.1.1.1.1.1.1.1.1.1.1.1.0 (eqb-false _ _ refl)) h.offers;
       }
 
-  pub with_divisions : Only room_schema 4 old new → (divisions : List Division) → StandsFor new.trees divisions_table division_row divisions → Stands new.trees config (record room { divisions = divisions })
+  pub with_divisions : Only room_schema 4 old new → (divisions : List Division)
+      → StandsFor new.trees divisions_table division_row divisions
+      → Stands new.trees config (record room { divisions = divisions })
   with_divisions only divisions is =
       let at = only.tables in record {
         meta = holds_still _ _ _ _ _ (at.0 (eqb-false _ _ refl)) h.meta;
@@ -107,7 +116,9 @@ module _ (old new : Database) (config : Configuration) (room : Room) (h : Stands
         offers = holds_still _ _ _ _ _ (at.1.1.1.1.1.1.1.1.1.1.1.1.0 (eqb-false _ _ refl)) h.offers;
       }
 
-  pub with_incidents : Only room_schema 5 old new → (incidents : List Incident) → StandsFor new.trees incidents_table incident_row incidents → Stands new.trees config (record room { incidents = incidents })
+  pub with_incidents : Only room_schema 5 old new → (incidents : List Incident)
+      → StandsFor new.trees incidents_table incident_row incidents
+      → Stands new.trees config (record room { incidents = incidents })
   with_incidents only incidents is =
       let at = only.tables in record {
         meta = holds_still _ _ _ _ _ (at.0 (eqb-false _ _ refl)) h.meta;
@@ -125,7 +136,8 @@ module _ (old new : Database) (config : Configuration) (room : Room) (h : Stands
         offers = holds_still _ _ _ _ _ (at.1.1.1.1.1.1.1.1.1.1.1.1.0 (eqb-false _ _ refl)) h.offers;
       }
 
-  pub with_calls : Only room_schema 7 old new → (calls : List Call) → StandsFor new.trees calls_table call_row calls → Stands new.trees config (record room { calls = calls })
+  pub with_calls : Only room_schema 7 old new → (calls : List Call) → StandsFor new.trees calls_table call_row calls
+      → Stands new.trees config (record room { calls = calls })
   with_calls only calls is =
       let at = only.tables in record {
         meta = holds_still _ _ _ _ _ (at.0 (eqb-false _ _ refl)) h.meta;
@@ -143,7 +155,9 @@ module _ (old new : Database) (config : Configuration) (room : Room) (h : Stands
         offers = holds_still _ _ _ _ _ (at.1.1.1.1.1.1.1.1.1.1.1.1.0 (eqb-false _ _ refl)) h.offers;
       }
 
-  pub with_vehicles : Only room_schema 9 old new → (vehicles : List Vehicle) → StandsFor new.trees vehicles_table vehicle_row vehicles → Stands new.trees config (record room { vehicles = vehicles })
+  pub with_vehicles : Only room_schema 9 old new → (vehicles : List Vehicle)
+      → StandsFor new.trees vehicles_table vehicle_row vehicles
+      → Stands new.trees config (record room { vehicles = vehicles })
   with_vehicles only vehicles is =
       let at = only.tables in record {
         meta = holds_still _ _ _ _ _ (at.0 (eqb-false _ _ refl)) h.meta;
@@ -161,7 +175,8 @@ module _ (old new : Database) (config : Configuration) (room : Room) (h : Stands
         offers = holds_still _ _ _ _ _ (at.1.1.1.1.1.1.1.1.1.1.1.1.0 (eqb-false _ _ refl)) h.offers;
       }
 
-  pub with_turns : Only room_schema 11 old new → (turns : List Turn) → StandsFor new.trees turns_table turn_row turns → Stands new.trees config (record room { turns = turns })
+  pub with_turns : Only room_schema 11 old new → (turns : List Turn) → StandsFor new.trees turns_table turn_row turns
+      → Stands new.trees config (record room { turns = turns })
   with_turns only turns is =
       let at = only.tables in record {
         meta = holds_still _ _ _ _ _ (at.0 (eqb-false _ _ refl)) h.meta;
@@ -179,7 +194,9 @@ module _ (old new : Database) (config : Configuration) (room : Room) (h : Stands
         offers = holds_still _ _ _ _ _ (at.1.1.1.1.1.1.1.1.1.1.1.1.0 (eqb-false _ _ refl)) h.offers;
       }
 
-  pub with_assignments : Only room_schema 13 old new → (assignments : List Assignment) → StandsFor new.trees assignments_table assignment_row assignments → Stands new.trees config (record room { assignments = assignments })
+  pub with_assignments : Only room_schema 13 old new → (assignments : List Assignment)
+      → StandsFor new.trees assignments_table assignment_row assignments
+      → Stands new.trees config (record room { assignments = assignments })
   with_assignments only assignments is =
       let at = only.tables in record {
         meta = holds_still _ _ _ _ _ (at.0 (eqb-false _ _ refl)) h.meta;
@@ -197,7 +214,8 @@ module _ (old new : Database) (config : Configuration) (room : Room) (h : Stands
         offers = holds_still _ _ _ _ _ (at.1.1.1.1.1.1.1.1.1.1.1.1.0 (eqb-false _ _ refl)) h.offers;
       }
 
-  pub with_points : Only room_schema 15 old new → (points : List Point) → StandsFor new.trees points_table point_row points → Stands new.trees config (record room { points = points })
+  pub with_points : Only room_schema 15 old new → (points : List Point)
+      → StandsFor new.trees points_table point_row points → Stands new.trees config (record room { points = points })
   with_points only points is =
       let at = only.tables in record {
         meta = holds_still _ _ _ _ _ (at.0 (eqb-false _ _ refl)) h.meta;
@@ -215,7 +233,8 @@ module _ (old new : Database) (config : Configuration) (room : Room) (h : Stands
         offers = holds_still _ _ _ _ _ (at.1.1.1.1.1.1.1.1.1.1.1.1.0 (eqb-false _ _ refl)) h.offers;
       }
 
-  pub with_loans : Only room_schema 17 old new → (loans : List Loan) → StandsFor new.trees loans_table loan_row loans → Stands new.trees config (record room { loans = loans })
+  pub with_loans : Only room_schema 17 old new → (loans : List Loan) → StandsFor new.trees loans_table loan_row loans
+      → Stands new.trees config (record room { loans = loans })
   with_loans only loans is =
       let at = only.tables in record {
         meta = holds_still _ _ _ _ _ (at.0 (eqb-false _ _ refl)) h.meta;
@@ -233,7 +252,9 @@ module _ (old new : Database) (config : Configuration) (room : Room) (h : Stands
         offers = holds_still _ _ _ _ _ (at.1.1.1.1.1.1.1.1.1.1.1.1.0 (eqb-false _ _ refl)) h.offers;
       }
 
-  pub with_reports : Only room_schema 19 old new → (reports : List Report) → StandsFor new.trees reports_table report_row reports → Stands new.trees config (record room { reports = reports })
+  pub with_reports : Only room_schema 19 old new → (reports : List Report)
+      → StandsFor new.trees reports_table report_row reports
+      → Stands new.trees config (record room { reports = reports })
   with_reports only reports is =
       let at = only.tables in record {
         meta = holds_still _ _ _ _ _ (at.0 (eqb-false _ _ refl)) h.meta;
@@ -251,7 +272,8 @@ module _ (old new : Database) (config : Configuration) (room : Room) (h : Stands
         offers = holds_still _ _ _ _ _ (at.1.1.1.1.1.1.1.1.1.1.1.1.0 (eqb-false _ _ refl)) h.offers;
       }
 
-  pub with_offers : Only room_schema 21 old new → (offers : List Offer) → StandsFor new.trees offers_table offer_row offers → Stands new.trees config (record room { offers = offers })
+  pub with_offers : Only room_schema 21 old new → (offers : List Offer)
+      → StandsFor new.trees offers_table offer_row offers → Stands new.trees config (record room { offers = offers })
   with_offers only offers is =
       let at = only.tables in record {
         meta = holds_still _ _ _ _ _ (at.0 (eqb-false _ _ refl)) h.meta;
@@ -270,7 +292,9 @@ module _ (old new : Database) (config : Configuration) (room : Room) (h : Stands
       }
 
 -- tables without rows, of which the first was written: a room without rows
-pub with_first : (old new : Database) → IsBlank old.trees → Only room_schema 0 old new → (zone : List ℕ) → StandsFor new.trees meta_table meta_row (zone ∷ []) → Stands new.trees (record { zone = zone; terminals = [] }) empty_room
+pub with_first : (old new : Database) → IsBlank old.trees → Only room_schema 0 old new → (zone : List ℕ)
+    → StandsFor new.trees meta_table meta_row (zone ∷ [])
+    → Stands new.trees (record { zone = zone; terminals = [] }) empty_room
 with_first old new blank only zone is =
     let at = only.tables in record {
       meta = is;

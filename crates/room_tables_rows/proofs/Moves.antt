@@ -5,13 +5,13 @@ use Rattle.sqlite.specs.Effect.{Database}
 use Rattle.sqlite.specs.State.{State}
 use Rattle.sqlite_trees.specs.Tree.{Trees}
 use Rattle.room_model.specs.Room.{Room}
-use Rattle.room_tables_laws.proofs.Standing.{holds_none, holds_still}
-use Rattle.room_tables_laws.proofs.TypedTables.{stands_for_one}
-use Rattle.room_tables_laws.specs.Outcomes.{Only}
+use Rattle.room_tables_schema.proofs.Standing.{holds_none, holds_still}
+use Rattle.room_tables_schema.proofs.TypedTables.{stands_for_one}
+use Rattle.room_tables_schema.specs.Outcomes.{Only}
 use Rattle.room_tables_schema.specs.Definitions.{AddsLast}
 use Rattle.room_tables_schema.specs.Schema.{meta_table, room_schema}
 use Rattle.room_tables_rows.proofs.RowLaws.{offer_faithful, version_faithful}
-use Rattle.room_tables_rows.specs.MetaColumns.{meta_row, version_row}
+use Rattle.room_tables_rows.specs.MetaSql.{meta_row, version_row}
 use Rattle.room_tables_rows.specs.Stands.{Configuration, Stands, StandsFor, StandsInFirst}
 use Rattle.room_tables_rows.specs.Writes.{Renews}
 
@@ -19,7 +19,8 @@ use Rattle.room_tables_rows.specs.Writes.{Renews}
 pub one_zone : (version : ℕ) (trees : Trees) (zone other : List ℕ)
     → StandsFor trees meta_table (version_row version) (zone ∷ [])
     → StandsFor trees meta_table (version_row version) (other ∷ []) → zone ≡ other
-one_zone version trees zone other h k = let listed : zone ∷ [] ≡ other ∷ [] = (stands_for_one _ _ _ _ _ _ _ _ (version_faithful version) h k).0 in cc
+one_zone version trees zone other h k =
+    let listed : zone ∷ [] ≡ other ∷ [] = (stands_for_one _ _ _ _ _ _ _ _ (version_faithful version) h k).0 in cc
 
 -- tables of the first version stand for a room without offers
 pub no_offers : (trees : Trees) (config : Configuration) (room : Room) → StandsInFirst trees config room
@@ -33,7 +34,8 @@ module _ (old : Trees) (mid new : State) (adds : AddsLast old mid.now.trees)
       let only = renews.only.tables in
       let rows = adds.rows in
       let was = holds_still _ _ _ _ _ rows.0 h.meta in
-      let told = subst (λ zone. StandsFor new.now.trees meta_table meta_row (zone ∷ [])) (one_zone 1 mid.now.trees renews.zone config.zone renews.was was) renews.is in
+      let told = subst (λ zone. StandsFor new.now.trees meta_table meta_row (zone ∷ []))
+      (one_zone 1 mid.now.trees renews.zone config.zone renews.was was) renews.is in
       record {
         meta = told;
         areas = holds_still _ _ _ _ _ (only.1.0 (eqb-false _ _ refl) ∙ rows.1.0) h.areas;
@@ -43,10 +45,16 @@ module _ (old : Trees) (mid new : State) (adds : AddsLast old mid.now.trees)
         calls = holds_still _ _ _ _ _ (only.1.1.1.1.1.0 (eqb-false _ _ refl) ∙ rows.1.1.1.1.1.0) h.calls;
         vehicles = holds_still _ _ _ _ _ (only.1.1.1.1.1.1.0 (eqb-false _ _ refl) ∙ rows.1.1.1.1.1.1.0) h.vehicles;
         turns = holds_still _ _ _ _ _ (only.1.1.1.1.1.1.1.0 (eqb-false _ _ refl) ∙ rows.1.1.1.1.1.1.1.0) h.turns;
-        assignments = holds_still _ _ _ _ _ (only.1.1.1.1.1.1.1.1.0 (eqb-false _ _ refl) ∙ rows.1.1.1.1.1.1.1.1.0) h.assignments;
-        points = holds_still _ _ _ _ _ (only.1.1.1.1.1.1.1.1.1.0 (eqb-false _ _ refl) ∙ rows.1.1.1.1.1.1.1.1.1.0) h.points;
-        loans = holds_still _ _ _ _ _ (only.1.1.1.1.1.1.1.1.1.1.0 (eqb-false _ _ refl) ∙ rows.1.1.1.1.1.1.1.1.1.1.0) h.loans;
-        reports = holds_still _ _ _ _ _ (only.1.1.1.1.1.1.1.1.1.1.1.0 (eqb-false _ _ refl) ∙ rows.1.1.1.1.1.1.1.1.1.1.1.0) h.reports;
+        assignments =
+            holds_still _ _ _ _ _ (only.1.1.1.1.1.1.1.1.0 (eqb-false _ _ refl) ∙ rows.1.1.1.1.1.1.1.1.0) h.assignments;
+        points =
+            holds_still _ _ _ _ _ (only.1.1.1.1.1.1.1.1.1.0 (eqb-false _ _ refl) ∙ rows.1.1.1.1.1.1.1.1.1.0) h.points;
+        loans =
+            holds_still _ _ _ _ _ (only.1.1.1.1.1.1.1.1.1.1.0 (eqb-false _ _ refl) ∙ rows.1.1.1.1.1.1.1.1.1.1.0)
+            h.loans;
+        reports =
+            holds_still _ _ _ _ _ (only.1.1.1.1.1.1.1.1.1.1.1.0 (eqb-false _ _ refl) ∙ rows.1.1.1.1.1.1.1.1.1.1.1.0)
+            h.reports;
         offers = holds_still _ _ [] _ _ (only.1.1.1.1.1.1.1.1.1.1.1.1.0 (eqb-false _ _ refl) ∙ adds.blank) h.offers;
       }
 
@@ -55,7 +63,8 @@ module _ (old : Trees) (mid new : State) (adds : AddsLast old mid.now.trees)
       let only = renews.only.tables in
       let rows = adds.rows in
       let was = holds_still _ _ _ _ _ (sym rows.0) renews.was in
-      let told = subst (λ zone. StandsFor old meta_table (version_row 1) (zone ∷ [])) (one_zone 2 new.now.trees renews.zone config.zone renews.is h.meta) was in
+      let told = subst (λ zone. StandsFor old meta_table (version_row 1) (zone ∷ []))
+      (one_zone 2 new.now.trees renews.zone config.zone renews.is h.meta) was in
       record {
         meta = told;
         areas = holds_still _ _ _ _ _ (sym (only.1.0 (eqb-false _ _ refl) ∙ rows.1.0)) h.areas;
@@ -63,11 +72,21 @@ module _ (old : Trees) (mid new : State) (adds : AddsLast old mid.now.trees)
         divisions = holds_still _ _ _ _ _ (sym (only.1.1.1.0 (eqb-false _ _ refl) ∙ rows.1.1.1.0)) h.divisions;
         incidents = holds_still _ _ _ _ _ (sym (only.1.1.1.1.0 (eqb-false _ _ refl) ∙ rows.1.1.1.1.0)) h.incidents;
         calls = holds_still _ _ _ _ _ (sym (only.1.1.1.1.1.0 (eqb-false _ _ refl) ∙ rows.1.1.1.1.1.0)) h.calls;
-        vehicles = holds_still _ _ _ _ _ (sym (only.1.1.1.1.1.1.0 (eqb-false _ _ refl) ∙ rows.1.1.1.1.1.1.0)) h.vehicles;
+        vehicles =
+            holds_still _ _ _ _ _ (sym (only.1.1.1.1.1.1.0 (eqb-false _ _ refl) ∙ rows.1.1.1.1.1.1.0)) h.vehicles;
         turns = holds_still _ _ _ _ _ (sym (only.1.1.1.1.1.1.1.0 (eqb-false _ _ refl) ∙ rows.1.1.1.1.1.1.1.0)) h.turns;
-        assignments = holds_still _ _ _ _ _ (sym (only.1.1.1.1.1.1.1.1.0 (eqb-false _ _ refl) ∙ rows.1.1.1.1.1.1.1.1.0)) h.assignments;
-        points = holds_still _ _ _ _ _ (sym (only.1.1.1.1.1.1.1.1.1.0 (eqb-false _ _ refl) ∙ rows.1.1.1.1.1.1.1.1.1.0)) h.points;
-        loans = holds_still _ _ _ _ _ (sym (only.1.1.1.1.1.1.1.1.1.1.0 (eqb-false _ _ refl) ∙ rows.1.1.1.1.1.1.1.1.1.1.0)) h.loans;
-        reports = holds_still _ _ _ _ _ (sym (only.1.1.1.1.1.1.1.1.1.1.1.0 (eqb-false _ _ refl) ∙ rows.1.1.1.1.1.1.1.1.1.1.1.0)) h.reports;
-        offers = holds_still _ _ _ [] _ (sym (only.1.1.1.1.1.1.1.1.1.1.1.1.0 (eqb-false _ _ refl) ∙ adds.blank)) h.offers;
+        assignments =
+            holds_still _ _ _ _ _ (sym (only.1.1.1.1.1.1.1.1.0 (eqb-false _ _ refl) ∙ rows.1.1.1.1.1.1.1.1.0))
+            h.assignments;
+        points =
+            holds_still _ _ _ _ _ (sym (only.1.1.1.1.1.1.1.1.1.0 (eqb-false _ _ refl) ∙ rows.1.1.1.1.1.1.1.1.1.0))
+            h.points;
+        loans =
+            holds_still _ _ _ _ _ (sym (only.1.1.1.1.1.1.1.1.1.1.0 (eqb-false _ _ refl) ∙ rows.1.1.1.1.1.1.1.1.1.1.0))
+            h.loans;
+        reports =
+            holds_still _ _ _ _ _
+            (sym (only.1.1.1.1.1.1.1.1.1.1.1.0 (eqb-false _ _ refl) ∙ rows.1.1.1.1.1.1.1.1.1.1.1.0)) h.reports;
+        offers =
+            holds_still _ _ _ [] _ (sym (only.1.1.1.1.1.1.1.1.1.1.1.1.0 (eqb-false _ _ refl) ∙ adds.blank)) h.offers;
       }

@@ -1,16 +1,22 @@
 -- The tables stand for only one house and room.
 use Rattle.std.proofs.Common.{◌≡◌, [], ◌∷◌}
 use Rattle.sqlite_trees.specs.Tree.{Trees}
-use Rattle.room_tables_laws.proofs.TypedTables.{stands_for_one}
+use Rattle.room_tables_schema.proofs.TypedTables.{stands_for_one}
 use Rattle.room_model.specs.Room.{Room}
-use Rattle.room_tables_rows.proofs.RowLaws.{meta_faithful, area_faithful, terminal_faithful, division_faithful, incident_faithful, call_faithful, vehicle_faithful, turn_faithful, assignment_faithful, point_faithful, loan_faithful, report_faithful, offer_faithful}
+use Rattle.room_tables_rows.proofs.RowLaws.{meta_faithful, area_faithful, terminal_faithful, division_faithful}
+use Rattle.room_tables_rows.proofs.RowLaws.{incident_faithful, call_faithful, vehicle_faithful, turn_faithful}
+use Rattle.room_tables_rows.proofs.RowLaws.{assignment_faithful, point_faithful, loan_faithful, report_faithful}
+use Rattle.room_tables_rows.proofs.RowLaws.{offer_faithful}
 use Rattle.room_tables_rows.specs.Stands.{Configuration, Stands}
 use Rattle.room_tables_rows.proofs.PlanLaws.{numbered-injective}
 
 module _ (trees : Trees) (config other : Configuration) (room another : Room) (h : Stands trees config room)
     (k : Stands trees other another) where
   same_zone : config.zone ≡ other.zone
-  same_zone = let listed : config.zone ∷ [] ≡ other.zone ∷ [] = (stands_for_one _ _ _ _ _ _ _ _ meta_faithful h.meta k.meta).0 in cc
+  same_zone =
+      let listed : config.zone ∷ []
+      ≡ other.zone ∷ [] = (stands_for_one _ _ _ _ _ _ _ _ meta_faithful h.meta k.meta).0 in
+      cc
 
   pub one_config : config ≡ other
   one_config i = record {
@@ -20,7 +26,8 @@ module _ (trees : Trees) (config other : Configuration) (room another : Room) (h
 
   pub one_room : room ≡ another
   one_room i = record {
-    plan = numbered-injective 1 room.plan another.plan (stands_for_one _ _ _ _ _ _ _ _ area_faithful h.areas k.areas).0 i;
+    plan =
+        numbered-injective 1 room.plan another.plan (stands_for_one _ _ _ _ _ _ _ _ area_faithful h.areas k.areas).0 i;
     divisions = (stands_for_one _ _ _ _ _ _ _ _ division_faithful h.divisions k.divisions).0 i;
     incidents = (stands_for_one _ _ _ _ _ _ _ _ incident_faithful h.incidents k.incidents).0 i;
     calls = (stands_for_one _ _ _ _ _ _ _ _ call_faithful h.calls k.calls).0 i;

@@ -1,12 +1,13 @@
 -- Areas with their places in the plan.
-use Rattle.std.proofs.Common.{◌≡◌, ◌+◌, ◌++◌, ◌<◌, ℕ, suc, List, [], ◌∷◌, map, length, take, get_or, refl, sym, ap, ◌∙◌, arith, Less, Greater}
+use Rattle.std.proofs.Common.{◌≡◌, ◌+◌, ◌++◌, ◌<◌, ℕ, suc, List, [], ◌∷◌, map, length, take, get_or, refl, sym, ap, ◌∙◌}
+use Rattle.std.proofs.Common.{arith, Less, Greater}
 use Rattle.std.specs.Ordering.{nat_cmp}
 use Rattle.std.proofs.lemmas.Bool.Decides.{nat_tests}
 use Rattle.std.proofs.lemmas.List.{take_more, map-append}
 use Rattle.sqlite_value.specs.Order.{Row}
 use Rattle.room_place.specs.declared.plans.Area.{Area}
 use Rattle.room_types_keyed.specs.Keyed.{IsBelowAll, IsKeyed, put_row}
-use Rattle.room_tables_rows.specs.AreaColumns.{area_key, area_row}
+use Rattle.room_tables_rows.specs.AreaSql.{area_key, area_row}
 use Rattle.room_tables_rows.specs.Stands.{numbered}
 
 less : (m n : ℕ) → m < n → nat_cmp m n ≡ Less
@@ -29,7 +30,8 @@ numbered-keyed n (a ∷ plan) = (numbered-below n (suc n) plan (omega arith), nu
 pub put_row-numbered : (n m : ℕ) (plan : List Area) (a : Area) → m ≡ n + length plan
     → put_row nat_cmp area_key (numbered n plan) (m, a) ≡ numbered n (plan ++ a ∷ [])
 put_row-numbered n m [] a e = let same : m ≡ n = omega arith in ap (λ k. (k, a) ∷ []) same
-put_row-numbered n m (b ∷ plan) a e = rw (greater m n (omega arith)) (ap (λ l. (n, b) ∷ l) (put_row-numbered (suc n) m plan a (omega arith)))
+put_row-numbered n m (b ∷ plan) a e =
+    rw (greater m n (omega arith)) (ap (λ l. (n, b) ∷ l) (put_row-numbered (suc n) m plan a (omega arith)))
 
 numbered-areas : (n : ℕ) (plan : List Area) → map (λ (p : ℕ × Area). p.1) (numbered n plan) ≡ plan
 numbered-areas n [] = refl
@@ -38,13 +40,17 @@ numbered-areas n (a ∷ plan) = ap (λ l. a ∷ l) (numbered-areas (suc n) plan)
 -- the areas are known from their numbered list
 pub numbered-injective : (n : ℕ) (plan other : List Area) → numbered n plan ≡ numbered n other
     → plan ≡ other
-numbered-injective n plan other e = sym (numbered-areas n plan) ∙ ap (map (λ (p : ℕ × Area). p.1)) e ∙ numbered-areas n other
+numbered-injective n plan other e =
+    sym (numbered-areas n plan) ∙ ap (map (λ (p : ℕ × Area). p.1)) e ∙ numbered-areas n other
 
 -- one area more
 pub numbered-append : (n : ℕ) (plan : List Area) (a : Area)
     → numbered n (plan ++ a ∷ []) ≡ numbered n plan ++ (n + length plan, a) ∷ []
 numbered-append n [] a = let same : n ≡ n + 0 = omega arith in ap (λ k. (k, a) ∷ []) same
-numbered-append n (b ∷ plan) a = ap (λ l. (n, b) ∷ l) (numbered-append (suc n) plan a ∙ (let same : suc n + length plan ≡ n + suc (length plan) = omega arith in ap (λ k. numbered (suc n) plan ++ (k, a) ∷ []) same))
+numbered-append n (b ∷ plan) a =
+    ap (λ l. (n, b) ∷ l) (numbered-append (suc n) plan a
+    ∙ (let same : suc n + length plan ≡ n + suc (length plan) = omega arith in
+    ap (λ k. numbered (suc n) plan ++ (k, a) ∷ []) same))
 
 -- one row more that was read
 pub areas_more : (areas : List Area) (shown : List Row) (i at : ℕ) (a : Area) (cells : Row)
@@ -53,5 +59,7 @@ pub areas_more : (areas : List Area) (shown : List Row) (i at : ℕ) (a : Area) 
     → map area_row (numbered 1 (areas ++ a ∷ [])) ≡ take (i + 1) shown
 areas_more areas shown i at a cells count read low item is place =
     let e : 1 + length areas ≡ at = omega arith in
-    ap (map area_row) (numbered-append 1 areas a ∙ ap (λ k. numbered 1 areas ++ (k, a) ∷ []) e) ∙ map-append area_row (numbered 1 areas) ((at, a) ∷ [])
-    ∙ ap (λ l. l ++ area_row (at, a) ∷ []) read ∙ ap (λ v. take i shown ++ v ∷ []) (is ∙ item) ∙ sym (take_more shown i cells low)
+    ap (map area_row) (numbered-append 1 areas a ∙ ap (λ k. numbered 1 areas ++ (k, a) ∷ []) e)
+    ∙ map-append area_row (numbered 1 areas) ((at, a) ∷ [])
+    ∙ ap (λ l. l ++ area_row (at, a) ∷ []) read ∙ ap (λ v. take i shown ++ v ∷ []) (is ∙ item)
+    ∙ sym (take_more shown i cells low)

@@ -7,17 +7,18 @@ use Rattle.sqlite.specs.Effect.{Database}
 use Rattle.sqlite.specs.State.{State, Executes}
 use Rattle.room_types_keyed.specs.Keyed.{put_row, drop_row}
 use Rattle.room_types.specs.declared.changes.Change.{Change}
-use Rattle.room_tables_laws.specs.Outcomes.{Inside, Only}
-use Rattle.room_tables_laws.specs.Statements.{StandsAlone}
-use Rattle.room_tables_laws.proofs.TypedTables.{insertion_puts, upsert_puts, overwrite_puts, deletion_drops}
-use Rattle.room_tables_laws.proofs.Overwrites.{overwritten}
-use Rattle.room_tables_laws.proofs.Insertions.{inserted_schema}
-use Rattle.room_tables_laws.proofs.Upserts.{upserted_schema}
-use Rattle.room_tables_laws.proofs.Deletions.{deleted}
+use Rattle.room_tables_schema.specs.Outcomes.{Inside, Only}
+use Rattle.room_tables_schema.specs.Statements.{StandsAlone}
+use Rattle.room_tables_schema.proofs.TypedTables.{insertion_puts, upsert_puts, overwrite_puts, deletion_drops}
+use Rattle.room_tables_schema.proofs.Overwrites.{overwritten}
+use Rattle.room_tables_schema.proofs.Insertions.{inserted_schema}
+use Rattle.room_tables_schema.proofs.Upserts.{upserted_schema}
+use Rattle.room_tables_schema.proofs.Deletions.{deleted}
 use Rattle.room_model.specs.Room.{Room, apply_one}
 use Rattle.room_tables_schema.specs.Schema.{room_schema}
 use Rattle.room_tables_rows.specs.Stands.{Configuration, Stands, StandsFor, places}
-use Rattle.room_tables_rows.specs.Tables.{DeletesChosen, InsertsRow, IsDropped, IsHeld, IsOverwritten, IsTable, PutsRow, Texts}
+use Rattle.room_tables_rows.specs.Tables.{DeletesChosen, InsertsRow, IsDropped, IsHeld, IsOverwritten, IsTable, PutsRow}
+use Rattle.room_tables_rows.specs.Tables.{Texts}
 use Rattle.room_tables_rows.specs.Writes.{Changes, Makes}
 
 module _ {X K : Type 0} {order : K → K → Ordering} {key : X → K} {row : X → Row} {table : Table}
@@ -26,7 +27,9 @@ module _ {X K : Type 0} {order : K → K → Ordering} {key : X → K} {row : X 
   -- room
   abbrev pub Leads : (Configuration → Room → List X) → (Configuration → Configuration) → (Room → Room) → Type 0
   Leads rows_after config_after room_after =
-      (old new : Database) (config : Configuration) (room : Room) → Stands old.trees config room → Only room_schema table.tree old new → StandsFor new.trees table row (rows_after config room) → Stands new.trees (config_after config) (room_after room)
+      (old new : Database) (config : Configuration) (room : Room) → Stands old.trees config room
+      → Only room_schema table.tree old new → StandsFor new.trees table row (rows_after config room)
+      → Stands new.trees (config_after config) (room_after room)
 
   -- a statement that puts its row in this table changes the room so
   changes_by : (x : X) (config_after : Configuration → Configuration) (room_after : Room → Room)
@@ -39,7 +42,10 @@ module _ {X K : Type 0} {order : K → K → Ordering} {key : X → K} {row : X 
   changes_by x config_after room_after leads old new inside schema puts = record {
     inside = inside;
     schema = schema;
-    stands = λ config room h. let it = puts (rows config room) (is.held old.now.trees config room h) in leads old.now new.now config room h it.0 it.1;
+    stands =
+        λ config room h.
+        let it = puts (rows config room) (is.held old.now.trees config room h) in
+        leads old.now new.now config room h it.0 it.1;
   }
 
   -- an upsert does
@@ -50,8 +56,11 @@ module _ {X K : Type 0} {order : K → K → Ordering} {key : X → K} {row : X 
       → Executes text (row x) old new (Ok count) → Changes old new config_after room_after
   put_changes puts x config_after room_after leads old new count has inside ran =
       changes_by x config_after room_after leads old new inside
-      (upserted_schema room_schema text is.at table is.alone (places table) table.primary puts.columns puts.values puts.update puts.upserts (row x) (puts.stores x) old new count has ran)
-      (λ xs. upsert_puts order key row room_schema text old new is.at table (places table) table.primary puts.columns puts.values puts.update count x xs is.alone puts.upserts is.faithful (puts.stores x) has ran)
+      (upserted_schema room_schema text is.at table is.alone (places table) table.primary puts.columns puts.values
+      puts.update puts.upserts (row x) (puts.stores x) old new count has ran)
+      (λ xs.
+      upsert_puts order key row room_schema text old new is.at table (places table) table.primary puts.columns
+      puts.values puts.update count x xs is.alone puts.upserts is.faithful (puts.stores x) has ran)
 
   -- so does an insertion
   pub insert_changes : InsertsRow table row is.at text
@@ -61,8 +70,11 @@ module _ {X K : Type 0} {order : K → K → Ordering} {key : X → K} {row : X 
       → Executes text (row x) old new (Ok count) → Changes old new config_after room_after
   insert_changes inserts x config_after room_after leads old new count has inside ran =
       changes_by x config_after room_after leads old new inside
-      (inserted_schema room_schema text is.at table is.alone (places table) table.primary inserts.columns inserts.values inserts.update inserts.inserts (row x) (inserts.stores x) old new count has ran)
-      (λ xs. insertion_puts order key row room_schema text old new is.at table (places table) table.primary inserts.columns inserts.values inserts.update count x xs is.alone inserts.inserts is.faithful (inserts.stores x) has ran)
+      (inserted_schema room_schema text is.at table is.alone (places table) table.primary inserts.columns inserts.values
+      inserts.update inserts.inserts (row x) (inserts.stores x) old new count has ran)
+      (λ xs.
+      insertion_puts order key row room_schema text old new is.at table (places table) table.primary inserts.columns
+      inserts.values inserts.update count x xs is.alone inserts.inserts is.faithful (inserts.stores x) has ran)
 
   -- the row of the key is dropped
   pub drop_changes : (at : ℕ) → StandsAlone room_schema at table → (params : Row) (k : K)
@@ -73,9 +85,13 @@ module _ {X K : Type 0} {order : K → K → Ordering} {key : X → K} {row : X 
       → Executes text params old new (Ok count) → Changes old new config_after room_after
   drop_changes at alone params k means config_after room_after leads old new count has inside ran = record {
     inside = inside;
-    schema = (deleted room_schema text at table alone means.terms means.deletes old new params count has ran).0.schema_is ∙ has;
+    schema =
+        (deleted room_schema text at table alone means.terms means.deletes old new params count has ran).0.schema_is
+        ∙ has;
     stands = λ config room h.
-        let it = deletion_drops order key row room_schema text old new at table (places table) table.primary means.terms params means.chooses.test count k (rows config room) alone means.deletes is.faithful means.chooses.tells means.chooses.same has ran
+        let it = deletion_drops order key row room_schema text old new at table (places table) table.primary means.terms
+        params means.chooses.test count k (rows config room) alone means.deletes is.faithful means.chooses.tells
+        means.chooses.same has ran
         (is.held old.now.trees config room h) in
         leads old.now new.now config room h it.0 it.1;
   }
@@ -86,13 +102,17 @@ module _ {X K : Type 0} {order : K → K → Ordering} {key : X → K} {row : X 
   -- a put of the room's rows is its change ..
   pub put_makes : (x : X) (old new : State) (count : ℕ) → old.now.schema ≡ room_schema
       → Inside old new → Executes texts.put (row x) old new (Ok count) → Makes old new (put x)
-  put_makes x = put_changes is.is_held texts.put is.puts x (λ config. config) (λ room. apply_one room (put x)) (λ old new config room. is.leads old new config room x)
+  put_makes x =
+      put_changes is.is_held texts.put is.puts x (λ config. config) (λ room. apply_one room (put x))
+      (λ old new config room. is.leads old new config room x)
 
   -- .. and so is an insertion, ..
   pub insert_makes : (text : List ℕ) → InsertsRow table row is.is_held.at text → (x : X)
       (old new : State) (count : ℕ) → old.now.schema ≡ room_schema → Inside old new
       → Executes text (row x) old new (Ok count) → Makes old new (put x)
-  insert_makes text inserts x = insert_changes is.is_held text inserts x (λ config. config) (λ room. apply_one room (put x)) (λ old new config room. is.leads old new config room x)
+  insert_makes text inserts x =
+      insert_changes is.is_held text inserts x (λ config. config) (λ room. apply_one room (put x))
+      (λ old new config room. is.leads old new config room x)
 
   -- .. and a row that is written over, where one was there
   pub overwrite_makes : (text : List ℕ) → IsOverwritten table row rows text → (x : X)
@@ -103,9 +123,12 @@ module _ {X K : Type 0} {order : K → K → Ordering} {key : X → K} {row : X 
   overwrite_makes text over x old new count has inside ran =
       record {
         inside = inside;
-        schema = (overwritten room_schema text over.at table over.alone (places table) table.primary over.columns over.overwrites (row x) (over.covers x) old new count has ran).0.schema_is ∙ has;
+        schema =
+            (overwritten room_schema text over.at table over.alone (places table) table.primary over.columns
+            over.overwrites (row x) (over.covers x) old new count has ran).0.schema_is ∙ has;
         stands = λ config room h.
-            let it = overwrite_puts order key row room_schema text old new over.at table (places table) table.primary over.columns count x (rows room) over.alone over.overwrites is.is_held.faithful (over.covers x) has ran
+            let it = overwrite_puts order key row room_schema text old new over.at table (places table) table.primary
+            over.columns count x (rows room) over.alone over.overwrites is.is_held.faithful (over.covers x) has ran
             (is.is_held.held old.now.trees config room h) in
             after config room h it.0 (count == 0) it.1;
       }
@@ -124,4 +147,5 @@ module _ {X K : Type 0} {order : K → K → Ordering} {key : X → K} {row : X 
       → (k : K) (old new : State) (count : ℕ) → old.now.schema ≡ room_schema → Inside old new
       → Executes text (key_row k) old new (Ok count) → Makes old new (drop k)
   drop_makes drop text dropped k =
-      drop_changes is.is_held text dropped.at dropped.alone (key_row k) k (dropped.deletes k) (λ config. config) (λ room. apply_one room (drop k)) (λ old new config room. dropped.leads old new config room k)
+      drop_changes is.is_held text dropped.at dropped.alone (key_row k) k (dropped.deletes k) (λ config. config)
+      (λ room. apply_one room (drop k)) (λ old new config room. dropped.leads old new config room k)

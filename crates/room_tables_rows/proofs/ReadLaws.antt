@@ -1,5 +1,7 @@
 -- What a reader returns for numbers, for the numbers of codes, and for texts.
-use Rattle.std.proofs.Common.{◌≡◌, ◌+◌, ◌<◌, ◌&&◌, ◌||◌, ◌∙◌, not, nat_eq, ℕ, zero, suc, List, [], ◌∷◌, length, Bool, true, false, Option, Some, None, Result, Ok, Err, MatchResult, is_some, is_ok, IfSome, refl, sym, ap, arith}
+use Rattle.std.proofs.Common.{◌≡◌, ◌+◌, ◌<◌, ◌&&◌, ◌||◌, ◌∙◌, not, nat_eq, ℕ, zero, suc, List, [], ◌∷◌, length, Bool}
+use Rattle.std.proofs.Common.{true, false, Option, Some, None, Result, Ok, Err, MatchResult, is_some, is_ok, IfSome}
+use Rattle.std.proofs.Common.{refl, sym, ap, arith}
 use Rattle.std.specs.Str.{IsUtf8, is_utf8}
 use Rattle.std.proofs.lemmas.Bool.{and_parts}
 use Rattle.std.proofs.lemmas.Bool.Decides.{nat_tests}
@@ -7,13 +9,15 @@ use Rattle.std.proofs.lemmas.Str.{is_utf8-from_IsUtf8, IsUtf8-from_is_utf8}
 use Rattle.sqlite_value.specs.declared.value.Value.{Value}
 use Rattle.sqlite_value.specs.declared.value.Value.TheVariants.{Null, Int, Real, Text, Blob}
 use Rattle.sqlite_value.specs.Order.{Row}
-use Rattle.room_tables_laws.proofs.ColumnValues.{columns_are, columns_from}
-use Rattle.room_tables_laws.specs.TypedRows.{number, number_or_null}
-use Rattle.room_types.specs.Codes.{Decodes, kind_number, status_number, button_number, outcome_number, state_columns, state_number, merged_into}
+use Rattle.room_tables_schema.proofs.ColumnValues.{columns_are, columns_from}
+use Rattle.room_tables_schema.specs.TypedRows.{number, number_or_null}
+use Rattle.room_types.specs.Codes.{Decodes, kind_number, status_number, button_number, outcome_number, state_columns}
+use Rattle.room_types.specs.Codes.{state_number, merged_into}
 use Rattle.room_types.specs.declared.codes.Kind.{Kind}
 use Rattle.room_types.specs.declared.codes.Kind.TheVariants.{Ambulance, Car, Support}
 use Rattle.room_types.specs.declared.codes.Status.{Status}
-use Rattle.room_types.specs.declared.codes.Status.TheVariants.{OffDuty, Available, Mobilised, AtScene, Leaving, AtHospital, Returning, Offered}
+use Rattle.room_types.specs.declared.codes.Status.TheVariants.{OffDuty, Available, Mobilised, AtScene, Leaving}
+use Rattle.room_types.specs.declared.codes.Status.TheVariants.{AtHospital, Returning, Offered}
 use Rattle.room_types.specs.declared.codes.Button.{Button}
 use Rattle.room_types.specs.declared.codes.Button.TheVariants as button
 use Rattle.room_types.specs.declared.codes.Outcome.{Outcome}
@@ -21,7 +25,8 @@ use Rattle.room_types.specs.declared.codes.Outcome.TheVariants.{Normal, Skipped,
 use Rattle.room_types.specs.declared.codes.State.{State}
 use Rattle.room_types.specs.declared.codes.State.TheVariants.{Active, Closed, Merged}
 use Rattle.room_tables_rows.specs.ColumnValues.{kind_in, status_in, button_in, outcome_in}
-use Rattle.room_tables_rows.specs.Readable.{all_stand, is_number, is_kind, is_status, is_button, is_outcome, is_or_null, is_serial, is_state, is_text}
+use Rattle.room_tables_rows.specs.Readable.{all_stand, is_number, is_kind, is_status, is_button, is_outcome, is_or_null}
+use Rattle.room_tables_rows.specs.Readable.{is_serial, is_state, is_text}
 
 taken : {C : Type 0} {c : C} → None ≡ Some c → ⊥
 taken e = cc
@@ -47,12 +52,15 @@ passes_below (suc k) test all n below =
 -- A code is read of each number in its range, and of no other.
 module _ {C : Type 0} (label : C → ℕ) (least greatest : ℕ) (code_in : ℕ → C)
     (inside : (c : C) → is_number least greatest (number (label c)) ≡ true)
-    (checked : all_below (suc greatest) (λ n. not (is_number least greatest (number n)) || nat_eq (label (code_in n)) n) ≡ true) where
+    (checked : all_below (suc greatest) (λ n. not (is_number least greatest (number n)) || nat_eq (label (code_in n)) n)
+    ≡ true) where
   back : (n : ℕ) → is_number least greatest (number n) ≡ true → label (code_in n) ≡ n
   back n is =
       let below : n < suc greatest = grind (arith, nat_tests) in
-      let passed = passes_below (suc greatest) (λ m. not (is_number least greatest (number m)) || nat_eq (label (code_in m)) m) checked n below in
-      let same : nat_eq (label (code_in n)) n ≡ true = then (is_number least greatest (number n)) (nat_eq (label (code_in n)) n) is passed in
+      let passed = passes_below (suc greatest)
+      (λ m. not (is_number least greatest (number m)) || nat_eq (label (code_in m)) m) checked n below in
+      let same : nat_eq (label (code_in n)) n
+      ≡ true = then (is_number least greatest (number n)) (nat_eq (label (code_in n)) n) is passed in
       grind (arith, nat_tests)
     where
       then : (a b : Bool) → a ≡ true → (not a || b) ≡ true → b ≡ true
@@ -119,7 +127,9 @@ outcome_read = read_in_range outcome_number 0 4 (λ n. outcome_in (number n)) ou
 state_of : (n : ℕ) (o : Option ℕ) (read : Option State) → Decodes state_columns (n, o) read
     → true ≡ is_or_null is_serial (number_or_null o)
     → is_some read ≡ is_state (number n) (number_or_null o)
-state_of n o (Some s) h fits = rw (← ap (λ (p : ℕ × Option ℕ). p.0) h.has_it, ← ap (λ (p : ℕ × Option ℕ). p.1) h.has_it) (told s (fits ∙ ap (λ (p : ℕ × Option ℕ). is_or_null is_serial (number_or_null p.1)) (sym h.has_it)))
+state_of n o (Some s) h fits =
+    rw (← ap (λ (p : ℕ × Option ℕ). p.0) h.has_it, ← ap (λ (p : ℕ × Option ℕ). p.1) h.has_it)
+    (told s (fits ∙ ap (λ (p : ℕ × Option ℕ). is_or_null is_serial (number_or_null p.1)) (sym h.has_it)))
   where
     told : (s : State) → true ≡ is_or_null is_serial (number_or_null (merged_into s))
         → true ≡ is_state (number (state_number s)) (number_or_null (merged_into s))
@@ -141,7 +151,8 @@ pub state_read : (state into : Value) (n : ℕ) (o : Option ℕ) (read : Option 
     → Decodes state_columns (n, o) read → number n ≡ state → number_or_null o ≡ into
     → true ≡ is_or_null is_serial into → is_some read ≡ is_state state into
 state_read state into n o read h is_state_column is_into_column fits =
-    state_of n o read h (fits ∙ ap (is_or_null is_serial) (sym is_into_column)) ∙ (λ i. is_state (is_state_column i) (is_into_column i))
+    state_of n o read h (fits ∙ ap (is_or_null is_serial) (sym is_into_column))
+    ∙ (λ i. is_state (is_state_column i) (is_into_column i))
 
 -- ---- rows
 

@@ -1,21 +1,24 @@
 -- What the statements on the table reports say, and what they make of a room. (Written by tools/tables.py.)
 use Rattle.room_model.specs.Room.{Room}
-use Rattle.room_tables_laws.proofs.ColumnValues.{cast-Int}
-use Rattle.room_tables_laws.proofs.Comparisons.{and_last, and_then, conflict_of_two, equal-numbers, is_eq-then, tie-numbers, tie-texts}
-use Rattle.room_tables_laws.proofs.StoredRows.{stores_row}
-use Rattle.room_tables_laws.specs.Statements.{Inserts, Selects, StandsAlone, Stores, Upserts, equals, row_update, row_values}
-use Rattle.room_tables_laws.specs.TypedRows.{number}
 use Rattle.room_tables_rows.proofs.Kept.{with_reports}
 use Rattle.room_tables_rows.proofs.Loads.{Shows, chosen_rows}
 use Rattle.room_tables_rows.proofs.RowLaws.{report_faithful}
 use Rattle.room_tables_rows.proofs.Tests.{and_three, equal-false}
 use Rattle.room_tables_rows.specs.ColumnValues.{outcome_code, truth}
 use Rattle.room_tables_rows.specs.KeyColumns.{numbered_cells}
-use Rattle.room_tables_rows.specs.ReportColumns.{report_row}
+use Rattle.room_tables_rows.specs.ReportSql.{report_row}
 use Rattle.room_tables_rows.specs.Stands.{Configuration}
 use Rattle.room_tables_rows.specs.Tables.{InsertsRow, IsHeld, IsTable, PutsRow, SelectsChosen}
-use Rattle.room_tables_rows.specs.declared.report_columns.TheConstants.{ALL_REPORTS, INSERT_REPORT, PUT_REPORT, REPORT_AT, UNCLEARED_REPORTS}
+use Rattle.room_tables_rows.specs.declared.report_sql.TheConstants.{ALL_REPORTS, INSERT_REPORT, PUT_REPORT, REPORT_AT}
+use Rattle.room_tables_rows.specs.declared.report_sql.TheConstants.{UNCLEARED_REPORTS}
+use Rattle.room_tables_schema.proofs.ColumnValues.{cast-Int}
+use Rattle.room_tables_schema.proofs.Comparisons.{and_last, and_then, conflict_of_two, equal-numbers, is_eq-then}
+use Rattle.room_tables_schema.proofs.Comparisons.{tie-numbers, tie-texts}
+use Rattle.room_tables_schema.proofs.StoredRows.{stores_row}
 use Rattle.room_tables_schema.specs.Schema.{reports_table, room_schema}
+use Rattle.room_tables_schema.specs.Statements.{Inserts, Selects, StandsAlone, Stores, Upserts, equals, row_update}
+use Rattle.room_tables_schema.specs.Statements.{row_values}
+use Rattle.room_tables_schema.specs.TypedRows.{number}
 use Rattle.room_types.specs.Codes.{outcome_number}
 use Rattle.room_types.specs.Keys.{callsign_cmp, numbered_cmp, report_key}
 use Rattle.room_types.specs.Texts.{Callsign}
@@ -38,42 +41,116 @@ pub reports_alone : StandsAlone room_schema 11 reports_table
 reports_alone = record { is_there = refl; unreferenced = λ olds news. refl; uncounted = refl }
 
 abbrev pub reports_held : IsHeld numbered_cmp report_key report_row reports_table all_of
-reports_held = record { faithful = report_faithful; others = (3 ∷ 4 ∷ 5 ∷ 6 ∷ 7 ∷ 8 ∷ 9 ∷ 10 ∷ 11 ∷ []); places_are = refl; at = 11; alone = reports_alone; held = λ trees config room h. h.reports }
+reports_held = record {
+  faithful = report_faithful;
+  others = (3 ∷ 4 ∷ 5 ∷ 6 ∷ 7 ∷ 8 ∷ 9 ∷ 10 ∷ 11 ∷ []);
+  places_are = refl;
+  at = 11;
+  alone = reports_alone;
+  held = λ trees config room h. h.reports;
+}
 
-pub all_reports_means : Selects room_schema ALL_REPORTS.now 19 (1 ∷ 2 ∷ 3 ∷ 4 ∷ 5 ∷ 6 ∷ 7 ∷ 8 ∷ 9 ∷ 10 ∷ 11 ∷ []) (1 ∷ 2 ∷ []) ([])
+pub all_reports_means : Selects room_schema ALL_REPORTS.now 19 (1 ∷ 2 ∷ 3 ∷ 4 ∷ 5 ∷ 6 ∷ 7 ∷ 8 ∷ 9 ∷ 10 ∷ 11 ∷ [])
+    (1 ∷ 2 ∷ []) ([])
 unfolding understood everything
 all_reports_means = record { names = _; command = refl; plain = (refl, refl); unlisted = refl }
 
-pub report_at_means : Selects room_schema REPORT_AT.now 19 (1 ∷ 2 ∷ 3 ∷ 4 ∷ 5 ∷ 6 ∷ 7 ∷ 8 ∷ 9 ∷ 10 ∷ 11 ∷ []) (1 ∷ 2 ∷ []) (equals 1 0 ∷ equals 2 1 ∷ [])
+pub report_at_means : Selects room_schema REPORT_AT.now 19 (1 ∷ 2 ∷ 3 ∷ 4 ∷ 5 ∷ 6 ∷ 7 ∷ 8 ∷ 9 ∷ 10 ∷ 11 ∷ [])
+    (1 ∷ 2 ∷ []) (equals 1 0 ∷ equals 2 1 ∷ [])
 unfolding understood everything
 report_at_means = record { names = _; command = refl; plain = (refl, refl); unlisted = refl }
 
-pub report_at_chooses : (j : Callsign) (k : ℕ) → SelectsChosen reports_table report_row REPORT_AT.now (Text j ∷ number k ∷ []) (λ x. is_eq (numbered_cmp (j, k) (report_key x)))
-report_at_chooses j k = record { terms = equals 1 0 ∷ equals 2 1 ∷ []; selects = report_at_means; chooses = record { test = λ r. equal Binary (column r 0) (Text j) && equal Binary (column r 1) (number k); tells = λ r. and_then refl (and_last refl); same = λ x. and_then (tie-texts x.callsign j) (tie-numbers x.number k) ∙ sym (is_eq-then (callsign_cmp j x.callsign) (nat_cmp k x.number)) } }
+pub report_at_chooses : (j : Callsign) (k : ℕ)
+    → SelectsChosen reports_table report_row REPORT_AT.now (Text j ∷ number k ∷ [])
+    (λ x. is_eq (numbered_cmp (j, k) (report_key x)))
+report_at_chooses j k = record {
+  terms = equals 1 0 ∷ equals 2 1 ∷ [];
+  selects = report_at_means;
+  chooses = record {
+    test = λ r. equal Binary (column r 0) (Text j) && equal Binary (column r 1) (number k);
+    tells = λ r. and_then refl (and_last refl);
+    same =
+        λ x.
+        and_then (tie-texts x.callsign j) (tie-numbers x.number k)
+        ∙ sym (is_eq-then (callsign_cmp j x.callsign) (nat_cmp k x.number));
+  };
+}
 
-pub uncleared_reports_means : Selects room_schema UNCLEARED_REPORTS.now 19 (1 ∷ 2 ∷ 3 ∷ 4 ∷ 5 ∷ 6 ∷ 7 ∷ 8 ∷ 9 ∷ 10 ∷ 11 ∷ []) (1 ∷ 2 ∷ []) (equals 9 0 ∷ equals 11 1 ∷ equals 8 2 ∷ [])
+pub uncleared_reports_means : Selects room_schema UNCLEARED_REPORTS.now 19
+    (1 ∷ 2 ∷ 3 ∷ 4 ∷ 5 ∷ 6 ∷ 7 ∷ 8 ∷ 9 ∷ 10 ∷ 11 ∷ []) (1 ∷ 2 ∷ []) (equals 9 0 ∷ equals 11 1 ∷ equals 8 2 ∷ [])
 unfolding understood everything
 uncleared_reports_means = record { names = _; command = refl; plain = (refl, refl); unlisted = refl }
 
-pub uncleared_reports_chooses : (o : Outcome) (d : ℕ) → SelectsChosen reports_table report_row UNCLEARED_REPORTS.now (outcome_code o ∷ truth false ∷ number d ∷ []) (λ x. outcome_number x.outcome == outcome_number o && (not x.cleared && x.division == d))
-uncleared_reports_chooses o d = record { terms = equals 9 0 ∷ equals 11 1 ∷ equals 8 2 ∷ []; selects = uncleared_reports_means; chooses = record { test = λ r. equal Binary (column r 8) (outcome_code o) && (equal Binary (column r 10) (truth false) && equal Binary (column r 7) (number d)); tells = λ r. and_three (equal Binary (column r 9) (outcome_code o)) (equal Binary (column r 11) (truth false)) (equal Binary (column r 8) (number d)); same = λ x. and_then (equal-numbers (outcome_number x.outcome) (outcome_number o)) (and_then (equal-false x.cleared) (equal-numbers x.division d)) } }
+pub uncleared_reports_chooses : (o : Outcome) (d : ℕ)
+    → SelectsChosen reports_table report_row UNCLEARED_REPORTS.now (outcome_code o ∷ truth false ∷ number d ∷ [])
+    (λ x. outcome_number x.outcome == outcome_number o && (not x.cleared && x.division == d))
+uncleared_reports_chooses o d = record {
+  terms = equals 9 0 ∷ equals 11 1 ∷ equals 8 2 ∷ [];
+  selects = uncleared_reports_means;
+  chooses = record {
+    test =
+        λ r.
+        equal Binary (column r 8) (outcome_code o)
+        && (equal Binary (column r 10) (truth false) && equal Binary (column r 7) (number d));
+    tells =
+        λ r.
+        and_three (equal Binary (column r 9) (outcome_code o)) (equal Binary (column r 11) (truth false))
+        (equal Binary (column r 8) (number d));
+    same =
+        λ x.
+        and_then (equal-numbers (outcome_number x.outcome) (outcome_number o))
+        (and_then (equal-false x.cleared) (equal-numbers x.division d));
+  };
+}
 
-pub uncleared_reports_are : (o : Outcome) (d : ℕ) → Shows report_row UNCLEARED_REPORTS.now (outcome_code o ∷ truth false ∷ number d ∷ []) (λ found config room. found ≡ filter (λ x. outcome_number x.outcome == outcome_number o && (not x.cleared && x.division == d)) room.reports)
-uncleared_reports_are o d = chosen_rows reports_held UNCLEARED_REPORTS.now (outcome_code o ∷ truth false ∷ number d ∷ []) (λ x. outcome_number x.outcome == outcome_number o && (not x.cleared && x.division == d)) (uncleared_reports_chooses o d)
+pub uncleared_reports_are : (o : Outcome) (d : ℕ)
+    → Shows report_row UNCLEARED_REPORTS.now (outcome_code o ∷ truth false ∷ number d ∷ [])
+    (λ found config room.
+    found
+    ≡ filter (λ x. outcome_number x.outcome == outcome_number o && (not x.cleared && x.division == d)) room.reports)
+uncleared_reports_are o d =
+    chosen_rows reports_held UNCLEARED_REPORTS.now (outcome_code o ∷ truth false ∷ number d ∷ [])
+    (λ x. outcome_number x.outcome == outcome_number o && (not x.cleared && x.division == d))
+    (uncleared_reports_chooses o d)
 
-pub put_report_means : Upserts room_schema PUT_REPORT.now 11 reports_table (1 ∷ 2 ∷ []) 11 (row_values 11) (row_update 11)
+pub put_report_means : Upserts room_schema PUT_REPORT.now 11 reports_table (1 ∷ 2 ∷ []) 11 (row_values 11)
+    (row_update 11)
 unfolding understood everything
 put_report_means = record { command = refl; plain = (refl, refl) }
 
-pub report_stores : (x : Report) → Stores room_schema reports_table (1 ∷ 2 ∷ 3 ∷ 4 ∷ 5 ∷ 6 ∷ 7 ∷ 8 ∷ 9 ∷ 10 ∷ 11 ∷ []) (1 ∷ 2 ∷ []) 11 (row_values 11) (row_update 11) (report_row x)
+pub report_stores : (x : Report)
+    → Stores room_schema reports_table (1 ∷ 2 ∷ 3 ∷ 4 ∷ 5 ∷ 6 ∷ 7 ∷ 8 ∷ 9 ∷ 10 ∷ 11 ∷ []) (1 ∷ 2 ∷ []) 11
+    (row_values 11) (row_update 11) (report_row x)
 unfolding Rattle.sqlite_value.specs.Keys.first_key
-report_stores x = stores_row room_schema reports_table (1 ∷ 2 ∷ 3 ∷ 4 ∷ 5 ∷ 6 ∷ 7 ∷ 8 ∷ 9 ∷ 10 ∷ 11 ∷ []) (1 ∷ 2 ∷ []) 11 (report_row x)
-    (refl, (cast-Int _, (cast-Int _, (cast-Int _, (cast-Int _, (cast-Int _, (cast-Int _, (cast-Int _, (cast-Int _, (cast-Int _, (cast-Int _, tt))))))))))) refl (λ id. refl) (λ id r. conflict_of_two (column r 1) (column r 2) (Text x.callsign) (number x.number) refl refl) (λ id r. refl) (λ id r. refl)
+report_stores x =
+    stores_row room_schema reports_table (1 ∷ 2 ∷ 3 ∷ 4 ∷ 5 ∷ 6 ∷ 7 ∷ 8 ∷ 9 ∷ 10 ∷ 11 ∷ []) (1 ∷ 2 ∷ []) 11
+    (report_row x) (
+      refl,
+      (
+        cast-Int _,
+        (
+          cast-Int _,
+          (
+            cast-Int _,
+            (cast-Int _, (cast-Int _, (cast-Int _, (cast-Int _, (cast-Int _, (cast-Int _, (cast-Int _, tt))))))),
+          ),
+        ),
+      ),
+    ) refl (λ id. refl)
+    (λ id r. conflict_of_two (column r 1) (column r 2) (Text x.callsign) (number x.number) refl refl) (λ id r. refl)
+    (λ id r. refl)
 
 pub report_puts : PutsRow reports_table report_row 11 PUT_REPORT.now
-report_puts = record { columns = 11; values = row_values 11; update = row_update 11; upserts = put_report_means; stores = report_stores }
+report_puts = record {
+  columns = 11;
+  values = row_values 11;
+  update = row_update 11;
+  upserts = put_report_means;
+  stores = report_stores;
+}
 
-pub reports_are : IsTable numbered_cmp report_key report_row numbered_cells reports_table (λ room. room.reports) PutReport (record { all = ALL_REPORTS.now; at = REPORT_AT.now; put = PUT_REPORT.now })
+pub reports_are : IsTable numbered_cmp report_key report_row numbered_cells reports_table (λ room. room.reports)
+    PutReport (record { all = ALL_REPORTS.now; at = REPORT_AT.now; put = PUT_REPORT.now })
 reports_are = record {
   is_held = reports_held;
   selects_all = all_reports_means;
@@ -88,4 +165,10 @@ insert_report_means = record { command = refl; plain = (refl, refl) }
 
 pub report_inserts : InsertsRow reports_table report_row reports_are.is_held.at INSERT_REPORT.now
 unfolding reports_are
-report_inserts = record { columns = 11; values = row_values 11; update = row_update 11; inserts = insert_report_means; stores = report_stores }
+report_inserts = record {
+  columns = 11;
+  values = row_values 11;
+  update = row_update 11;
+  inserts = insert_report_means;
+  stores = report_stores;
+}

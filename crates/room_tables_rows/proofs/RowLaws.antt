@@ -5,17 +5,19 @@ use Rattle.std.specs.Ordering.{nat_cmp}
 use Rattle.std.proofs.lemmas.Cmp.{nat_cmp_total, nat_list_cmp_total}
 use Rattle.sqlite_value.specs.Order.{Row, column}
 use Rattle.sqlite_value.proofs.OrderLemmas.{value_cmp-Text}
-use Rattle.room_tables_laws.specs.TypedRows.{IsFaithful, number, number_or_null}
-use Rattle.room_tables_laws.proofs.Comparisons.{value_cmp-numbers, key_of_one, key_of_two}
+use Rattle.room_tables_schema.specs.TypedRows.{IsFaithful, number, number_or_null}
+use Rattle.room_tables_schema.proofs.Comparisons.{value_cmp-numbers, key_of_one, key_of_two}
 use Rattle.room_types.specs.Codes.{state_number, merged_into}
-use Rattle.room_types.specs.Keys.{callsign_cmp, pair_cmp, numbered_cmp, division_key, incident_key, call_key, vehicle_key, turn_key, assignment_key, point_key, loan_key, offer_key, report_key}
+use Rattle.room_types.specs.Keys.{callsign_cmp, pair_cmp, numbered_cmp, division_key, incident_key, call_key}
+use Rattle.room_types.specs.Keys.{vehicle_key, turn_key, assignment_key, point_key, loan_key, offer_key, report_key}
 use Rattle.room_types.specs.Orders.{pairs_total, numbered_total}
 use Rattle.room_types.specs.declared.asks.Who.{Who}
 use Rattle.room_types.specs.declared.asks.Who.TheVariants.{Desk, Crew, Position}
 use Rattle.room_types.specs.declared.codes.Kind.{Kind}
 use Rattle.room_types.specs.declared.codes.Kind.TheVariants.{Ambulance, Car, Support}
 use Rattle.room_types.specs.declared.codes.Status.{Status}
-use Rattle.room_types.specs.declared.codes.Status.TheVariants.{OffDuty, Available, Mobilised, AtScene, Leaving, AtHospital, Returning, Offered}
+use Rattle.room_types.specs.declared.codes.Status.TheVariants.{OffDuty, Available, Mobilised, AtScene, Leaving}
+use Rattle.room_types.specs.declared.codes.Status.TheVariants.{AtHospital, Returning, Offered}
 use Rattle.room_types.specs.declared.codes.Button.{Button}
 use Rattle.room_types.specs.declared.codes.Button.TheVariants as button
 use Rattle.room_types.specs.declared.codes.Outcome.{Outcome}
@@ -24,20 +26,22 @@ use Rattle.room_types.specs.declared.codes.State.{State}
 use Rattle.room_types.specs.declared.codes.State.TheVariants.{Active, Closed, Merged}
 use Rattle.room_types.specs.declared.fleet.Terminal.{Terminal}
 use Rattle.room_model.specs.Enrol.{token_cmp, terminal_key}
-use Rattle.room_tables_rows.specs.ColumnValues.{truth, kind_code, status_code, button_code, outcome_code, number_in, number_or_none, truth_in, kind_in, status_in, button_in, outcome_in, state_in}
-use Rattle.room_tables_rows.specs.MetaColumns.{meta_key, meta_row, version_row, zone_in}
-use Rattle.room_tables_rows.specs.AreaColumns.{area_key, area_row, area_in}
-use Rattle.room_tables_rows.specs.TerminalColumns.{terminal_row, terminal_in}
-use Rattle.room_tables_rows.specs.DivisionColumns.{division_row, division_in}
-use Rattle.room_tables_rows.specs.IncidentColumns.{incident_row, incident_in}
-use Rattle.room_tables_rows.specs.CallColumns.{call_row, call_in}
-use Rattle.room_tables_rows.specs.VehicleColumns.{vehicle_row, vehicle_in}
-use Rattle.room_tables_rows.specs.TurnColumns.{turn_row, turn_in}
-use Rattle.room_tables_rows.specs.AssignmentColumns.{assignment_row, assignment_in}
-use Rattle.room_tables_rows.specs.PointColumns.{point_row, point_in}
-use Rattle.room_tables_rows.specs.LoanColumns.{loan_row, loan_in}
-use Rattle.room_tables_rows.specs.ReportColumns.{report_row, report_in}
-use Rattle.room_tables_rows.specs.OfferColumns.{offer_row, offer_in}
+use Rattle.room_tables_rows.specs.ColumnValues.{truth, kind_code, status_code, button_code, outcome_code, number_in}
+use Rattle.room_tables_rows.specs.ColumnValues.{number_or_none, truth_in, kind_in, status_in, button_in, outcome_in}
+use Rattle.room_tables_rows.specs.ColumnValues.{state_in}
+use Rattle.room_tables_rows.specs.MetaSql.{meta_key, meta_row, version_row, zone_in}
+use Rattle.room_tables_rows.specs.AreaSql.{area_key, area_row, area_in}
+use Rattle.room_tables_rows.specs.TerminalSql.{terminal_row, terminal_in}
+use Rattle.room_tables_rows.specs.DivisionSql.{division_row, division_in}
+use Rattle.room_tables_rows.specs.IncidentSql.{incident_row, incident_in}
+use Rattle.room_tables_rows.specs.CallSql.{call_row, call_in}
+use Rattle.room_tables_rows.specs.VehicleSql.{vehicle_row, vehicle_in}
+use Rattle.room_tables_rows.specs.TurnSql.{turn_row, turn_in}
+use Rattle.room_tables_rows.specs.AssignmentSql.{assignment_row, assignment_in}
+use Rattle.room_tables_rows.specs.PointSql.{point_row, point_in}
+use Rattle.room_tables_rows.specs.LoanSql.{loan_row, loan_in}
+use Rattle.room_tables_rows.specs.ReportSql.{report_row, report_in}
+use Rattle.room_tables_rows.specs.OfferSql.{offer_row, offer_in}
 
 -- ---- values
 
@@ -97,7 +101,12 @@ terminal_back t = go t.token t.who
 -- ---- rows
 
 pub version_faithful : (version : ℕ) → IsFaithful nat_cmp meta_key (version_row version) (0 ∷ [])
-version_faithful version = record { read = zone_in; read_back = λ z. refl; total = nat_cmp_total; ordered = λ x y. key_of_one (value_cmp-numbers 1 1) }
+version_faithful version = record {
+  read = zone_in;
+  read_back = λ z. refl;
+  total = nat_cmp_total;
+  ordered = λ x y. key_of_one (value_cmp-numbers 1 1);
+}
 
 pub meta_faithful : IsFaithful nat_cmp meta_key meta_row (0 ∷ [])
 meta_faithful = version_faithful 2
@@ -107,16 +116,36 @@ abbrev pub told_row : ℕ × List ℕ → Row
 told_row told = version_row told.0 told.1
 
 pub told_faithful : IsFaithful nat_cmp (λ (told : ℕ × List ℕ). meta_key told.1) told_row (0 ∷ [])
-told_faithful = record { read = λ r. (number_in (column r 1), zone_in r); read_back = λ told. refl; total = nat_cmp_total; ordered = λ x y. key_of_one (value_cmp-numbers 1 1) }
+told_faithful = record {
+  read = λ r. (number_in (column r 1), zone_in r);
+  read_back = λ told. refl;
+  total = nat_cmp_total;
+  ordered = λ x y. key_of_one (value_cmp-numbers 1 1);
+}
 
 pub area_faithful : IsFaithful nat_cmp area_key area_row (0 ∷ [])
-area_faithful = record { read = area_in; read_back = λ a. refl; total = nat_cmp_total; ordered = λ x y. key_of_one (value_cmp-numbers x.0 y.0) }
+area_faithful = record {
+  read = area_in;
+  read_back = λ a. refl;
+  total = nat_cmp_total;
+  ordered = λ x y. key_of_one (value_cmp-numbers x.0 y.0);
+}
 
 pub terminal_faithful : IsFaithful token_cmp terminal_key terminal_row (1 ∷ [])
-terminal_faithful = record { read = terminal_in; read_back = terminal_back; total = nat_list_cmp_total; ordered = λ x y. key_of_one (value_cmp-Text x.token y.token) }
+terminal_faithful = record {
+  read = terminal_in;
+  read_back = terminal_back;
+  total = nat_list_cmp_total;
+  ordered = λ x y. key_of_one (value_cmp-Text x.token y.token);
+}
 
 pub division_faithful : IsFaithful nat_cmp division_key division_row (0 ∷ [])
-division_faithful = record { read = division_in; read_back = λ x. refl; total = nat_cmp_total; ordered = λ x y. key_of_one (value_cmp-numbers x.number y.number) }
+division_faithful = record {
+  read = division_in;
+  read_back = λ x. refl;
+  total = nat_cmp_total;
+  ordered = λ x y. key_of_one (value_cmp-numbers x.number y.number);
+}
 
 pub incident_faithful : IsFaithful pair_cmp incident_key incident_row (1 ∷ 2 ∷ [])
 incident_faithful = record {
@@ -137,7 +166,8 @@ call_faithful = record {
 pub vehicle_faithful : IsFaithful callsign_cmp vehicle_key vehicle_row (1 ∷ [])
 vehicle_faithful = record {
   read = vehicle_in;
-  read_back = λ x i. record x { kind = kind_back x.kind i; status = status_back x.status i; post = option_back x.post i };
+  read_back =
+      λ x i. record x { kind = kind_back x.kind i; status = status_back x.status i; post = option_back x.post i };
   total = nat_list_cmp_total;
   ordered = λ x y. key_of_one (value_cmp-Text x.callsign y.callsign);
 }
@@ -159,7 +189,12 @@ turn_faithful = record {
 }
 
 pub assignment_faithful : IsFaithful callsign_cmp assignment_key assignment_row (1 ∷ [])
-assignment_faithful = record { read = assignment_in; read_back = λ x. refl; total = nat_list_cmp_total; ordered = λ x y. key_of_one (value_cmp-Text x.callsign y.callsign) }
+assignment_faithful = record {
+  read = assignment_in;
+  read_back = λ x. refl;
+  total = nat_list_cmp_total;
+  ordered = λ x y. key_of_one (value_cmp-Text x.callsign y.callsign);
+}
 
 pub point_faithful : IsFaithful pair_cmp point_key point_row (1 ∷ 2 ∷ [])
 point_faithful = record {
@@ -180,10 +215,21 @@ loan_faithful = record {
 pub report_faithful : IsFaithful numbered_cmp report_key report_row (1 ∷ 2 ∷ [])
 report_faithful = record {
   read = report_in;
-  read_back = λ x i. record x { button = button_back x.button i; outcome = outcome_back x.outcome i; status = status_back x.status i; cleared = truth_back x.cleared i };
+  read_back =
+      λ x i. record x {
+        button = button_back x.button i;
+        outcome = outcome_back x.outcome i;
+        status = status_back x.status i;
+        cleared = truth_back x.cleared i;
+      };
   total = numbered_total;
   ordered = λ x y. key_of_two (value_cmp-Text x.callsign y.callsign) (value_cmp-numbers x.number y.number);
 }
 
 pub offer_faithful : IsFaithful callsign_cmp offer_key offer_row (1 ∷ [])
-offer_faithful = record { read = offer_in; read_back = λ x. refl; total = nat_list_cmp_total; ordered = λ x y. key_of_one (value_cmp-Text x.callsign y.callsign) }
+offer_faithful = record {
+  read = offer_in;
+  read_back = λ x. refl;
+  total = nat_list_cmp_total;
+  ordered = λ x y. key_of_one (value_cmp-Text x.callsign y.callsign);
+}

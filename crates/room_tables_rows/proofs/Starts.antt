@@ -4,21 +4,21 @@ use Rattle.std.proofs.Common.{◌≡◌, ◌++◌, ℕ, List, [], ◌∷◌, map
 use Rattle.std.specs.Ordering.{nat_cmp}
 use Rattle.sqlite_value.specs.Order.{Row}
 use Rattle.sqlite.specs.State.{State, Executes, Shown}
-use Rattle.room_tables_laws.specs.Outcomes.{Inside, Only}
-use Rattle.room_tables_laws.specs.TableTrees.{AreNumbered}
-use Rattle.room_tables_laws.specs.Statements.{rowid_values, rowid_update}
-use Rattle.room_tables_laws.proofs.Standing.{holds_none}
-use Rattle.room_tables_laws.proofs.TypedTables.{upsert_puts}
-use Rattle.room_tables_laws.proofs.Upserts.{upserted_schema}
+use Rattle.room_tables_schema.specs.Outcomes.{Inside, Only}
+use Rattle.room_tables_schema.specs.TableTrees.{AreNumbered}
+use Rattle.room_tables_schema.specs.Statements.{rowid_values, rowid_update}
+use Rattle.room_tables_schema.proofs.Standing.{holds_none}
+use Rattle.room_tables_schema.proofs.TypedTables.{upsert_puts}
+use Rattle.room_tables_schema.proofs.Upserts.{upserted_schema}
 use Rattle.room_place.specs.declared.plans.Area.{Area}
-use Rattle.room_tables_rows.specs.MetaColumns.{meta_key, meta_row, version_row}
-use Rattle.room_tables_rows.specs.AreaColumns.{area_key, area_row}
+use Rattle.room_tables_rows.specs.MetaSql.{meta_key, meta_row, version_row}
+use Rattle.room_tables_rows.specs.AreaSql.{area_key, area_row}
 use Rattle.room_tables_rows.proofs.RowLaws.{meta_faithful, told_faithful, told_row, area_faithful}
 use Rattle.room_model.specs.Room.{Room}
 use Rattle.room_tables_schema.specs.Definitions.{IsBlank}
 use Rattle.room_tables_schema.specs.Schema.{room_schema, meta_table, areas_table}
-use Rattle.room_tables_rows.specs.declared.meta_columns.TheConstants.{PUT_META}
-use Rattle.room_tables_rows.specs.declared.area_columns.TheConstants.{ALL_AREAS, PUT_AREA}
+use Rattle.room_tables_rows.specs.declared.meta_sql.TheConstants.{PUT_META}
+use Rattle.room_tables_rows.specs.declared.area_sql.TheConstants.{ALL_AREAS, PUT_AREA}
 use Rattle.room_tables_rows.specs.Stands.{Configuration, Stands, StandsFor, numbered, empty_room}
 use Rattle.room_tables_rows.specs.Writes.{Changes, AppendsArea}
 use Rattle.room_tables_rows.proofs.Kept.{with_meta, with_areas, with_first}
@@ -37,7 +37,9 @@ module _ (zone : List ℕ) (old new : State) (count : ℕ) (has : old.now.schema
   pub put_meta_begins : IsBlank old.now.trees
       → Stands new.now.trees (record { zone = zone; terminals = [] }) empty_room
   put_meta_begins blank =
-      let it = upsert_puts nat_cmp meta_key meta_row room_schema PUT_META.now old new 0 meta_table (0 ∷ 2 ∷ 3 ∷ []) (0 ∷ []) 3 (rowid_values 3) (rowid_update 3) count zone [] meta_alone put_meta_means meta_faithful (meta_stores zone) has ran
+      let it = upsert_puts nat_cmp meta_key meta_row room_schema PUT_META.now old new 0 meta_table (0 ∷ 2 ∷ 3 ∷ [])
+      (0 ∷ []) 3 (rowid_values 3) (rowid_update 3) count zone [] meta_alone put_meta_means meta_faithful
+      (meta_stores zone) has ran
       (holds_none (0 ∷ 2 ∷ 3 ∷ []) (0 ∷ []) (old.now.trees 0) blank.meta) in
       with_first old.now new.now blank it.0 zone it.1
 
@@ -48,17 +50,26 @@ pub put_meta_renews : (version : ℕ) (was zone : List ℕ) (old new : State) (c
     → StandsFor old.now.trees meta_table (version_row version) (was ∷ [])
     → Only room_schema 0 old.now new.now × StandsFor new.now.trees meta_table meta_row (zone ∷ [])
 put_meta_renews version was zone old new count has ran h =
-    upsert_puts nat_cmp _ told_row room_schema PUT_META.now old new 0 meta_table (0 ∷ 2 ∷ 3 ∷ []) (0 ∷ []) 3 (rowid_values 3) (rowid_update 3) count (2, zone) ((version, was) ∷ []) meta_alone put_meta_means told_faithful (meta_stores zone) has ran h
+    upsert_puts nat_cmp _ told_row room_schema PUT_META.now old new 0 meta_table (0 ∷ 2 ∷ 3 ∷ []) (0 ∷ []) 3
+    (rowid_values 3) (rowid_update 3) count (2, zone) ((version, was) ∷ []) meta_alone put_meta_means told_faithful
+    (meta_stores zone) has ran h
 
 pub put_area_makes : (at : ℕ) (area : Area) (old new : State) (count : ℕ)
     → old.now.schema ≡ room_schema → Inside old new
     → Executes PUT_AREA.now (area_row (at, area)) old new (Ok count) → AppendsArea old new at area
 put_area_makes at area old new count has inside ran = record {
   inside = inside;
-  schema = upserted_schema room_schema PUT_AREA.now 1 areas_table areas_alone (0 ∷ 2 ∷ 3 ∷ 4 ∷ 5 ∷ 6 ∷ []) (0 ∷ []) 6 (rowid_values 6) (rowid_update 6) put_area_means (area_row (at, area)) (area_stores (at, area)) old new count has ran;
+  schema =
+      upserted_schema room_schema PUT_AREA.now 1 areas_table areas_alone (0 ∷ 2 ∷ 3 ∷ 4 ∷ 5 ∷ 6 ∷ []) (0 ∷ []) 6
+      (rowid_values 6) (rowid_update 6) put_area_means (area_row (at, area)) (area_stores (at, area)) old new count has
+      ran;
   stands = λ config room h next.
-      let it = upsert_puts nat_cmp area_key area_row room_schema PUT_AREA.now old new 1 areas_table (0 ∷ 2 ∷ 3 ∷ 4 ∷ 5 ∷ 6 ∷ []) (0 ∷ []) 6 (rowid_values 6) (rowid_update 6) count (at, area) (numbered 1 room.plan) areas_alone put_area_means area_faithful (area_stores (at, area)) has ran h.areas in
-      with_areas old.now new.now config room h it.0 (room.plan ++ area ∷ []) (subst (λ xs. StandsFor new.now.trees areas_table area_row xs) (put_row-numbered 1 at room.plan area (omega arith)) it.1);
+      let it = upsert_puts nat_cmp area_key area_row room_schema PUT_AREA.now old new 1 areas_table
+      (0 ∷ 2 ∷ 3 ∷ 4 ∷ 5 ∷ 6 ∷ []) (0 ∷ []) 6 (rowid_values 6) (rowid_update 6) count (at, area) (numbered 1 room.plan)
+      areas_alone put_area_means area_faithful (area_stores (at, area)) has ran h.areas in
+      with_areas old.now new.now config room h it.0 (room.plan ++ area ∷ [])
+      (subst (λ xs. StandsFor new.now.trees areas_table area_row xs)
+      (put_row-numbered 1 at room.plan area (omega arith)) it.1);
 }
 
 module _ (areas : List Area) (old new : State) (shown : List Row)
@@ -67,9 +78,13 @@ module _ (areas : List Area) (old new : State) (shown : List Row)
   -- the areas that were read are in the rows ..
   pub areas_found : AreNumbered (old.now.trees 1)
       → StandsFor old.now.trees areas_table area_row (numbered 1 areas)
-  areas_found = (all_areas_are old new (numbered 1 areas) has (subst (Shown ALL_AREAS.now [] old new) (sym is) shows) (numbered-keyed 1 areas)).0
+  areas_found =
+      (all_areas_are old new (numbered 1 areas) has (subst (Shown ALL_AREAS.now [] old new) (sym is) shows)
+      (numbered-keyed 1 areas)).0
 
   -- .. and are the plan's
   pub areas_are : (config : Configuration) (room : Room) → Stands old.now.trees config room
       → areas ≡ room.plan
-  areas_are config room h = numbered-injective 1 areas room.plan ((all_areas_are old new (numbered 1 areas) has (subst (Shown ALL_AREAS.now [] old new) (sym is) shows) (numbered-keyed 1 areas)).1 config room h)
+  areas_are config room h =
+      numbered-injective 1 areas room.plan ((all_areas_are old new (numbered 1 areas) has
+      (subst (Shown ALL_AREAS.now [] old new) (sym is) shows) (numbered-keyed 1 areas)).1 config room h)

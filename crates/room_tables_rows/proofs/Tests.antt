@@ -1,5 +1,6 @@
 -- What SQL's comparisons say of values of the room.
-use Rattle.std.proofs.Common.{◌≡◌, ℕ, ◌&&◌, ℤ, List, Bool, true, false, not, Option, Some, None, refl, ap, ◌∙◌, is_lt, arith}
+use Rattle.std.proofs.Common.{◌≡◌, ℕ, ◌&&◌, ℤ, List, Bool, true, false, not, Option, Some, None, refl, ap, ◌∙◌, is_lt}
+use Rattle.std.proofs.Common.{arith}
 use Rattle.std.specs.Prelude.{int_le, int_lt, pos}
 use Rattle.std.specs.Ordering.{int_cmp, is_ge}
 use Rattle.std.proofs.lemmas.Int.{ints}
@@ -14,8 +15,8 @@ use Rattle.sqlite_schema.specs.Rules.{equal}
 use Rattle.sqlite_schema.specs.declared.schema.Kind.TheVariants as kind
 use Rattle.sqlite_rules.specs.Cast.{cast}
 use Rattle.sqlite.specs.Values.{or_null}
-use Rattle.room_tables_laws.specs.TypedRows.{number}
-use Rattle.room_tables_laws.proofs.Comparisons.{compare_by, equal-numbers}
+use Rattle.room_tables_schema.specs.TypedRows.{number}
+use Rattle.room_tables_schema.proofs.Comparisons.{compare_by, equal-numbers}
 use Rattle.room_types.specs.Codes.{state_number, is_active}
 use Rattle.room_types.specs.declared.codes.State.{State}
 use Rattle.room_types.specs.declared.codes.State.TheVariants.{Active, Closed, Merged}
@@ -42,13 +43,17 @@ and_three a b false = refl
 compare_by-integers : (op : CompareOp) (m n : ℤ)
     → compare_by op (Int m) (Int n) ≡ test op (int_cmp m n)
 unfolding binary
-compare_by-integers op m n = elim (test op (value_cmp (Int m) (Int n))) as (λ t. is_true (from_truth (Some t)) ≡ t) [ true ↦ refl | false ↦ refl ] ∙ ap (test op) (value_cmp-Int m n)
+compare_by-integers op m n =
+    elim (test op (value_cmp (Int m) (Int n))) as (λ t. is_true (from_truth (Some t)) ≡ t)
+    [ true ↦ refl | false ↦ refl ] ∙ ap (test op) (value_cmp-Int m n)
 
 pub at_least-integers : (m n : ℤ) → compare_by Ge (Int m) (Int n) ≡ int_le n m
-at_least-integers m n = let same : is_ge (int_cmp m n) ≡ int_le n m = grind (arith, ints) in compare_by-integers Ge m n ∙ same
+at_least-integers m n =
+    let same : is_ge (int_cmp m n) ≡ int_le n m = grind (arith, ints) in compare_by-integers Ge m n ∙ same
 
 pub below-integers : (m n : ℤ) → compare_by Lt (Int m) (Int n) ≡ int_lt m n
-below-integers m n = let same : is_lt (int_cmp m n) ≡ int_lt m n = grind (arith, ints) in compare_by-integers Lt m n ∙ same
+below-integers m n =
+    let same : is_lt (int_cmp m n) ≡ int_lt m n = grind (arith, ints) in compare_by-integers Lt m n ∙ same
 
 -- a column of texts keeps a text that may be absent
 pub cast-text_or_null : (o : Option (List ℕ)) → cast kind.Text (or_null Text o) ≡ or_null Text o

@@ -12,15 +12,15 @@ use Rattle.sqlite_trees.specs.View.{is_int}
 use Rattle.sqlite.specs.Listing.{understood}
 use Rattle.sqlite.specs.State.{State, Shown}
 use Rattle.sqlite.proofs.Callers.{one_permutation}
-use Rattle.room_tables_laws.specs.Statements.{Selects}
-use Rattle.room_tables_laws.specs.TableTrees.{cells}
-use Rattle.room_tables_laws.proofs.Selections.{shows_all}
+use Rattle.room_tables_schema.specs.Statements.{Selects}
+use Rattle.room_tables_schema.specs.TableTrees.{cells}
+use Rattle.room_tables_schema.proofs.Selections.{shows_all}
 use Rattle.room_tables_schema.specs.Schema.{meta_table}
 use Rattle.room_tables_schema.specs.Versions.{BeginsAsRoom}
-use Rattle.room_tables_rows.specs.MetaColumns.{version_row}
+use Rattle.room_tables_rows.specs.MetaSql.{version_row}
 use Rattle.room_tables_rows.specs.Stands.{StandsFor}
 use Rattle.room_tables_rows.specs.MetaVersions.{IsOfVersion, OneTells}
-use Rattle.room_tables_rows.specs.declared.meta_columns.TheConstants.{ALL_META}
+use Rattle.room_tables_rows.specs.declared.meta_sql.TheConstants.{ALL_META}
 
 -- The text selects all of `meta`, whatever tables and indexes stand behind it ..
 behind : (others : List Table) (indexes : List Index)
@@ -60,7 +60,9 @@ tells_held version zone trees h =
 module _ (old new : State) (shown : List Row) (begins : BeginsAsRoom old.now.schema)
     (shows : Shown ALL_META.now [] old new shown) where
   all_are : IsPermutation (map (cells (0 ∷ 2 ∷ 3 ∷ [])) (old.now.trees 0)) shown
-  all_are = (shows_all old.now.schema ALL_META.now old new 0 (0 ∷ []) (2 ∷ 3 ∷ []) [] shown (all_meta_begins old.now.schema begins) refl shows).0
+  all_are =
+      (shows_all old.now.schema ALL_META.now old new 0 (0 ∷ []) (2 ∷ 3 ∷ []) [] shown
+      (all_meta_begins old.now.schema begins) refl shows).0
 
   module _ (version : ℕ) where
     pub shows_version : IsOfVersion version old.now.trees → OneTells version shown
@@ -84,7 +86,9 @@ module _ (old new : State) (shown : List Row) (begins : BeginsAsRoom old.now.sch
   pub version_found : (version : ℕ) (zone : List ℕ) → version_row version zone ∷ [] ≡ shown
       → StandsFor old.now.trees meta_table (version_row version) (zone ∷ [])
   version_found version zone is =
-      let all : IsPermutation (map (cells (0 ∷ 2 ∷ 3 ∷ [])) (old.now.trees 0)) (version_row version zone ∷ []) = rw is all_are in
-      let one = one_held (old.now.trees 0) (version_row version zone) (one_permutation _ _ (IsPermutation-sym _ _ all)) in
+      let all : IsPermutation (map (cells (0 ∷ 2 ∷ 3 ∷ [])) (old.now.trees 0)) (version_row version zone ∷ []) = rw is
+      all_are in
+      let one = one_held (old.now.trees 0) (version_row version zone)
+      (one_permutation _ _ (IsPermutation-sym _ _ all)) in
       let numbered : is_int (rowid one.0) ≡ true = ap (λ (r : Row). is_int (column r 0)) one.2 in
       record { numbered = rw one.1 ((tt, tt), (numbered, tt)); same = all; rises = (tt, tt) }

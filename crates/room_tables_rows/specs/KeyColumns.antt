@@ -2,7 +2,7 @@
 use Rattle.std.specs.Prelude.{ℕ, List, [], ◌∷◌}
 use Rattle.sqlite_value.specs.declared.value.Value.TheVariants.{Text}
 use Rattle.sqlite_value.specs.Order.{Row}
-use Rattle.room_tables_laws.specs.TypedRows.{number}
+use Rattle.room_tables_schema.specs.TypedRows.{number}
 use Rattle.room_types.specs.Texts.{Callsign}
 
 -- a key of one number

@@ -6,19 +6,19 @@ pub mod Readable
 -- the columns of a key
 pub mod KeyColumns
 -- the columns of each row, and back, a file a table
-pub mod MetaColumns
-pub mod AreaColumns
-pub mod TerminalColumns
-pub mod DivisionColumns
-pub mod IncidentColumns
-pub mod CallColumns
-pub mod VehicleColumns
-pub mod TurnColumns
-pub mod AssignmentColumns
-pub mod PointColumns
-pub mod LoanColumns
-pub mod ReportColumns
-pub mod OfferColumns
+pub mod MetaSql
+pub mod AreaSql
+pub mod TerminalSql
+pub mod DivisionSql
+pub mod IncidentSql
+pub mod CallSql
+pub mod VehicleSql
+pub mod TurnSql
+pub mod AssignmentSql
+pub mod PointSql
+pub mod LoanSql
+pub mod ReportSql
+pub mod OfferSql
 -- a table that stands for a list, and the tables that stand for a room
 pub mod Stands
 -- what a table is to the room, and what the statements on it say

@@ -2,7 +2,7 @@
 use Rattle.std.specs.Prelude.{◌≡◌, ℕ, List, [], ◌∷◌}
 use Rattle.sqlite_value.specs.Order.{Row, column}
 use Rattle.sqlite_trees.specs.Tree.{Trees}
-use Rattle.room_tables_laws.specs.TypedRows.{number}
+use Rattle.room_tables_schema.specs.TypedRows.{number}
 use Rattle.room_tables_schema.specs.Schema.{meta_table}
 
 -- The table `meta` has one row, and it gives this version: 2 of these tables, 1 of those before,

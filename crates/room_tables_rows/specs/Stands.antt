@@ -3,24 +3,26 @@ use Rattle.std.specs.Prelude.{◌-◌, ◌==◌, if◌then◌else◌, ℕ, zero,
 use Rattle.sqlite_value.specs.Order.{Row}
 use Rattle.sqlite_trees.specs.Tree.{Trees}
 use Rattle.sqlite_schema.specs.declared.schema.Table.{Table}
-use Rattle.room_tables_laws.specs.TableTrees.{Holds}
+use Rattle.room_tables_schema.specs.TableTrees.{Holds}
 use Rattle.room_place.specs.declared.plans.Area.{Area}
 use Rattle.room_types.specs.declared.fleet.Terminal.{Terminal}
 use Rattle.room_model.specs.Room.{Room}
-use Rattle.room_tables_schema.specs.Schema.{meta_table, areas_table, terminals_table, divisions_table, incidents_table, calls_table, vehicles_table, turns_table, assignments_table, points_table, loans_table, reports_table, offers_table}
-use Rattle.room_tables_rows.specs.MetaColumns.{version_row}
-use Rattle.room_tables_rows.specs.AreaColumns.{area_row}
-use Rattle.room_tables_rows.specs.TerminalColumns.{terminal_row}
-use Rattle.room_tables_rows.specs.DivisionColumns.{division_row}
-use Rattle.room_tables_rows.specs.IncidentColumns.{incident_row}
-use Rattle.room_tables_rows.specs.CallColumns.{call_row}
-use Rattle.room_tables_rows.specs.VehicleColumns.{vehicle_row}
-use Rattle.room_tables_rows.specs.TurnColumns.{turn_row}
-use Rattle.room_tables_rows.specs.AssignmentColumns.{assignment_row}
-use Rattle.room_tables_rows.specs.PointColumns.{point_row}
-use Rattle.room_tables_rows.specs.LoanColumns.{loan_row}
-use Rattle.room_tables_rows.specs.ReportColumns.{report_row}
-use Rattle.room_tables_rows.specs.OfferColumns.{offer_row}
+use Rattle.room_tables_schema.specs.Schema.{meta_table, areas_table, terminals_table, divisions_table, incidents_table}
+use Rattle.room_tables_schema.specs.Schema.{calls_table, vehicles_table, turns_table, assignments_table, points_table}
+use Rattle.room_tables_schema.specs.Schema.{loans_table, reports_table, offers_table}
+use Rattle.room_tables_rows.specs.MetaSql.{version_row}
+use Rattle.room_tables_rows.specs.AreaSql.{area_row}
+use Rattle.room_tables_rows.specs.TerminalSql.{terminal_row}
+use Rattle.room_tables_rows.specs.DivisionSql.{division_row}
+use Rattle.room_tables_rows.specs.IncidentSql.{incident_row}
+use Rattle.room_tables_rows.specs.CallSql.{call_row}
+use Rattle.room_tables_rows.specs.VehicleSql.{vehicle_row}
+use Rattle.room_tables_rows.specs.TurnSql.{turn_row}
+use Rattle.room_tables_rows.specs.AssignmentSql.{assignment_row}
+use Rattle.room_tables_rows.specs.PointSql.{point_row}
+use Rattle.room_tables_rows.specs.LoanSql.{loan_row}
+use Rattle.room_tables_rows.specs.ReportSql.{report_row}
+use Rattle.room_tables_rows.specs.OfferSql.{offer_row}
 
 -- so many places, from one on
 abbrev pub places_from : ℕ → ℕ → List ℕ

@@ -7,10 +7,11 @@ use Rattle.sqlite_trees.specs.Tree.{Trees}
 use Rattle.sqlite_sql.specs.Term.{Term}
 use Rattle.sqlite_schema.specs.declared.schema.Table.{Table}
 use Rattle.sqlite.specs.Effect.{Database}
-use Rattle.room_tables_laws.specs.Outcomes.{Only}
-use Rattle.room_tables_laws.specs.Statements.{passes, Selects, StandsAlone, Deletes, Inserts, Upserts, Stores, Overwrites, Covers}
-use Rattle.room_tables_laws.specs.TableTrees.{cells}
-use Rattle.room_tables_laws.specs.TypedRows.{IsFaithful}
+use Rattle.room_tables_schema.specs.Outcomes.{Only}
+use Rattle.room_tables_schema.specs.Statements.{passes, Selects, StandsAlone, Deletes, Inserts, Upserts, Stores}
+use Rattle.room_tables_schema.specs.Statements.{Overwrites, Covers}
+use Rattle.room_tables_schema.specs.TableTrees.{cells}
+use Rattle.room_tables_schema.specs.TypedRows.{IsFaithful}
 use Rattle.room_types_keyed.specs.Keyed.{put_row, drop_row}
 use Rattle.room_types.specs.declared.changes.Change.{Change}
 use Rattle.room_model.specs.Room.{Room, apply_one}

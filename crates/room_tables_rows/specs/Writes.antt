@@ -1,12 +1,12 @@
 -- What a write in a transaction leaves.
 use Rattle.std.specs.Prelude.{◌≡◌, ◌++◌, ℕ, suc, List, [], ◌∷◌, length}
 use Rattle.sqlite.specs.State.{State}
-use Rattle.room_tables_laws.specs.Outcomes.{Inside, Only}
+use Rattle.room_tables_schema.specs.Outcomes.{Inside, Only}
 use Rattle.room_place.specs.declared.plans.Area.{Area}
 use Rattle.room_types.specs.declared.changes.Change.{Change}
 use Rattle.room_model.specs.Room.{Room, apply_one}
 use Rattle.room_tables_schema.specs.Schema.{meta_table, room_schema}
-use Rattle.room_tables_rows.specs.MetaColumns.{meta_row, version_row}
+use Rattle.room_tables_rows.specs.MetaSql.{meta_row, version_row}
 use Rattle.room_tables_rows.specs.Stands.{Configuration, Stands, StandsFor}
 
 -- The tables stand for another configuration and room than before, and nothing is committed.

@@ -3,7 +3,7 @@
 ghost use Rattle.std.specs.Prelude.{◌≡◌, ◌+◌, ◌≤◌, ◌==◌, true, Bool, List, [], ◌∷◌, length, is_some, IfSome};
 ghost use Rattle.sqlite_value.specs.Order.{Row as Cells};
 ghost use Rattle.sqlite_value.specs.declared.value.Value.{Value};
-ghost use Rattle.room_tables_laws.proofs.ColumnValues.{columns_from};
+ghost use Rattle.room_tables_schema.proofs.ColumnValues.{columns_from};
 ghost use Rattle.room_tables_rows.specs.Readable.{all_stand};
 ghost use Rattle.room_tables_rows.specs.declared.stored_rows.TheConstants.{WIDEST};
 

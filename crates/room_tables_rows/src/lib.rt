@@ -6,20 +6,20 @@
 //! schema that room_tables_schema writes out.
 #![tactic(auto)]
 
-pub mod area_columns;
-pub mod assignment_columns;
-pub mod call_columns;
+pub mod area_sql;
+pub mod assignment_sql;
+pub mod call_sql;
 mod column_groups;
 pub mod column_values;
-pub mod division_columns;
-pub mod incident_columns;
+pub mod division_sql;
+pub mod incident_sql;
 pub mod laws;
-pub mod loan_columns;
-pub mod meta_columns;
-pub mod offer_columns;
-pub mod point_columns;
-pub mod report_columns;
+pub mod loan_sql;
+pub mod meta_sql;
+pub mod offer_sql;
+pub mod point_sql;
+pub mod report_sql;
 pub mod stored_rows;
-pub mod terminal_columns;
-pub mod turn_columns;
-pub mod vehicle_columns;
+pub mod terminal_sql;
+pub mod turn_sql;
+pub mod vehicle_sql;

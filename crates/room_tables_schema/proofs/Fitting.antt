@@ -1,5 +1,6 @@
 -- Parts that fit their forms, seen from the parts that are left, and the first of some indexes.
-use Rattle.std.proofs.Common.{◌≡◌, ◌↔◌, ◌⊎◌, ℕ, List, [], ◌∷◌, map, length, subst, sym, take, ap, ◌∙◌, arith, refl, inl, inr}
+use Rattle.std.proofs.Common.{◌≡◌, ◌↔◌, ◌⊎◌, ℕ, List, [], ◌∷◌, map, length, subst, sym, take, ap, ◌∙◌, arith, refl, inl}
+use Rattle.std.proofs.Common.{inr}
 use Rattle.std.proofs.lemmas.List.{take-map}
 use Rattle.sqlite_schema.specs.declared.schema.Index.{Index}
 use Rattle.sqlite_schema.specs.declared.schema.Schema.{Schema}
@@ -19,7 +20,9 @@ module _ {F T : Type 0} (meant : F → T) (whole : Type 0) where
 
     pub goes_on : part ≡ meant form → Waits more rest
     goes_on fit = record {
-      long = let both : length (form ∷ more) ≡ length (part ∷ rest) = sym (ap length f) ∙ waits.long ∙ ap length p in omega (arith, both);
+      long =
+          let both : length (form ∷ more) ≡ length (part ∷ rest) = sym (ap length f) ∙ waits.long ∙ ap length p in
+          omega (arith, both);
       same = (
         λ w. let both : part ∷ rest ≡ meant form ∷ map meant more = sym p ∙ waits.same.0 w
             ∙ ap (map meant) f in cc,

@@ -1,5 +1,6 @@
 -- Databases that grow by tables and indexes.
-use Rattle.std.proofs.Common.{◌≡◌, ◌⊎◌, ◌∙◌, sym, ap, subst, refl, inl, inr, ℕ, List, [], ◌∷◌, ◌++◌, None, Ok, append_assoc}
+use Rattle.std.proofs.Common.{◌≡◌, ◌⊎◌, ◌∙◌, sym, ap, subst, refl, inl, inr, ℕ, List, [], ◌∷◌, ◌++◌, None, Ok}
+use Rattle.std.proofs.Common.{append_assoc}
 use Rattle.std.specs.List.{AllByRecursion}
 use Rattle.sqlite_trees.specs.Tree.{Trees}
 use Rattle.sqlite_schema.specs.declared.schema.Table.{Table}
@@ -13,8 +14,8 @@ use Rattle.sqlite.specs.Effect.{Database, RefusesToAlter}
 use Rattle.sqlite.specs.State.{State, Executes, Writes, mode_of}
 use Rattle.sqlite.specs.Listing.{understood}
 use Rattle.sqlite.proofs.Callers.{runs_as, statement_of}
-use Rattle.room_tables_laws.proofs.Definitions.{create_makes, index_makes}
-use Rattle.room_tables_laws.proofs.Writes.{went_on, same_value}
+use Rattle.room_tables_schema.proofs.Definitions.{create_makes, index_makes}
+use Rattle.room_tables_schema.proofs.Writes.{went_on, same_value}
 use Rattle.room_tables_schema.specs.Schema.{first_tables, no_schema, offers_table, room_tables, room_schema}
 use Rattle.room_tables_schema.specs.Definitions.{AddsLast, Defines, Drops, Lead, Grows, IsBlank}
 
@@ -52,7 +53,12 @@ append_nil [] = refl
 append_nil (x ∷ xs) = ap (λ l. x ∷ l) (append_nil xs)
 
 pub grows_none : (db : Database) → Grows db db
-grows_none db = record { made = []; tables_are = append_nil db.schema.tables; kept = kept_none db.schema.tables db.trees; blank = tt }
+grows_none db = record {
+  made = [];
+  tables_are = append_nil db.schema.tables;
+  kept = kept_none db.schema.tables db.trees;
+  blank = tt;
+}
 
 pub grows_then : (old mid new : Database) → Grows old mid → Grows mid new → Grows old new
 grows_then old mid new a b =
@@ -60,8 +66,11 @@ grows_then old mid new a b =
     record {
       made = a.made ++ b.made;
       tables_are = b.tables_are ∙ ap (λ ts. ts ++ b.made) a.tables_are ∙ append_assoc old.schema.tables a.made b.made;
-      kept = kept_then old.schema.tables old.trees mid.trees new.trees a.kept (all_first _ old.schema.tables a.made kept);
-      blank = all_both _ a.made b.made (still_blank a.made mid.trees new.trees a.blank (all_last _ old.schema.tables a.made kept)) b.blank;
+      kept =
+          kept_then old.schema.tables old.trees mid.trees new.trees a.kept (all_first _ old.schema.tables a.made kept);
+      blank =
+          all_both _ a.made b.made
+          (still_blank a.made mid.trees new.trees a.blank (all_last _ old.schema.tables a.made kept)) b.blank;
     }
 
 -- an index that was dropped is not there any more, and all tables keep their rows
@@ -71,12 +80,23 @@ drop_makes : (schema : Schema) (text : List ℕ) (old new : State) (at : ℕ) (i
     → (new.now.schema ≡ without_index schema index.tree)
     × KeepsRows schema.tables old.now.trees new.now.trees
 drop_makes schema text old new at index count means has ran =
-    let w : Writes old new None (DropIndex at) (statement_of text (understood schema text)) [] count = runs_as text [] old new schema has (DropIndex at) means.command means.plain count ran in
+    let w : Writes old new None (DropIndex at) (statement_of text (understood schema text)) [] count = runs_as text []
+    old new schema has (DropIndex at) means.command means.plain count ran in
     let db = λ (s : Schema). record old.now { schema = s } in
-    let all = subst (λ s. Does old.step_limit (mode_of old) [] (db s) (statement_of text (understood schema text)) None (DropIndex at) (Ok (w.tally, new.now))) has w.changed in
-    let left = went_on (subst (λ o. AtPlace (λ (i : Index). DefinesIn (mode_of old) (Leaves (without_index schema i.tree) old.now.trees (RefusesToAlter (RefusesToDropIndex i)))) o (Ok (w.tally, new.now))) means.is_there all) in
-    let now : new.now ≡ left.0 = ap (λ (p : Tally × Database). p.1) (same_value left.2) in
-    (ap (λ (d : Database). d.schema) now ∙ left.1.0, subst (λ (d : Database). KeepsRows schema.tables old.now.trees d.trees) (sym now) left.1.1)
+    let all = subst
+    (λ s.
+    Does old.step_limit (mode_of old) [] (db s) (statement_of text (understood schema text)) None (DropIndex at)
+    (Ok (w.tally, new.now))) has w.changed in
+    let left = went_on
+    (subst (λ o.
+    AtPlace (λ (i : Index).
+    DefinesIn (mode_of old)
+    (Leaves (without_index schema i.tree) old.now.trees (RefusesToAlter (RefusesToDropIndex i)))) o
+    (Ok (w.tally, new.now))) means.is_there all) in
+    let now : new.now ≡ left.0 = ap (λ (p : Tally × Database). p.1) (same_value left.2) in (
+      ap (λ (d : Database). d.schema) now ∙ left.1.0,
+      subst (λ (d : Database). KeepsRows schema.tables old.now.trees d.trees) (sym now) left.1.1,
+    )
 
 -- the same tables with all their rows have grown by none
 tables_stay : (old new : Database) (schema : Schema) → old.schema ≡ schema
@@ -103,15 +123,21 @@ defined schema next text old new count defines has ran = elim defines [
         is ∙ sym it.2,
         record {
           made = record it.0 { tree = next_tree schema } ∷ [];
-          tables_are = ap (λ (s : Schema). s.tables) is ∙ sym (ap (λ ts. ts ++ record it.0 { tree = next_tree schema } ∷ []) tables);
+          tables_are =
+              ap (λ (s : Schema). s.tables) is
+              ∙ sym (ap (λ ts. ts ++ record it.0 { tree = next_tree schema } ∷ []) tables);
           kept = subst (λ ts. KeepsRows ts old.now.trees new.now.trees) (sym tables) m.others;
           blank = (m.empty, tt);
         },
       )
   | inr (inl it) ↦
-      let m = index_makes schema text old new it.0 it.1 it.2 count it.3 has ran in (m.schema_is ∙ sym it.4, tables_stay old.now new.now schema has (ap (λ (s : Schema). s.tables) m.schema_is) m.tables)
+      let m = index_makes schema text old new it.0 it.1 it.2 count it.3 has ran in (
+        m.schema_is ∙ sym it.4,
+        tables_stay old.now new.now schema has (ap (λ (s : Schema). s.tables) m.schema_is) m.tables,
+      )
   | inr (inr it) ↦
-      let m = drop_makes schema text old new it.0 it.1 count it.2 has ran in (m.0 ∙ sym it.3, tables_stay old.now new.now schema has (ap (λ (s : Schema). s.tables) m.0) m.1)
+      let m = drop_makes schema text old new it.0 it.1 count it.2 has ran in
+      (m.0 ∙ sym it.3, tables_stay old.now new.now schema has (ap (λ (s : Schema). s.tables) m.0) m.1)
 ]
 
 -- so the texts that are left lead on
@@ -130,7 +156,9 @@ same_rest (x ∷ xs) ys zs same = same_rest xs ys zs (let all = same in cc)
 pub adds_last : (old new : Database) → old.schema.tables ≡ first_tables → Grows old new
     → new.schema ≡ room_schema → AddsLast old.trees new.trees
 adds_last old new first grows has =
-    let made : first_tables ++ grows.made ≡ first_tables ++ offers_table ∷ [] = sym (ap (λ ts. ts ++ grows.made) first) ∙ sym grows.tables_are ∙ ap (λ (s : Schema). s.tables) has in
+    let made : first_tables ++ grows.made
+    ≡ first_tables ++ offers_table ∷ [] =
+    sym (ap (λ ts. ts ++ grows.made) first) ∙ sym grows.tables_are ∙ ap (λ (s : Schema). s.tables) has in
     let last = same_rest first_tables grows.made (offers_table ∷ []) made in
     let blank = subst (AllByRecursion (λ (t : Table). new.trees t.tree ≡ [])) last grows.blank in
     record {
@@ -142,7 +170,9 @@ adds_last old new first grows has =
 pub is_blank : (old new : Database) → old.schema ≡ no_schema → Grows old new
     → new.schema ≡ room_schema → IsBlank new.trees
 is_blank old new none grows has =
-    let made : grows.made ≡ room_tables = sym (ap (λ (s : Schema). s.tables ++ grows.made) none) ∙ sym grows.tables_are ∙ ap (λ (s : Schema). s.tables) has in
+    let made : grows.made
+    ≡ room_tables =
+    sym (ap (λ (s : Schema). s.tables ++ grows.made) none) ∙ sym grows.tables_are ∙ ap (λ (s : Schema). s.tables) has in
     let all = subst (AllByRecursion (λ (t : Table). new.trees t.tree ≡ [])) made grows.blank in
     record {
       meta = all.0;

@@ -7,11 +7,25 @@ use Rattle.sqlite_schema.specs.declared.schema.Index.{Index}
 use Rattle.sqlite_schema.specs.declared.schema.Schema.{Schema}
 use Rattle.sqlite_catalog.specs.Change.{created}
 use Rattle.sqlite.specs.Listing.{understood}
-use Rattle.room_tables_laws.specs.Statements.{Creates, Indexes}
+use Rattle.room_tables_schema.specs.Statements.{Creates, Indexes}
 use Rattle.room_tables_schema.specs.Definitions.{Drops, Lead}
-use Rattle.room_tables_schema.specs.Schema.{first_schema, first_tables, first_tables_schema, no_schema, room_tables, indexes_in, tables_schema, room_schema, meta_table, areas_table, terminals_table, divisions_table, incidents_table, calls_table, vehicles_table, turns_table, assignments_table, points_table, loans_table, reports_table, offers_table, incidents_by_state, incidents_by_opening, calls_by_incident, turns_by_incident, reports_by_outcome}
-use Rattle.room_tables_schema.specs.declared.schema_tables.TheConstants.{FIRST_INDEXES, FIRST_KEY_INDEXES, INDEXES, KEY_INDEXES}
-use Rattle.room_tables_schema.specs.declared.texts.TheConstants.{DEFINITIONS, TABLE_DEFINITIONS, MOVES, DROPS, META, AREAS, TERMINALS, DIVISIONS, INCIDENTS, CALLS, VEHICLES, TURNS, ASSIGNMENTS, POINTS, LOANS, REPORTS, OFFERS, INCIDENTS_BY_STATE, INCIDENTS_BY_OPENING, CALLS_BY_INCIDENT, TURNS_BY_INCIDENT, REPORTS_BY_OUTCOME, DROP_INCIDENTS_BY_STATE, DROP_INCIDENTS_BY_OPENING, DROP_CALLS_BY_INCIDENT, DROP_TURNS_BY_INCIDENT, DROP_REPORTS_BY_OUTCOME}
+use Rattle.room_tables_schema.specs.Schema.{first_schema, first_tables, first_tables_schema, no_schema, room_tables}
+use Rattle.room_tables_schema.specs.Schema.{indexes_in, tables_schema, room_schema, meta_table, areas_table}
+use Rattle.room_tables_schema.specs.Schema.{terminals_table, divisions_table, incidents_table, calls_table}
+use Rattle.room_tables_schema.specs.Schema.{vehicles_table, turns_table, assignments_table, points_table, loans_table}
+use Rattle.room_tables_schema.specs.Schema.{reports_table, offers_table, incidents_by_state, incidents_by_opening}
+use Rattle.room_tables_schema.specs.Schema.{calls_by_incident, turns_by_incident, reports_by_outcome}
+use Rattle.room_tables_schema.specs.declared.schema_tables.TheConstants.{FIRST_INDEXES, FIRST_KEY_INDEXES, INDEXES}
+use Rattle.room_tables_schema.specs.declared.schema_tables.TheConstants.{KEY_INDEXES}
+use Rattle.room_tables_schema.specs.declared.schema_sql.TheConstants.{DEFINITIONS, TABLE_DEFINITIONS, MOVES, DROPS}
+use Rattle.room_tables_schema.specs.declared.schema_sql.TheConstants.{META, AREAS, TERMINALS, DIVISIONS, INCIDENTS}
+use Rattle.room_tables_schema.specs.declared.schema_sql.TheConstants.{CALLS, VEHICLES, TURNS, ASSIGNMENTS, POINTS}
+use Rattle.room_tables_schema.specs.declared.schema_sql.TheConstants.{LOANS, REPORTS, OFFERS, INCIDENTS_BY_STATE}
+use Rattle.room_tables_schema.specs.declared.schema_sql.TheConstants.{INCIDENTS_BY_OPENING, CALLS_BY_INCIDENT}
+use Rattle.room_tables_schema.specs.declared.schema_sql.TheConstants.{TURNS_BY_INCIDENT, REPORTS_BY_OUTCOME}
+use Rattle.room_tables_schema.specs.declared.schema_sql.TheConstants.{DROP_INCIDENTS_BY_STATE}
+use Rattle.room_tables_schema.specs.declared.schema_sql.TheConstants.{DROP_INCIDENTS_BY_OPENING, DROP_CALLS_BY_INCIDENT}
+use Rattle.room_tables_schema.specs.declared.schema_sql.TheConstants.{DROP_TURNS_BY_INCIDENT, DROP_REPORTS_BY_OUTCOME}
 
 -- a table or index as its text has it, before it has a tree
 abbrev unplaced : Table → Table
@@ -83,27 +97,32 @@ offers_creates = record { command = refl; plain = (refl, refl); whole = refl; de
 incidents_by_state_indexes : Indexes (indexes_upto 0) INCIDENTS_BY_STATE.now 4 incidents_table
     (unplaced_index incidents_by_state)
 unfolding understood everything
-incidents_by_state_indexes = record { command = refl; plain = (refl, refl); whole = refl; is_there = refl; defined = refl }
+incidents_by_state_indexes =
+    record { command = refl; plain = (refl, refl); whole = refl; is_there = refl; defined = refl }
 
 incidents_by_opening_indexes : Indexes (indexes_upto 1) INCIDENTS_BY_OPENING.now 4 incidents_table
     (unplaced_index incidents_by_opening)
 unfolding understood everything
-incidents_by_opening_indexes = record { command = refl; plain = (refl, refl); whole = refl; is_there = refl; defined = refl }
+incidents_by_opening_indexes =
+    record { command = refl; plain = (refl, refl); whole = refl; is_there = refl; defined = refl }
 
 calls_by_incident_indexes : Indexes (indexes_upto 2) CALLS_BY_INCIDENT.now 5 calls_table
     (unplaced_index calls_by_incident)
 unfolding understood everything
-calls_by_incident_indexes = record { command = refl; plain = (refl, refl); whole = refl; is_there = refl; defined = refl }
+calls_by_incident_indexes =
+    record { command = refl; plain = (refl, refl); whole = refl; is_there = refl; defined = refl }
 
 turns_by_incident_indexes : Indexes (indexes_upto 3) TURNS_BY_INCIDENT.now 7 turns_table
     (unplaced_index turns_by_incident)
 unfolding understood everything
-turns_by_incident_indexes = record { command = refl; plain = (refl, refl); whole = refl; is_there = refl; defined = refl }
+turns_by_incident_indexes =
+    record { command = refl; plain = (refl, refl); whole = refl; is_there = refl; defined = refl }
 
 reports_by_outcome_indexes : Indexes (indexes_upto 4) REPORTS_BY_OUTCOME.now 11 reports_table
     (unplaced_index reports_by_outcome)
 unfolding understood everything
-reports_by_outcome_indexes = record { command = refl; plain = (refl, refl); whole = refl; is_there = refl; defined = refl }
+reports_by_outcome_indexes =
+    record { command = refl; plain = (refl, refl); whole = refl; is_there = refl; defined = refl }
 
 pub indexes_lead : Lead tables_schema
     (map (λ t. t.now) (drop TABLE_DEFINITIONS DEFINITIONS)) room_schema
@@ -190,7 +209,11 @@ definitions_lead = (
 
 -- its tables, and its indexes without the first so many of those that find working rows
 abbrev first_without : ℕ → Schema
-first_without n = record { tables = first_tables; indexes = indexes_in (take FIRST_KEY_INDEXES FIRST_INDEXES ++ drop (FIRST_KEY_INDEXES + n) FIRST_INDEXES); views = [] }
+first_without n = record {
+  tables = first_tables;
+  indexes = indexes_in (take FIRST_KEY_INDEXES FIRST_INDEXES ++ drop (FIRST_KEY_INDEXES + n) FIRST_INDEXES);
+  views = [];
+}
 
 -- an index with the tree that it had there
 abbrev first_index : Index → ℕ → Index

@@ -12,3 +12,16 @@ pub mod Forms
 pub mod BareTables
 -- the errors of the database, as faults
 pub mod DatabaseFaults
+-- The words of the laws, and the laws.
+-- what a tree of rows stands for
+pub mod TableTrees
+-- what the text of a statement means
+pub mod Statements
+-- what a call leaves of a connection
+pub mod Outcomes
+-- a type of rows written as rows of SQL
+pub mod TypedRows
+-- what the statements make of what a table stands for
+pub mod Laws
+-- what is made of rows that are shown one at a time
+pub mod QueryStreams

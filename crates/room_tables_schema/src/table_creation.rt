@@ -4,14 +4,14 @@ ghost use Rattle.std.specs.Prelude.{◌≡◌, cond, IsTrue, IfErr, OnOk, drop, 
 ghost use Rattle.sqlite.specs.Held.{Held, state};
 ghost use Rattle.sqlite.specs.State.{HasCleanDisk};
 ghost use Rattle.sqlite_catalog.specs.Change.{KeepsRows};
-ghost use Rattle.room_tables_laws.specs.Outcomes.{CommitsNothing};
+ghost use Rattle.room_tables_schema.specs.Outcomes.{CommitsNothing};
 ghost use Rattle.room_tables_schema.specs.Schema.{first_schema, first_tables_schema, no_schema, room_tables, tables_schema, room_schema};
 ghost use Rattle.room_tables_schema.specs.Definitions.{AddsLast, Lead, Grows, IsBlank, FailsAt};
 ghost use Rattle.room_tables_schema.specs.FileConnections.{MayWrite};
 
 use crate::database_faults::Fault;
-use crate::texts::{DEFINITIONS, DROPS, MOVES, TABLE_DEFINITIONS};
-use room_tables_laws::statements::write;
+use crate::schema_sql::{DEFINITIONS, DROPS, MOVES, TABLE_DEFINITIONS};
+use crate::statements::write;
 use sqlite::{Alter, Transaction};
 
 /// Makes all tables of a room, with no rows, and its indexes, in a file that has nothing. Where

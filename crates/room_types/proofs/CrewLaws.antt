@@ -14,7 +14,10 @@ use Rattle.room_types.specs.declared.crews.CrewRows.{CrewRows}
 use Rattle.room_types.proofs.SentLaws.{order_decides}
 
 callsigns_decide : (a b : Callsign) → Decides (same_callsign a b) (a ≡ b)
-callsigns_decide a b = (λ h. exact_callsigns a b ((Equal-is (callsign_cmp a b)).0 h), λ e. subst (λ c. same_callsign a c ≡ true) e (ap is_eq (tied_itself callsigns_total a)))
+callsigns_decide a b = (
+  λ h. exact_callsigns a b ((Equal-is (callsign_cmp a b)).0 h),
+  λ e. subst (λ c. same_callsign a c ≡ true) e (ap is_eq (tied_itself callsigns_total a)),
+)
 
 passes_decides : {R : Type 0} (p : R → Bool) (P : R → Type 0) → ((x : R) → Decides (p x) (P x))
     → (o : Option R) → Decides (passes p o) (IfSome o P)

@@ -12,7 +12,9 @@ use Rattle.room_types.specs.Texts.{is_callsign, is_callsign_letter, is_token, is
 -- letters that are all ASCII make a text
 pub letters_text : (is_letter : ℕ → Bool) → ((b : ℕ) → is_letter b ≡ true → b < 128)
     → (text : List ℕ) → list_all is_letter text ≡ true → IsUtf8 text
-letters_text is_letter low text all = IsUtf8-from_ascii text (IsAscii-from_all text (λ k d inside. low _ (AllPass-from_list_all is_letter text all k d inside)))
+letters_text is_letter low text all =
+    IsUtf8-from_ascii text
+    (IsAscii-from_all text (λ k d inside. low _ (AllPass-from_list_all is_letter text all k d inside)))
 
 callsign_letter : (b : ℕ) → is_callsign_letter b ≡ true → b < 128
 callsign_letter b is = grind (arith, nat_tests)

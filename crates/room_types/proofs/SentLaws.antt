@@ -7,7 +7,8 @@ use Rattle.std.specs.Prelude.{not}
 use Rattle.room_types.specs.declared.tables.Assignment.{Assignment}
 use Rattle.room_types.specs.declared.tables.Turn.{Turn}
 use Rattle.room_types.specs.declared.tables.Vehicle.{Vehicle}
-use Rattle.room_types.specs.SentVehicles.{IsAssigned, IsOrdered, IsSent, OrderAgrees, PartsAgree, is_assigned, is_ordered, is_sent, order_agrees, parts_agree}
+use Rattle.room_types.specs.SentVehicles.{IsAssigned, IsOrdered, IsSent, OrderAgrees, PartsAgree, is_assigned}
+use Rattle.room_types.specs.SentVehicles.{is_ordered, is_sent, order_agrees, parts_agree}
 use Rattle.room_types.specs.Codes.{is_busy}
 
 -- a test is its own answer
@@ -16,9 +17,18 @@ itself b = (λ h. h, λ h. h)
 
 is_sent_decides : (v : Vehicle) (a : Assignment) (t : Turn) → Decides (is_sent v a t) (IsSent v a t)
 is_sent_decides v a t = Decides-like _
-    (λ h. record { busy = h.0; assigned_by_holder = h.1.0; ordered_by_holder = h.1.1.0; same_incident = h.1.1.1.0; assigned_last = h.1.1.1.1.0; ordered_last = h.1.1.1.1.1 })
+    (λ h. record {
+      busy = h.0;
+      assigned_by_holder = h.1.0;
+      ordered_by_holder = h.1.1.0;
+      same_incident = h.1.1.1.0;
+      assigned_last = h.1.1.1.1.0;
+      ordered_last = h.1.1.1.1.1;
+    })
     (λ h. (h.busy, (h.assigned_by_holder, (h.ordered_by_holder, (h.same_incident, (h.assigned_last, h.ordered_last))))))
-    (Decides-and _ _ (itself _) (Decides-and _ _ (Decides-eqb _ _) (Decides-and _ _ (Decides-eqb _ _) (Decides-and _ _ (Decides-eqb _ _) (Decides-and _ _ (Decides-eqb _ _) (Decides-eqb _ _))))))
+    (Decides-and _ _ (itself _) (Decides-and _ _ (Decides-eqb _ _)
+    (Decides-and _ _ (Decides-eqb _ _)
+    (Decides-and _ _ (Decides-eqb _ _) (Decides-and _ _ (Decides-eqb _ _) (Decides-eqb _ _))))))
 
 is_assigned_decides : (v : Vehicle) (a : Assignment) → Decides (is_assigned v a) (IsAssigned v a)
 is_assigned_decides v a = Decides-like _

@@ -18,12 +18,15 @@ module _ (d : ℕ) (s : DivisionRows) (agrees : is_share d s ≡ true) where
   share = share_agrees d s agrees
 
   pub vehicle_named : (c : Callsign) (v : Vehicle) → vehicle_at c s ≡ Some v → v.callsign ≡ c
-  vehicle_named c v e = subst (λ o. IfSome o (λ x. x.callsign ≡ c)) e (row_key callsign_cmp vehicle_key callsigns_total exact_callsigns s.vehicles c)
+  vehicle_named c v e =
+      subst (λ o. IfSome o (λ x. x.callsign ≡ c)) e
+      (row_key callsign_cmp vehicle_key callsigns_total exact_callsigns s.vehicles c)
 
   -- ---- a vehicle that is there
   pub vehicle_parts : (c : Callsign) (v : Vehicle) → vehicle_at c s ≡ Some v
       → PartsAgree v (assignment_at c s) (open_turn v s)
-  vehicle_parts c v e = subst (λ o. IfSome o (λ v. PartsAgree v (assignment_at c s) (open_turn v s))) e (share.vehicles c)
+  vehicle_parts c v e =
+      subst (λ o. IfSome o (λ v. PartsAgree v (assignment_at c s) (open_turn v s))) e (share.vehicles c)
 
   pub idle_unassigned : (c : Callsign) (v : Vehicle) → vehicle_at c s ≡ Some v
       → is_busy v.status ≡ false → assignment_at c s ≡ None

@@ -3,7 +3,8 @@ use Rattle.std.specs.Prelude.{◌≡◌, ℕ, Bool, true, false, List, Option, S
 use Rattle.room_types.specs.declared.codes.Kind.{Kind}
 use Rattle.room_types.specs.declared.codes.Kind.TheVariants.{Ambulance, Car, Support}
 use Rattle.room_types.specs.declared.codes.Status.{Status}
-use Rattle.room_types.specs.declared.codes.Status.TheVariants.{OffDuty, Available, Mobilised, AtScene, Leaving, AtHospital, Returning, Offered}
+use Rattle.room_types.specs.declared.codes.Status.TheVariants.{OffDuty, Available, Mobilised, AtScene, Leaving}
+use Rattle.room_types.specs.declared.codes.Status.TheVariants.{AtHospital, Returning, Offered}
 use Rattle.room_types.specs.declared.codes.Button.{Button}
 use Rattle.room_types.specs.declared.codes.Button.TheVariants as button
 use Rattle.room_types.specs.declared.codes.Outcome.{Outcome}

@@ -3,7 +3,7 @@ pub mod Crews
 pub mod Keys
 pub mod Needs
 pub mod Orders
-pub mod Refusals
+pub mod RefusalStatuses
 pub mod SentVehicles
 pub mod Slices
 pub mod Texts

@@ -196,7 +196,7 @@ pub enum Answer {
     Loans(Listed<Loan>),
     Offers(Listed<Offer>),
     Times(Times),
-    /// What the vehicle was told, its post and its status.
+    /// The vehicle's order, its post and its status.
     Order(Option<Assignment>, Option<PointNumber>, Status),
     /// The report's number, what became of it, and the status after it.
     Reported(Number, Outcome, Status),

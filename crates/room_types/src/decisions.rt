@@ -1,11 +1,11 @@
 //! What is decided of a request that isn't refused: the rows that change, and the answer.
 ghost use Rattle.std.specs.Prelude.{◌≡◌, ◌++◌, ◌∷◌, [], IfOk, IfErr};
 ghost use Rattle.room_types.specs.declared.answers.Answer.TheVariants.{Done};
-ghost use Rattle.room_types.specs.declared.refusals.Refusal.TheVariants.{Memory};
+ghost use Rattle.room_types.specs.declared.refusal_statuses.Refusal.TheVariants.{Memory};
 
 use crate::answers::{Answer, Listed};
 use crate::changes::Change;
-use crate::refusals::Refusal;
+use crate::refusal_statuses::Refusal;
 use std::alloc::Global;
 
 /// The rows that a request changes, in their order, and the answer to it.

@@ -2,7 +2,7 @@
 use crate::asks::Who;
 use crate::callsign::Callsign;
 use crate::codes::Kind;
-use crate::refusals::Refusal;
+use crate::refusal_statuses::Refusal;
 use crate::token::Token;
 use room_place::places::Place;
 use room_place::plans::DivisionNumber;

@@ -4,16 +4,16 @@ ghost use Rattle.std.specs.Iterator.Adapters.{IterYieldsInOrder};
 ghost use Rattle.std.specs.Slice.Iter.{iter_rest};
 ghost use Rattle.std.specs.declared.cmp.Ordering.TheVariants.{Equal};
 ghost use Rattle.room_types_keyed.specs.Keyed.{IsKeyed, row_at, put_row, drop_row, keep, IsAt, IsGapFor};
-ghost use Rattle.room_types.specs.declared.refusals.Refusal.TheVariants.{Memory};
+ghost use Rattle.room_types.specs.declared.refusal_statuses.Refusal.TheVariants.{Memory};
 
-use crate::refusals::Refusal;
+use crate::refusal_statuses::Refusal;
 use room_place::plans::DivisionNumber;
 use std::alloc::Global;
 use std::marker::Model;
 use std::slice::Iter;
 
 /// A row of a table. It has a key, of which a table holds one row at most, and divisions that own
-/// it: the desks of these divisions alone see and change it.
+/// it: only the desks of these divisions see and change it.
 ///
 /// The law of the keys: two that compare alike are one and the same.
 pub trait Row: Copy {

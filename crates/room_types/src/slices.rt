@@ -1,4 +1,6 @@
-//! The rows of one division that its requests are decided on.
+//! The rows of one division that its requests are decided on. A vehicle without its assignment, or
+//! a turn without its vehicle, is a slice too, since a request may read one without the other: that
+//! a busy vehicle has both is an agreement of the room.
 ghost use Rattle.std.specs.Prelude.{◌≡◌, true, option_copied};
 ghost use Rattle.std.specs.List.{list_all};
 ghost use Rattle.room_types_keyed.specs.Keyed.{IsKeyed};

@@ -92,7 +92,7 @@ pub struct Turn {
     pub stood_down: bool,
 }
 
-/// What a mobilised vehicle was told, with the place and class of then.
+/// The order of a mobilised vehicle, with the place and class of then.
 #[derive(Clone, Copy)]
 pub struct Assignment {
     pub callsign: Callsign,

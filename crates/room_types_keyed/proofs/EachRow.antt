@@ -23,19 +23,29 @@ module _ {R K : Type 0} (cmp : K → K → Ordering) (key : R → K) (total : Is
     pub at_each_key : (xs : List R) → list_all p xs ≡ true → (k : K)
         → IfSome (row_at cmp key xs k) (P k)
     at_each_key [] h k = tt
-    at_each_key (x ∷ xs) h k = (elim (is_eq (cmp k (key x))) as (λ (b : Bool). is_eq (cmp k (key x)) ≡ b → IfSome (cond b (Some x) (row_at cmp key xs k)) (P k)) [
-      | true ↦ λ q. subst (λ j. P j x) (sym (same_key k x q)) ((decides x).0 (and_parts _ _ h).0)
-      | false ↦ λ q. at_each_key xs (and_parts _ _ h).1 k
-    ]) refl
+    at_each_key (x ∷ xs) h k =
+        (elim (is_eq (cmp k
+        (key x))) as (λ (b : Bool). is_eq (cmp k (key x)) ≡ b → IfSome (cond b (Some x) (row_at cmp key xs k)) (P k)) [
+          | true ↦ λ q. subst (λ j. P j x) (sym (same_key k x q)) ((decides x).0 (and_parts _ _ h).0)
+          | false ↦ λ q. at_each_key xs (and_parts _ _ h).1 k
+        ]) refl
 
     -- and back, of rows in key order
     pub from_each_key : (xs : List R) → IsKeyed cmp key xs
         → ((k : K) → IfSome (row_at cmp key xs k) (P k)) → list_all p xs ≡ true
     from_each_key [] in_order f = refl
     from_each_key (x ∷ xs) in_order f =
-        let here = (decides x).1 (subst (λ o. IfSome (cond (is_eq o) (Some x) (row_at cmp key xs (key x))) (P (key x))) (tied_itself total (key x)) (f (key x))) in
-        let rest = from_each_key xs in_order.1 (λ k. (elim (is_eq (cmp k (key x))) as (λ (b : Bool). is_eq (cmp k (key x)) ≡ b → IfSome (cond b (Some x) (row_at cmp key xs k)) (P k) → IfSome (row_at cmp key xs k) (P k)) [
-          | true ↦ λ q h. rw (row_below cmp key total xs k (subst (λ j. IsBelowAll cmp key j xs) (sym (same_key k x q)) in_order.0)) tt
+        let here = (decides x).1
+        (subst (λ o. IfSome (cond (is_eq o) (Some x) (row_at cmp key xs (key x))) (P (key x)))
+        (tied_itself total (key x)) (f (key x))) in
+        let rest = from_each_key xs in_order.1 (λ k.
+        (elim (is_eq (cmp k (key x))) as (λ (b : Bool).
+        is_eq (cmp k (key x)) ≡ b → IfSome (cond b (Some x) (row_at cmp key xs k)) (P k)
+        → IfSome (row_at cmp key xs k) (P k)) [
+          | true ↦
+              λ q h.
+              rw (row_below cmp key total xs k (subst (λ j. IsBelowAll cmp key j xs) (sym (same_key k x q)) in_order.0))
+              tt
           | false ↦ λ q h. h
         ]) refl (f k)) in
         ap (λ b. b && list_all p xs) here ∙ rest
@@ -43,7 +53,9 @@ module _ {R K : Type 0} (cmp : K → K → Ordering) (key : R → K) (total : Is
   -- a row that is found has the key
   pub row_key : (xs : List R) (k : K) → IfSome (row_at cmp key xs k) (λ x. key x ≡ k)
   row_key [] k = tt
-  row_key (x ∷ xs) k = (elim (is_eq (cmp k (key x))) as (λ (b : Bool). is_eq (cmp k (key x)) ≡ b → IfSome (cond b (Some x) (row_at cmp key xs k)) (λ x. key x ≡ k)) [
-    | true ↦ λ q. sym (same_key k x q)
-    | false ↦ λ q. row_key xs k
-  ]) refl
+  row_key (x ∷ xs) k =
+      (elim (is_eq (cmp k (key x))) as (λ (b : Bool).
+      is_eq (cmp k (key x)) ≡ b → IfSome (cond b (Some x) (row_at cmp key xs k)) (λ x. key x ≡ k)) [
+        | true ↦ λ q. sym (same_key k x q)
+        | false ↦ λ q. row_key xs k
+      ]) refl

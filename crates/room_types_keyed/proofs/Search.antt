@@ -1,5 +1,6 @@
 -- What a search for a key finds, and what an edit at that place does.
-use Rattle.std.proofs.Common.{◌≡◌, ℕ, zero, suc, ◌<◌, ◌≤◌, true, List, [], ◌∷◌, length, get_or, set, Some, None, Result, Ok, Err, IfOk, IfErr, refl, sym, ap, subst, ◌∙◌, ◌-◌, arith, add-one}
+use Rattle.std.proofs.Common.{◌≡◌, ℕ, zero, suc, ◌<◌, ◌≤◌, true, List, [], ◌∷◌, length, get_or, set, Some, None, Result}
+use Rattle.std.proofs.Common.{Ok, Err, IfOk, IfErr, refl, sym, ap, subst, ◌∙◌, ◌-◌, arith, add-one}
 use Rattle.std.specs.List.{insert, remove, slice_get, HoldsAt}
 use Rattle.std.specs.List.Sorted.{IsSortedBy, IsPartitionPoint, IsSearchInRange, IsBinarySearchResult}
 use Rattle.std.specs.declared.cmp.Ordering.{Ordering}
@@ -52,8 +53,10 @@ module _ {R K : Type 0} (cmp : K → K → Ordering) (key : R → K) where
     at_found [] k i s l h = absurd (omega arith)
     at_found (x ∷ xs) k zero s l h = h x
     at_found (x ∷ xs) k (suc i) s l h =
-        let here = h x in
-        (sym (alike_right total _ k (key x) here) ∙ below_at (key x) xs i x s.0 (omega arith), at_found xs k i s.1 (omega arith) h)
+        let here = h x in (
+          sym (alike_right total _ k (key x) here) ∙ below_at (key x) xs i x s.0 (omega arith),
+          at_found xs k i s.1 (omega arith) h,
+        )
 
     -- the place between lower and higher keys is the gap
     gap_found : (xs : List R) (k : K) (i : ℕ) → i ≤ length xs
@@ -64,7 +67,10 @@ module _ {R K : Type 0} (cmp : K → K → Ordering) (key : R → K) where
     gap_found (x ∷ xs) k zero l h = h.1 zero x (omega arith) (omega arith)
     gap_found (x ∷ xs) k (suc i) l h = (
       h.0 zero x (omega arith) (omega arith),
-      gap_found xs k i (omega arith) (λ j d low high. h.0 (suc j) d (omega arith) (omega arith), λ j d low high. h.1 (suc j) d (omega arith) (omega arith)),
+      gap_found xs k i (omega arith) (
+        λ j d low high. h.0 (suc j) d (omega arith) (omega arith),
+        λ j d low high. h.1 (suc j) d (omega arith) (omega arith),
+      ),
     )
 
     -- a binary search finds the key's place, or its gap
@@ -72,7 +78,8 @@ module _ {R K : Type 0} (cmp : K → K → Ordering) (key : R → K) where
         → IsSearchInRange r (length xs) → IsBinarySearchResult (λ y. cmp (key y) k) xs r
         → IfOk r (IsAt cmp key xs k) × IfErr r (IsGapFor cmp key xs k)
     searched xs k (Ok i) s bound h = (at_found xs k i s bound h, tt)
-    searched xs k (Err i) s bound h = (tt, gap_found xs k i bound (h (searchable_from_sorted total key xs k (sorted xs s))))
+    searched xs k (Err i) s bound h =
+        (tt, gap_found xs k i bound (h (searchable_from_sorted total key xs k (sorted xs s))))
 
     gap_after : (xs : List R) (k : K) (i : ℕ) (z : R) → IsKeyed cmp key xs → length xs ≡ suc i
         → slice_get xs i ≡ Some z → cmp (key z) k ≡ Less → IsGapFor cmp key xs k (suc i)
@@ -81,8 +88,10 @@ module _ {R K : Type 0} (cmp : K → K → Ordering) (key : R → K) where
     gap_after (x ∷ []) k (suc i) z s n e l = absurd (omega arith)
     gap_after (x ∷ y ∷ xs) k zero z s n e l = absurd (omega arith)
     gap_after (x ∷ y ∷ xs) k (suc i) z s n e l =
-        let below = below_at (key x) (y ∷ xs) i z s.0 (omega arith) in
-        (total.trans (key x) (key z) k (rw (get_or_from_slice_get (y ∷ xs) i z z e) at below) l, gap_after (y ∷ xs) k i z s.1 (omega arith) e l)
+        let below = below_at (key x) (y ∷ xs) i z s.0 (omega arith) in (
+          total.trans (key x) (key z) k (rw (get_or_from_slice_get (y ∷ xs) i z z e) at below) l,
+          gap_after (y ∷ xs) k i z s.1 (omega arith) e l,
+        )
 
     is_less : (o : Ordering) → is_lt o ≡ true → o ≡ Less
     is_less Less e = refl
@@ -119,7 +128,8 @@ module _ {R K : Type 0} (cmp : K → K → Ordering) (key : R → K) where
     pub row_gap : (xs : List R) (k : K) (i : ℕ) → IsKeyed cmp key xs → IsGapFor cmp key xs k i
         → row_at cmp key xs k ≡ None
     row_gap [] k i s h = refl
-    row_gap (x ∷ xs) k zero s h = row_below cmp key total (x ∷ xs) k (below_from_less cmp key total k x xs (before (key x) k h) s)
+    row_gap (x ∷ xs) k zero s h =
+        row_below cmp key total (x ∷ xs) k (below_from_less cmp key total k x xs (before (key x) k h) s)
     row_gap (x ∷ xs) k (suc i) s h = rw (past (key x) k h.0) (row_gap xs k i s.1 h.1)
 
     pub put_gap : (xs : List R) (r : R) (i : ℕ) → IsKeyed cmp key xs
@@ -132,5 +142,6 @@ module _ {R K : Type 0} (cmp : K → K → Ordering) (key : R → K) where
     pub drop_gap : (xs : List R) (k : K) (i : ℕ) → IsKeyed cmp key xs → IsGapFor cmp key xs k i
         → drop_row cmp key xs k ≡ xs
     drop_gap [] k i s h = refl
-    drop_gap (x ∷ xs) k zero s h = drop_below cmp key total (x ∷ xs) k (below_from_less cmp key total k x xs (before (key x) k h) s)
+    drop_gap (x ∷ xs) k zero s h =
+        drop_below cmp key total (x ∷ xs) k (below_from_less cmp key total k x xs (before (key x) k h) s)
     drop_gap (x ∷ xs) k (suc i) s h = rw (past (key x) k h.0) (ap (λ ys. x ∷ ys) (drop_gap xs k i s.1 h.1))

@@ -8,5 +8,6 @@ returns-then-message-ne200 g c =
 
 pub returns : goal.returns
 returns g c =
-    given_or_not g.G.Given.gives c.args.message.now _ _ _ (rw c.zip.ensures at c.ok_or.ensures.value) c.if-message-ne200.false c.requires
+    given_or_not g.G.Given.gives c.args.message.now _ _ _ (rw c.zip.ensures at c.ok_or.ensures.value)
+    c.if-message-ne200.false c.requires
     c.in_ok-given.ensures

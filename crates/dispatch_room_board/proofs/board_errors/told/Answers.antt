@@ -9,8 +9,11 @@ returns-in-Unheard c = IfOk-weaker c.format.result _ _ (λ s h. h ∙ rw c.in-Un
 
 pub returns-in-Foreign : goal.returns-in-Foreign
 unfolding told
-returns-in-Foreign c = IfOk-weaker c.format-in-Foreign.result _ _ (λ s h. h ∙ rw c.in-Foreign.is) c.format-in-Foreign.ensures.ok
+returns-in-Foreign c =
+    IfOk-weaker c.format-in-Foreign.result _ _ (λ s h. h ∙ rw c.in-Foreign.is) c.format-in-Foreign.ensures.ok
 
 pub returns-in-Refused : goal.returns-in-Refused
 unfolding told
-returns-in-Refused c = IfOk-weaker c.format-in-Refused.result _ _ (λ s h. h ∙ rw (c.in-Refused.is, c.as_str-name.ensures.text) (simp append_assoc)) c.format-in-Refused.ensures.ok
+returns-in-Refused c =
+    IfOk-weaker c.format-in-Refused.result _ _
+    (λ s h. h ∙ rw (c.in-Refused.is, c.as_str-name.ensures.text) (simp append_assoc)) c.format-in-Refused.ensures.ok

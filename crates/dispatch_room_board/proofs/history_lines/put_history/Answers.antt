@@ -5,6 +5,8 @@ use Rattle.dispatch_room_board.proofs.history_lines.put_history.Goals as goal
 pub returns : goal.returns
 returns c =
     on_ok_weaker c.put_rows-2.result
-    (λ turns. history_shown c.args.now c.args.history.now c.args.page.now c.put_subject.new.page c.put_rows.new.page c.put_rows-2.new.page
+    (λ turns.
+    history_shown c.args.now c.args.history.now c.args.page.now c.put_subject.new.page c.put_rows.new.page
+    c.put_rows-2.new.page
     c.in_ok-put_subject.ensures c.in_ok-put_rows.ensures turns)
     c.put_rows-2.ensures

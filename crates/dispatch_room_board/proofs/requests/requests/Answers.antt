@@ -5,4 +5,5 @@ use Rattle.dispatch_room_board.proofs.requests.requests.Goals as goal
 pub returns : goal.returns
 unfolding requests fields_of
 returns c =
-    c.in_ok-put_requests.ensures ∙ rw (c.new-text.ensures.bytes, c.as_str.ensures.value, c.in_ok-fields.ensures.ok, c.as_str-token.ensures.text)
+    c.in_ok-put_requests.ensures
+    ∙ rw (c.new-text.ensures.bytes, c.as_str.ensures.value, c.in_ok-fields.ensures.ok, c.as_str-token.ensures.text)

@@ -7,5 +7,8 @@ pub returns : goal.returns
 unfolding subject_title
 returns c =
     IfOk-weaker c.format.result _ _
-    (λ s h. h ∙ rw (c.as_str-state.ensures.value, c.in_ok-state.ensures, c.state.ensures, c.get-number.ensures.value) (simp append_assoc))
+    (λ s h.
+    h
+    ∙ rw (c.as_str-state.ensures.value, c.in_ok-state.ensures, c.state.ensures, c.get-number.ensures.value)
+    (simp append_assoc))
     c.format.ensures.ok

@@ -19,8 +19,14 @@ by_network reached.Less = refl
 pub returns-in-Ok-write_all-clause-done : goal.returns-in-Ok-write_all-clause-done
 returns-in-Ok-write_all-clause-done g c =
     by_cases c.end_of.result _
-    (λ done is. (c.in-Ok.board, c.in-Ok.ensures, rw c.as_slice.ensures at c.in-Ok-write_all.ensures.bytes, sym c.end_of.ensures ∙ is))
+    (λ done is. (
+      c.in-Ok.board,
+      c.in-Ok.ensures,
+      rw c.as_slice.ensures at c.in-Ok-write_all.ensures.bytes,
+      sym c.end_of.ensures ∙ is,
+    ))
 
 pub returns-in-Ok-write_all-clause-undone : goal.returns-in-Ok-write_all-clause-undone
 returns-in-Ok-write_all-clause-undone g c =
-    rw c.end_of.ensures (IfErr-weaker (end_of_board c.in-Ok.board.reached) _ _ (λ fault is. inr is) (by_network c.in-Ok.board.reached))
+    rw c.end_of.ensures
+    (IfErr-weaker (end_of_board c.in-Ok.board.reached) _ _ (λ fault is. inr is) (by_network c.in-Ok.board.reached))

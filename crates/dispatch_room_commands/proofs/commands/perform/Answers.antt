@@ -20,3 +20,6 @@ returns-in-Terminals-clause-undone g c = rw c.in-Terminals.is c.terminals.ensure
 
 pub returns-in-Renew-clause-undone : goal.returns-in-Renew-clause-undone
 returns-in-Renew-clause-undone g c = rw c.in-Renew.is c.renew.ensures.undone
+
+pub returns-in-JoinedTimes-clause-undone : goal.returns-in-JoinedTimes-clause-undone
+returns-in-JoinedTimes-clause-undone g c = rw c.in-JoinedTimes.is c.joined_times.ensures.undone

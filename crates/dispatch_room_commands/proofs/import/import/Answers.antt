@@ -3,7 +3,9 @@ use Rattle.std.proofs.lemmas.Result.{IfErr-weaker, IfOk-weaker}
 use Rattle.dispatch_room_commands.proofs.import.import.Goals as goal
 
 pub returns-clause-done : goal.returns-clause-done
-returns-clause-done g c = IfOk-weaker c.in_file.result _ _ (λ done is. (c.as_slice-2.result.now, is)) c.in_file.ensures.done
+returns-clause-done g c =
+    IfOk-weaker c.in_file.result _ _ (λ done is. (c.as_slice-2.result.now, is)) c.in_file.ensures.done
 
 pub returns-clause-undone : goal.returns-clause-undone
-returns-clause-undone g c = IfErr-weaker c.in_file.result _ _ (λ fault is. inr (c.as_slice-2.result.now, is)) c.in_file.ensures.undone
+returns-clause-undone g c =
+    IfErr-weaker c.in_file.result _ _ (λ fault is. inr (c.as_slice-2.result.now, is)) c.in_file.ensures.undone

@@ -6,4 +6,5 @@ pub returns-clause-done : goal.returns-clause-done
 returns-clause-done g c = IfOk-weaker c.in_file.result _ _ (λ done is. (c.in_ok-plan.plan, is)) c.in_file.ensures.done
 
 pub returns-clause-undone : goal.returns-clause-undone
-returns-clause-undone g c = IfErr-weaker c.in_file.result _ _ (λ fault is. inr (c.in_ok-plan.plan, is)) c.in_file.ensures.undone
+returns-clause-undone g c =
+    IfErr-weaker c.in_file.result _ _ (λ fault is. inr (c.in_ok-plan.plan, is)) c.in_file.ensures.undone

@@ -4,4 +4,5 @@ use Rattle.dispatch_room_commands.proofs.migrate.migrate.Goals as goal
 
 pub returns-in_err-in_file-clause-undone : goal.returns-in_err-in_file-clause-undone
 returns-in_err-in_file-clause-undone g c =
-    handed_on c.from_residual.result _ c.from_residual.ensures.1 (λ fault is. inl (rw is c.in_err-in_file.ensures.undone))
+    handed_on c.from_residual.result _ c.from_residual.ensures.1
+    (λ fault is. inl (rw is c.in_err-in_file.ensures.undone))

@@ -9,8 +9,11 @@ returns-in_err-left-clause-undone g c =
 
 pub returns-clause-done : goal.returns-clause-done
 returns-clause-done g c =
-    IfOk-weaker c.in_file-2.result _ _ (λ done is. record { between = _; left = c.in_ok-left.left; read = c.in_ok-left.ensures.done; made = is }) c.in_file-2.ensures.done
+    IfOk-weaker c.in_file-2.result _ _
+    (λ done is. record { between = _; left = c.in_ok-left.left; read = c.in_ok-left.ensures.done; made = is })
+    c.in_file-2.ensures.done
 
 pub returns-clause-undone : goal.returns-clause-undone
 returns-clause-undone g c =
-    IfErr-weaker c.in_file-2.result _ _ (λ fault is. inr (_, c.in_ok-left.left, c.in_ok-left.ensures.done, is)) c.in_file-2.ensures.undone
+    IfErr-weaker c.in_file-2.result _ _ (λ fault is. inr (_, c.in_ok-left.left, c.in_ok-left.ensures.done, is))
+    c.in_file-2.ensures.undone

@@ -4,16 +4,20 @@ use Rattle.dispatch_room_commands.proofs.serve.serve_file.Goals as goal
 
 pub returns-then-is_endless-clause-done : goal.returns-then-is_endless-clause-done
 returns-then-is_endless-clause-done g c =
-    served _ _ _ c.args.service true _ (sym c.is_endless.ensures ∙ c.if-is_endless.true) c.in_ok-journal.ensures.file c.serve_at_door.ensures.done
+    served _ _ _ c.args.service true _ (sym c.is_endless.ensures ∙ c.if-is_endless.true) c.in_ok-journal.ensures.file
+    c.serve_at_door.ensures.done
 
 pub returns-then-is_endless-clause-undone : goal.returns-then-is_endless-clause-undone
 returns-then-is_endless-clause-undone g c =
-    unserved _ _ _ c.args.service true _ (sym c.is_endless.ensures ∙ c.if-is_endless.true) c.in_ok-journal.ensures.file c.serve_at_door.ensures.undone
+    unserved _ _ _ c.args.service true _ (sym c.is_endless.ensures ∙ c.if-is_endless.true) c.in_ok-journal.ensures.file
+    c.serve_at_door.ensures.undone
 
-pub returns-clause-done : goal.returns-clause-done
-returns-clause-done g c =
-    served _ _ _ c.args.service false _ (sym c.is_endless.ensures ∙ c.if-is_endless.false) c.in_ok-journal.ensures.file c.serve_at_address.ensures.done
+pub returns-else-is_endless-clause-done : goal.returns-else-is_endless-clause-done
+returns-else-is_endless-clause-done g c =
+    served _ _ _ c.args.service false _ (sym c.is_endless.ensures ∙ c.if-is_endless.false) c.in_ok-journal.ensures.file
+    c.serve_at_address.ensures.done
 
-pub returns-clause-undone : goal.returns-clause-undone
-returns-clause-undone g c =
-    unserved _ _ _ c.args.service false _ (sym c.is_endless.ensures ∙ c.if-is_endless.false) c.in_ok-journal.ensures.file c.serve_at_address.ensures.undone
+pub returns-else-is_endless-clause-undone : goal.returns-else-is_endless-clause-undone
+returns-else-is_endless-clause-undone g c =
+    unserved _ _ _ c.args.service false _ (sym c.is_endless.ensures ∙ c.if-is_endless.false)
+    c.in_ok-journal.ensures.file c.serve_at_address.ensures.undone

@@ -8,10 +8,19 @@ returns-in_err-token-clause-undone g c =
 
 pub returns-in_err-in_file-clause-undone : goal.returns-in_err-in_file-clause-undone
 returns-in_err-in_file-clause-undone g c =
-    handed_on c.from_residual-in_err-in_file.result _ c.from_residual-in_err-in_file.ensures.1 (λ fault is. inr (Some c.in_ok-token.token, inl (rw is c.in_err-in_file.ensures.undone)))
+    handed_on c.from_residual-in_err-in_file.result _ c.from_residual-in_err-in_file.ensures.1
+    (λ fault is. inr (Some c.in_ok-token.token, inl (rw is c.in_err-in_file.ensures.undone)))
 
 pub returns-in-Ok-clause-done : goal.returns-in-Ok-clause-done
-returns-in-Ok-clause-done g c = (c.in_ok-token.token, record { between = _; is = c.in_ok-in_file.ensures.done; told = rw c.as_str.ensures.text at c.in-Ok.ensures.bytes; whole = refl })
+returns-in-Ok-clause-done g c = (
+  c.in_ok-token.token,
+  record {
+    between = _;
+    is = c.in_ok-in_file.ensures.done;
+    told = rw c.as_str.ensures.text at c.in-Ok.ensures.bytes;
+    whole = refl;
+  },
+)
 
 pub returns-in-Err-clause-undone : goal.returns-in-Err-clause-undone
 returns-in-Err-clause-undone g c = inr (Some c.in_ok-token.token, inr (refl, (_, c.in_ok-in_file.ensures.done)))

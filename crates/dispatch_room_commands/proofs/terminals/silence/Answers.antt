@@ -8,4 +8,5 @@ returns-in_err-token-clause-undone g c =
     handed_on c.from_residual.result _ c.from_residual.ensures.1 (λ fault is. inl (refl, rw is c.in_err-token.ensures))
 
 pub returns-clause-done : goal.returns-clause-done
-returns-clause-done g c = IfOk-weaker c.withdraw.result _ _ (λ done is. (c.in_ok-token.token, is)) c.withdraw.ensures.done
+returns-clause-done g c =
+    IfOk-weaker c.withdraw.result _ _ (λ done is. (c.in_ok-token.token, is)) c.withdraw.ensures.done

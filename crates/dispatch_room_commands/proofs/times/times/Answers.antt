@@ -4,7 +4,8 @@ use Rattle.dispatch_room_commands.proofs.times.times.Goals as goal
 
 pub returns-in_err-report-clause-undone : goal.returns-in_err-report-clause-undone
 returns-in_err-report-clause-undone g c =
-    handed_on c.from_residual.result _ c.from_residual.ensures.1 (λ fault is. inl (rw is c.in_err-report.ensures.undone))
+    handed_on c.from_residual.result _ c.from_residual.ensures.1
+    (λ fault is. inl (rw is c.in_err-report.ensures.undone))
 
 pub returns-in-Ok-clause-done : goal.returns-in-Ok-clause-done
 returns-in-Ok-clause-done g c = record {

@@ -12,14 +12,16 @@ pub sound_plan-requires : goal.sound_plan-requires
 sound_plan-requires c =
     let counted = sym c.has_zone_and_areas.ensures ∙ c.if-not-has_zone_and_areas.false in
     let plan = kept_is_plan c.args.lines.now counted c.in_default.ensures in
-    let first = c.as_str.ensures.text ∙ c.index.ensures ∙ ap (λ rules. get_or rules 0 c.index.result.now) (c.in_ok-rules.ensures ∙ plan.1) in
+    let first = c.as_str.ensures.text ∙ c.index.ensures
+    ∙ ap (λ rules. get_or rules 0 c.index.result.now) (c.in_ok-rules.ensures ∙ plan.1) in
     rw (c.in_ok-areas.ensures, first) plan.2
 
 pub returns-clause-plan : goal.returns-clause-plan
 returns-clause-plan c =
     let counted = sym c.has_zone_and_areas.ensures ∙ c.if-not-has_zone_and_areas.false in
     let plan = kept_is_plan c.args.lines.now counted c.in_default.ensures in
-    let first = c.as_str.ensures.text ∙ c.index.ensures ∙ ap (λ rules. get_or rules 0 c.index.result.now) (c.in_ok-rules.ensures ∙ plan.1) in
+    let first = c.as_str.ensures.text ∙ c.index.ensures
+    ∙ ap (λ rules. get_or rules 0 c.index.result.now) (c.in_ok-rules.ensures ∙ plan.1) in
     record {
       counted = counted;
       kept = c.in_default.ensures;

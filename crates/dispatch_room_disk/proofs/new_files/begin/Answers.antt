@@ -1,4 +1,5 @@
-use Rattle.std.proofs.Common.{Err, IfErr, IsTrue, Ok, OnOk, Result, ap, subst₂, false, inl, inr, refl, rules, subst, sym, ℕ, ◌∙◌, ◌≡◌, ◌⊎◌}
+use Rattle.std.proofs.Common.{Err, IfErr, IsTrue, Ok, OnOk, Result, ap, subst₂, false, inl, inr, refl, rules, subst}
+use Rattle.std.proofs.Common.{sym, ℕ, ◌∙◌, ◌≡◌, ◌⊎◌}
 use Rattle.std.proofs.lemmas.Result.{on_ok_weaker}
 use Rattle.sqlite_disk.specs.declared.Disk.{Ghosts}
 use Rattle.sqlite_disk.specs.declared.Files.{Files}
@@ -30,10 +31,15 @@ once_made (Err error) faults end New P no_other cause new is = elim (rw no_other
 ]
 
 -- files that were given back are spared
-given_back : {D : Type 0} (disk : Ghosts D) (old new : Files D) → ◌≡◌ {A = D × D} (new.log, new.db) (old.log, old.db) → IsSpared disk old new
+given_back : {D : Type 0} (disk : Ghosts D) (old new : Files D) → ◌≡◌ {A = D × D} (new.log, new.db) (old.log, old.db)
+    → IsSpared disk old new
 given_back disk old new back =
     let kept = λ (left : Image). subst (λ f. outcomes disk f.0 f.1 left) back in
-    record { same = λ there. ap (λ f. seen_image disk f.0 f.1) back; still = λ there. kept; most = λ left leaves. inl (kept left leaves) }
+    record {
+      same = λ there. ap (λ f. seen_image disk f.0 f.1) back;
+      still = λ there. kept;
+      most = λ left leaves. inl (kept left leaves);
+    }
 
 pub returns-clause-begun : goal.returns-clause-begun
 returns-clause-begun g c clean =
@@ -42,14 +48,18 @@ returns-clause-begun g c clean =
     let first = c.in-Ok-new.pool in
     let made = c.create.ensures in
     let size : bytes_of c.unwrap-size.result ≡ small_page = search rules in
-    let sized : (state first).page_size ≡ small_page = c.in-Ok-new.ensures.size ∙ ap (λ n. used_size n false) (c.in-Ok.ensures.size ∙ size) in
-    let before : image first ≡ image_of disk c.args.files = ap (λ f. seen_image disk f.0 f.1) (c.in-Ok-new.ensures.files ∙ c.in-Ok.ensures.files) in
+    let sized : (state first).page_size
+    ≡ small_page = c.in-Ok-new.ensures.size ∙ ap (λ n. used_size n false) (c.in-Ok.ensures.size ∙ size) in
+    let before : image first
+    ≡ image_of disk c.args.files =
+    ap (λ f. seen_image disk f.0 f.1) (c.in-Ok-new.ensures.files ∙ c.in-Ok.ensures.files) in
     let kept = subst (λ f. AreClean disk f.0 f.1) c.close-2.ensures clean in
     let sure : IsTrue (state pool).is_clean = clean_is pool ∙ kept in
     on_ok_weaker c.begun-made.result
     (λ no_other blank left leaves.
     let once = λ (P : Type 0) (is : OnOk c.create.result P).
-    once_made c.create.result _ _ _ P no_other (made.cause sure) (subst₂ IsBlankFile (sym sized) (sym before) blank) is in
+    once_made c.create.result _ _ _ P no_other (made.cause sure) (subst₂ IsBlankFile (sym sized) (sym before) blank)
+    is in
     let is_open = (once _ (made.clean sure)).is_open in
     let may = may_leave_is pool left kept (subst (λ f. outcomes disk f.0 f.1 left) c.close-2.ensures leaves) in
     let lasts = (settled pool g.met.D.Disk.seen_may_stay is_open).durable left may in (
@@ -66,21 +76,30 @@ returns-clause-spared g c clean =
     let first = c.in-Ok-new.pool in
     let made = c.create.ensures in
     let size : bytes_of c.unwrap-size.result ≡ small_page = search rules in
-    let sized : (state first).page_size ≡ small_page = c.in-Ok-new.ensures.size ∙ ap (λ n. used_size n false) (c.in-Ok.ensures.size ∙ size) in
+    let sized : (state first).page_size
+    ≡ small_page = c.in-Ok-new.ensures.size ∙ ap (λ n. used_size n false) (c.in-Ok.ensures.size ∙ size) in
     let found = c.in-Ok-new.ensures.files ∙ c.in-Ok.ensures.files in
     let before : image first ≡ image_of disk c.args.files = ap (λ f. seen_image disk f.0 f.1) found in
     let kept = subst (λ f. AreClean disk f.0 f.1) c.close-2.ensures clean in
     let sure : IsTrue (state pool).is_clean = clean_is pool ∙ kept in
     let may = λ (left : Image) (leaves : outcomes disk c.close-2.result.log c.close-2.result.db left).
     may_leave_is pool left kept (subst (λ f. outcomes disk f.0 f.1 left) c.close-2.ensures leaves) in
-    let old_left = λ (left : Image) (may : (state first).may_leave left). subst (λ f. outcomes disk f.0 f.1 left) found ((pool_files first).2 left may) in
+    let old_left = λ (left : Image) (may : (state first).may_leave left).
+    subst (λ f. outcomes disk f.0 f.1 left) found ((pool_files first).2 left may) in
     record {
-      same = λ there. ap (λ f. seen_image disk f.0 f.1) c.close-2.ensures ∙ made.there sure (λ blank. there (subst₂ IsBlankFile sized before blank)) ∙ before;
-      still = λ there left leaves. old_left left (made.untouched (λ blank. there (subst₂ IsBlankFile sized before blank)) left (may left leaves));
+      same =
+          λ there.
+          ap (λ f. seen_image disk f.0 f.1) c.close-2.ensures
+          ∙ made.there sure (λ blank. there (subst₂ IsBlankFile sized before blank)) ∙ before;
+      still =
+          λ there left leaves.
+          old_left left
+          (made.untouched (λ blank. there (subst₂ IsBlankFile sized before blank)) left (may left leaves));
       most = λ left leaves. elim (made.crash left (may left leaves)) [
         | inl was ↦ inl (old_left left was)
         | inr (inl blank) ↦ inr (inl (subst (λ n. IsBlankFile n left) sized blank))
-        | inr (inr (pages, recovers, new)) ↦ inr (inr (pages, subst (λ n. Recovers n left pages) sized recovers, subst (λ n. IsNew n pages) sized new))
+        | inr (inr (pages, recovers, new)) ↦
+            inr (inr (pages, subst (λ n. Recovers n left pages) sized recovers, subst (λ n. IsNew n pages) sized new))
       ];
     }
 

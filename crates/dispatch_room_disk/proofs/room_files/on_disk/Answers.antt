@@ -7,7 +7,8 @@ use Rattle.dispatch_room_disk.specs.RoomFiles.{IsCopiedOut, IsDone, IsUnclosed, 
 use Rattle.dispatch_room_exit.specs.declared.exit_status.Failure.{Failure}
 use Rattle.dispatch_room_disk.proofs.room_files.on_disk.Goals as goal
 
-module _ {D T : Type 0} {g : Ghosts D} (says : Saying T) (conn : Held (FileStore D g)) (before after : Option (List ℕ)) where
+module _ {D T : Type 0} {g : Ghosts D} (says : Saying T) (conn : Held (FileStore D g))
+    (before after : Option (List ℕ)) where
   done_by : (worked : Result (Result T Failure × Held (FileStore D g)) Failure) (result : Result T Failure)
       → IfOk worked (λ w. says (FileStore D g) over_files conn w.1 before after w.0) → OnOk result (IsOk worked)
       → IfOk worked (λ w. IfOk result (λ done. w.0 ≡ Ok done)) → IfOk worked (λ w. OnOk result (IsCopiedOut w.1))
@@ -15,9 +16,14 @@ module _ {D T : Type 0} {g : Ghosts D} (says : Saying T) (conn : Held (FileStore
   done_by worked (Err fault) said room is copied = tt
   done_by (Err fault) (Ok done) said room is copied = absurd (cc room)
   done_by (Ok (inner, closed)) (Ok done) said room is copied =
-      record { closed = closed; said = subst (λ it. says (FileStore D g) over_files conn closed before after it) is said; copied = copied }
+      record {
+        closed = closed;
+        said = subst (λ it. says (FileStore D g) over_files conn closed before after it) is said;
+        copied = copied;
+      }
 
-  undone_by : (refuses : Refusing) (worked : Result (Result T Failure × Held (FileStore D g)) Failure) (result : Result T Failure)
+  undone_by : (refuses : Refusing) (worked : Result (Result T Failure × Held (FileStore D g)) Failure)
+      (result : Result T Failure)
       → IfOk worked (λ w. says (FileStore D g) over_files conn w.1 before after w.0)
       → IfErr worked (refuses (FileStore D g) over_files conn)
       → IfOk worked (λ w. IfErr result (λ fault. ((w.0 ≡ Err fault) × IsCopiedOut w.1) ⊎ IsUnclosed w.1 fault))
@@ -28,16 +34,22 @@ module _ {D T : Type 0} {g : Ghosts D} (says : Saying T) (conn : Held (FileStore
       let same : cause ≡ fault = cc none in
       inl (subst (λ it. refuses (FileStore D g) over_files conn it) same refused)
   undone_by refuses (Ok (inner, closed)) (Err fault) said refused (inl (is, copied)) none =
-      inr (inl (record { closed = closed; said = subst (λ it. says (FileStore D g) over_files conn closed before after it) is said; copied = copied }))
+      inr (inl (record {
+        closed = closed;
+        said = subst (λ it. says (FileStore D g) over_files conn closed before after it) is said;
+        copied = copied;
+      }))
   undone_by refuses (Ok (inner, closed)) (Err fault) said refused (inr unclosed) none =
       inr (inr (record { closed = closed; came = inner; said = said; unclosed = unclosed }))
 
 pub returns-clause-done : goal.returns-clause-done
 returns-clause-done g c =
     let said = c.closed.ensures in
-    done_by (g.W.RoomTask.says c.args.work) c.args.conn _ _ c.run.result c.closed.result c.run.ensures.done said.room said.done said.copied
+    done_by (g.W.RoomTask.says c.args.work) c.args.conn _ _ c.run.result c.closed.result c.run.ensures.done said.room
+    said.done said.copied
 
 pub returns-clause-undone : goal.returns-clause-undone
 returns-clause-undone g c =
     let said = c.closed.ensures in
-    undone_by (g.W.RoomTask.says c.args.work) c.args.conn _ _ (g.W.RoomTask.refuses c.args.work) c.run.result c.closed.result c.run.ensures.done c.run.ensures.refused said.fault said.none
+    undone_by (g.W.RoomTask.says c.args.work) c.args.conn _ _ (g.W.RoomTask.refuses c.args.work) c.run.result
+    c.closed.result c.run.ensures.done c.run.ensures.refused said.fault said.none

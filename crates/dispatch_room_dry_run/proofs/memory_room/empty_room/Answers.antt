@@ -14,4 +14,5 @@ returns-in-Ok-create-clause-room c =
     let store = c.in-Ok-create.store in
     let is = c.in-Ok-create.ensures.room (memory_is_clean store.conn) in
     subst (λ (ts : List Terminal). IsRoom over_memory store (in_order ts) (new_room example_plan)) c.terminals.ensures
-    (subst (λ (room : Room). IsRoom over_memory store (in_order c.terminals.result) room) (same_new_room c.in-Ok.plan example_plan c.in-Ok.ensures.0) is)
+    (subst (λ (room : Room). IsRoom over_memory store (in_order c.terminals.result) room)
+    (same_new_room c.in-Ok.plan example_plan c.in-Ok.ensures.0) is)

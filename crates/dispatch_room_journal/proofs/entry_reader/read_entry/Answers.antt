@@ -7,9 +7,16 @@ use Rattle.dispatch_room_journal.proofs.entry_reader.read_entry.Goals as goal
 pub returns-in-Whole-clause-read : goal.returns-in-Whole-clause-read
 returns-in-Whole-clause-read g c =
     let r = c.looks.reader in
-    let says : SaysOf c.looks.inbox.kept (g.R.Source.has_failed r) (g.R.Source.has_ended r) (g.R.Source.left r) (Ok (Some c.in-Whole.layout)) =
+    let says : SaysOf c.looks.inbox.kept (g.R.Source.has_failed r) (g.R.Source.has_ended r) (g.R.Source.left r)
+    (Ok (Some c.in-Whole.layout)) =
     (rw c.bytes.ensures.value at c.in-Whole.ensures, c.looks.invariant.sound) in
-    record { same = c.looks.invariant.same; says = says; first = first_found _ _ _ _ (g.R.Source.has_failed r) (g.R.Source.has_ended r) (Ok (Some c.in-Whole.layout)) c.looks.invariant.same says }
+    record {
+      same = c.looks.invariant.same;
+      says = says;
+      first =
+          first_found _ _ _ _ (g.R.Source.has_failed r) (g.R.Source.has_ended r) (Ok (Some c.in-Whole.layout))
+          c.looks.invariant.same says;
+    }
 
 pub fill-requires : goal.fill-requires
 fill-requires g c = part_fits c.looks.inbox.kept (rw c.bytes.ensures.value at c.in-Part.ensures)
@@ -20,9 +27,18 @@ returns-in-Ok-eq0-clause-read g c =
     let bytes = filled.bytes in
     let end = bytes.4 c.in-Ok-eq0.field-0-test in
     let r = c.fill.new.reader in
-    let same = Keeps-trans _ _ _ c.looks.invariant.same (same_text _ _ c.looks.inbox.kept bytes.0 c.fill.new.self.kept bytes.2 bytes.3) in
+    let same = Keeps-trans _ _ _ c.looks.invariant.same
+    (same_text _ _ c.looks.inbox.kept bytes.0 c.fill.new.self.kept bytes.2 bytes.3) in
     let sound : g.R.Source.has_failed r ≡ false = rw c.looks.invariant.sound at filled.failed in
-    let says : SaysOf c.fill.new.self.kept (g.R.Source.has_failed r) (g.R.Source.has_ended r) (g.R.Source.left r) (end_of c.fill.new.self.kept) =
-    ends c.looks.inbox.kept c.fill.new.self.kept bytes.0 _ _ _ (bytes.1 ∙ c.in-Ok-eq0.field-0-test) bytes.2 (rw c.bytes.ensures.value at c.in-Part.ensures) sound end.0 end.1 in
+    let says : SaysOf c.fill.new.self.kept (g.R.Source.has_failed r) (g.R.Source.has_ended r) (g.R.Source.left r)
+    (end_of c.fill.new.self.kept) =
+    ends c.looks.inbox.kept c.fill.new.self.kept bytes.0 _ _ _ (bytes.1 ∙ c.in-Ok-eq0.field-0-test) bytes.2
+    (rw c.bytes.ensures.value at c.in-Part.ensures) sound end.0 end.1 in
     rw (c.end_of.ensures, c.bytes-in-Ok-eq0.ensures.value)
-    (record { same = same; says = says; first = first_found _ _ _ _ (g.R.Source.has_failed r) (g.R.Source.has_ended r) (end_of c.fill.new.self.kept) same says })
+    (record {
+      same = same;
+      says = says;
+      first =
+          first_found _ _ _ _ (g.R.Source.has_failed r) (g.R.Source.has_ended r) (end_of c.fill.new.self.kept) same
+          says;
+    })

@@ -9,19 +9,26 @@ use Rattle.dispatch_room_journal.proofs.PartLemmas.{line_of_room, line_of_messag
 use Rattle.dispatch_room_journal.proofs.line_prefixes.begins_line.Goals as goal
 
 pub returns-then-begins_room : goal.returns-then-begins_room
-returns-then-begins_room c = (λ is. line_of_room First c.args.bytes.now (c.begins_room.ensures.0 is), λ _. c.if-begins_room.true)
+returns-then-begins_room c =
+    (λ is. line_of_room First c.args.bytes.now (c.begins_room.ensures.0 is), λ _. c.if-begins_room.true)
 
 pub returns-then-begins_room-2 : goal.returns-then-begins_room-2
-returns-then-begins_room-2 c = (λ is. line_of_room Second c.args.bytes.now (c.begins_room-else-begins_room.ensures.0 is), λ _. c.if-begins_room-2.true)
+returns-then-begins_room-2 c = (
+  λ is. line_of_room Second c.args.bytes.now (c.begins_room-else-begins_room.ensures.0 is),
+  λ _. c.if-begins_room-2.true,
+)
 
 pub returns-then-begins_message : goal.returns-then-begins_message
-returns-then-begins_message c = (λ is. line_of_message c.args.bytes.now (c.begins_message.ensures.0 is), λ _. c.if-begins_message.true)
+returns-then-begins_message c =
+    (λ is. line_of_message c.args.bytes.now (c.begins_message.ensures.0 is), λ _. c.if-begins_message.true)
 
 pub returns-else-begins_message : goal.returns-else-begins_message
-returns-else-begins_message c = (λ is. line_of_answer c.args.bytes.now (c.begins_answer.ensures.0 is), λ has. go (line_cases c.args.bytes.now has))
+returns-else-begins_message c =
+    (λ is. line_of_answer c.args.bytes.now (c.begins_answer.ensures.0 is), λ has. go (line_cases c.args.bytes.now has))
   where
     go : ((version : Version) × BeginsOne (After (head_words version) IsDigest) c.args.bytes.now)
-        ⊎ (BeginsOne (After (codes "message ") AreNumbers) c.args.bytes.now ⊎ BeginsOne (After (codes "answer ") (IsNumber LEAST_STATUS GREATEST_STATUS)) c.args.bytes.now)
+        ⊎ (BeginsOne (After (codes "message ") AreNumbers) c.args.bytes.now
+        ⊎ BeginsOne (After (codes "answer ") (IsNumber LEAST_STATUS GREATEST_STATUS)) c.args.bytes.now)
         → IsTrue c.begins_answer.result
     go (inl (First, is_room)) = absurd (false≢true (c.if-begins_room.ensures.1 is_room))
     go (inl (Second, is_room)) = absurd (false≢true (c.if-begins_room-2.ensures.1 is_room))

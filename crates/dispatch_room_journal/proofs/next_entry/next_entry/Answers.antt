@@ -1,8 +1,10 @@
 use Rattle.std.proofs.Common.{refl, [], drop, inl, None}
 use Rattle.dispatch_room_journal.specs.Entries.{room, answer}
 use Rattle.dispatch_room_journal.specs.ReplayFaults.{broken, unasked, headless}
-use Rattle.dispatch_room_journal.proofs.FaultLemmas.{unless_known, not_both, read_explains, read_due, wanting_explains, wanting_due}
-use Rattle.dispatch_room_journal.proofs.NextEntryLemmas.{layout_of_room, layout_of_message, layout_of_mark, taken, by_not_after, ends_before}
+use Rattle.dispatch_room_journal.proofs.FaultLemmas.{unless_known, not_both, read_explains, read_due, wanting_explains}
+use Rattle.dispatch_room_journal.proofs.FaultLemmas.{wanting_due}
+use Rattle.dispatch_room_journal.proofs.NextEntryLemmas.{layout_of_room, layout_of_message, layout_of_mark, taken}
+use Rattle.dispatch_room_journal.proofs.NextEntryLemmas.{by_not_after, ends_before}
 use Rattle.dispatch_room_journal.proofs.next_entry.next_entry.Goals as goal
 
 pub returns-in-Ok-true-clause-next : goal.returns-in-Ok-true-clause-next
@@ -13,15 +15,22 @@ returns-in-Ok-true-clause-next g c =
       front.begins.0,
       taken _ _ _ _ c.in-Ok-Some.layout _ front read.same c.remove.ensures.kept,
       read.says.1,
-      λ trust terminals held stood. ((c.in-Ok-true.ensures.says trust terminals held stood).0 c.in-Ok-true.field-0-test, c.is_at.ensures.same trust terminals held stood),
+      λ trust terminals held stood. (
+        (c.in-Ok-true.ensures.says trust terminals held stood).0 c.in-Ok-true.field-0-test,
+        c.is_at.ensures.same trust terminals held stood,
+      ),
     )
 
 pub returns-then-is_after-clause-next : goal.returns-then-is_after-clause-next
 returns-then-is_after-clause-next g c =
     let read = rw c.in-Ok-Some.field-0-is at c.in-Ok-Some.ensures.read in (
       read.same,
-      λ text is. let first = read.first text is in
-          (text, refl, ends_before c.args.until.now text c.in-Ok-Some.layout first.0 c.in-Message.at c.in-Message.size first.1 c.in-Message.is (c.is_after.ensures.0 c.if-is_after.true)),
+      λ text is. let first = read.first text is in (
+        text,
+        refl,
+        ends_before c.args.until.now text c.in-Ok-Some.layout first.0 c.in-Message.at c.in-Message.size first.1
+            c.in-Message.is (c.is_after.ensures.0 c.if-is_after.true),
+      ),
       λ trust terminals room stood. stood,
     )
 
@@ -30,7 +39,11 @@ returns-in-Err-clause-next g c =
     let read = c.in-Err.ensures.read in
     rw c.read_fault.ensures (
       λ trust terminals room stood. stood,
-      λ waits text known. (text, refl, read_explains waits _ ⊥ _ [] c.in-Err.fault text text (read.first text known) (λ b. broken (λ _. refl) b)),
+      λ waits text known. (
+        text,
+        refl,
+        read_explains waits _ ⊥ _ [] c.in-Err.fault text text (read.first text known) (λ b. broken (λ _. refl) b),
+      ),
       read_due _ _ _ _ c.in-Err.fault read.says,
     )
 
@@ -51,8 +64,10 @@ returns-in-Ok-false-clause-next g c =
               (
                 refl,
                 λ trust terminals held stood.
-                    let says = c.in-Ok-false.ensures.says trust terminals held stood in
-                    (λ same. not_both _ c.in-Ok-false.field-0-test (says.1 same), c.is_at.ensures.same trust terminals held stood),
+                    let says = c.in-Ok-false.ensures.says trust terminals held stood in (
+                      λ same. not_both _ c.in-Ok-false.field-0-test (says.1 same),
+                      c.is_at.ensures.same trust terminals held stood,
+                    ),
               ),
             ),
           ),
@@ -74,8 +89,13 @@ returns-then-not-is_begun-clause-next g c =
       λ trust terminals room stood. stood,
       λ waits text known.
           let first = read.first text known in
-          let front = layout_of_message text c.in-Ok-Some.layout first.0 c.in-Message.at c.in-Message.size first.1 c.in-Message.is in
-          (text, refl, headless c.in-Message.at front.0 (drop c.in-Ok-Some.layout.end text) refl front.1.begins c.if-not-is_begun.true),
+          let front = layout_of_message text c.in-Ok-Some.layout first.0 c.in-Message.at c.in-Message.size first.1
+          c.in-Message.is in (
+            text,
+            refl,
+            headless c.in-Message.at front.0 (drop c.in-Ok-Some.layout.end text) refl front.1.begins
+                c.if-not-is_begun.true,
+          ),
       (read.says.1, refl),
     )
 
@@ -85,7 +105,8 @@ returns-in-Answer-clause-next g c =
       λ trust terminals room stood. stood,
       λ waits text known.
           let first = read.first text known in
-          let front = layout_of_mark text c.in-Ok-Some.layout first.0 (answer c.in-Answer.field-0) first.1 tt c.in-Answer.is in
+          let front = layout_of_mark text c.in-Ok-Some.layout first.0 (answer c.in-Answer.field-0) first.1 tt
+          c.in-Answer.is in
           (text, refl, unasked c.in-Answer.field-0 (drop c.in-Ok-Some.layout.end text) refl front.begins),
       (read.says.1, refl),
     )
@@ -98,10 +119,12 @@ returns-in-Ok-None-clause-next g c =
 pub returns-else-is_after-clause-next : goal.returns-else-is_after-clause-next
 returns-else-is_after-clause-next g c =
     let read = rw c.in-Ok-Some.field-0-is at c.in-Ok-Some.ensures.read in
-    let front = layout_of_message _ c.in-Ok-Some.layout read.says.0.0 c.in-Message.at c.in-Message.size read.says.0.1 c.in-Message.is in (
+    let front = layout_of_message _ c.in-Ok-Some.layout read.says.0.0 c.in-Message.at c.in-Message.size read.says.0.1
+    c.in-Message.is in (
       front.0,
       front.1,
-      by_not_after c.args.until.now c.in-Message.at front.0 (λ late. not_both _ c.if-is_after.false (c.is_after.ensures.1 late)),
+      by_not_after c.args.until.now c.in-Message.at front.0
+          (λ late. not_both _ c.if-is_after.false (c.is_after.ensures.1 late)),
       read.same,
       c.if-not-is_begun.false,
       read.says.1,
@@ -109,4 +132,6 @@ returns-else-is_after-clause-next g c =
     )
 
 pub returns-in-Err-clause-kept : goal.returns-in-Err-clause-kept
-returns-in-Err-clause-kept g c = λ trust. unless_known c.read_fault.result (g.M.Room.is_kept c.args.room.now → g.M.Room.is_kept c.args.room.now) (λ was. was)
+returns-in-Err-clause-kept g c =
+    λ trust.
+    unless_known c.read_fault.result (g.M.Room.is_kept c.args.room.now → g.M.Room.is_kept c.args.room.now) (λ was. was)

@@ -18,4 +18,7 @@ returns-in-Ok-clause-plays g c =
     )
 
 pub returns-in-Err-clause-plays : goal.returns-in-Err-clause-plays
-returns-in-Err-clause-plays g c = (c.in-Err.ensures.reply.says, inr (c.in-Err.refusal, refl, caused_want c.in-Err.refusal c.in-Err.ensures.reply.wants))
+returns-in-Err-clause-plays g c = (
+  c.in-Err.ensures.reply.says,
+  inr (c.in-Err.refusal, refl, caused_want c.in-Err.refusal c.in-Err.ensures.reply.wants),
+)

@@ -22,7 +22,8 @@ pub returns-in-Err-clause-plays : goal.returns-in-Err-clause-plays
 returns-in-Err-clause-plays g c =
     let shown = c.in-Some.ensures in
     let says = c.in-Err.ensures.reply.says in
-    missed _ _ (digits_of g.M.Digested.digest_of (g.M.Room.zone c.args.room.now)) _ _ _ _ _ _ c.in-Err.miss _ c.fault_of.ensures c.in-Err.ensures.reply.wants
+    missed _ _ (digits_of g.M.Digested.digest_of (g.M.Room.zone c.args.room.now)) _ _ _ _ _ _ c.in-Err.miss _
+    c.fault_of.ensures c.in-Err.ensures.reply.wants
     (λ trust terminals room stood. (says trust terminals room stood).0)
     (λ is trust terminals room stood elsewhere. (
       shown.0,
@@ -33,4 +34,5 @@ returns-in-Err-clause-plays g c =
 
 pub returns-in-Err-clause-kept : goal.returns-in-Err-clause-kept
 returns-in-Err-clause-kept g c = λ trust.
-    unless_missed c.in-Err.miss _ (g.M.Room.is_kept c.args.room.now → g.M.Room.is_kept c.reply_towards.new.room) c.fault_of.ensures (λ is kept. c.in-Err.ensures.reply.kept trust kept is)
+    unless_missed c.in-Err.miss _ (g.M.Room.is_kept c.args.room.now → g.M.Room.is_kept c.reply_towards.new.room)
+    c.fault_of.ensures (λ is kept. c.in-Err.ensures.reply.kept trust kept is)

@@ -12,7 +12,8 @@ pub turns-init : goal.turns-init
 turns-init g c = record {
   going = (
     [],
-    passes_none _ _ _ _ _ _ _ _ _ IsReplayed (Keeps-prepend c.args.inbox.now.kept _ c.requires.empty) (λ trust terminals room stood. stood),
+    passes_none _ _ _ _ _ _ _ _ _ IsReplayed (Keeps-prepend c.args.inbox.now.kept _ c.requires.empty)
+        (λ trust terminals room stood. stood),
     new_progress _ c.new-progress.ensures,
     refl,
   );
@@ -30,7 +31,8 @@ turns-preserved g c =
     let earlier = c.replay_turn.ensures.trusted in record {
       going = (
         going.0 ++ turn.0,
-        passes_more _ _ _ _ _ earlier _ _ _ going.0 turn.0 _ _ _ IsReplayed going.1 _ (turn.3 c.in-Ok-true.field-0-test).1 turn.1,
+        passes_more _ _ _ _ _ earlier _ _ _ going.0 turn.0 _ _ _ IsReplayed going.1 _
+            (turn.3 c.in-Ok-true.field-0-test).1 turn.1,
         turn.2 going.0 going.2,
         omega (arith, length-append going.0 turn.0, going.3, (turn.3 c.in-Ok-true.field-0-test).1),
       );
@@ -46,30 +48,46 @@ returns-in-Ok-false-clause-replay g c =
     let going = c.turns.invariant.going in
     let turn = (rw c.turns.invariant.zone at c.in-Ok-false.ensures.turn) in
     let progress = turn.2 going.0 going.2 in
-    let x = ended _ _ _ _ _ c.replay_turn.ensures.trusted _ _ _ going.0 turn.0 _ _ _ IsReplayed going.1 _ _ turn.1 (turn.4 c.in-Ok-false.field-0-test) progress in
-    (going.0 ++ turn.0, x.0, x.1, x.2, ap (λ r. r.records) c.done.ensures ∙ progress.records, ap (λ r. r.is_open) c.done.ensures ∙ progress.opens)
+    let x = ended _ _ _ _ _ c.replay_turn.ensures.trusted _ _ _ going.0 turn.0 _ _ _ IsReplayed going.1 _ _ turn.1
+    (turn.4 c.in-Ok-false.field-0-test) progress in (
+      going.0 ++ turn.0,
+      x.0,
+      x.1,
+      x.2,
+      ap (λ r. r.records) c.done.ensures ∙ progress.records,
+      ap (λ r. r.is_open) c.done.ensures ∙ progress.opens,
+    )
 
 pub returns-in-Err-clause-replay : goal.returns-in-Err-clause-replay
 returns-in-Err-clause-replay g c =
     let going = c.turns.invariant.going in
     let turn = (rw c.turns.invariant.zone at c.in-Err.ensures.turn) in
-    let stops = stopped _ _ _ _ _ c.replay_turn.ensures.trusted _ _ _ going.0 turn.0 _ _ _ IsReplayed going.1 true c.turns.progress going.2 c.in-Err.fault _ _ _
-    (c.stopped.ensures ∙ ap (λ (p : Progress). record { fault = c.in-Err.fault; number = min (p.records + 1) (2 ^ 64 - 1) }) turn.2) turn.1 in
+    let stops = stopped _ _ _ _ _ c.replay_turn.ensures.trusted _ _ _ going.0 turn.0 _ _ _ IsReplayed going.1 true
+    c.turns.progress going.2 c.in-Err.fault _ _ _
+    (c.stopped.ensures
+    ∙ ap (λ (p : Progress). record { fault = c.in-Err.fault; number = min (p.records + 1) (2 ^ 64 - 1) }) turn.2)
+    turn.1 in
     (going.0, turn.0, stops)
 
 pub returns-clause-replay : goal.returns-clause-replay
 returns-clause-replay g c =
     let going = c.turns.invariant.going in
-    let stops = exhausted _ _ (digits_of g.M.Digested.digest_of (g.M.Room.zone c.args.room.now)) _ _ _ _ _ _ IsReplayed going.0 true c.turns.progress _ _ _ going.1 going.2
+    let stops = exhausted _ _ (digits_of g.M.Digested.digest_of (g.M.Room.zone c.args.room.now)) _ _ _ _ _ _ IsReplayed
+    going.0 true c.turns.progress _ _ _ going.1 going.2
     c.stopped-2.ensures (omega (arith, going.3))
     c.turns.invariant.reader refl in
     (going.0, [], stops)
 
 pub returns-in-Err-clause-kept : goal.returns-in-Err-clause-kept
 returns-in-Err-clause-kept g c = λ trust.
-    stopped_kept _ c.in-Err.fault _ (g.M.Room.is_kept c.args.room.now → g.M.Room.is_kept c.replay_turn.new.room) c.stopped.ensures
-    (unless_after c.in-Err.fault (g.M.Room.is_kept c.args.room.now) (g.M.Room.is_kept c.turns.room) (g.M.Room.is_kept c.replay_turn.new.room)
+    stopped_kept _ c.in-Err.fault _ (g.M.Room.is_kept c.args.room.now → g.M.Room.is_kept c.replay_turn.new.room)
+    c.stopped.ensures
+    (unless_after c.in-Err.fault (g.M.Room.is_kept c.args.room.now) (g.M.Room.is_kept c.turns.room)
+    (g.M.Room.is_kept c.replay_turn.new.room)
     (c.turns.invariant.kept (c.replay_turn.ensures.trusted trust)) (c.in-Err.ensures.kept trust))
 
 pub returns-clause-kept : goal.returns-clause-kept
-returns-clause-kept g c = λ trust. stopped_kept _ Bad _ (g.M.Room.is_kept c.args.room.now → g.M.Room.is_kept c.turns.room) c.stopped-2.ensures (c.turns.invariant.kept trust)
+returns-clause-kept g c =
+    λ trust.
+    stopped_kept _ Bad _ (g.M.Room.is_kept c.args.room.now → g.M.Room.is_kept c.turns.room) c.stopped-2.ensures
+    (c.turns.invariant.kept trust)

@@ -1,6 +1,6 @@
 use Rattle.std.proofs.Common.{refl, [], None, false}
 use Rattle.room_http_messages.proofs.StreamLemmas.{Appends-none}
-use Rattle.room_types.specs.declared.refusals.Refusal.TheVariants.{Memory}
+use Rattle.room_types.specs.declared.refusal_statuses.Refusal.TheVariants.{Memory}
 use Rattle.dispatch_room_journal.specs.declared.replay_faults.ReplayFault.TheVariants.{Want}
 use Rattle.dispatch_room_journal.specs.ReplayedTurns.{IsPlayed}
 use Rattle.dispatch_room_journal.proofs.FaultLemmas.{stopped_kept}
@@ -19,12 +19,19 @@ pub returns-clause-answers : goal.returns-clause-answers
 returns-clause-answers g c = (
   [],
   [],
-  nothing_done false _ _ _ _ _ _ None IsPlayed _ _ c.memory-in-Err.result c.memory-in-Err.ensures c.requires.reader c.requires.writer,
+  nothing_done false _ _ _ _ _ _ None IsPlayed _ _ c.memory-in-Err.result c.memory-in-Err.ensures c.requires.reader
+      c.requires.writer,
   ([], ([], refl), Appends-none (g.W.Sink.held c.args.writer.now)),
 )
 
 pub returns-in_default-clause-kept : goal.returns-in_default-clause-kept
-returns-in_default-clause-kept g c = λ trust. stopped_kept _ (Want Memory) _ (g.M.Room.is_kept c.args.room.now → g.M.Room.is_kept c.args.room.now) c.memory.ensures tt
+returns-in_default-clause-kept g c =
+    λ trust.
+    stopped_kept _ (Want Memory) _ (g.M.Room.is_kept c.args.room.now → g.M.Room.is_kept c.args.room.now)
+    c.memory.ensures tt
 
 pub returns-clause-kept : goal.returns-clause-kept
-returns-clause-kept g c = λ trust. stopped_kept _ (Want Memory) _ (g.M.Room.is_kept c.args.room.now → g.M.Room.is_kept c.args.room.now) c.memory-in-Err.ensures tt
+returns-clause-kept g c =
+    λ trust.
+    stopped_kept _ (Want Memory) _ (g.M.Room.is_kept c.args.room.now → g.M.Room.is_kept c.args.room.now)
+    c.memory-in-Err.ensures tt

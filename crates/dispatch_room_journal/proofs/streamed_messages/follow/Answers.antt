@@ -10,7 +10,12 @@ pub returns-in-Err : goal.returns-in-Err
 returns-in-Err g c =
     let read = c.in-Err.ensures.read in
     rw c.read_fault.ensures (
-      λ p told text known. (text, refl, read_explains false ⊥ ⊥ _ _ c.in-Err.fault text text (read.first text known) (λ b. broken (λ never. absurd (cc)) b)),
+      λ p told text known. (
+        text,
+        refl,
+        read_explains false ⊥ ⊥ _ _ c.in-Err.fault text text (read.first text known)
+            (λ b. broken (λ never. absurd (cc)) b),
+      ),
       read_due _ _ _ _ c.in-Err.fault read.says,
     )
 
@@ -19,7 +24,8 @@ returns-else-has_status g c =
     let read = rw c.in-Ok-Some.field-0-is at c.in-Ok-Some.ensures.read in (
       λ p told text known.
           let first = read.first text known in
-          let front = layout_of_mark text c.in-Ok-Some.next first.0 (answer c.in-Answer.status) first.1 tt c.in-Answer.is in (
+          let front = layout_of_mark text c.in-Ok-Some.next first.0 (answer c.in-Answer.status) first.1 tt
+          c.in-Answer.is in (
             text,
             refl,
             (
@@ -41,5 +47,8 @@ returns-in-Ok-None g c =
 
 pub returns-in_default : goal.returns-in_default
 returns-in_default g c =
-    let read = rw c.in-Ok-Some.field-0-is at c.in-Ok-Some.ensures.read in
-    (read.same, read.says.1, no_status_front _ _ c.in-Ok-Some.next read.says.0.0 read.says.0.1 (λ status. c.in_default.not-Answer status))
+    let read = rw c.in-Ok-Some.field-0-is at c.in-Ok-Some.ensures.read in (
+      read.same,
+      read.says.1,
+      no_status_front _ _ c.in-Ok-Some.next read.says.0.0 read.says.0.1 (λ status. c.in_default.not-Answer status),
+    )

@@ -20,7 +20,10 @@ entries-preserved g c =
     record {
       taken = (
         taken.0 ++ found.0 ∷ [],
-        rw c.remove.ensures.kept (taken_more _ _ _ _ _ taken.0 _ found.0 kept found.1 (c.remove.ensures.taken ∙ ap (λ n. min (n + c.in-Ok-Some.layout.end) most_bytes) c.in-Ok-Some.ensures.taken)),
+        rw c.remove.ensures.kept
+            (taken_more _ _ _ _ _ taken.0 _ found.0 kept found.1
+            (c.remove.ensures.taken
+            ∙ ap (λ n. min (n + c.in-Ok-Some.layout.end) most_bytes) c.in-Ok-Some.ensures.taken)),
         omega (arith, length-append taken.0 (found.0 ∷ []), taken.2),
       );
       sound = says.1;
@@ -31,7 +34,8 @@ returns-in-Ok-None g c = λ text known.
     let taken = c.entries.invariant.taken in
     let follows = taken.1.follows text known in
     let first = (rw c.in-Ok-None.field-0-is at (c.in-Ok-None.ensures.read.first follows.0 follows.1)) in
-    let whole : IsCutTo text (texts_of taken.0) = (taken.0, follows.0, (taken.1.are_entries, follows.2), refl, inl first) in
+    let whole : IsCutTo text
+    (texts_of taken.0) = (taken.0, follows.0, (taken.1.are_entries, follows.2), refl, inl first) in
     (texts_of taken.0, whole, c.taken.ensures ∙ c.in-Ok-None.ensures.taken ∙ taken.1.count)
 
 pub returns-in-Err-Cut : goal.returns-in-Err-Cut
@@ -39,7 +43,8 @@ returns-in-Err-Cut g c = λ text known.
     let taken = c.entries.invariant.taken in
     let follows = taken.1.follows text known in
     let first = (rw c.in-Err-Cut.field-0-is at (c.in-Err-Cut.ensures.read.first follows.0 follows.1)) in
-    let whole : IsCutTo text (texts_of taken.0) = (taken.0, follows.0, (taken.1.are_entries, follows.2), refl, inr first.1) in
+    let whole : IsCutTo text
+    (texts_of taken.0) = (taken.0, follows.0, (taken.1.are_entries, follows.2), refl, inr first.1) in
     (texts_of taken.0, whole, c.taken-in-Err-Cut.ensures ∙ c.in-Err-Cut.ensures.taken ∙ taken.1.count)
 
 -- why no number is returned

@@ -6,6 +6,8 @@ use Rattle.dispatch_room_journal.proofs.whole_entries.whole_bytes.Given as goal
 
 abbrev pub invariant-entries : goal.invariant-entries
 invariant-entries g l = record {
-  taken : (entries : List Entry) × Taken (g.R.Source.left l.fn.reader) (prepend_known l.inbox.kept (g.R.Source.left l.reader)) l.inbox.taken entries × (length entries ≡ l._entry);
+  taken : (entries : List Entry)
+      × Taken (g.R.Source.left l.fn.reader) (prepend_known l.inbox.kept (g.R.Source.left l.reader)) l.inbox.taken
+      entries × (length entries ≡ l._entry);
   sound : g.R.Source.has_failed l.reader ≡ false;
 }

@@ -9,14 +9,22 @@ pub returns-in-Err-clause-served : goal.returns-in-Err-clause-served
 returns-in-Err-clause-served g c =
     let before = c.loop-connection.invariant.served in
     let next = c.serve_next.ensures.attended in
-    let within : length before.calls < c.args.connections = omega (arith, before.counted, c.loop-connection-test.true) in
+    let within : length before.calls
+    < c.args.terms.connections = omega (arith, before.counted, c.loop-connection-test.true) in
     record {
       calls = before.calls ++ next.call ∷ [];
-      attended = attended_more g.S.Store c.args.setting.now _ _ before.calls (next.call ∷ []) _ _ _ before.attended next.attended;
-      ends = ends_after before.calls next.call c.args.connections c.in-Err.fault before.go_on within (sym c.in-Err.is ∙ next.ends);
+      attended =
+          attended_more g.S.Store c.args.setting.now _ _ before.calls (next.call ∷ []) _ _ _ before.attended
+          next.attended;
+      ends =
+          ends_after before.calls next.call c.args.terms.renews c.args.terms.connections c.in-Err.fault before.go_on
+          within (sym c.in-Err.is ∙ next.ends);
       kept = kept_ending g.S.Store c.args.setting.now _ _ next.call _ _ _ _ before next.attended;
     }
 
 pub loop-connection-preserved : goal.loop-connection-preserved
 loop-connection-preserved g c =
-    record { ready = c.serve_next.ensures.ready; served = c.serve_next.ensures.attended.longer c.in_default.is _ _ c.loop-connection.invariant.served }
+    record {
+      ready = c.serve_next.ensures.ready;
+      served = c.serve_next.ensures.attended.longer c.in_default.is _ _ c.loop-connection.invariant.served;
+    }

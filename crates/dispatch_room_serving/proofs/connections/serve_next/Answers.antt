@@ -5,7 +5,9 @@ use Rattle.dispatch_room_serving.proofs.connections.serve_next.Goals as goal
 
 pub returns-in_default-clause-attended : goal.returns-in_default-clause-attended
 returns-in_default-clause-attended g c =
-    attends_next g.S.Store c.args.setting.now _ _ None _ _ _ (attended_nothing g.S.Store c.args.setting.now _ _ _ _ c.in_default.ensures.heard c.in_default.ensures.told refl) refl
+    attends_next g.S.Store c.args.setting.now _ _ None _ _ _
+    (attended_nothing g.S.Store c.args.setting.now _ _ _ _ c.in_default.ensures.heard c.in_default.ensures.told refl)
+    refl
 
 pub returns-clause-attended : goal.returns-clause-attended
 returns-clause-attended g c =
@@ -36,7 +38,8 @@ returns-clause-attended g c =
       had_failed = g.N.Observer.has_failed c.args.observer.now;
     } in
     attends_next g.S.Store c.args.setting.now _ _ (Some talk) _ _ _
-    (attended_one g.S.Store c.args.setting.now _ _ talk _ _ (rw c.done.ensures.heard c.in-Some.ensures.heard) (rw c.in-Some.ensures.told at c.done.ensures.told) (refl {a = stage_after talk})
+    (attended_one g.S.Store c.args.setting.now _ _ talk _ _ (rw c.done.ensures.heard c.in-Some.ensures.heard)
+    (rw c.in-Some.ensures.told at c.done.ensures.told) (refl {a = stage_after talk})
     (record {
       begins = refl;
       reads = c.serve-end.ensures.reads;

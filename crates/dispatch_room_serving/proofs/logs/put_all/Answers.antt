@@ -1,7 +1,8 @@
 use Rattle.std.proofs.Common.{arith, drop, sym, take}
 use Rattle.std.proofs.lemmas.List.{take-append-drop}
 use Rattle.std.proofs.Math.Seq.{take-add}
-use Rattle.room_http_messages.proofs.StreamLemmas.{Appends-keeps, Appends-more, Appends-zero, whole_rest, length-whole_rest}
+use Rattle.room_http_messages.proofs.StreamLemmas.{Appends-keeps, Appends-more, Appends-zero, whole_rest}
+use Rattle.room_http_messages.proofs.StreamLemmas.{length-whole_rest}
 use Rattle.dispatch_room_serving.proofs.logs.put_all.Goals as goal
 use Rattle.dispatch_room_serving.proofs.logs.put_all.Goals.{in-Ok, in-Err}
 
@@ -24,7 +25,10 @@ pub tries-preserved : goal.tries-preserved
 tries-preserved g c = elim c.match-write.branch [
   | in-Ok w ↦ record {
     within = omega (arith, w.written-is, w.in-Ok.ensures.bound, length-whole_rest c.args.bytes.now c.tries.written);
-    held = rw w.written-is (rw (take-add c.tries.written w.in-Ok.count c.args.bytes.now) (Appends-more _ _ _ _ _ c.tries.invariant.held (rw whole_rest at w.in-Ok.ensures.bytes)));
+    held =
+        rw w.written-is
+        (rw (take-add c.tries.written w.in-Ok.count c.args.bytes.now)
+        (Appends-more _ _ _ _ _ c.tries.invariant.held (rw whole_rest at w.in-Ok.ensures.bytes)));
   }
   | in-Err w ↦ record {
     within = omega (arith, w.written-is, c.tries.invariant.within);

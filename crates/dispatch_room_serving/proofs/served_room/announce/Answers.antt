@@ -42,8 +42,12 @@ returns-then-not-wants_digest-clause-announces g c = (
     [],
     record {
       head = second [];
-      known = never_wanted (g.N.JournalObserver.wants c.args.journal_observer.now) c.wants_digest.result c.wants_digest.ensures c.if-not-wants_digest.true;
-      told = where_unwanted (g.N.JournalObserver.wants c.args.journal_observer.now) c.wants_digest.result (g.N.JournalObserver.begun (second [])) c.wants_digest.ensures c.if-not-wants_digest.true;
+      known =
+          never_wanted (g.N.JournalObserver.wants c.args.journal_observer.now) c.wants_digest.result
+          c.wants_digest.ensures c.if-not-wants_digest.true;
+      told =
+          where_unwanted (g.N.JournalObserver.wants c.args.journal_observer.now) c.wants_digest.result
+          (g.N.JournalObserver.begun (second [])) c.wants_digest.ensures c.if-not-wants_digest.true;
     },
     Appends-none (g.N.Observer.held c.args.journal_observer.now),
   ),
@@ -64,8 +68,15 @@ returns-in-Ok-begins-clause-announces g c = (
     g.N.JournalObserver.begun (second c.digest_of.result),
     record {
       head = second c.digest_of.result;
-      known = λ wanted. (refl, λ clean terminals room is. sym (c.digest_of.ensures.written ∙ ap encode_lower (c.in-Ok.ensures.known clean terminals room is)));
-      told = where_wanted (g.N.JournalObserver.wants c.args.journal_observer.now) c.wants_digest.result (g.N.JournalObserver.begun (second c.digest_of.result)) c.wants_digest.ensures c.if-not-wants_digest.false;
+      known =
+          λ wanted. (
+            refl,
+            λ clean terminals room is.
+                sym (c.digest_of.ensures.written ∙ ap encode_lower (c.in-Ok.ensures.known clean terminals room is)),
+          );
+      told =
+          where_wanted (g.N.JournalObserver.wants c.args.journal_observer.now) c.wants_digest.result
+          (g.N.JournalObserver.begun (second c.digest_of.result)) c.wants_digest.ensures c.if-not-wants_digest.false;
     },
     c.in-Ok-begins.ensures.kept,
   ),
@@ -86,8 +97,16 @@ returns-in-Err-begins-clause-announces g c =
         kept.0,
         record {
           head = second c.digest_of.result;
-          known = λ wanted. (refl, λ clean terminals room is. sym (c.digest_of.ensures.written ∙ ap encode_lower (c.in-Ok.ensures.known clean terminals room is)));
-          told = where_wanted (g.N.JournalObserver.wants c.args.journal_observer.now) c.wants_digest.result (g.N.JournalObserver.begun (second c.digest_of.result)) c.wants_digest.ensures c.if-not-wants_digest.false;
+          known =
+              λ wanted. (
+                refl,
+                λ clean terminals room is.
+                    sym (c.digest_of.ensures.written ∙ ap encode_lower (c.in-Ok.ensures.known clean terminals room is)),
+              );
+          told =
+              where_wanted (g.N.JournalObserver.wants c.args.journal_observer.now) c.wants_digest.result
+              (g.N.JournalObserver.begun (second c.digest_of.result)) c.wants_digest.ensures
+              c.if-not-wants_digest.false;
         },
         kept.1,
         kept.2,

@@ -15,14 +15,17 @@ same_failed : (result : Result (Unit {0}) Failure)
 same_failed (Ok told) well old new is = is
 same_failed (Err fault) well old new is = absurd (well fault refl)
 
-module _ {S : Type 0} (g : Ghosts S) (wants : Bool) (begun : Head → List ℕ) (old new : Store S) (kept keeps : Option (List ℕ)) where
-  announced : (result : Result (Unit {0}) Failure) → ((fault : Failure) → result ≡ Err fault → ⊥) → Announces g wants begun old new kept keeps result
+module _ {S : Type 0} (g : Ghosts S) (wants : Bool) (begun : Head → List ℕ) (old new : Store S)
+    (kept keeps : Option (List ℕ)) where
+  announced : (result : Result (Unit {0}) Failure) → ((fault : Failure) → result ≡ Err fault → ⊥)
+      → Announces g wants begun old new kept keeps result
       → LooksOnly g old new × KeepsHead g wants begun old new kept keeps (Ok tt)
   announced (Ok told) well is = is
   announced (Err fault) well is = absurd (well fault refl)
 
   -- what was announced is there where the callers don't begin
-  unheard : (fault : Failure) → KeepsHead g wants begun old new kept keeps (Ok tt) → KeepsHead g wants begun old new kept keeps (Err fault)
+  unheard : (fault : Failure) → KeepsHead g wants begun old new kept keeps (Ok tt)
+      → KeepsHead g wants begun old new kept keeps (Err fault)
   unheard fault head = inr (head.0, head.0, head.1, ([], sym (append-nil head.0)), head.2)
 
 pub returns-in-Err-clause-attends : goal.returns-in-Err-clause-attends
@@ -38,8 +41,10 @@ returns-in-Err-clause-attends g c = inl (record {
 
 pub returns-in-Ok-clause-attends : goal.returns-in-Ok-clause-attends
 returns-in-Ok-clause-attends g c =
-    let told = announced g.S.Store _ _ c.args.room.now c.announce.new.room _ _ c.announce.result c.in_default.not-Err c.announce.ensures.announces in
-    let failed : g.N.Observer.has_failed c.announce.new.journal_observer ≡ g.N.Observer.has_failed c.args.journal_observer.now =
+    let told = announced g.S.Store _ _ c.args.room.now c.announce.new.room _ _ c.announce.result c.in_default.not-Err
+    c.announce.ensures.announces in
+    let failed : g.N.Observer.has_failed c.announce.new.journal_observer
+    ≡ g.N.Observer.has_failed c.args.journal_observer.now =
     same_failed c.announce.result c.in_default.not-Err _ _ c.announce.ensures.failed in
     inr (record {
       store = c.announce.new.room;

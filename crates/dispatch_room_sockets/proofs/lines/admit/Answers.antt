@@ -6,7 +6,9 @@ pub loop-caller-preserved : goal.loop-caller-preserved
 loop-caller-preserved g c =
     let i = c.loop-caller.invariant in
     record {
-      admitted = admitted_more c.args.until _ _ _ _ _ _ _ _ c.in-Some.caller i.admitted c.in-Some.ensures.came c.push_back_reserved.ensures.items;
+      admitted =
+          admitted_more c.args.until _ _ _ _ _ _ _ _ c.in-Some.caller i.admitted c.in-Some.ensures.came
+          c.push_back_reserved.ensures.items;
       heard = c.accept.ensures.heard ∙ i.heard;
       bound = omega (arith, i.bound, c.push_back_reserved.ensures.len);
       capacity = c.push_back_reserved.ensures.capacity ∙ i.capacity;

@@ -22,10 +22,14 @@ loop-piece-preserved g c =
     let more : c.throw_away.result ≡ true = search rules in
     record {
       thrown = Throws-more _ _ _ _ _ _ c.loop-piece.invariant.thrown c.throw_away.ensures.thrown (omega arith);
-      done = rw replicate_more at (Does-more _ _ _ _ _ c.loop-piece.invariant.done (rw more at c.throw_away.ensures.done));
+      done =
+          rw replicate_more at (Does-more _ _ _ _ _ c.loop-piece.invariant.done (rw more at c.throw_away.ensures.done));
     }
 
 pub returns-clause-drained : goal.returns-clause-drained
 returns-clause-drained g c =
-    let all : c.loop-piece._piece ≡ 4096 = omega arith in
-    (replicate c.loop-piece._piece (threw c.args.moment true), c.loop-piece.invariant.done, (c.loop-piece._piece, inr (all, refl)))
+    let all : c.loop-piece._piece ≡ 4096 = omega arith in (
+      replicate c.loop-piece._piece (threw c.args.moment true),
+      c.loop-piece.invariant.done,
+      (c.loop-piece._piece, inr (all, refl)),
+    )

@@ -17,7 +17,9 @@ returns-in-Ok-clause-changed g c =
       rows = c.in-Ok.ensures.kept;
       changed = λ clean.
           let early : HasCleanDisk (state g.S.Store opened) = omega (arith, made.survives.clean) in
-          on_ok_weaker c.change_opened-done.result (λ all. same_room _ _ c.in-Ok.plan change.who change.token _ (c.in-Ok.ensures.room early) all) (made.changed clean);
+          on_ok_weaker c.change_opened-done.result
+          (λ all. same_room _ _ c.in-Ok.plan change.who change.token _ (c.in-Ok.ensures.room early) all)
+          (made.changed clean);
       unchanged = made.unchanged;
       opening = c.open_in.ensures.survives;
       survives = made.survives;

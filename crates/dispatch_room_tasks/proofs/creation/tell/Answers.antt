@@ -5,5 +5,9 @@ use Rattle.dispatch_room_tasks.proofs.creation.tell.Goals as goal
 
 pub returns-in-Ok : goal.returns-in-Ok
 returns-in-Ok g c =
-    let told = amounts_told c.args.created.now _ _ _ c.count_divisions-divisions.ensures c.areas.ensures c.len-terminals.ensures in
-    (subst (Appends (g.O.Write.contents c.args.out.now) (g.O.Write.contents c.writeln.new.self)) told c.in-Ok.ensures.bytes, refl)
+    let told = amounts_told c.args.created.now _ _ _ c.count_divisions-divisions.ensures c.areas.ensures
+    c.len-terminals.ensures in (
+      subst (Appends (g.O.Write.contents c.args.out.now) (g.O.Write.contents c.writeln.new.self)) told
+          c.in-Ok.ensures.bytes,
+      refl,
+    )

@@ -7,4 +7,9 @@ returns g c =
     let plan = c.in_ok-tell_plan.ensures.text in
     let calls = c.in_ok-tell_calls.ensures.text in
     let fleet = c.in_ok-tell_fleet.ensures.text in
-    record { text = ok_then c.tell_reports.result _ _ (Appends-trans _ _ _ _ _ (Appends-trans _ _ _ _ _ (Appends-trans _ _ _ _ _ plan calls) fleet)) c.tell_reports.ensures.text }
+    record {
+      text =
+          ok_then c.tell_reports.result _ _
+          (Appends-trans _ _ _ _ _ (Appends-trans _ _ _ _ _ (Appends-trans _ _ _ _ _ plan calls) fleet))
+          c.tell_reports.ensures.text;
+    }

@@ -17,7 +17,8 @@ returns-in-Ok-clause-listed g c =
       told = λ clean.
           let early : HasCleanDisk (state g.S.Store opened) = omega (arith, made.survives.clean) in
           let it = c.in-Ok.ensures.room early in
-          on_ok_weaker c.list_opened-done.result (λ told. (it.0, it.1, it.3, it.5, told (config_of c.in-Ok._plan it.0) it.1 it.5)) (made.told clean);
+          on_ok_weaker c.list_opened-done.result
+          (λ told. (it.0, it.1, it.3, it.5, told (config_of c.in-Ok._plan it.0) it.1 it.5)) (made.told clean);
       left = made.leaves;
       opening = c.open_in.ensures.survives;
       survives = made.survives;

@@ -17,29 +17,40 @@ use Rattle.room_store.specs.declared.store.Store.{Store}
 use Rattle.dispatch_room_tasks.proofs.opened_room.open_room.Goals as goal
 
 -- whatever room the tables of a store stand for is the one that the store is known to stand for
-module _ {S : Type 0} (g : Ghosts S) (store : Store S) (is_open : IsTrue (state g store.conn).is_open) (terminals : List Terminal) (room : Room) (is : IsRoom g store terminals room)
+module _ {S : Type 0} (g : Ghosts S) (store : Store S) (is_open : IsTrue (state g store.conn).is_open)
+    (terminals : List Terminal) (room : Room) (is : IsRoom g store terminals room)
     (config : Configuration) (same : Room) (stands : Stands (state g store.conn).now.trees config same) where
   config_is : config ≡ config_of store.plan terminals
-  config_is = one_config (state g store.conn).now.trees config (config_of store.plan terminals) same room stands (is.tables is_open)
+  config_is =
+      one_config (state g store.conn).now.trees config (config_of store.plan terminals) same room stands
+      (is.tables is_open)
 
   room_is : same ≡ room
-  room_is = one_room (state g store.conn).now.trees config (config_of store.plan terminals) same room stands (is.tables is_open)
+  room_is =
+      one_room (state g store.conn).now.trees config (config_of store.plan terminals) same room stands
+      (is.tables is_open)
 
   stands_for_same : (config.zone ≡ store.plan.zone) × IsRoom g store config.terminals same
   stands_for_same = (
     ap (λ (h : Configuration). h.zone) config_is,
-    subst (λ ts. IsRoom g store ts same) (sym (ap (λ (h : Configuration). h.terminals) config_is)) (subst (IsRoom g store terminals) (sym room_is) is),
+    subst (λ ts. IsRoom g store ts same) (sym (ap (λ (h : Configuration). h.terminals) config_is))
+        (subst (IsRoom g store terminals) (sym room_is) is),
   )
 
 -- so the room that is opened is the one that the file held
-opens : {S : Type 0} (g : Ghosts S) (old : Held S) (store : Store S) → (terminals : List Terminal) × (room : Room) × IsRoom g store terminals room
-    → (state g store.conn).now.schema ≡ room_schema → KeepsFile (state g old) (state g store.conn) → IsKept g store → OpensRoom g old store
+opens : {S : Type 0} (g : Ghosts S) (old : Held S) (store : Store S)
+    → (terminals : List Terminal) × (room : Room) × IsRoom g store terminals room
+    → (state g store.conn).now.schema ≡ room_schema → KeepsFile (state g old) (state g store.conn) → IsKept g store
+    → OpensRoom g old store
 opens g old store is schema file kept = (
   is.0,
   is.1,
   record {
     is = is.2;
-    same = λ config room stands. stands_for_same g store kept.is_open is.0 is.1 is.2 config room (stands_before (state g old).now (state g store.conn).now schema (file.rows kept.is_open) config room stands);
+    same =
+        λ config room stands.
+        stands_for_same g store kept.is_open is.0 is.1 is.2 config room
+        (stands_before (state g old).now (state g store.conn).now schema (file.rows kept.is_open) config room stands);
     kept = kept;
     rows = file;
   },
@@ -70,6 +81,13 @@ returns-in-Err-read-clause-fault g c =
     inr (record {
       told = refl;
       opened = c.in-Ok.room;
-      opens = λ clean. opens g.S.Store c.args.conn c.in-Ok.room (made.room clean) (made.schema clean) (made.same clean) (made.kept clean);
-      no_rule = λ some. let no : false ≡ true = c.in-Err-read.ensures.read.1 (subst (λ (t : List ℕ). IsSome (read_whole t)) (sym text) some) in cc;
+      opens =
+          λ clean.
+          opens g.S.Store c.args.conn c.in-Ok.room (made.room clean) (made.schema clean) (made.same clean)
+          (made.kept clean);
+      no_rule =
+          λ some.
+          let no : false
+          ≡ true = c.in-Err-read.ensures.read.1 (subst (λ (t : List ℕ). IsSome (read_whole t)) (sym text) some) in
+          cc;
     })

@@ -11,7 +11,8 @@ pub create_with-requires-clause-empty : goal.create_with-requires-clause-empty
 create_with-requires-clause-empty g c = sym c.schema.ensures.value ∙ c.is_empty.ensures.0 c.if-not-is_empty.false
 
 pub create_with-requires-clause-committed : goal.create_with-requires-clause-committed
-create_with-requires-clause-committed g c = outside c.is_autocommit.result _ c.requires.outside c.is_autocommit.ensures.value c.is_autocommit.ensures.settled
+create_with-requires-clause-committed g c =
+    outside c.is_autocommit.result _ c.requires.outside c.is_autocommit.ensures.value c.is_autocommit.ensures.settled
 
 pub returns-in-Ok-clause-begun : goal.returns-in-Ok-clause-begun
 returns-in-Ok-clause-begun g c =
@@ -23,8 +24,14 @@ returns-in-Ok-clause-begun g c =
     record {
       empty = sym c.schema.ensures.value ∙ c.is_empty.ensures.0 c.if-not-is_empty.false;
       settled = λ clean. (c.in-Ok.ensures.ok clean).settled;
-      stands = λ clean. stands_renewed left ts cs (state g.S.Store c.create_with.new.conn).now.trees same put (c.in-Ok.ensures.ok clean).stands;
-      survives = survives_weaker (state g.S.Store c.args.conn) (state g.S.Store c.create_with.new.conn) (StandsWith left.config.plan ts cs) (StandsRenewed left) (λ clean db stood. stands_renewed left ts cs db same put stood) c.create_with.ensures.survives;
+      stands =
+          λ clean.
+          stands_renewed left ts cs (state g.S.Store c.create_with.new.conn).now.trees same put
+          (c.in-Ok.ensures.ok clean).stands;
+      survives =
+          survives_weaker (state g.S.Store c.args.conn) (state g.S.Store c.create_with.new.conn)
+          (StandsWith left.config.plan ts cs) (StandsRenewed left)
+          (λ clean db stood. stands_renewed left ts cs db same put stood) c.create_with.ensures.survives;
     }
 
 pub returns-then-not-is_empty-clause-fault : goal.returns-then-not-is_empty-clause-fault

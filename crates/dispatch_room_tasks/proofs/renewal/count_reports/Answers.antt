@@ -7,4 +7,5 @@ use Rattle.dispatch_room_tasks.proofs.renewal.count_reports.Goals as goal
 pub returns : goal.returns
 returns c =
     count_from_yields_List c.filter.result _ c.count.ensures.ran
-    (YieldsList-from_filter _ puts_report (YieldsList-from_slice c.args.changes.now cc) c.filter.ensures.closure (λ x b q k. search (rules, tests)))
+    (YieldsList-from_filter _ puts_report (YieldsList-from_slice c.args.changes.now cc) c.filter.ensures.closure
+    (λ x b q k. search (rules, tests)))

@@ -18,10 +18,16 @@ returns-in-Ok-puts_since-clause-since c =
 
 pub returns-in-None-clause-fault : goal.returns-in-None-clause-fault
 returns-in-None-clause-fault c =
-    let text : c.zone.result.now ≡ c.args.whole.config.plan.zone = search rules in
-    (zone_of c.in-Ok.zone, subst (λ (rule : List ℕ). IsPosixZone rule (zone_of c.in-Ok.zone)) text c.in-Ok.ensures.zone, c.in-None.ensures.none)
+    let text : c.zone.result.now ≡ c.args.whole.config.plan.zone = search rules in (
+      zone_of c.in-Ok.zone,
+      subst (λ (rule : List ℕ). IsPosixZone rule (zone_of c.in-Ok.zone)) text c.in-Ok.ensures.zone,
+      c.in-None.ensures.none,
+    )
 
 pub returns-in-Err-clause-fault : goal.returns-in-Err-clause-fault
 returns-in-Err-clause-fault c =
     let text : c.zone.result.now ≡ c.args.whole.config.plan.zone = search rules in
-    λ some. let no : false ≡ true = c.in-Err.ensures.read.1 (subst (λ (rule : List ℕ). IsSome (read_whole rule)) (sym text) some) in cc
+    λ some.
+    let no : false
+    ≡ true = c.in-Err.ensures.read.1 (subst (λ (rule : List ℕ). IsSome (read_whole rule)) (sym text) some) in
+    cc

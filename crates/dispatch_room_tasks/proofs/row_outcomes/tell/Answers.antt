@@ -3,7 +3,9 @@ use Rattle.dispatch_room_exit.specs.declared.exit_status.Done.TheVariants.{InPar
 use Rattle.dispatch_room_tasks.proofs.FateLemmas.{bad_next, done_less, done_same, good_next, telling_more}
 use Rattle.dispatch_room_tasks.specs.RowOutcomes.{outcomes}
 use Rattle.dispatch_room_tasks.proofs.row_outcomes.tell.Goals as goal
-use Rattle.dispatch_room_tasks.proofs.row_outcomes.tell.Goals.{in-Bad+in_ok-writeln-in-Bad, in-Row+in-Some+in_ok-tell_fate-in-Row+then-not-branch, in-Row+in-Some+in_ok-tell_fate-in-Row+else-not-branch}
+use Rattle.dispatch_room_tasks.proofs.row_outcomes.tell.Goals.{in-Bad+in_ok-writeln-in-Bad}
+use Rattle.dispatch_room_tasks.proofs.row_outcomes.tell.Goals.{in-Row+in-Some+in_ok-tell_fate-in-Row+then-not-branch}
+use Rattle.dispatch_room_tasks.proofs.row_outcomes.tell.Goals.{in-Row+in-Some+in_ok-tell_fate-in-Row+else-not-branch}
 
 pub loop-at-preserved : goal.loop-at-preserved
 loop-at-preserved g c =
@@ -15,17 +17,20 @@ loop-at-preserved g c =
       | in-Bad+in_ok-writeln-in-Bad w ↦
           let later = outcomes others c.loop-at.left.now in
           rw (w.out-is, w.left-is, w.done-is) (telling_more None later InPart told
-          (bad_next _ _ _ _ within c.index-lines-at.is w.in-Bad.is) w.in_ok-writeln-in-Bad.ensures.bytes (done_less was None later refl))
+          (bad_next _ _ _ _ within c.index-lines-at.is w.in-Bad.is) w.in_ok-writeln-in-Bad.ensures.bytes
+          (done_less was None later refl))
       | in-Row+in-Some+in_ok-tell_fate-in-Row+then-not-branch w ↦
           let outcome = Some (w.in-Row.row, w.in-Some.fate.now) in
           let later = outcomes others w.in-Some.later.now in
           rw (w.out-is, w.left-is, w.done-is) (telling_more outcome later InPart told
-          (good_next _ _ _ _ _ _ _ within c.index-lines-at.is w.in-Row.is w.in-Some.ensures.cases.0) w.in_ok-tell_fate-in-Row.ensures.text
+          (good_next _ _ _ _ _ _ _ within c.index-lines-at.is w.in-Row.is w.in-Some.ensures.cases.0)
+          w.in_ok-tell_fate-in-Row.ensures.text
           (done_less was outcome later (sym w.in_ok-tell_fate-in-Row.ensures.enrolled ∙ w.if-not-branch.true)))
       | in-Row+in-Some+in_ok-tell_fate-in-Row+else-not-branch w ↦
           let outcome = Some (w.in-Row.row, w.in-Some.fate.now) in
           let later = outcomes others w.in-Some.later.now in
           rw (w.out-is, w.left-is, w.done-is) (telling_more outcome later was told
-          (good_next _ _ _ _ _ _ _ within c.index-lines-at.is w.in-Row.is w.in-Some.ensures.cases.0) w.in_ok-tell_fate-in-Row.ensures.text
+          (good_next _ _ _ _ _ _ _ within c.index-lines-at.is w.in-Row.is w.in-Some.ensures.cases.0)
+          w.in_ok-tell_fate-in-Row.ensures.text
           (done_same was outcome later (sym w.in_ok-tell_fate-in-Row.ensures.enrolled ∙ w.if-not-branch.false)))
     ]

@@ -9,8 +9,10 @@ pub returns : goal.returns
 returns c = λ n plan same.
     let slice = c.args.slice.now in
     let incident = c.args.incident.now in
-    let got : c.get.result ≡ need_of incident.needs c.args.kind - served slice.division n c.args.kind (room_of plan slice.rows) =
+    let got : c.get.result
+    ≡ need_of incident.needs c.args.kind - served slice.division n c.args.kind (room_of plan slice.rows) =
     c.get.ensures.value
     ∙ (c.lack.ensures slice.division (room_of plan slice.rows) refl c.requires
-    ∙ ap (λ m. need_of incident.needs c.args.kind - served slice.division m c.args.kind (room_of plan slice.rows)) same) in
+    ∙ ap (λ m. need_of incident.needs c.args.kind - served slice.division m c.args.kind (room_of plan slice.rows))
+    same) in
     met _ _ c.get.result got

@@ -6,4 +6,6 @@ use Rattle.room_alloc.proofs.orders.mobilise.Goals as goal
 pub returns-clause-unassigned : goal.returns-clause-unassigned
 returns-clause-unassigned c =
     let slice = c.args.slice.now in
-    in_any_case _ (idle_unassigned slice.division slice.rows slice.agrees c.args.callsign.now c.in_ok-vehicle.vehicle.now c.in_ok-vehicle.ensures.there (free_idle _ (sym c.is_free.ensures ∙ c.if-not-is_free.false)))
+    in_any_case _ (idle_unassigned slice.division slice.rows slice.agrees c.args.callsign.now
+    c.in_ok-vehicle.vehicle.now c.in_ok-vehicle.ensures.there
+    (free_idle _ (sym c.is_free.ensures ∙ c.if-not-is_free.false)))

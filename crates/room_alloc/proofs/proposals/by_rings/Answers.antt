@@ -9,11 +9,17 @@ first_of_both-requires c =
     let all = c.as_slice.ensures.value ∙ c.in_ok-all.ensures.ok in
     record {
       placed = subst (ArePlaced c.args.incident.now) (sym c.as_slice.ensures.value) c.in_ok-all.ensures.placed;
-      kind = are_of_kind slice.division c.args.incident.now c.args.short.now c.args.kind c.args.at slice.rows.vehicles _ all;
-      apart = are_apart slice.division c.args.incident.now c.args.short.now c.args.kind c.args.at slice.rows.vehicles _ (c.lemma_in_order.ensures []).vehicles all;
+      kind =
+          are_of_kind slice.division c.args.incident.now c.args.short.now c.args.kind c.args.at slice.rows.vehicles _
+          all;
+      apart =
+          are_apart slice.division c.args.incident.now c.args.short.now c.args.kind c.args.at slice.rows.vehicles _
+          (c.lemma_in_order.ensures []).vehicles all;
     }
 
 pub returns-clause-ok : goal.returns-clause-ok
 returns-clause-ok c =
     let slice = c.args.slice.now in
-    proposed_so slice.division c.args.incident.now c.args.short.now c.args.kind c.args.at slice.rows c.args.count _ _ (c.lemma_in_order.ensures []) c.requires.short c.requires.count (c.as_slice.ensures.value ∙ c.in_ok-all.ensures.ok) c.in_ok-few.ensures.ok
+    proposed_so slice.division c.args.incident.now c.args.short.now c.args.kind c.args.at slice.rows c.args.count _ _
+    (c.lemma_in_order.ensures []) c.requires.short c.requires.count (c.as_slice.ensures.value ∙ c.in_ok-all.ensures.ok)
+    c.in_ok-few.ensures.ok

@@ -11,7 +11,8 @@ use Rattle.room_alloc.proofs.ring_search.nearest.Goals as goal
 pub search-requires : goal.search-requires
 search-requires c =
     let a = c.args in
-    let order = subst (AreByRing (filter (is_marked a.breaks) a.candidates.now)) (sym c.as_slice.ensures.value) c.in_ok-by_ring.ensures in
+    let order = subst (AreByRing (filter (is_marked a.breaks) a.candidates.now)) (sym c.as_slice.ensures.value)
+    c.in_ok-by_ring.ensures in
     record {
       placed = λ x h. c.requires.placed x (among_filter (is_marked a.breaks) a.candidates.now x (order.only x h)).0;
       rising = order.rising;
@@ -24,4 +25,5 @@ returns-clause-ok c =
     let order = subst (AreByRing marked) (sym c.as_slice.ensures.value) c.in_ok-by_ring.ensures in
     let searched = searched_as a.count a.incident.now marked _ c.in_ok-found.found order c.in_ok-found.ensures.ok in
     subst (AreFirst is_before a.count None (map (proposal_at a.incident.now) marked)) (sym c.in_ok-few.ensures.few)
-    (nearest_first a.count a.breaks a.kind a.incident.now a.candidates.now c.in_ok-found.found c.requires.placed c.requires.kind c.requires.apart c.in_ok-few.ensures.in_order searched)
+    (nearest_first a.count a.breaks a.kind a.incident.now a.candidates.now c.in_ok-found.found c.requires.placed
+    c.requires.kind c.requires.apart c.in_ok-few.ensures.in_order searched)

@@ -9,4 +9,6 @@ returns-clause-decides c = c.take_report.ensures.crew
 
 pub returns-clause-apart : goal.returns-clause-apart
 returns-clause-apart c r other formed rows new order same =
-    subst (λ decided. Decides decided c.take_report.result) (mine_answer c.args.slice.now.rows.vehicle.callsign (Report c.args.press.now) c.args.at r other formed.order order same) (c.take_report.ensures.crew r formed rows new)
+    subst (λ decided. Decides decided c.take_report.result)
+    (mine_answer c.args.slice.now.rows.vehicle.callsign (Report c.args.press.now) c.args.at r other formed.order order
+    same) (c.take_report.ensures.crew r formed rows new)

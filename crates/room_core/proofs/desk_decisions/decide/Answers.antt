@@ -78,4 +78,5 @@ pub returns-in-Times : goal.returns-in-Times
 returns-in-Times c =
     let from : FitsSigned w64 c.in-Times.from = search rules in
     let to : FitsSigned w64 c.in-Times.to = search rules in
-    rw c.in-Times.is (rw (to_z-of_z w64 c.in-Times.from from, to_z-of_z w64 c.in-Times.to to) at c.day_times.ensures.decides c.args.plan.now.areas)
+    rw c.in-Times.is (rw (to_z-of_z w64 c.in-Times.from from, to_z-of_z w64 c.in-Times.to to) at
+    c.day_times.ensures.decides c.args.plan.now.areas)

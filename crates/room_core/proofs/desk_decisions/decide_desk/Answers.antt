@@ -20,4 +20,6 @@ returns-clause-decides c r formed planned read =
 
 pub returns-clause-apart : goal.returns-clause-apart
 returns-clause-apart c r other formed planned read order same =
-    subst (λ decided. Decides decided c.decide.result) (desk_equal c.args.slice.now.division c.args.ask.now c.args.at r other formed.order order same) (returns-clause-decides c r formed planned read)
+    subst (λ decided. Decides decided c.decide.result)
+    (desk_equal c.args.slice.now.division c.args.ask.now c.args.at r other formed.order order same)
+    (returns-clause-decides c r formed planned read)

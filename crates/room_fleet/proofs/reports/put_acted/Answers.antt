@@ -3,4 +3,5 @@ use Rattle.room_fleet.proofs.reports.put_acted.Goals as goal
 
 pub returns : goal.returns
 returns c press at acting same =
-    acted_so c.args.before.now c.args.after.now press at _ _ acting same c.in_ok-changes.ensures.ok c.answer_of-answer.ensures
+    acted_so c.args.before.now c.args.after.now press at _ _ acting same c.in_ok-changes.ensures.ok
+    c.answer_of-answer.ensures

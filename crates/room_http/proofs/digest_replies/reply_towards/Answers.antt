@@ -2,7 +2,7 @@ use Rattle.std.proofs.Common.{◌≡◌, ap, refl, inl, sym, rules, Err, List, O
 use Rattle.std.specs.Prelude.{IfErr, IfOk, MatchResult, OnErr, OnOk}
 use Rattle.room_types.specs.declared.asks.Event.{Event}
 use Rattle.room_types.specs.declared.fleet.Terminal.{Terminal}
-use Rattle.room_types.specs.declared.refusals.Refusal.{Refusal}
+use Rattle.room_types.specs.declared.refusal_statuses.Refusal.{Refusal}
 use Rattle.room_model.specs.Room.{Room}
 use Rattle.room_http_messages.specs.declared.messages.Message.{Message as Given}
 use Rattle.room_http_messages.specs.Layouts.{Shows}
@@ -28,7 +28,8 @@ stays_elsewhere : (step : Step) (setting : Setting) (digits_of : DigitsOf)
     (at : ℕ) (head : Head) (o : Arrival) → arrived ≡ Refused r without → IsShown arrived o
     → (¬ (IsHeadOf digits_of head terminals room))
     → LeadsToAnother step setting digits_of terminals room (o, at) head
-stays_elsewhere step setting digits_of terminals room arrived r without at head (message m) is shown elsewhere = absurd (rw is at shown)
+stays_elsewhere step setting digits_of terminals room arrived r without at head (message m) is shown elsewhere =
+    absurd (rw is at shown)
 stays_elsewhere step setting digits_of terminals room arrived r without at head (refused s other) is shown elsewhere =
     let same = rw is at shown in (Err r, ap Err same.0, elsewhere)
 
@@ -38,7 +39,8 @@ finds : (setting : Setting) (terminals : List Terminal) (arrived : Arrived) (giv
     → IsShown arrived o
     → ((m : WholeMessage) → Shows given m → AsksFor setting terminals m at found)
     → Finds setting terminals (o, at) found
-finds setting terminals arrived given bytes at found (message m) is shown asks = let same = rw is at shown in asks m same.0
+finds setting terminals arrived given bytes at found (message m) is shown asks =
+    let same = rw is at shown in asks m same.0
 finds setting terminals arrived given bytes at found (refused s other) is shown asks = absurd (rw is at shown)
 
 -- what the room did with it is reported
@@ -55,7 +57,11 @@ returns-in-Refused-clause-reply g c = record {
   wants = inl refl;
   says = λ trust terminals room stood. (
     stood,
-    λ is elsewhere o shown. stays_elsewhere g.M.Room.step c.args.setting.now (digits_of g.M.Digested.digest_of (g.M.Room.zone c.args.room.now)) terminals room c.args.arrived.now c.in-Refused.refusal c.in-Refused.head_only c.args.at c.args.head.now o c.in-Refused.is shown elsewhere,
+    λ is elsewhere o shown.
+        stays_elsewhere g.M.Room.step c.args.setting.now
+        (digits_of g.M.Digested.digest_of (g.M.Room.zone c.args.room.now))
+        terminals room c.args.arrived.now c.in-Refused.refusal c.in-Refused.head_only c.args.at c.args.head.now o
+        c.in-Refused.is shown elsewhere,
   );
   kept = λ trust kept is. kept;
 }
@@ -68,13 +74,28 @@ returns-in-Ok-clause-reply g c = record {
       let early = c.act_towards.ensures.trusted trust in
       let asks = c.in-Ok.ensures.event.says early terminals room stood in
       let still = c.event_of.ensures.event.same early terminals room stood in
-      let asked = λ (o : Arrival) (shown : IsShown c.args.arrived.now o). finds c.args.setting.now terminals c.args.arrived.now c.in-Message.message c.in-Message.bytes c.args.at (Ok c.in-Ok.event) o c.in-Message.is shown asks.0 in
-      says c.act_towards.result (c.act_towards.ensures.bytes trust) (rw c.event_of.ensures.zone at (c.act_towards.ensures.after trust)) (rw c.event_of.ensures.zone at (c.act_towards.ensures.another trust)) (c.act_towards.ensures.same trust)
+      let asked = λ (o : Arrival) (shown : IsShown c.args.arrived.now o).
+      finds c.args.setting.now terminals c.args.arrived.now c.in-Message.message c.in-Message.bytes c.args.at
+      (Ok c.in-Ok.event) o c.in-Message.is shown asks.0 in
+      says c.act_towards.result (c.act_towards.ensures.bytes trust)
+      (rw c.event_of.ensures.zone at (c.act_towards.ensures.after trust))
+      (rw c.event_of.ensures.zone at (c.act_towards.ensures.another trust)) (c.act_towards.ensures.same trust)
       (λ bytes told after o shown.
       let there = after terminals room still asks.1 in
       let rendered = told terminals room still asks.1 in
-      let tells : IsReply (g.M.Room.step c.in-Ok.event room).1 c.args.at c.head_only-head_only.result c.is_closing-closing.result bytes.items = search rules in
-      (_, (Ok c.in-Ok.event, asked o shown, refl, rw (c.head_only-head_only.ensures o shown, c.is_closing-closing.ensures o shown) at tells), there.1, there.0))
-      (λ same. same terminals room still) (λ never elsewhere o shown. (Ok c.in-Ok.event, asked o shown, never terminals room still asks.1));
+      let tells : IsReply (g.M.Room.step c.in-Ok.event room).1 c.args.at c.head_only-head_only.result
+      c.is_closing-closing.result bytes.items = search rules in (
+        _,
+        (
+          Ok c.in-Ok.event,
+          asked o shown,
+          refl,
+          rw (c.head_only-head_only.ensures o shown, c.is_closing-closing.ensures o shown) at tells,
+        ),
+        there.1,
+        there.0,
+      ))
+      (λ same. same terminals room still)
+      (λ never elsewhere o shown. (Ok c.in-Ok.event, asked o shown, never terminals room still asks.1));
   kept = λ trust kept. c.act_towards.ensures.kept trust;
 }

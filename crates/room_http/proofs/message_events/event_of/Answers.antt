@@ -12,9 +12,13 @@ returns-in-Ok-ask-clause-event g c =
       same = terminal.same;
       says = λ trust terminals room stood.
           let who = terminal.says trust terminals room stood in (
-            λ m shown. asks_for c.args.setting.now terminals m c.args.at _ _ _ _ c.in-Ok.target c.in-Ok-terminal.who asks.0 c.in-Ok-ask.ask
-                shown.method shown.target shown.content shown.terminal (sym c.route.ensures ∙ c.in-Ok.is) who.0 may asks.1 asks.2,
-            request_addressed c.args.setting.now c.in-Ok.target _ asks.0 c.in-Ok-ask.ask c.in-Ok-terminal.who room asks.1 asks.2 may who.1,
+            λ m shown.
+                asks_for c.args.setting.now terminals m c.args.at _ _ _ _ c.in-Ok.target c.in-Ok-terminal.who asks.0
+                c.in-Ok-ask.ask
+                shown.method shown.target shown.content shown.terminal (sym c.route.ensures ∙ c.in-Ok.is) who.0 may
+                asks.1 asks.2,
+            request_addressed c.args.setting.now c.in-Ok.target _ asks.0 c.in-Ok-ask.ask c.in-Ok-terminal.who room
+                asks.1 asks.2 may who.1,
           );
       failed = λ is. absurd (cc);
     }

@@ -1,7 +1,7 @@
 use Rattle.std.proofs.Common.{◌≡◌, ap, refl, sym, Bool, Err, List, Ok, Result, ℕ, inl, rules}
 use Rattle.std.specs.Prelude.{IfOk, MatchResult, OnErr, OnOk}
 use Rattle.room_types.specs.declared.fleet.Terminal.{Terminal}
-use Rattle.room_types.specs.declared.refusals.Refusal.{Refusal}
+use Rattle.room_types.specs.declared.refusal_statuses.Refusal.{Refusal}
 use Rattle.room_model.specs.Room.{Room}
 use Rattle.room_http_answers.specs.ReplyMessages.{IsReply}
 use Rattle.room_http.specs.declared.settings.Setting.{Setting}
@@ -23,9 +23,14 @@ returns-in-Err-clause-reply g c = record { trusted = search rules; wants = searc
 pub returns-in-Err-clause-keeps : goal.returns-in-Err-clause-keeps
 returns-in-Err-clause-keeps g c =
     let looks = c.event_of.ensures.looks in
-    let kept : g.M.Room.is_trusted c.event_of.new.room → g.M.Room.is_kept c.args.room.now → g.M.Room.is_kept c.event_of.new.room = search rules in record {
+    let kept : g.M.Room.is_trusted c.event_of.new.room → g.M.Room.is_kept c.args.room.now
+    → g.M.Room.is_kept c.event_of.new.room = search rules in
+    record {
       kept = λ trust. (either_way {Q = Unit {0}} c.refused-in-Err.result (kept trust) tt).0;
-      left = λ trust. (either_way {P = Unit {0}} c.refused-in-Err.result tt (λ was terminals room stood o shown. inl (looks.left trust was terminals room stood))).1;
+      left =
+          λ trust.
+          (either_way {P = Unit {0}} c.refused-in-Err.result tt
+          (λ was terminals room stood o shown. inl (looks.left trust was terminals room stood))).1;
     }
 
 -- what is refused in the place of a message is reported, and the room stays
@@ -35,8 +40,10 @@ told : (step : Step) (setting : Setting) (terminals : List Terminal) (room : Roo
     → head_only ≡ is_head_only o → closing ≡ is_closing o
     → IsReply (Err r) at head_only closing bytes
     → IsReplyTo step setting terminals room (o, at) room bytes
-told step setting terminals room arrived r without head_only closing at bytes (message m) is shown headless closes says = absurd (rw is at shown)
-told step setting terminals room arrived r without head_only closing at bytes (refused s other) is shown headless closes says =
+told step setting terminals room arrived r without head_only closing at bytes (message m) is shown headless closes
+    says = absurd (rw is at shown)
+told step setting terminals room arrived r without head_only closing at bytes (refused s other) is shown headless closes
+    says =
     let same = rw is at shown in (Err r, ap Err same.0, refl, rw (headless, closes) at says)
 
 if_told : {T E Q : Type 0} {P R : T → Type 0} (r : Result T E) → IfOk r P
@@ -51,7 +58,8 @@ returns-in-Refused-clause-reply g c = record {
   says = λ trust terminals room stood. if_told c.refused.result c.refused.ensures.ok
       (λ bytes says o shown. (
         room,
-        told g.M.Room.step c.args.setting.now terminals room c.args.arrived.now c.in-Refused.refusal c.in-Refused.head_only _ _ c.args.at bytes.items o c.in-Refused.is shown
+        told g.M.Room.step c.args.setting.now terminals room c.args.arrived.now c.in-Refused.refusal
+            c.in-Refused.head_only _ _ c.args.at bytes.items o c.in-Refused.is shown
             (c.head_only-head_only.ensures o shown) (c.is_closing-closing.ensures o shown) says,
         stood,
       )) stood;

@@ -9,7 +9,11 @@ returns-in-Ok-clause-ok c =
     let whole = rw c.in-Ok.is at c.requires in (
       message whole.0,
       rw c.in-Ok.is whole.1,
-      (c.message.ensures whole.0 whole.2, message_alone c.args.inbox.now c.bytes.result.now c.in-Ok.layout whole.0 whole.1 whole.2 whole.3.content.1 c.bytes.ensures.value c.bytes.ensures.fits),
+      (
+        c.message.ensures whole.0 whole.2,
+        message_alone c.args.inbox.now c.bytes.result.now c.in-Ok.layout whole.0 whole.1 whole.2 whole.3.content.1
+            c.bytes.ensures.value c.bytes.ensures.fits,
+      ),
     )
 
 pub returns-in-Err-Refused-clause-ok : goal.returns-in-Err-Refused-clause-ok

@@ -10,11 +10,21 @@ use Rattle.room_http.proofs.session.serve.Given as goal
 abbrev pub invariant-messages : goal.invariant-messages
 invariant-messages g l = record {
   run : (outs : List Timed) × (answers : List (List ℕ)) × Going g.M.Room.step l.setting
-      (record { left = g.R.Source.left l.initial.reader; reads = g.R.Source.reads l.initial.reader; held = g.W.Sink.held l.initial.writer; given = g.C.Clock.given l.initial.clock })
+      (record {
+        left = g.R.Source.left l.initial.reader;
+        reads = g.R.Source.reads l.initial.reader;
+        held = g.W.Sink.held l.initial.writer;
+        given = g.C.Clock.given l.initial.clock;
+      })
       (prepend_known l.inbox (g.R.Source.left l.reader)) (g.W.Sink.held l.writer) (g.C.Clock.given l.clock)
-      (g.M.Room.is_trusted l.room) (g.M.Room.stands l.initial.room) (Stays (g.M.Room.is_kept l.initial.room) (g.M.Room.stands l.room) (g.M.Room.leaves_one_of l.room)) outs
+      (g.M.Room.is_trusted l.room) (g.M.Room.stands l.initial.room)
+      (Stays (g.M.Room.is_kept l.initial.room) (g.M.Room.stands l.room) (g.M.Room.leaves_one_of l.room)) outs
       × Noted g.N.Observer.came g.N.Observer.told g.M.Room.step l.setting (g.R.Source.left l.initial.reader)
-      (record { given = g.C.Clock.given l.initial.clock; kept = g.N.Observer.held l.initial.observer; held = g.W.Sink.held l.initial.writer })
+      (record {
+        given = g.C.Clock.given l.initial.clock;
+        kept = g.N.Observer.held l.initial.observer;
+        held = g.W.Sink.held l.initial.writer;
+      })
       (prepend_known l.inbox (g.R.Source.left l.reader))
       (record { given = g.C.Clock.given l.clock; kept = g.N.Observer.held l.observer; held = g.W.Sink.held l.writer })
       (g.M.Room.is_trusted l.room) (g.M.Room.stands l.initial.room) (g.M.Room.stands l.room) outs answers;

@@ -15,10 +15,13 @@ returns g c =
     let items = c.args.items.now in
     let first = g.S.Serializer.written c.begin_seq.new.self in
     let end = g.S.Serializer.written c.end_seq.new.self in
-    let begun = subst (λ n. Logs (g.S.Serializer.written c.args.out.now) first (seq_begins (Some n))) (sym (items_len-map json items)) c.in_ok-begin_seq.ensures in
+    let begun = subst (λ n. Logs (g.S.Serializer.written c.args.out.now) first (seq_begins (Some n)))
+    (sym (items_len-map json items)) c.in_ok-begin_seq.ensures in
     let none : drop c.loop-item.item-index items ≡ [] = drop_all c.loop-item.item-index items (omega arith) in
     on_ok_weaker c.end_seq.result (λ ended. (
       first,
       begun,
-      c.loop-item.invariant end (subst (λ xs. SendsItems (items_of (map json xs)) (g.S.Serializer.written c.loop-item.out) end) (sym none) ended),
+      c.loop-item.invariant end
+          (subst (λ xs. SendsItems (items_of (map json xs)) (g.S.Serializer.written c.loop-item.out) end) (sym none)
+          ended),
     )) c.end_seq.ensures

@@ -8,5 +8,6 @@ pub returns : goal.returns
 unfolding has_option
 returns c =
     any_from_yields_List (is_option c.args.option.now) _ _ _ c.any.ensures.ran
-    (YieldsList-from_slice_split _ is_comma c.args.list.now c.split.ensures.rest c.split.ensures.done c.split.ensures.closure (λ x r q k. search (rules, tests)))
+    (YieldsList-from_slice_split _ is_comma c.args.list.now c.split.ensures.rest c.split.ensures.done
+    c.split.ensures.closure (λ x r q k. search (rules, tests)))
     (λ x r q k. search rules)

@@ -1,9 +1,12 @@
-use Rattle.std.proofs.Common.{arith}
-use Rattle.room_http_messages.proofs.LookLemmas.{window_is, no_head_always, too_long_always, part_of_head, found_in, by_rule_always, part_of_body, whole}
+use Rattle.std.proofs.Common.{◌≡◌, arith, refl, rules}
+use Rattle.httparse.specs.Spans.{span_bytes}
+use Rattle.room_http_messages.specs.Messages.{is_head}
+use Rattle.room_http_messages.proofs.LookLemmas.{window_is, no_head_always, too_long_always, part_of_head, found_in}
+use Rattle.room_http_messages.proofs.LookLemmas.{by_rule_always, part_of_body, whole}
 use Rattle.room_http_messages.proofs.message_prefixes.look_at.Goals as goal
 
-pub returns-then-bytes-lt-HEAD_LIMIT : goal.returns-then-bytes-lt-HEAD_LIMIT
-returns-then-bytes-lt-HEAD_LIMIT c =
+pub returns-in-Ok-Partial : goal.returns-in-Ok-Partial
+returns-in-Ok-Partial c =
     let is = window_is c.args.bytes.now c.min.result c.min.ensures in (
       omega arith,
       omega arith,
@@ -13,8 +16,8 @@ returns-then-bytes-lt-HEAD_LIMIT c =
       }),
     )
 
-pub returns-else-bytes-lt-HEAD_LIMIT : goal.returns-else-bytes-lt-HEAD_LIMIT
-returns-else-bytes-lt-HEAD_LIMIT c =
+pub returns-in-Ok-Partial-2 : goal.returns-in-Ok-Partial-2
+returns-in-Ok-Partial-2 c =
     let is = window_is c.args.bytes.now c.min.result c.min.ensures in
     too_long_always c.args.bytes.now c.if-bytes-lt-HEAD_LIMIT.false (record {
       none = rw (c.in-Ok-Partial.field-0-is, is) at c.in-Ok-Partial.ensures.partial;
@@ -22,28 +25,41 @@ returns-else-bytes-lt-HEAD_LIMIT c =
     })
 
 pub returns-in-Err : goal.returns-in-Err
-returns-in-Err c = no_head_always c.args.bytes.now (rw (window_is c.args.bytes.now c.min.result c.min.ensures) at c.in-Err.ensures.no_room)
+returns-in-Err c =
+    no_head_always c.args.bytes.now
+    (rw (window_is c.args.bytes.now c.min.result c.min.ensures) at c.in-Err.ensures.no_room)
 
 pub returns-in-Err-check_head : goal.returns-in-Err-check_head
 returns-in-Err-check_head c =
     let within = rw c.in-Ok-Complete.field-0-is at c.in-Ok-Complete.ensures.within in
     let head = rw c.in-Ok-Complete.field-0-is at c.in-Ok-Complete.ensures.complete in
-    let found = found_in c.args.bytes.now c.min.result c.parse_request.new.headers c.in-Ok-Complete.head head.0 c.min.ensures c.parse_request.auto.headers within head.1 in
-    by_rule_always _ _ _ _ _ _ _ _ found c.in-Err-check_head.ensures c.is_head.ensures
+    let found = found_in c.args.bytes.now c.min.result c.parse_request.new.headers c.in-Ok-Complete.head head.0
+    c.min.ensures c.parse_request.auto.headers within head.1 in
+    by_rule_always _ _ _ _ _ _ _ _ found c.in-Err-check_head.ensures (search rules)
 
-pub returns-then-bytes-head : goal.returns-then-bytes-head
-returns-then-bytes-head c =
+pub returns-in-Ok : goal.returns-in-Ok
+returns-in-Ok c =
     let within = rw c.in-Ok-Complete.field-0-is at c.in-Ok-Complete.ensures.within in
     let head = rw c.in-Ok-Complete.field-0-is at c.in-Ok-Complete.ensures.complete in
-    let found = found_in c.args.bytes.now c.min.result c.parse_request.new.headers c.in-Ok-Complete.head head.0 c.min.ensures c.parse_request.auto.headers within head.1 in (
+    let found = found_in c.args.bytes.now c.min.result c.parse_request.new.headers c.in-Ok-Complete.head head.0
+    c.min.ensures c.parse_request.auto.headers within head.1 in (
       c.if-bytes-head.true,
       omega (arith, within.section.len_fits, found.short, c.in-Ok.ensures.2),
       part_of_body _ _ _ _ _ _ _ found c.in-Ok.ensures.0 c.in-Ok.ensures.1,
     )
 
-pub returns-else-bytes-head : goal.returns-else-bytes-head
-returns-else-bytes-head c =
+pub returns-in-Ok-2 : goal.returns-in-Ok-2
+returns-in-Ok-2 c =
     let within = rw c.in-Ok-Complete.field-0-is at c.in-Ok-Complete.ensures.within in
     let head = rw c.in-Ok-Complete.field-0-is at c.in-Ok-Complete.ensures.complete in
-    let found = found_in c.args.bytes.now c.min.result c.parse_request.new.headers c.in-Ok-Complete.head head.0 c.min.ensures c.parse_request.auto.headers within head.1 in
-    whole _ _ _ _ _ _ _ _ found c.in-Ok.ensures.0 c.in-Ok.ensures.1 c.if-bytes-head.false c.layout_of.ensures
+    let found = found_in c.args.bytes.now c.min.result c.parse_request.new.headers c.in-Ok-Complete.head head.0
+    c.min.ensures c.parse_request.auto.headers within head.1 in
+    whole _ _ _ _ _ _ _ _ found c.in-Ok.ensures.0 c.in-Ok.ensures.1 c.if-bytes-head.false (record {
+      method = refl;
+      target = refl;
+      content = refl;
+      terminal = c.only_field.ensures.value;
+      terminal_in = c.only_field.ensures.within;
+      head_only = search rules;
+      closing = c.is_closing.ensures;
+    })

@@ -6,11 +6,19 @@ use Rattle.room_http_messages.proofs.message_reader.read_message.Goals as goal
 pub reads-init : goal.reads-init
 reads-init g c =
     let wants = rw (c.bytes.ensures.value) at c.in-Wants.ensures in
-    record { read = c.looks.invariant.read; sound = c.looks.invariant.sound; room = wants.1; part = wants.2; spent = omega arith; begun = λ _. wants.0 }
+    record {
+      read = c.looks.invariant.read;
+      sound = c.looks.invariant.sound;
+      room = wants.1;
+      part = wants.2;
+      spent = omega arith;
+      begun = λ _. wants.0;
+    }
 
 pub read_once-requires-clause-part : goal.read_once-requires-clause-part
 read_once-requires-clause-part g c =
-    rw append-nil at (c.reads.invariant.part [] (rw (append-nil c.reads.inbox, ← c.bytes-in-reads.ensures.value) c.reads-test.true))
+    rw append-nil at
+    (c.reads.invariant.part [] (rw (append-nil c.reads.inbox, ← c.bytes-in-reads.ensures.value) c.reads-test.true))
 
 pub reads-preserved : goal.reads-preserved
 reads-preserved g c =

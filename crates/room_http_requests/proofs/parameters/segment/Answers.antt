@@ -9,4 +9,5 @@ pub returns : goal.returns
 returns c =
     ap (λ text. text.now) c.unwrap_or.ensures ∙ unwrap_or-now c.nth.result _
     ∙ ap (λ text. unwrap_or text []) (nth_from_yields_List _ _ _ c.nth.ensures.ran
-    (YieldsList-from_str_split 47 c.args.target.now (lit< tt) c.split.ensures.text c.split.ensures.has_more c.split.ensures.pattern))
+    (YieldsList-from_str_split 47 c.args.target.now (lit< tt) c.split.ensures.text c.split.ensures.has_more
+    c.split.ensures.pattern))

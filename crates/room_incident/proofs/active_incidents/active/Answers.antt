@@ -5,4 +5,5 @@ pub returns-in-Some-clause-division : goal.returns-in-Some-clause-division
 returns-in-Some-clause-division c = found_division c.args.slice.now.rows.incidents _ c.args.number _ c.in-Some.ensures
 
 pub returns-in-Some-clause-number : goal.returns-in-Some-clause-number
-returns-in-Some-clause-number c = found_number c.args.slice.now.rows.incidents c.args.slice.now.division _ _ c.in-Some.ensures
+returns-in-Some-clause-number c =
+    found_number c.args.slice.now.rows.incidents c.args.slice.now.division _ _ c.in-Some.ensures

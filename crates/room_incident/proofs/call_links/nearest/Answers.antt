@@ -4,19 +4,23 @@ use Rattle.room_incident.proofs.RowLaws.{owned_incidents}
 use Rattle.room_incident.proofs.call_links.nearest.Goals as goal
 
 pub returns-clause-target : goal.returns-clause-target
-returns-clause-target c plan = c.nearest_of.ensures ∙ target_so _ _ _ _ _ refl (owned_incidents _ c.args.slice.now.rows c.args.slice.now.agrees)
+returns-clause-target c plan =
+    c.nearest_of.ensures ∙ target_so _ _ _ _ _ refl (owned_incidents _ c.args.slice.now.rows c.args.slice.now.agrees)
 
 pub returns-clause-nearest : goal.returns-clause-nearest
 returns-clause-nearest c =
     let slice = c.args.slice.now in
-    target_is slice.division c.args.place.now c.args.at slice.rows.incidents _ c.nearest_of.ensures (owned_incidents _ slice.rows slice.agrees)
+    target_is slice.division c.args.place.now c.args.at slice.rows.incidents _ c.nearest_of.ensures
+    (owned_incidents _ slice.rows slice.agrees)
 
 pub returns-clause-active : goal.returns-clause-active
 returns-clause-active c =
     let slice = c.args.slice.now in
-    target_active slice.division c.args.place.now c.args.at slice.rows.incidents _ c.nearest_of.ensures (owned_incidents _ slice.rows slice.agrees)
+    target_active slice.division c.args.place.now c.args.at slice.rows.incidents _ c.nearest_of.ensures
+    (owned_incidents _ slice.rows slice.agrees)
 
 pub returns-clause-division : goal.returns-clause-division
 returns-clause-division c =
     let slice = c.args.slice.now in
-    target_division slice.division c.args.place.now c.args.at slice.rows.incidents _ c.nearest_of.ensures (owned_incidents _ slice.rows slice.agrees)
+    target_division slice.division c.args.place.now c.args.at slice.rows.incidents _ c.nearest_of.ensures
+    (owned_incidents _ slice.rows slice.agrees)

@@ -7,4 +7,6 @@ use Rattle.room_incident.proofs.call_links.nearest_of.Given as goal
 
 abbrev pub invariant-loop-incident : goal.invariant-loop-incident
 invariant-loop-incident l =
-    least_from (is_nearer l.place) (option_copied l.nearest) (filter (is_open_near l.place l.at) (drop l.incident-index l.fn.incidents)) ≡ least (is_nearer l.place) (filter (is_open_near l.place l.at) l.fn.incidents)
+    least_from (is_nearer l.place) (option_copied l.nearest)
+    (filter (is_open_near l.place l.at) (drop l.incident-index l.fn.incidents))
+    ≡ least (is_nearer l.place) (filter (is_open_near l.place l.at) l.fn.incidents)

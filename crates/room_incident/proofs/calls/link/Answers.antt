@@ -9,5 +9,7 @@ pub returns-clause-covers : goal.returns-clause-covers
 returns-clause-covers c =
     let first = put_after _ _ _ _ (ap (λ (x : Decision). x.changes) c.show.ensures) c.in_ok-with.ensures.ok in
     IfOk-weaker c.with-2.result _ _
-    (λ x e. linked_covers c.args.division c.args.new.now c.args.incident.now _ _ x c.requires.active c.requires.division c.with_call.ensures c.call_row.ensures (put_after _ x _ _ first e))
+    (λ x e.
+    linked_covers c.args.division c.args.new.now c.args.incident.now _ _ x c.requires.active c.requires.division
+    c.with_call.ensures c.call_row.ensures (put_after _ x _ _ first e))
     c.with-2.ensures.ok

@@ -10,5 +10,7 @@ returns-clause-covers c =
     let first = put_after _ _ _ _ (ap (λ (x : Decision). x.changes) c.show.ensures) c.in_ok-with.ensures.ok in
     let second = put_after _ _ _ _ first c.in_ok-with-2.ensures.ok in
     IfOk-weaker c.with-3.result _ _
-    (λ x e. opened_covers c.args.slice.now.division _ c.args.new.now _ _ _ x c.new_incident.ensures c.call_row.ensures (put_after _ x _ _ second e))
+    (λ x e.
+    opened_covers c.args.slice.now.division _ c.args.new.now _ _ _ x c.new_incident.ensures c.call_row.ensures
+    (put_after _ x _ _ second e))
     c.with-3.ensures.ok

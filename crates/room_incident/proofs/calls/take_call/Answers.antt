@@ -10,10 +10,15 @@ pub returns-in-Some-clause-decides : goal.returns-in-Some-clause-decides
 unfolding call_in
 returns-in-Some-clause-decides c plan =
     let slice = c.args.slice.now in
-    subst (λ (o : Option Incident). Decides (call_taken slice.division c.args.new.now o (last_number slice.division (room_of plan slice.rows))) c.link.result) (c.in-Some.ensures.target plan) (c.link.ensures.decides (last_number slice.division (room_of plan slice.rows)))
+    subst (λ (o : Option Incident).
+    Decides (call_taken slice.division c.args.new.now o (last_number slice.division (room_of plan slice.rows)))
+    c.link.result) (c.in-Some.ensures.target plan)
+    (c.link.ensures.decides (last_number slice.division (room_of plan slice.rows)))
 
 pub returns-in-None-clause-decides : goal.returns-in-None-clause-decides
 unfolding call_in
 returns-in-None-clause-decides c plan =
     let slice = c.args.slice.now in
-    subst (λ (o : Option Incident). Decides (call_taken slice.division c.args.new.now o (last_number slice.division (room_of plan slice.rows))) c.open_incident.result) (c.in-None.ensures.target plan) (c.open_incident.ensures.decides plan)
+    subst (λ (o : Option Incident).
+    Decides (call_taken slice.division c.args.new.now o (last_number slice.division (room_of plan slice.rows)))
+    c.open_incident.result) (c.in-None.ensures.target plan) (c.open_incident.ensures.decides plan)

@@ -17,11 +17,14 @@ prove-unreachable-requires c =
     let same = sym items.ensures.all in
     let owned = subst (λ xs. list_all (owns_incident c.requires.0) xs ≡ true) same c.requires.1 in
     let keyed = subst (IsKeyed pair_cmp incident_key) same items.ensures.keyed in
-    let place = climbs c.requires.0 items.result.now owned keyed c.loop-incident.incident-index c.incident-item.result c.loop-incident-test.true c.incident-item.is in
+    let place = climbs c.requires.0 items.result.now owned keyed c.loop-incident.incident-index c.incident-item.result
+    c.loop-incident-test.true c.incident-item.is in
     omega (arith, place)
 
 pub returns-clause-rising : goal.returns-clause-rising
 returns-clause-rising c =
     let is_listed = is_opened_between (to_z w64 (of_z w64 c.args.from)) (to_z w64 (of_z w64 c.args.to)) in
-    let listed : c.loop-incident.lines ≡ map times_line (filter is_listed c.args.incidents.now) = grind (arith, common_steps) in
-    subst (IsKeyed nat_cmp line_number) (sym listed) (lines_rise c.requires.0 is_listed c.args.incidents.now c.requires.1 c.as_slice-incident-items.ensures.keyed)
+    let listed : c.loop-incident.lines
+    ≡ map times_line (filter is_listed c.args.incidents.now) = grind (arith, common_steps) in
+    subst (IsKeyed nat_cmp line_number) (sym listed)
+    (lines_rise c.requires.0 is_listed c.args.incidents.now c.requires.1 c.as_slice-incident-items.ensures.keyed)

@@ -9,5 +9,6 @@ pub returns-clause-ok : goal.returns-clause-ok
 unfolding calls_of
 returns-clause-ok c plan =
     let slice = c.args.slice.now in
-    let all : c.loop-call.calls ≡ filter (is_call_of slice.division c.args.number) slice.rows.calls = grind (arith, common_steps) in
+    let all : c.loop-call.calls
+    ≡ filter (is_call_of slice.division c.args.number) slice.rows.calls = grind (arith, common_steps) in
     all

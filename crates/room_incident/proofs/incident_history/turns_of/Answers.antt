@@ -9,5 +9,7 @@ pub returns-clause-ok : goal.returns-clause-ok
 unfolding turns_of
 returns-clause-ok c plan =
     let slice = c.args.slice.now in
-    let all : c.loop-turn.turns ≡ filter (λ (t : Turn). t.division == slice.division && t.incident == c.args.number) slice.rows.turns = grind (arith, common_steps) in
+    let all : c.loop-turn.turns
+    ≡ filter (λ (t : Turn). t.division == slice.division && t.incident == c.args.number) slice.rows.turns =
+    grind (arith, common_steps) in
     all

@@ -5,5 +5,7 @@ use Rattle.room_incident.proofs.incident_history.turns_of.Given as goal
 
 abbrev pub invariant-loop-turn : goal.invariant-loop-turn
 invariant-loop-turn l =
-    l.turns ++ filter (λ (t : Turn). t.division == l.slice.division && t.incident == l.number) (drop l.turn-index l.slice.rows.turns)
+    l.turns
+    ++ filter (λ (t : Turn). t.division == l.slice.division && t.incident == l.number)
+    (drop l.turn-index l.slice.rows.turns)
     ≡ filter (λ (t : Turn). t.division == l.slice.division && t.incident == l.number) l.slice.rows.turns

@@ -8,7 +8,8 @@ use Rattle.room_incident.proofs.RowLaws.{owned_incidents}
 use Rattle.room_incident.proofs.incident_list.day_times.Goals as goal
 
 pub times-requires : goal.times-requires
-times-requires c = let slice = c.args.slice.now in (slice.division, owned_incidents slice.division slice.rows slice.agrees)
+times-requires c =
+    let slice = c.args.slice.now in (slice.division, owned_incidents slice.division slice.rows slice.agrees)
 
 pub returns-clause-decides : goal.returns-clause-decides
 returns-clause-decides c plan =

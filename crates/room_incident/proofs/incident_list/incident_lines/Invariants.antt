@@ -8,4 +8,6 @@ use Rattle.room_incident.proofs.incident_list.incident_lines.Given as goal
 
 abbrev pub invariant-loop-at : goal.invariant-loop-at
 invariant-loop-at l =
-    l.lines ≡ map (incident_line l.slice.division (room_of [] l.slice.rows)) (filter (λ (i : Incident). i.division == l.slice.division && is_active i.state) (take l.at l.slice.rows.incidents))
+    l.lines
+    ≡ map (incident_line l.slice.division (room_of [] l.slice.rows))
+    (filter (λ (i : Incident). i.division == l.slice.division && is_active i.state) (take l.at l.slice.rows.incidents))

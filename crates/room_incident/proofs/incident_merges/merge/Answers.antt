@@ -20,7 +20,9 @@ returns-clause-joins c =
     let is_some_m : Some target ≡ Some m = c.in-Some-get.ensures ∙ there_m in
     let is_n : source ≡ n = cc in
     let is_m : target ≡ m = cc in
-    let into : c.with_source.result ≡ joined n m = c.with_source.ensures ∙ (ap (λ y. joined y target) is_n ∙ ap (joined n) is_m) in
+    let into : c.with_source.result
+    ≡ joined n m = c.with_source.ensures ∙ (ap (λ y. joined y target) is_n ∙ ap (joined n) is_m) in
     let calls = calls_of c.args.slice.now.division c.args.from (room_of [] c.args.slice.now.rows) in
-    joins_so n m target _ _ calls x into is_m (ap (λ (y : Decision). y.changes) (e []) ∙ ap (λ ys. ys ++ map (moved_call target.number) calls) second))
+    joins_so n m target _ _ calls x into is_m
+    (ap (λ (y : Decision). y.changes) (e []) ∙ ap (λ ys. ys ++ map (moved_call target.number) calls) second))
     c.move_calls.ensures.ok

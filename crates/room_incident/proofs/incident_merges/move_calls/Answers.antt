@@ -12,5 +12,8 @@ unfolding calls_of
 returns-clause-ok c plan =
     let slice = c.args.slice.now in
     let so_far = c.loop-call.invariant.0 in
-    let all : c.loop-call.moved.changes ≡ c.args.decision.changes ++ map (moved_call c.args.into) (filter (is_call_of slice.division c.args.from) slice.rows.calls) = grind (arith, common_steps) in
+    let all : c.loop-call.moved.changes
+    ≡ c.args.decision.changes
+    ++ map (moved_call c.args.into) (filter (is_call_of slice.division c.args.from) slice.rows.calls) =
+    grind (arith, common_steps) in
     changed_is c.loop-call.moved c.args.decision _ all c.loop-call.invariant.1

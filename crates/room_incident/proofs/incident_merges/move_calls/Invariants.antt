@@ -6,5 +6,7 @@ use Rattle.room_incident.proofs.incident_merges.move_calls.Given as goal
 
 abbrev pub invariant-loop-call : goal.invariant-loop-call
 invariant-loop-call l =
-    (l.moved.changes ++ map (moved_call l.into) (filter (is_call_of l.slice.division l.from) (drop l.call-index l.slice.rows.calls)) ≡ l.fn.decision.changes ++ map (moved_call l.into) (filter (is_call_of l.slice.division l.from) l.slice.rows.calls))
+    (l.moved.changes
+    ++ map (moved_call l.into) (filter (is_call_of l.slice.division l.from) (drop l.call-index l.slice.rows.calls))
+    ≡ l.fn.decision.changes ++ map (moved_call l.into) (filter (is_call_of l.slice.division l.from) l.slice.rows.calls))
     × (l.moved.answer ≡ l.fn.decision.answer)

@@ -17,5 +17,8 @@ returns-clause-served c =
     IfOk-weaker c.with.result _ _
     (λ x e i plan k among.
     let are = put_after _ x _ _ (ap (λ (y : Decision). y.changes) c.done.ensures) e in
-    subst (λ (y : Incident). served slice.division c.args.number k (room_of plan slice.rows) ≤ need_of y.needs k) (one_put i _ (subst (Among (PutIncident i)) are among)) (not_below c.args.needs (λ j. served slice.division c.args.number j (room_of plan slice.rows)) (sym (c.is_below.ensures plan) ∙ c.if-is_below.false) k))
+    subst (λ (y : Incident). served slice.division c.args.number k (room_of plan slice.rows) ≤ need_of y.needs k)
+    (one_put i _ (subst (Among (PutIncident i)) are among)) (not_below c.args.needs
+    (λ j. served slice.division c.args.number j (room_of plan slice.rows))
+    (sym (c.is_below.ensures plan) ∙ c.if-is_below.false) k))
     c.with.ensures.ok

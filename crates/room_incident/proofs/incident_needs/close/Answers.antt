@@ -8,4 +8,7 @@ pub returns-clause-ended : goal.returns-clause-ended
 returns-clause-ended c =
     let slice = c.args.slice.now in
     let room = room_of [] slice.rows in
-    IfOk-weaker c.with.result _ _ (λ x e. all_ended slice.division c.args.number room (sym (c.is_attended.ensures room refl) ∙ c.if-is_attended.false)) c.with.ensures.ok
+    IfOk-weaker c.with.result _ _
+    (λ x e.
+    all_ended slice.division c.args.number room (sym (c.is_attended.ensures room refl) ∙ c.if-is_attended.false))
+    c.with.ensures.ok

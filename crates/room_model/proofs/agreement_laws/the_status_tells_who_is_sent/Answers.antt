@@ -1,4 +1,5 @@
-use Rattle.room_model.proofs.StatusLaws.{assignments_by_status, status_tells_assignments, status_tells_turns, turns_by_status}
+use Rattle.room_model.proofs.StatusLaws.{assignments_by_status, status_tells_assignments, status_tells_turns}
+use Rattle.room_model.proofs.StatusLaws.{turns_by_status}
 use Rattle.room_model.proofs.agreement_laws.the_status_tells_who_is_sent.Goals as goal
 
 pub returns-clause-room : goal.returns-clause-room

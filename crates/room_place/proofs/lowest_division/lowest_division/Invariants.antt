@@ -5,4 +5,6 @@ use Rattle.room_place.proofs.lowest_division.lowest_division.Given as goal
 
 -- what is left decides the rest
 abbrev pub invariant-loop-area : goal.invariant-loop-area
-invariant-loop-area l = least_from nat_lt l.lowest (divisions_with l.place (drop l.area-index l.areas)) ≡ least nat_lt (divisions_with l.place l.areas)
+invariant-loop-area l =
+    least_from nat_lt l.lowest (divisions_with l.place (drop l.area-index l.areas))
+    ≡ least nat_lt (divisions_with l.place l.areas)

@@ -6,4 +6,8 @@ use Rattle.room_queue.specs.ServedIncidents.{is_served, serves}
 use Rattle.room_queue.proofs.served_incidents.gather.Given as goal
 
 abbrev pub invariant-loop-turn : goal.invariant-loop-turn
-invariant-loop-turn l = (n : ℕ) → is_served l.served n || list_any (λ t. is_eq (nat_cmp n t.incident) && serves l.division t) (drop l.turn-index l.turns) ≡ list_any (λ t. is_eq (nat_cmp n t.incident) && serves l.division t) l.turns
+invariant-loop-turn l =
+    (n : ℕ)
+    → is_served l.served n
+    || list_any (λ t. is_eq (nat_cmp n t.incident) && serves l.division t) (drop l.turn-index l.turns)
+    ≡ list_any (λ t. is_eq (nat_cmp n t.incident) && serves l.division t) l.turns

@@ -7,4 +7,5 @@ pub returns-clause-room : goal.returns-clause-room
 returns-clause-room g since r w = well_formed_without since (left_behind since r) r w (left_stays since r w)
 
 pub returns-clause-terminals : goal.returns-clause-terminals
-returns-clause-terminals g since r ts fit = record { keyed = fit.keyed; has_crew = fit.has_crew; one_crew = fit.one_crew; crews = fit.crews; desks = fit.desks }
+returns-clause-terminals g since r ts fit =
+    record { keyed = fit.keyed; has_crew = fit.has_crew; one_crew = fit.one_crew; crews = fit.crews; desks = fit.desks }

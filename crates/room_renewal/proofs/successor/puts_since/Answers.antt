@@ -12,5 +12,8 @@ pub returns : goal.returns
 returns c =
     let past = c.in_ok-past.past in
     let s = c.args.rows.now in
-    if_ok (λ changes. (plan : List Area) → changes.items ≡ puts_left past.since (room_of plan past.rows.now)) (λ changes. (plan : List Area) → IsInOrder (room_of plan s) → changes.items ≡ puts (renewed c.args.since (room_of plan s)))
-    c.puts_of.result c.puts_of.ensures (λ changes f. makes_renewed c.args.since s past.since past.rows.now c.in_ok-past.ensures.0 c.in_ok-past.ensures.1 changes.items f)
+    if_ok (λ changes. (plan : List Area) → changes.items ≡ puts_left past.since (room_of plan past.rows.now))
+    (λ changes.
+    (plan : List Area) → IsInOrder (room_of plan s) → changes.items ≡ puts (renewed c.args.since (room_of plan s)))
+    c.puts_of.result c.puts_of.ensures (λ changes f.
+    makes_renewed c.args.since s past.since past.rows.now c.in_ok-past.ensures.0 c.in_ok-past.ensures.1 changes.items f)

@@ -16,7 +16,8 @@ pub returns-clause-ok : goal.returns-clause-ok
 returns-clause-ok g c clean =
     let early : HasCleanDisk (state g.S.Store c.prepare.new.conn) = omega (arith, c.write.ensures.survives.clean) in
     acted _ _ _ c.args.plan.now c.args.cache.now c.args.event.now c.as_slice.result.now c.in-Ok.ensures.reads.ok
-    (λ sound config room h. c.as_slice.ensures ∙ c.in-Ok.ensures.changes sound config room h) early (c.in_default.ensures.ok clean)
+    (λ sound config room h. c.as_slice.ensures ∙ c.in-Ok.ensures.changes sound config room h) early
+    (c.in_default.ensures.ok clean)
 
 pub returns-clause-cache : goal.returns-clause-cache
 returns-clause-cache g c clean config room h =
@@ -27,13 +28,17 @@ returns-clause-cache g c clean config room h =
 
 pub returns-clause-survives : goal.returns-clause-survives
 returns-clause-survives g c =
-    acted_survives _ _ _ c.args.plan.now c.args.cache.now c.args.event.now c.as_slice.result.now c.in-Ok.ensures.reads.ok
-    (λ sound config room h. c.as_slice.ensures ∙ c.in-Ok.ensures.changes sound config room h) c.prepare.ensures.reads.survives c.write.ensures.survives
+    acted_survives _ _ _ c.args.plan.now c.args.cache.now c.args.event.now c.as_slice.result.now
+    c.in-Ok.ensures.reads.ok
+    (λ sound config room h. c.as_slice.ensures ∙ c.in-Ok.ensures.changes sound config room h)
+    c.prepare.ensures.reads.survives c.write.ensures.survives
 
 pub returns-in-Err-write-clause-survives : goal.returns-in-Err-write-clause-survives
 returns-in-Err-write-clause-survives g c =
-    acted_survives _ _ _ c.args.plan.now c.args.cache.now c.args.event.now c.as_slice.result.now c.in-Ok.ensures.reads.ok
-    (λ sound config room h. c.as_slice.ensures ∙ c.in-Ok.ensures.changes sound config room h) c.prepare.ensures.reads.survives c.write.ensures.survives
+    acted_survives _ _ _ c.args.plan.now c.args.cache.now c.args.event.now c.as_slice.result.now
+    c.in-Ok.ensures.reads.ok
+    (λ sound config room h. c.as_slice.ensures ∙ c.in-Ok.ensures.changes sound config room h)
+    c.prepare.ensures.reads.survives c.write.ensures.survives
 
 pub prepare-requires-clause-room : goal.prepare-requires-clause-room
 prepare-requires-clause-room g c = c.requires.room
@@ -43,7 +48,9 @@ prepare-requires-clause-open g c = c.requires.open
 
 pub returns-in-Err-clause-err : goal.returns-in-Err-clause-err
 returns-in-Err-clause-err g c clean =
-    left_failed _ _ (outside c.is_autocommit.result _ c.requires.outside c.is_autocommit.ensures.value c.is_autocommit.ensures.settled) (c.in-Err.ensures.reads.err clean)
+    left_failed _ _
+    (outside c.is_autocommit.result _ c.requires.outside c.is_autocommit.ensures.value c.is_autocommit.ensures.settled)
+    (c.in-Err.ensures.reads.err clean)
 
 pub returns-in-Err-clause-ended : goal.returns-in-Err-clause-ended
 returns-in-Err-clause-ended g c = c.prepare.ensures.reads.mode c.requires.outside
@@ -52,14 +59,17 @@ pub returns-in-Err-clause-survives : goal.returns-in-Err-clause-survives
 returns-in-Err-clause-survives g c = survives_more _ _ _ c.prepare.ensures.reads.survives
 
 pub write-requires-clause-room : goal.write-requires-clause-room
-write-requires-clause-room g c = room_read g.S.Store c.args.conn.now c.prepare.new.conn c.in-Ok.ensures.reads.ok c.prepare.ensures.reads.survives c.requires.room
+write-requires-clause-room g c =
+    room_read g.S.Store c.args.conn.now c.prepare.new.conn c.in-Ok.ensures.reads.ok c.prepare.ensures.reads.survives
+    c.requires.room
 
 pub write-requires-clause-outside : goal.write-requires-clause-outside
 write-requires-clause-outside g c = c.prepare.ensures.reads.mode c.requires.outside
 
 pub write-requires-clause-settled : goal.write-requires-clause-settled
 write-requires-clause-settled g c =
-    settled_read g.S.Store c.args.conn.now c.prepare.new.conn c.in-Ok.ensures.reads.ok (outside c.is_autocommit.result _ c.requires.outside c.is_autocommit.ensures.value c.is_autocommit.ensures.settled)
+    settled_read g.S.Store c.args.conn.now c.prepare.new.conn c.in-Ok.ensures.reads.ok
+    (outside c.is_autocommit.result _ c.requires.outside c.is_autocommit.ensures.value c.is_autocommit.ensures.settled)
 
 pub returns-in-Err-write-clause-err : goal.returns-in-Err-write-clause-err
 returns-in-Err-write-clause-err g c clean =

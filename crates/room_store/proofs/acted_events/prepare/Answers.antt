@@ -1,6 +1,6 @@
 use Rattle.std.proofs.Common.{ap, inl, refl, ◌∙◌}
 use Rattle.room_model.specs.Decisions.{answer_of, changes_of}
-use Rattle.room_tables_laws.proofs.ReadLaws.{fails, looked, told, wants}
+use Rattle.room_tables_schema.proofs.ReadLaws.{fails, looked, told, wants}
 use Rattle.room_store.proofs.Wants.{not_parted, parted, want_is}
 use Rattle.room_store.specs.EventDecisions.{unless_out_of_memory}
 use Rattle.room_store.proofs.acted_events.prepare.Goals as goal
@@ -15,8 +15,11 @@ returns-in-Ok-rendered-clause-changes g c clean config room h =
 
 pub returns-in-Ok-rendered-clause-bytes : goal.returns-in-Ok-rendered-clause-bytes
 returns-in-Ok-rendered-clause-bytes g c clean config room h =
-    let it = parted (unless_out_of_memory c.decide-decision.result) _ c.in-Ok.ensures in
-    (_, c.in-Ok-rendered.ensures, it.3 ∙ ap answer_of (rw it.1 at c.decide-decision.ensures.decided clean config room h))
+    let it = parted (unless_out_of_memory c.decide-decision.result) _ c.in-Ok.ensures in (
+      _,
+      c.in-Ok-rendered.ensures,
+      it.3 ∙ ap answer_of (rw it.1 at c.decide-decision.ensures.decided clean config room h),
+    )
 
 pub returns-in-Ok-rendered-clause-cache : goal.returns-in-Ok-rendered-clause-cache
 returns-in-Ok-rendered-clause-cache g c clean =

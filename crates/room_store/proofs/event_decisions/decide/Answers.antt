@@ -1,34 +1,109 @@
-use Rattle.std.proofs.Common.{arith}
+use Rattle.std.proofs.Common.{arith, refl}
 use Rattle.std.proofs.lemmas.Result.{IfOk-weaker}
 use Rattle.sqlite.specs.Held.{state}
 use Rattle.sqlite.specs.State.{HasCleanDisk}
-use Rattle.room_tables_laws.proofs.ReadLaws.{fails, looked, then_any}
+use Rattle.room_tables_schema.proofs.ReadLaws.{fails, looked, then_any, wants}
 use Rattle.room_tables.proofs.RoomReads.{kept}
-use Rattle.room_store.proofs.Wants.{failed, unsaid}
+use Rattle.room_store.proofs.Wants.{all_known, failed, filled, still_known, unsaid}
 use Rattle.room_store.specs.EventDecisions.{unless_out_of_memory}
 use Rattle.room_store.proofs.event_decisions.decide.Goals as goal
 
-pub decide_known-requires-clause-open : goal.decide_known-requires-clause-open
-decide_known-requires-clause-open g c clean = (c.in-Ok.ensures.reads.ok clean).0.is_open
+pub for_desk-requires-clause-open : goal.for_desk-requires-clause-open
+for_desk-requires-clause-open g c clean = (c.in-Ok.ensures.reads.ok clean).0.is_open
 
-pub returns-in-Ok-clause-decided : goal.returns-in-Ok-clause-decided
-returns-in-Ok-clause-decided g c clean =
-    let first : HasCleanDisk (state g.S.Store c.fill.new.conn) = omega (arith, c.decide_known.ensures.reads.survives.clean) in
-    IfOk-weaker (unless_out_of_memory c.decide_known.result) _ _ (λ x told config room h.
+pub for_crew-requires-clause-open : goal.for_crew-requires-clause-open
+for_crew-requires-clause-open g c clean = (c.in-Ok.ensures.reads.ok clean).0.is_open
+
+pub returns-in-Desk-clause-decided : goal.returns-in-Desk-clause-decided
+returns-in-Desk-clause-decided g c clean =
+    let first : HasCleanDisk (state g.S.Store c.fill.new.conn) = omega
+    (arith, c.for_desk.ensures.reads.survives.clean) in
+    IfOk-weaker (unless_out_of_memory c.for_desk.result) _ _ (λ x told config room h.
     let fleet = c.in-Ok.ensures.known first config room h.stands h.cache.fleet in
-    told config room (kept _ _ (c.in-Ok.ensures.reads.ok first) config room h.stands) h.formed h.plan h.addressed fleet
-    (record { fleet = λ _. fleet; backlogs = h.cache.backlogs; incident_views = h.cache.incident_views; recent_incidents = h.cache.recent_incidents; shown_lists = h.cache.shown_lists })) (c.decide_known.ensures.decided clean)
+    rw c.in-Desk.is (told config room (kept _ _ (c.in-Ok.ensures.reads.ok first) config room h.stands) h.formed h.plan
+    (all_known fleet (filled _ fleet h.cache)))) (c.for_desk.ensures.decided clean)
 
-pub returns-in-Ok-clause-cache : goal.returns-in-Ok-clause-cache
-returns-in-Ok-clause-cache g c clean =
-    let first : HasCleanDisk (state g.S.Store c.fill.new.conn) = omega (arith, c.decide_known.ensures.reads.survives.clean) in
-    IfOk-weaker (unless_out_of_memory c.decide_known.result) _ _ (λ x now config room h.
+pub returns-in-Desk-clause-cache : goal.returns-in-Desk-clause-cache
+returns-in-Desk-clause-cache g c clean =
+    let first : HasCleanDisk (state g.S.Store c.fill.new.conn) = omega
+    (arith, c.for_desk.ensures.reads.survives.clean) in
+    IfOk-weaker (unless_out_of_memory c.for_desk.result) _ _ (λ x known config room h.
     let fleet = c.in-Ok.ensures.known first config room h.stands h.cache.fleet in
-    now config room (kept _ _ (c.in-Ok.ensures.reads.ok first) config room h.stands) h.formed h.plan h.addressed fleet
-    (record { fleet = λ _. fleet; backlogs = h.cache.backlogs; incident_views = h.cache.incident_views; recent_incidents = h.cache.recent_incidents; shown_lists = h.cache.shown_lists })) (c.decide_known.ensures.cache clean)
+    still_known fleet
+    (known config room (kept _ _ (c.in-Ok.ensures.reads.ok first) config room h.stands) h.formed
+    (all_known fleet (filled _ fleet h.cache))) c.for_desk.ensures.fleet) (c.for_desk.ensures.known clean)
 
-pub returns-in-Ok-clause-reads : goal.returns-in-Ok-clause-reads
-returns-in-Ok-clause-reads g c = then_any (looked c.in-Ok.ensures.reads) (unless_out_of_memory c.decide_known.result) c.decide_known.ensures.reads
+pub returns-in-Desk-clause-reads : goal.returns-in-Desk-clause-reads
+returns-in-Desk-clause-reads g c =
+    then_any (looked c.in-Ok.ensures.reads) (unless_out_of_memory c.for_desk.result) c.for_desk.ensures.reads
+
+pub returns-in-Crew-clause-decided : goal.returns-in-Crew-clause-decided
+returns-in-Crew-clause-decided g c clean =
+    let first : HasCleanDisk (state g.S.Store c.fill.new.conn) = omega
+    (arith, c.for_crew.ensures.reads.survives.clean) in
+    IfOk-weaker (unless_out_of_memory c.for_crew.result) _ _ (λ x told config room h.
+    let fleet = c.in-Ok.ensures.known first config room h.stands h.cache.fleet in
+    rw c.in-Crew.is (told config room (kept _ _ (c.in-Ok.ensures.reads.ok first) config room h.stands) h.formed fleet))
+    (c.for_crew.ensures.decided clean)
+
+pub returns-in-Crew-clause-cache : goal.returns-in-Crew-clause-cache
+returns-in-Crew-clause-cache g c clean =
+    let first : HasCleanDisk (state g.S.Store c.fill.new.conn) = omega
+    (arith, c.for_crew.ensures.reads.survives.clean) in
+    IfOk-weaker (unless_out_of_memory c.for_crew.result) _ _ (λ x known config room h.
+    let fleet = c.in-Ok.ensures.known first config room h.stands h.cache.fleet in
+    filled _ (known config room (kept _ _ (c.in-Ok.ensures.reads.ok first) config room h.stands) fleet) h.cache)
+    (c.for_crew.ensures.known clean)
+
+pub returns-in-Crew-clause-reads : goal.returns-in-Crew-clause-reads
+returns-in-Crew-clause-reads g c =
+    then_any (looked c.in-Ok.ensures.reads) (unless_out_of_memory c.for_crew.result) c.for_crew.ensures.reads
+
+pub returns-in-Call-clause-decided : goal.returns-in-Call-clause-decided
+returns-in-Call-clause-decided g c clean =
+    let first : HasCleanDisk (state g.S.Store c.fill.new.conn) = omega
+    (arith, c.for_call.ensures.reads.survives.clean) in
+    IfOk-weaker (unless_out_of_memory c.for_call.result) _ _ (λ x told config room h.
+    let fleet = c.in-Ok.ensures.known first config room h.stands h.cache.fleet in
+    told config room (kept _ _ (c.in-Ok.ensures.reads.ok first) config room h.stands) h.formed h.plan c.in-Position.is
+    c.in-Call.is fleet (filled _ fleet h.cache)) (c.for_call.ensures.decided clean)
+
+pub returns-in-Call-clause-cache : goal.returns-in-Call-clause-cache
+returns-in-Call-clause-cache g c clean =
+    let first : HasCleanDisk (state g.S.Store c.fill.new.conn) = omega
+    (arith, c.for_call.ensures.reads.survives.clean) in
+    IfOk-weaker (unless_out_of_memory c.for_call.result) _ _ (λ x now config room h.
+    let fleet = c.in-Ok.ensures.known first config room h.stands h.cache.fleet in
+    now config room (kept _ _ (c.in-Ok.ensures.reads.ok first) config room h.stands) h.formed c.in-Call.is fleet
+    (filled _ fleet h.cache)) (c.for_call.ensures.cache clean)
+
+pub returns-in-Call-clause-reads : goal.returns-in-Call-clause-reads
+returns-in-Call-clause-reads g c =
+    then_any (looked c.in-Ok.ensures.reads) (unless_out_of_memory c.for_call.result) c.for_call.ensures.reads
+
+pub returns-in-Last-clause-decided : goal.returns-in-Last-clause-decided
+returns-in-Last-clause-decided g c clean =
+    let first : HasCleanDisk (state g.S.Store c.fill.new.conn) = omega
+    (arith, c.for_last.ensures.reads.survives.clean) in
+    IfOk-weaker (unless_out_of_memory c.for_last.result) _ _ (λ x told config room h.
+    rw (c.in-Position.is, c.in-Last.is)
+    (told config room (kept _ _ (c.in-Ok.ensures.reads.ok first) config room h.stands)))
+    (c.for_last.ensures.decided clean)
+
+pub returns-in-Last-clause-cache : goal.returns-in-Last-clause-cache
+returns-in-Last-clause-cache g c clean =
+    let first : HasCleanDisk (state g.S.Store c.fill.new.conn) = omega
+    (arith, c.for_last.ensures.reads.survives.clean) in
+    IfOk-weaker (unless_out_of_memory c.for_last.result) _ _ (λ x told config room h.
+    filled _ (c.in-Ok.ensures.known first config room h.stands h.cache.fleet) h.cache)
+    (c.for_last.ensures.decided clean)
+
+pub returns-in-Last-clause-reads : goal.returns-in-Last-clause-reads
+returns-in-Last-clause-reads g c =
+    then_any (looked c.in-Ok.ensures.reads) (unless_out_of_memory c.for_last.result) c.for_last.ensures.reads
+
+pub returns-in_default-clause-reads : goal.returns-in_default-clause-reads
+returns-in_default-clause-reads g c = wants refl (looked c.in-Ok.ensures.reads)
 
 pub returns-in-Err-clause-decided : goal.returns-in-Err-clause-decided
 returns-in-Err-clause-decided g c clean = unsaid c.in-Err.fault c.refusal_of.ensures _

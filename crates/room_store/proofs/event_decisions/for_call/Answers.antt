@@ -1,44 +1,76 @@
-use Rattle.std.proofs.Common.{arith}
+use Rattle.std.proofs.Common.{arith, inl, refl}
 use Rattle.std.proofs.lemmas.Result.{IfOk-weaker}
 use Rattle.sqlite.specs.Held.{state}
 use Rattle.sqlite.specs.State.{HasCleanDisk}
-use Rattle.room_tables_laws.proofs.ReadLaws.{fails, looked, then_any, told, told_any}
-use Rattle.room_store.proofs.CallReads.{is_in, nowhere, told_again}
-use Rattle.room_store.proofs.Wants.{all_known, failed, says, still_known, unsaid}
+use Rattle.room_model.specs.Step.{decided}
+use Rattle.room_tables_schema.proofs.ReadLaws.{and, but, fails, looked, told, told_any}
+use Rattle.room_store.proofs.CallReads.{is_new, nowhere, placed_in, told_again}
+use Rattle.room_store.proofs.Wants.{all_known, failed, machines, says, still_known, unsaid}
 use Rattle.room_store.specs.EventDecisions.{unless_out_of_memory}
 use Rattle.room_tables.proofs.RoomReads.{kept}
 use Rattle.room_store.proofs.event_decisions.for_call.Goals as goal
 
 pub returns-in-Some-clause-decided : goal.returns-in-Some-clause-decided
-returns-in-Some-clause-decided g c clean = says c.decide_again.result _ (λ config room h formed planned who ask _ _.
-    told_again c.args.event.now c.args.position c.args.form.now c.args.plan.now.areas room planned who ask c.in-Ok.found (c.in-Ok.ensures.row clean config room h)
-    c.in-Some.kept c.new_call.result c.decide_again.result c.in-Some.is c.new_call.ensures c.decide_again.ensures)
+returns-in-Some-clause-decided g c clean =
+    says c.decide_repeated_call.result _ (λ config room h formed planned who ask _ _.
+    told_again c.args.event.now c.args.position c.args.form.now c.args.plan.now.areas room planned who ask c.in-Ok.found
+    (c.in-Ok.ensures.row clean config room h)
+    c.in-Some.kept c.new_call-call.result c.decide_repeated_call.result c.in-Some.is c.new_call-call.ensures
+    c.decide_repeated_call.ensures)
 
 pub returns-in-Some-clause-cache : goal.returns-in-Some-clause-cache
-returns-in-Some-clause-cache g c clean = says c.decide_again.result _ (λ config room h formed ask fleet is. is)
+returns-in-Some-clause-cache g c clean = says c.decide_repeated_call.result _ (λ config room h formed ask fleet is. is)
 
-pub for_division-requires-clause-open : goal.for_division-requires-clause-open
-for_division-requires-clause-open g c clean = (c.in-Ok.ensures.reads.ok clean).0.is_open
+pub returns-in-Some-clause-reads : goal.returns-in-Some-clause-reads
+returns-in-Some-clause-reads g c =
+    told_any (unless_out_of_memory c.decide_repeated_call.result) (looked c.in-Ok.ensures.reads)
 
-pub returns-in-Some-division_of-clause-decided : goal.returns-in-Some-division_of-clause-decided
-returns-in-Some-division_of-clause-decided g c clean =
-    let first : HasCleanDisk (state g.S.Store c.row_at.new.conn) = omega (arith, c.for_division.ensures.reads.survives.clean) in
-    IfOk-weaker (unless_out_of_memory c.for_division.result) _ _ (λ x decides config room h formed planned who ask fleet is.
-    decides config room (kept _ _ (c.in-Ok.ensures.reads.ok first) config room h) formed planned
-    (is_in c.args.event.now c.args.position c.args.form.now c.args.plan.now.areas room planned who ask c.in-Ok.found (c.in-Ok.ensures.row first config room h)
-    c.division_of.result c.division_of.ensures.value c.in-Some-division_of.division c.in-None.is c.in-Some-division_of.is)
-    (all_known fleet is)) (c.for_division.ensures.decided clean)
+pub returns-in_default-division_of-clause-decided : goal.returns-in_default-division_of-clause-decided
+returns-in_default-division_of-clause-decided g c clean config room h formed planned who ask _ _ =
+    nowhere c.args.event.now c.args.position c.args.form.now c.args.plan.now.areas room planned who ask c.in-Ok.found
+    (c.in-Ok.ensures.row clean config room h)
+    c.division_of.result c.division_of.ensures.value c.in_default.is c.in_default-division_of.is
 
-pub returns-in-Some-division_of-clause-cache : goal.returns-in-Some-division_of-clause-cache
-returns-in-Some-division_of-clause-cache g c clean =
-    let first : HasCleanDisk (state g.S.Store c.row_at.new.conn) = omega (arith, c.for_division.ensures.reads.survives.clean) in
-    IfOk-weaker (unless_out_of_memory c.for_division.result) _ _ (λ x known config room h formed ask fleet is.
-    still_known fleet (known config room (kept _ _ (c.in-Ok.ensures.reads.ok first) config room h) formed (all_known fleet is)) c.for_division.ensures.fleet) (c.for_division.ensures.known clean)
+pub returns-in_default-division_of-clause-reads : goal.returns-in_default-division_of-clause-reads
+returns-in_default-division_of-clause-reads g c = told (looked c.in-Ok.ensures.reads)
 
-pub returns-in-None-division_of-clause-decided : goal.returns-in-None-division_of-clause-decided
-returns-in-None-division_of-clause-decided g c clean config room h formed planned who ask _ _ =
-    nowhere c.args.event.now c.args.position c.args.form.now c.args.plan.now.areas room planned who ask c.in-Ok.found (c.in-Ok.ensures.row clean config room h)
-    c.division_of.result c.division_of.ensures.value c.in-None.is c.in-None-division_of.is
+pub load_slice-requires-clause-open : goal.load_slice-requires-clause-open
+load_slice-requires-clause-open g c clean = (c.in-Ok.ensures.reads.ok clean).0.is_open
+
+pub returns-clause-decided : goal.returns-clause-decided
+returns-clause-decided g c clean =
+    let first : HasCleanDisk (state g.S.Store c.row_at.new.conn) = omega
+    (arith, c.load_slice.ensures.reads.survives.clean) in
+    IfOk-weaker (unless_out_of_memory c.decide_call-decision.result) _ _
+    (λ x told config room h formed planned who ask fleet is.
+    let p = c.args.position in
+    let f = c.args.form.now in
+    let areas = c.args.plan.now.areas in
+    let row = c.in-Ok.ensures.row first config room h in
+    let rows = c.in-Ok-load_slice.ensures.rows clean config room
+    (kept _ _ (c.in-Ok.ensures.reads.ok first) config room h) formed (all_known fleet is) in
+    let new = is_new c.args.event.now p f areas room planned who ask c.in-Ok.found row c.division_of.result
+    c.division_of.ensures.value c.in_default.is in
+    let placed = placed_in c.args.event.now p f areas room planned who ask c.in-Ok.found row c.division_of.result
+    c.division_of.ensures.value c.in-Some-division_of.division c.in-Some-division_of.is in
+    let decides = rw (c.new_call-call.ensures, c.in-Ok-load_slice.ensures.division) at
+    c.decide_call-decision.ensures.decides room f formed in
+    told (decided c.args.event.now room) (rw (who, ask) (decides refl new placed (inl (rw ask at rows)))))
+    (machines c.decide_call-decision.result)
+
+pub returns-clause-cache : goal.returns-clause-cache
+returns-clause-cache g c clean =
+    let first : HasCleanDisk (state g.S.Store c.row_at.new.conn) = omega
+    (arith, c.load_slice.ensures.reads.survives.clean) in
+    says c.decide_call-decision.result _ (λ config room h formed ask fleet is.
+    still_known fleet
+    (c.in-Ok-load_slice.ensures.known clean config room (kept _ _ (c.in-Ok.ensures.reads.ok first) config room h) formed
+    (all_known fleet is)) c.load_slice.ensures.fleet)
+
+pub returns-clause-reads : goal.returns-clause-reads
+returns-clause-reads g c =
+    told_any (unless_out_of_memory c.decide_call-decision.result)
+    (and (looked c.in-Ok.ensures.reads) c.in-Ok-load_slice.ensures.reads)
 
 pub returns-in-Err-clause-decided : goal.returns-in-Err-clause-decided
 returns-in-Err-clause-decided g c clean = unsaid c.in-Err.fault c.refusal_of.ensures _
@@ -49,12 +81,15 @@ returns-in-Err-clause-cache g c clean = unsaid c.in-Err.fault c.refusal_of.ensur
 pub returns-in-Err-clause-reads : goal.returns-in-Err-clause-reads
 returns-in-Err-clause-reads g c = fails (failed c.in-Err.fault c.refusal_of.ensures) c.in-Err.ensures.reads
 
-pub returns-in-Some-clause-reads : goal.returns-in-Some-clause-reads
-returns-in-Some-clause-reads g c = told_any (unless_out_of_memory c.decide_again.result) (looked c.in-Ok.ensures.reads)
+pub returns-in-Err-load_slice-clause-decided : goal.returns-in-Err-load_slice-clause-decided
+returns-in-Err-load_slice-clause-decided g c clean =
+    unsaid c.in-Err-load_slice.fault c.refusal_of-in-Err-load_slice.ensures _
 
-pub returns-in-Some-division_of-clause-reads : goal.returns-in-Some-division_of-clause-reads
-returns-in-Some-division_of-clause-reads g c =
-    then_any (looked c.in-Ok.ensures.reads) (unless_out_of_memory c.for_division.result) c.for_division.ensures.reads
+pub returns-in-Err-load_slice-clause-cache : goal.returns-in-Err-load_slice-clause-cache
+returns-in-Err-load_slice-clause-cache g c clean =
+    unsaid c.in-Err-load_slice.fault c.refusal_of-in-Err-load_slice.ensures _
 
-pub returns-in-None-division_of-clause-reads : goal.returns-in-None-division_of-clause-reads
-returns-in-None-division_of-clause-reads g c = told (looked c.in-Ok.ensures.reads)
+pub returns-in-Err-load_slice-clause-reads : goal.returns-in-Err-load_slice-clause-reads
+returns-in-Err-load_slice-clause-reads g c =
+    but (looked c.in-Ok.ensures.reads) (failed c.in-Err-load_slice.fault c.refusal_of-in-Err-load_slice.ensures)
+    c.in-Err-load_slice.ensures.reads

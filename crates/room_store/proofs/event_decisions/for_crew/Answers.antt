@@ -3,7 +3,7 @@ use Rattle.std.proofs.lemmas.Result.{IfOk-weaker}
 use Rattle.room_types_keyed.specs.Keyed.{row_at}
 use Rattle.room_types.specs.Keys.{assignment_key, callsign_cmp, vehicle_key}
 use Rattle.room_model.specs.Queries.{assignment_at, vehicle_at}
-use Rattle.room_tables_laws.proofs.ReadLaws.{begins, told, wants}
+use Rattle.room_tables_schema.proofs.ReadLaws.{begins, told, wants}
 use Rattle.room_store_cache.specs.declared.fleets.FleetRows.{FleetRows}
 use Rattle.room_store_cache.proofs.CrewReads.{found_here}
 use Rattle.room_store.specs.EventDecisions.{unless_out_of_memory}
@@ -13,14 +13,27 @@ pub returns-in-Order-clause-decided : goal.returns-in-Order-clause-decided
 unfolding assignment_at vehicle_at
 returns-in-Order-clause-decided g c clean config room h formed fleet =
     let k = c.args.callsign.now in
-    let there : row_at callsign_cmp vehicle_key room.vehicles k ≡ Some c.in-Some.vehicle = ap (λ xs. row_at callsign_cmp vehicle_key xs k) (sym (ap (λ (r : FleetRows). r.vehicles) c.get.ensures ∙ fleet.rows.vehicles)) ∙ sym (c.copied.ensures ∙ c.get-2.ensures) ∙ c.in-Some.is in
-    let assigned : row_at callsign_cmp assignment_key room.assignments k ≡ c.copied-assignment.result = ap (λ xs. row_at callsign_cmp assignment_key xs k) (sym (ap (λ (r : FleetRows). r.assignments) c.get-in-Order.ensures ∙ fleet.rows.assignments)) ∙ sym (c.copied-assignment.ensures ∙ c.get-in-Order-2.ensures) in
+    let there : row_at callsign_cmp vehicle_key room.vehicles k
+    ≡ Some c.in-Some.vehicle =
+    ap (λ xs. row_at callsign_cmp vehicle_key xs k)
+    (sym (ap (λ (r : FleetRows). r.vehicles) c.get.ensures ∙ fleet.rows.vehicles))
+    ∙ sym (c.copied.ensures ∙ c.get-2.ensures) ∙ c.in-Some.is in
+    let assigned : row_at callsign_cmp assignment_key room.assignments k
+    ≡ c.copied-assignment.result =
+    ap (λ xs. row_at callsign_cmp assignment_key xs k)
+    (sym (ap (λ (r : FleetRows). r.assignments) c.get-in-Order.ensures ∙ fleet.rows.assignments))
+    ∙ sym (c.copied-assignment.ensures ∙ c.get-in-Order-2.ensures) in
     sym (rw (c.in-Order.is, there, assigned) (sym c.decide_order.ensures))
 
 pub returns-in-Report-clause-decided : goal.returns-in-Report-clause-decided
-returns-in-Report-clause-decided g c clean = IfOk-weaker (unless_out_of_memory c.for_report.result) _ _ (λ x told config room h formed fleet.
+returns-in-Report-clause-decided g c clean =
+    IfOk-weaker (unless_out_of_memory c.for_report.result) _ _ (λ x told config room h formed fleet.
     let k = c.args.callsign.now in
-    let there : row_at callsign_cmp vehicle_key room.vehicles k ≡ Some c.in-Some.vehicle = ap (λ xs. row_at callsign_cmp vehicle_key xs k) (sym (ap (λ (r : FleetRows). r.vehicles) c.get.ensures ∙ fleet.rows.vehicles)) ∙ sym (c.copied.ensures ∙ c.get-2.ensures) ∙ c.in-Some.is in
+    let there : row_at callsign_cmp vehicle_key room.vehicles k
+    ≡ Some c.in-Some.vehicle =
+    ap (λ xs. row_at callsign_cmp vehicle_key xs k)
+    (sym (ap (λ (r : FleetRows). r.vehicles) c.get.ensures ∙ fleet.rows.vehicles))
+    ∙ sym (c.copied.ensures ∙ c.get-2.ensures) ∙ c.in-Some.is in
     let here = found_here k c.in-Some.vehicle room there in
     rw c.in-Report.is (rw here.0 at (told config room h formed fleet here.1))) (c.for_report.ensures.decided clean)
 
@@ -28,7 +41,11 @@ pub returns-in-Last-clause-decided : goal.returns-in-Last-clause-decided
 unfolding vehicle_at
 returns-in-Last-clause-decided g c clean config room h formed fleet =
     let k = c.args.callsign.now in
-    let there : row_at callsign_cmp vehicle_key room.vehicles k ≡ Some c.in-Some.vehicle = ap (λ xs. row_at callsign_cmp vehicle_key xs k) (sym (ap (λ (r : FleetRows). r.vehicles) c.get.ensures ∙ fleet.rows.vehicles)) ∙ sym (c.copied.ensures ∙ c.get-2.ensures) ∙ c.in-Some.is in
+    let there : row_at callsign_cmp vehicle_key room.vehicles k
+    ≡ Some c.in-Some.vehicle =
+    ap (λ xs. row_at callsign_cmp vehicle_key xs k)
+    (sym (ap (λ (r : FleetRows). r.vehicles) c.get.ensures ∙ fleet.rows.vehicles))
+    ∙ sym (c.copied.ensures ∙ c.get-2.ensures) ∙ c.in-Some.is in
     sym (rw (c.in-Last.is, there) (sym c.decide_last.ensures))
 
 pub returns-in-Last-clause-reads : goal.returns-in-Last-clause-reads

@@ -1,7 +1,7 @@
 use Rattle.std.proofs.Common.{ap, ◌∙◌}
 use Rattle.room_types.specs.declared.answers.Answer.TheVariants.{LastSerial}
 use Rattle.room_model.specs.Decisions.{show}
-use Rattle.room_tables_laws.proofs.ReadLaws.{fails, looked, told}
+use Rattle.room_tables_schema.proofs.ReadLaws.{fails, looked, told}
 use Rattle.room_store.proofs.Wants.{failed, unsaid}
 use Rattle.room_store.proofs.event_decisions.for_last.Goals as goal
 

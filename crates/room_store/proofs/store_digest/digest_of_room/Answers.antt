@@ -23,33 +23,47 @@ through (Err e) from is p open_ f = tt
 left : (g : Over) (c : After-told g) → HasCleanDisk (state g.S.Store c.test_file.new.self.conn)
     → Leaves (state g.S.Store c.args.store.now.conn) (state g.S.Store c.test_file.new.self.conn)
 left g c clean =
-    let early : HasCleanDisk (state g.S.Store c.digest_in-digest.new.conn) = omega (arith, c.test_file.ensures.survives.clean) in
+    let early : HasCleanDisk (state g.S.Store c.digest_in-digest.new.conn) = omega
+    (arith, c.test_file.ensures.survives.clean) in
     left_then _ _ _ (c.digest_in-digest.ensures.leaves early) (c.test_file.ensures.leaves clean)
 
 pub returns-clause-known : goal.returns-clause-known
 returns-clause-known g c clean =
-    let early : HasCleanDisk (state g.S.Store c.digest_in-digest.new.conn) = omega (arith, c.test_file.ensures.survives.clean) in
-    through c.told.result c.digest_in-digest.result c.told.ensures.read (c.digest_in-digest.ensures.digest early) c.told.ensures.sound
-    (λ x tells sound terminals room is. tells (config_of c.args.store.now.plan terminals) room (is.tables ((left g c clean).was_open (c.test_file.ensures.ready.sound sound clean).settled.is_open)))
+    let early : HasCleanDisk (state g.S.Store c.digest_in-digest.new.conn) = omega
+    (arith, c.test_file.ensures.survives.clean) in
+    through c.told.result c.digest_in-digest.result c.told.ensures.read (c.digest_in-digest.ensures.digest early)
+    c.told.ensures.sound
+    (λ x tells sound terminals room is.
+    tells (config_of c.args.store.now.plan terminals) room
+    (is.tables ((left g c clean).was_open (c.test_file.ensures.ready.sound sound clean).settled.is_open)))
 
 pub returns-clause-same : goal.returns-clause-same
 returns-clause-same g c clean terminals room is =
-    room_left g.S.Store c.args.store.now c.test_file.new.self terminals room (left g c clean) c.test_file.ensures.plan (rw c.test_file.ensures.known is.known) (knows_nothing c.test_file.new.self.cache room c.test_file.ensures.nothing) is
+    room_left g.S.Store c.args.store.now c.test_file.new.self terminals room (left g c clean) c.test_file.ensures.plan
+    (rw c.test_file.ensures.known is.known) (knows_nothing c.test_file.new.self.cache room c.test_file.ensures.nothing)
+    is
 
 pub returns-clause-kept : goal.returns-clause-kept
 returns-clause-kept g c clean =
-    on_ok_weaker c.told.result (λ sound _. settled_kept g.S.Store c.test_file.new.self (g.met.S.Store.settled c.test_file.new.self.conn.store) (c.test_file.ensures.ready.sound sound clean).settled) c.told.ensures.sound
+    on_ok_weaker c.told.result
+    (λ sound _.
+    settled_kept g.S.Store c.test_file.new.self (g.met.S.Store.settled c.test_file.new.self.conn.store)
+    (c.test_file.ensures.ready.sound sound clean).settled) c.told.ensures.sound
 
 pub returns-clause-left : goal.returns-clause-left
 returns-clause-left g c clean kept terminals room is =
-    let survives : Survives (state g.S.Store c.args.store.now.conn) (state g.S.Store c.test_file.new.self.conn) (λ _. ⊥) = survives_read _ _ _ _ c.digest_in-digest.ensures.survives c.test_file.ensures.survives in
-    looked_left g.S.Store c.args.store.now c.test_file.new.self c.test_file.ensures.plan clean kept terminals room is survives
+    let survives : Survives (state g.S.Store c.args.store.now.conn) (state g.S.Store c.test_file.new.self.conn)
+    (λ _. ⊥) = survives_read _ _ _ _ c.digest_in-digest.ensures.survives c.test_file.ensures.survives in
+    looked_left g.S.Store c.args.store.now c.test_file.new.self c.test_file.ensures.plan clean kept terminals room is
+    survives
 
 pub returns-then-not-store-clause-left : goal.returns-then-not-store-clause-left
-returns-then-not-store-clause-left g c clean kept terminals room is db left = inl (kept_stands g.S.Store c.args.store.now terminals room kept is db left)
+returns-then-not-store-clause-left g c clean kept terminals room is db left =
+    inl (kept_stands g.S.Store c.args.store.now terminals room kept is db left)
 
 pub digest_in-digest-requires-clause-room : goal.digest_in-digest-requires-clause-room
-digest_in-digest-requires-clause-room g c = ready_schema g.S.Store c.args.store.now c.requires.ready c.if-not-store.false
+digest_in-digest-requires-clause-room g c =
+    ready_schema g.S.Store c.args.store.now c.requires.ready c.if-not-store.false
 
 pub digest_in-digest-requires-clause-outside : goal.digest_in-digest-requires-clause-outside
 digest_in-digest-requires-clause-outside g c = c.requires.ready.outside

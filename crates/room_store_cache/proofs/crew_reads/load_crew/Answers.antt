@@ -1,5 +1,5 @@
 use Rattle.std.proofs.Common.{refl, subst, sym, ◌∙◌}
-use Rattle.room_tables_laws.proofs.ReadLaws.{fails, looked, told}
+use Rattle.room_tables_schema.proofs.ReadLaws.{fails, looked, told}
 use Rattle.room_store_cache.specs.Cache.{AreRowsOf}
 use Rattle.room_store_cache.proofs.crew_reads.load_crew.Goals as goal
 
@@ -9,7 +9,9 @@ returns-clause-rows g c clean config room h formed known there = (
   record {
     vehicle = there;
     turn = c.in_ok-turn.ensures.row clean config room h formed known.turns there;
-    loan = sym (rw (c.get.ensures, c.in_ok-turn.ensures.rows, known.rows.loans) at (c.copied-loan.ensures ∙ c.get-2.ensures));
+    loan =
+        sym
+        (rw (c.get.ensures, c.in_ok-turn.ensures.rows, known.rows.loans) at (c.copied-loan.ensures ∙ c.get-2.ensures));
   },
 )
 

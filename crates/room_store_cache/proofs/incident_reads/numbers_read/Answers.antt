@@ -12,4 +12,5 @@ unfolding incident_of
 returns-in-Active-clause-ok c =
     IfOk-weaker c.numbers_of.result _ _ (λ numbers all d at room in_order are n.
     rw c.in-Active.is (ap (contains n) (all ∙ ap (map number_of) (rw c.in-Active.is at are))
-    ∙ numbers_of d (λ i. is_active i.state) room.incidents n in_order.incidents ∙ sym (or_none _))) c.numbers_of.ensures.ok
+    ∙ numbers_of d (λ i. is_active i.state) room.incidents n in_order.incidents ∙ sym (or_none _)))
+    c.numbers_of.ensures.ok

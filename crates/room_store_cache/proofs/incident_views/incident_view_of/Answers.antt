@@ -20,15 +20,23 @@ loop-turn-preserved c =
     let inside : i < length ts = rw c.as_slice-turn-items.ensures.all at c.loop-turn-test.true in
     let here : t ≡ get_or ts i t = rw c.as_slice-turn-items.ensures.all at c.turn-item.is in
     elim c.if-eq.branch [
-      | then-eq+in_ok-put w ↦ w.turns-is ∙ (w.in_ok-put.ensures.put ∙ put_passing numbered_cmp turn_key numbered_total p ts c.loop-turn.turns i t c.as_slice-turn-items.ensures.keyed inside here c.loop-turn.invariant (sym c.eq.ensures ∙ w.if-eq.true))
-      | else-eq w ↦ w.turns-is ∙ without_failing p ts c.loop-turn.turns i t inside here c.loop-turn.invariant (sym c.eq.ensures ∙ w.if-eq.false)
+      | then-eq+in_ok-put w ↦
+          w.turns-is
+          ∙ (w.in_ok-put.ensures.put
+          ∙ put_passing numbered_cmp turn_key numbered_total p ts c.loop-turn.turns i t
+          c.as_slice-turn-items.ensures.keyed inside here c.loop-turn.invariant (sym c.eq.ensures ∙ w.if-eq.true))
+      | else-eq w ↦
+          w.turns-is
+          ∙ without_failing p ts c.loop-turn.turns i t inside here c.loop-turn.invariant
+          (sym c.eq.ensures ∙ w.if-eq.false)
     ]
 
 pub returns-clause-incident_view : goal.returns-clause-incident_view
 returns-clause-incident_view c room ask at in_order reads read =
     let d = c.args.division in
     let n = c.args.number in
-    let past : length c.as_slice-turn-items.result.now ≤ c.loop-turn.turn-index = omega (arith, c.loop-turn-test.false) in
+    let past : length c.as_slice-turn-items.result.now
+    ≤ c.loop-turn.turn-index = omega (arith, c.loop-turn-test.false) in
     let all = take_all c.loop-turn.turn-index c.args.rows.now.turns (rw c.as_slice-turn-items.ensures.all at past) in
     record {
       incident = c.copied.ensures ∙ c.get.ensures

@@ -27,10 +27,12 @@ returns-clause-part c =
     let active = rw c.in-Active.is at shown in
     let keyed = in_order.incidents in
     let is_read = λ (i : Incident). is_active i.state in
-    let same : (n : ℕ) → is_among d c.args.incidents n ≡ reads n = λ n. ap (λ is. is_among d is n) active ∙ among_read d is_read room.incidents keyed n ∙ sym (or_none _) in (
+    let same : (n : ℕ) → is_among d c.args.incidents n ≡ reads n = λ n.
+    ap (λ is. is_among d is n) active ∙ among_read d is_read room.incidents keyed n ∙ sym (or_none _) in (
       known,
       rw c.in-Active.is (record {
-        calls = kept.calls ∙ ap (filter (λ x. c.args.reads.now.calls && is_among d c.args.incidents x.incident)) all.calls
+        calls =
+            kept.calls ∙ ap (filter (λ x. c.args.reads.now.calls && is_among d c.args.incidents x.incident)) all.calls
             ∙ sym (filter_and _ _ room.calls)
             ∙ filter_as _ _ room.calls (λ x.
             let n = x.incident in
@@ -42,7 +44,9 @@ returns-clause-part c =
             let n = x.incident in
             (λ j. (x.division == d && known n) && same n j)
             ∙ then_read (x.division == d) (known n) (reads n));
-        numbers = λ n. ap (contains n) (kept.numbers ∙ ap (λ is. map number_of (filter (λ i. not (known i.number)) is)) active)
+        numbers =
+            λ n.
+            ap (contains n) (kept.numbers ∙ ap (λ is. map number_of (filter (λ i. not (known i.number)) is)) active)
             ∙ numbers_unless d is_read room.incidents keyed n known
             ∙ ap (λ b. not (known n) && b) (sym (or_none _));
       }),

@@ -16,8 +16,14 @@ loop-row-preserved g c =
     let here : y ≡ get_or ys i y = rw c.as_slice-row-items.ensures.all at c.row-item.is in
     let is = sym (c.is_among.ensures ∙ ap shown c.incident.ensures) in
     elim c.if-is_among.branch [
-      | then-is_among+in_ok-put w ↦ w.found-is ∙ (w.in_ok-put.ensures.put ∙ put_passing g.R.Key.Ord.cmp g.R.Row.key_of g.met.R.Key.Ord.total p ys c.loop-row.found i y c.as_slice-row-items.ensures.keyed inside here c.loop-row.invariant (is ∙ w.if-is_among.true))
-      | else-is_among w ↦ w.found-is ∙ without_failing p ys c.loop-row.found i y inside here c.loop-row.invariant (is ∙ w.if-is_among.false)
+      | then-is_among+in_ok-put w ↦
+          w.found-is
+          ∙ (w.in_ok-put.ensures.put
+          ∙ put_passing g.R.Key.Ord.cmp g.R.Row.key_of g.met.R.Key.Ord.total p ys c.loop-row.found i y
+          c.as_slice-row-items.ensures.keyed inside here c.loop-row.invariant (is ∙ w.if-is_among.true))
+      | else-is_among w ↦
+          w.found-is
+          ∙ without_failing p ys c.loop-row.found i y inside here c.loop-row.invariant (is ∙ w.if-is_among.false)
     ]
 
 pub returns-clause-rows : goal.returns-clause-rows

@@ -1,7 +1,7 @@
 use Rattle.std.proofs.Common.{[], ap, arith, length, sym, take, take_all, ◌+◌, ◌++◌, ◌∙◌, ◌∷◌, ◌≡◌, ◌≤◌, ◌||◌}
 use Rattle.std.proofs.lemmas.List.{take_more}
 use Rattle.sqlite.specs.Held.{state}
-use Rattle.room_tables_laws.proofs.ReadLaws.{and, begins, but, clean_before, told, wants}
+use Rattle.room_tables_schema.proofs.ReadLaws.{and, begins, but, clean_before, told, wants}
 use Rattle.room_store_cache.specs.Partitions.{any}
 use Rattle.room_tables.proofs.RoomReads.{kept}
 use Rattle.room_store_cache.proofs.Filters.{filter_as, or_assoc, or_none}
@@ -12,7 +12,9 @@ pub loop-part-init : goal.loop-part-init
 loop-part-init g c =
     record {
       looked = begins c.requires.open;
-      rows = λ clean config room h first are keyed is. is ∙ filter_as _ _ (g.R.Table.rows room) (λ x. sym (or_none (first x)));
+      rows =
+          λ clean config room h first are keyed is.
+          is ∙ filter_as _ _ (g.R.Table.rows room) (λ x. sym (or_none (first x)));
     }
 
 pub loop-part-preserved : goal.loop-part-preserved
@@ -29,10 +31,14 @@ loop-part-preserved g c =
       looked = and before.looked c.in_ok-more.ensures.reads;
       rows = λ clean config room h first are keyed is.
           let early = clean_before before.looked c.in_ok-more.ensures.reads clean in
-          c.in_ok-add_all.ensures.either (g.R.Table.rows room) (λ x. first x || any (λ q. is_in q x) (take i ps)) (is_in p) keyed
+          c.in_ok-add_all.ensures.either (g.R.Table.rows room) (λ x. first x || any (λ q. is_in q x) (take i ps))
+          (is_in p) keyed
           (before.rows early config room h first are keyed is)
           (c.in_ok-more.ensures.rows clean config room (kept old mid (before.looked.ok early) config room h) are keyed)
-          ∙ filter_as _ _ (g.R.Table.rows room) (λ x. sym (ap (λ b. first x || b) (ap (any (λ q. is_in q x)) more ∙ any_last (λ q. is_in q x) p (take i ps)) ∙ or_assoc (first x) (any (λ q. is_in q x) (take i ps)) (is_in p x)));
+          ∙ filter_as _ _ (g.R.Table.rows room)
+          (λ x.
+          sym (ap (λ b. first x || b) (ap (any (λ q. is_in q x)) more ∙ any_last (λ q. is_in q x) p (take i ps))
+          ∙ or_assoc (first x) (any (λ q. is_in q x) (take i ps)) (is_in p x)));
     }
 
 pub load_part-requires-clause-open : goal.load_part-requires-clause-open

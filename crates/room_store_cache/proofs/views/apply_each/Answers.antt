@@ -15,7 +15,13 @@ loop-at-preserved g c =
     let made = where_ok c.apply.result (sym c.is_err.ensures.value ∙ c.if-is_err.false) c.apply.ensures.so in
     record {
       as_many = length-set xs at _ ∙ kept.as_many;
-      same = map-set_same g.E.Entry.division_of xs at _ _ (c.apply.ensures.division ∙ ap g.E.Entry.division_of c.index_mut.ensures.value) ∙ kept.same;
-      made = λ room in_order are. one_follows (λ x. g.E.Entry.is_so x room) (λ x. g.E.Entry.is_so x (apply_one room c.args.change.now)) xs at _ _ _ inside c.loop-at-test.true c.index_mut.ensures.value (made room in_order) (kept.left room are) (kept.made room in_order are);
+      same =
+          map-set_same g.E.Entry.division_of xs at _ _
+          (c.apply.ensures.division ∙ ap g.E.Entry.division_of c.index_mut.ensures.value) ∙ kept.same;
+      made =
+          λ room in_order are.
+          one_follows (λ x. g.E.Entry.is_so x room) (λ x. g.E.Entry.is_so x (apply_one room c.args.change.now)) xs at _
+          _ _ inside c.loop-at-test.true c.index_mut.ensures.value (made room in_order) (kept.left room are)
+          (kept.made room in_order are);
       left = λ room are. others_stay (λ x. g.E.Entry.is_so x room) xs at _ _ (kept.left room are);
     }

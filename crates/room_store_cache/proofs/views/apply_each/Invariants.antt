@@ -8,6 +8,8 @@ abbrev pub invariant-loop-at : goal.invariant-loop-at
 invariant-loop-at g l = record {
   as_many : length l.entries.items ≡ l.at-end;
   same : map g.E.Entry.division_of l.entries.items ≡ map g.E.Entry.division_of l.initial.entries.items;
-  made : (room : Room) → IsInOrder room → All (λ x. g.E.Entry.is_so x room) l.initial.entries.items → AllWithin (λ x. g.E.Entry.is_so x (apply_one room l.change)) l.entries.items 0 l.at;
-  left : (room : Room) → All (λ x. g.E.Entry.is_so x room) l.initial.entries.items → AllWithin (λ x. g.E.Entry.is_so x room) l.entries.items l.at l.at-end;
+  made : (room : Room) → IsInOrder room → All (λ x. g.E.Entry.is_so x room) l.initial.entries.items
+      → AllWithin (λ x. g.E.Entry.is_so x (apply_one room l.change)) l.entries.items 0 l.at;
+  left : (room : Room) → All (λ x. g.E.Entry.is_so x room) l.initial.entries.items
+      → AllWithin (λ x. g.E.Entry.is_so x room) l.entries.items l.at l.at-end;
 }

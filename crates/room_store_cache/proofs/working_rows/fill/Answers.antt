@@ -3,6 +3,7 @@ use Rattle.std.proofs.lemmas.Bool.{eq-eqb}
 use Rattle.room_model.proofs.Tests.{or_right}
 use Rattle.room_model.specs.Working.{names_incident}
 use Rattle.room_store_cache.proofs.Selected.{queue_only}
+use Rattle.room_store_cache.proofs.ShownLaws.{list_only}
 use Rattle.room_store_cache.proofs.working_rows.fill.Goals as goal
 
 pub returns-in-Uncleared-clause-backlogs : goal.returns-in-Uncleared-clause-backlogs
@@ -19,6 +20,7 @@ returns-in-One-clause-incident_views c room ask at in_order selects read =
     let named : names_incident ask n ≡ true = selects.named n ∙ rw c.in-One.is (eq-eqb n n refl) in
     c.fill-in-One.ensures room ask at in_order (or_right _ _ named) read
 
-pub returns-in-Active-clause-shown_lists : goal.returns-in-Active-clause-shown_lists
-returns-in-Active-clause-shown_lists c room ask at in_order selects read =
-    c.fill_list.ensures room ask at in_order selects (selects.active ∙ rw c.in-Active.is refl) read
+pub returns-then-reads-clause-shown_lists : goal.returns-then-reads-clause-shown_lists
+returns-then-reads-clause-shown_lists c room ask at in_order selects read =
+    let active = selects.active ∙ rw c.in-Active.is refl in
+    c.fill-then-reads.ensures room at in_order (rw (list_only ask active (selects.calls ∙ c.if-reads.true)) at read)

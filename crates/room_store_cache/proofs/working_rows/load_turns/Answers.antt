@@ -13,7 +13,8 @@ returns-in-Some-clause-rows g c clean =
     let d = c.args.division in
     IfOk-weaker c.last_turn.result _ _ (λ x found config room h ask known in_order are selects turns numbers.
     let asked : ask ≡ StandDown c.in-Some.callsign = rw c.in-Some.is at selects.stood_down in
-    found config room h in_order (rw c.get.ensures are.rows) ∙ sym (ap (λ a. (working d a 0 room).turns) asked)) (c.last_turn.ensures.rows clean)
+    found config room h in_order (rw c.get.ensures are.rows) ∙ sym (ap (λ a. (working d a 0 room).turns) asked))
+    (c.last_turn.ensures.rows clean)
 
 pub returns-in-None-clause-rows : goal.returns-in-None-clause-rows
 returns-in-None-clause-rows g c clean =
@@ -26,4 +27,5 @@ returns-in-None-clause-rows g c clean =
     let unnamed : names_turn d a room t ≡ false = selects.turn room t ∙ rw c.in-None.is refl in
     ap (λ b. own && (known n && reads n) || b) (own_contains own n c.args.numbers.now ∙ ap (λ b. own && b) (numbers n))
     ∙ known_or_not own (known n) (reads n)
-    ∙ ap (λ b. own && b) (sym (or_none (reads n)) ∙ ap (λ b. reads n || b) (sym unnamed)))) (c.load_parts.ensures.rows clean)
+    ∙ ap (λ b. own && b) (sym (or_none (reads n)) ∙ ap (λ b. reads n || b) (sym unnamed))))
+    (c.load_parts.ensures.rows clean)

@@ -2,7 +2,7 @@ use Rattle.std.proofs.Common.{ap, not, subst, sym, ℕ, ◌&&◌, ◌∙◌, ◌
 use Rattle.std.specs.Prelude.{◌==◌}
 use Rattle.sqlite.specs.Held.{state}
 use Rattle.room_model.specs.Working.{reads_calls, reads_number}
-use Rattle.room_tables_laws.proofs.ReadLaws.{and, but, clean_before, fails, looked, told, wants}
+use Rattle.room_tables_schema.proofs.ReadLaws.{and, but, clean_before, fails, looked, told, wants}
 use Rattle.room_tables.proofs.RoomReads.{kept}
 use Rattle.room_store_cache.specs.IncidentNumbers.{contains}
 use Rattle.room_store_cache.proofs.Selected.{incident_is, number_is, own_contains, report_is}
@@ -31,7 +31,8 @@ returns-clause-rows g c clean config room h a in_order are selects =
     let second = clean_before two c.in_ok-turns.ensures.reads third in
     let first = clean_before one c.in_ok-calls.ensures.reads second in
     let incidents = c.in_ok-incidents.ensures.rows first config room h in_order are in
-    let still : AreKnown c.load_incidents.new.cache room = subst (λ x. AreKnown x room) (sym c.in_ok-incidents.ensures.others) (record {
+    let still : AreKnown c.load_incidents.new.cache room = subst (λ x. AreKnown x room)
+    (sym c.in_ok-incidents.ensures.others) (record {
       rows = are.rows;
       backlogs = are.backlogs;
       incident_views = are.incident_views;
@@ -41,20 +42,38 @@ returns-clause-rows g c clean config room h a in_order are selects =
     let part = c.in_ok-incidents-2.ensures.part room c.args.at in_order still.shown_lists incidents in
     let known = part.0 in
     let number = number_is selects room in
-    let missing : (n : ℕ) → contains n c.in_ok-incidents-2.field-0.numbers.items ≡ not (known n) && reads_number d a room n = λ n. part.1.numbers n ∙ (λ j. not (known n) && number n j) in
-    let seen : (n : ℕ) → contains n c.as_slice.result.now ≡ not (known n) && reads_number d a room n = rw c.as_slice.ensures.value missing in
-    let calls = c.in_ok-calls.ensures.rows second config room (kept start (state g.S.Store c.load_incidents.new.conn) (one.ok first) config room h) _ still in_order.calls part.1.calls in
-    let turns = c.in_ok-turns.ensures.rows third config room (kept start (state g.S.Store c.load_parts.new.conn) (two.ok second) config room h) a known in_order still selects in
+    let missing : (n : ℕ)
+    → contains n c.in_ok-incidents-2.field-0.numbers.items ≡ not (known n) && reads_number d a room n = λ n.
+    part.1.numbers n ∙ (λ j. not (known n) && number n j) in
+    let seen : (n : ℕ)
+    → contains n c.as_slice.result.now ≡ not (known n) && reads_number d a room n =
+    rw c.as_slice.ensures.value missing in
+    let calls = c.in_ok-calls.ensures.rows second config room
+    (kept start (state g.S.Store c.load_incidents.new.conn) (one.ok first) config room h) _ still in_order.calls
+    part.1.calls in
+    let turns = c.in_ok-turns.ensures.rows third config room
+    (kept start (state g.S.Store c.load_parts.new.conn) (two.ok second) config room h) a known in_order still selects in
     record {
-      incidents = c.in_ok-incidents-2.ensures.incidents ∙ incidents ∙ filter_as _ _ room.incidents (λ i. ap (λ b. (i.division == d) && b) (incident_is selects c.args.at i));
+      incidents =
+          c.in_ok-incidents-2.ensures.incidents ∙ incidents
+          ∙ filter_as _ _ room.incidents (λ i. ap (λ b. (i.division == d) && b) (incident_is selects c.args.at i));
       calls = calls ∙ filter_as _ _ room.calls (λ x.
           let n = x.incident in
           let own = x.division == d in
-          (λ j. own && (sym selects.calls j && (known n && number n j)) || own_contains own n c.numbers_if-of_calls.result.now j)
-          ∙ ap (λ b. own && (reads_calls a && (known n && reads_number d a room n)) || (own && b)) (c.numbers_if-of_calls.ensures n ∙ (λ j. sym selects.calls j && seen n j))
+          (λ j.
+          own && (sym selects.calls j && (known n && number n j))
+          || own_contains own n c.numbers_if-of_calls.result.now j)
+          ∙ ap (λ b. own && (reads_calls a && (known n && reads_number d a room n)) || (own && b))
+          (c.numbers_if-of_calls.ensures n ∙ (λ j. sym selects.calls j && seen n j))
           ∙ read_or_not own (reads_calls a) (known n) (reads_number d a room n));
-      turns = turns (part.1.turns ∙ filter_as _ _ room.turns (λ t. ap (λ b. (t.division == d) && (known t.incident && b)) (number t.incident))) (rw c.as_slice-2.ensures.value missing);
-      reports = c.in_ok-reports.ensures.rows clean config room (kept start (state g.S.Store c.load_turns.new.conn) (three.ok third) config room h) in_order still ∙ filter_as _ _ room.reports (λ y. ap (λ b. (y.division == d) && b) (report_is selects y));
+      turns =
+          turns (part.1.turns
+          ∙ filter_as _ _ room.turns (λ t. ap (λ b. (t.division == d) && (known t.incident && b)) (number t.incident)))
+          (rw c.as_slice-2.ensures.value missing);
+      reports =
+          c.in_ok-reports.ensures.rows clean config room
+          (kept start (state g.S.Store c.load_turns.new.conn) (three.ok third) config room h) in_order still
+          ∙ filter_as _ _ room.reports (λ y. ap (λ b. (y.division == d) && b) (report_is selects y));
     }
 
 pub returns-clause-recent_incidents : goal.returns-clause-recent_incidents

@@ -1,5 +1,5 @@
 use Rattle.std.proofs.Common.{subst, sym}
-use Rattle.room_tables_laws.proofs.ReadLaws.{begins, fails, looked, told, wants}
+use Rattle.room_tables_schema.proofs.ReadLaws.{begins, fails, looked, told, wants}
 use Rattle.room_store_cache.specs.Cache.{AreRowsOf}
 use Rattle.room_store_cache.specs.RecentIncidents.{AreRecent}
 use Rattle.room_store_cache.specs.declared.fleets.Fleet.{Fleet}
@@ -37,7 +37,8 @@ returns-clause-known g c clean config room h in_order are =
     let a = c.args.ask.now in
     let selects = c.reads_of-reads.ensures in
     let read = returns-clause-rows g c clean config room h in_order are in
-    let known : AreKnown c.load_work.new.cache room = subst (λ x. AreKnown x room) (sym c.in_ok-work.ensures.others) (record {
+    let known : AreKnown c.load_work.new.cache room = subst (λ x. AreKnown x room) (sym c.in_ok-work.ensures.others)
+    (record {
       rows = are.rows;
       backlogs = are.backlogs;
       incident_views = are.incident_views;

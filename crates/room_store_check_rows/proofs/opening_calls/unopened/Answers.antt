@@ -9,4 +9,5 @@ returns-clause-first c =
     let told = c.in_ok-openings.openings in
     c.first_untold.ensures
     ∙ ap (first_of (told_fault told)) c.as_slice-2.ensures.all
-    ∙ untold_unopened c.args.rows.now told (subst (λ calls. Tell calls told) c.as_slice.ensures.all c.in_ok-openings.ensures)
+    ∙ untold_unopened c.args.rows.now told
+    (subst (λ calls. Tell calls told) c.as_slice.ensures.all c.in_ok-openings.ensures)

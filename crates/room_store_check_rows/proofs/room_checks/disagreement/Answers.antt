@@ -14,4 +14,5 @@ returns-clause-first c =
 
 pub returns-clause-told : goal.returns-clause-told
 returns-clause-told c =
-    subst (Tells (room_of c.args.plan.now.areas c.args.rows.now)) (sym (returns-clause-first c)) (search_tells c.args.plan.now c.args.rows.now c.are_in_order.ensures)
+    subst (Tells (room_of c.args.plan.now.areas c.args.rows.now)) (sym (returns-clause-first c))
+    (search_tells c.args.plan.now c.args.rows.now c.are_in_order.ensures)

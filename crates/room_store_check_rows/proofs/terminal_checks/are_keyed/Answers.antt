@@ -8,4 +8,5 @@ use Rattle.room_store_check_rows.proofs.terminal_checks.are_keyed.Goals as goal
 pub returns : goal.returns
 returns c =
     keyed_decides c.args.terminals.now c.is_sorted_by.result
-    (c.is_sorted_by.ensures.cases (λ t u. is_lt (token_cmp t.token u.token)) (answers_always _ _ _ (λ f a r h called. search rules)))
+    (c.is_sorted_by.ensures.cases (λ t u. is_lt (token_cmp t.token u.token))
+    (answers_always _ _ _ (λ f a r h called. search rules)))

@@ -9,5 +9,6 @@ returns-then-passes-clause-kept g c =
     let row = c.args.row in
     on_ok_weaker c.take.result (λ taken p before is keyed so_far.
     let passes : p row ≡ true = sym is ∙ c.if-passes.true in
-    taken [] (filter p before) (passing_keyed p before row passes g.X.Key.Ord.cmp g.X.Row.key_of g.met.X.Key.Ord.total keyed) (λ _. so_far) refl
+    taken [] (filter p before)
+    (passing_keyed p before row passes g.X.Key.Ord.cmp g.X.Row.key_of g.met.X.Key.Ord.total keyed) (λ _. so_far) refl
     ∙ sym (passing_last p before row passes)) c.take.ensures.taken

@@ -5,7 +5,7 @@ use Rattle.sqlite.specs.Held.{state}
 use Rattle.sqlite.specs.State.{HasCleanDisk}
 use Rattle.sqlite.proofs.Callers.{survives_begin}
 use Rattle.room_tables.specs.Rowids.{AreAllNumbered}
-use Rattle.room_tables_laws.proofs.ReadLaws.{still}
+use Rattle.room_tables_schema.proofs.ReadLaws.{still}
 use Rattle.room_store_writes.proofs.CommitLaws.{undone_leaves}
 use Rattle.room_store_check_tables.proofs.Findings.{planless}
 use Rattle.room_store_check_tables.proofs.StreamLaws.{reads_commit}
@@ -20,7 +20,10 @@ returns-clause-found g c =
     let last = state g.S.Store c.read_config-config.new.tx.conn.now in
     let end = state g.S.Store c.rollback.new.self.0 in
     let begun = c.transaction-tx.ensures.begun in
-    let all : HasCleanDisk end → IfOk c.read_config-config.result (λ x. AreAllNumbered old.now.trees → HasConfiguration old.now.trees x.plan.areas x.plan.zone x.terminals.items) = λ clean.
+    let all : HasCleanDisk end
+    → IfOk c.read_config-config.result
+    (λ x. AreAllNumbered old.now.trees → HasConfiguration old.now.trees x.plan.areas x.plan.zone x.terminals.items) =
+    λ clean.
     let early : HasCleanDisk last = omega (arith, c.rollback.ensures.survives.clean) in
     rw begun at c.read_config-config.ensures.found early in
     search rules
@@ -31,9 +34,11 @@ returns-clause-no_room g c =
     let last = state g.S.Store c.read_config-config.new.tx.conn.now in
     let end = state g.S.Store c.rollback.new.self.0 in
     let begun = c.transaction-tx.ensures.begun in
-    let all : HasCleanDisk end → IfErr c.read_config-config.result (λ e. e ≡ NotARoom → ¬ HoldsRoom old.now.trees) = λ clean.
+    let all : HasCleanDisk end
+    → IfErr c.read_config-config.result (λ e. e ≡ NotARoom → ¬ HoldsRoom old.now.trees) = λ clean.
     let early : HasCleanDisk last = omega (arith, c.rollback.ensures.survives.clean) in
-    IfErr-weaker c.read_config-config.result _ _ (λ e none is. planless old.now.trees (none is)) (rw begun at c.read_config-config.ensures.no_plan early) in
+    IfErr-weaker c.read_config-config.result _ _ (λ e none is. planless old.now.trees (none is))
+    (rw begun at c.read_config-config.ensures.no_plan early) in
     λ clean. all (search rules)
 
 pub returns-clause-nothing : goal.returns-clause-nothing
@@ -46,8 +51,11 @@ returns-clause-nothing g c =
     let all : WritesNothing (state g.S.Store old) (state g.S.Store end) = record {
       left = λ clean.
           let early : HasCleanDisk (state g.S.Store last) = omega (arith, c.rollback.ensures.survives.clean) in
-          undone_leaves g.S.Store old last end (commits.kept early) (c.rollback.ensures.undone clean) c.requires.committed;
-      survives = still (survives_begin g.S.Store old (state g.S.Store last) (λ _. ⊥) commits.survives) c.rollback.ensures.survives;
+          undone_leaves g.S.Store old last end (commits.kept early) (c.rollback.ensures.undone clean)
+          c.requires.committed;
+      survives =
+          still (survives_begin g.S.Store old (state g.S.Store last) (λ _. ⊥) commits.survives)
+          c.rollback.ensures.survives;
     } in
     search rules
 
@@ -57,7 +65,8 @@ returns-clause-why g c =
     let last = c.read_config-config.new.tx.conn.now in
     let end = c.rollback.new.self.0 in
     let begun = c.transaction-tx.ensures.begun in
-    let all : HasCleanDisk (state g.S.Store end) → IfErr c.read_config-config.result (λ e. e ≡ Storage → FailsInFile g.S.Store old end) = λ clean.
+    let all : HasCleanDisk (state g.S.Store end)
+    → IfErr c.read_config-config.result (λ e. e ≡ Storage → FailsInFile g.S.Store old end) = λ clean.
     let early : HasCleanDisk (state g.S.Store last) = omega (arith, c.rollback.ensures.survives.clean) in
     IfErr-weaker c.read_config-config.result _ _ (λ e why storage. record {
       first = record old { in_transaction = true };

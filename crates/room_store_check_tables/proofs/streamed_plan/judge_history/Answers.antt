@@ -2,7 +2,7 @@ use Rattle.std.proofs.Common.{arith, subst}
 use Rattle.sqlite.specs.Effect.{Database}
 use Rattle.sqlite.specs.Held.{state}
 use Rattle.sqlite.specs.State.{HasCleanDisk}
-use Rattle.room_tables_laws.proofs.ReadLaws.{and, but, fails, looked, told}
+use Rattle.room_tables_schema.proofs.ReadLaws.{and, but, fails, looked, told}
 use Rattle.room_tables.specs.Failures.{IfStorage}
 use Rattle.room_tables.proofs.Told.{if_storage, told_on}
 use Rattle.room_store_check_tables.proofs.Findings.{none_found}
@@ -17,7 +17,10 @@ returns-in_err-turns g c =
     let failed = c.from_residual.ensures.0 in
     record {
       history = λ clean. none_found _ _ failed;
-      why = λ clean. told_on _ c.in_err-turns.field-0.0 (IfStorage (FailsInTables g.S.Store c.args.conn.now c.judge.new.conn)) c.from_residual.ensures.1
+      why =
+          λ clean.
+          told_on _ c.in_err-turns.field-0.0 (IfStorage (FailsInTables g.S.Store c.args.conn.now c.judge.new.conn))
+          c.from_residual.ensures.1
           (if_storage c.in_err-turns.field-0.0 (c.in_err-turns.ensures.why clean) (λ f. fails_first (turns_fail f)));
       reads = fails failed c.in_err-turns.ensures.reads;
     }
@@ -28,8 +31,10 @@ returns-in_err-reports g c =
     record {
       history = λ clean. none_found _ _ failed;
       why = λ clean. told_on _ c.in_err-reports.field-0.0
-          (IfStorage (FailsInTables g.S.Store c.args.conn.now c.judge-2.new.conn)) c.from_residual-in_err-reports.ensures.1
-          (if_storage c.in_err-reports.field-0.0 (c.in_err-reports.ensures.why clean) (λ f. fails_then (inside_of c.in_ok-turns.ensures.reads) (fails_first (reports_fail f))));
+          (IfStorage (FailsInTables g.S.Store c.args.conn.now c.judge-2.new.conn))
+          c.from_residual-in_err-reports.ensures.1
+          (if_storage c.in_err-reports.field-0.0 (c.in_err-reports.ensures.why clean)
+          (λ f. fails_then (inside_of c.in_ok-turns.ensures.reads) (fails_first (reports_fail f))));
       reads = but (looked c.in_ok-turns.ensures.reads) failed c.in_err-reports.ensures.reads;
     }
 
@@ -39,9 +44,15 @@ returns-in_err-openings g c =
     record {
       history = λ clean. none_found _ _ failed;
       why = λ clean. told_on _ c.in_err-openings.field-0.0
-          (IfStorage (FailsInTables g.S.Store c.args.conn.now c.judge-3.new.conn)) c.from_residual-in_err-openings.ensures.1
-          (if_storage c.in_err-openings.field-0.0 (c.in_err-openings.ensures.why clean) (λ f. fails_then (inside_of c.in_ok-turns.ensures.reads) (fails_then (inside_of c.in_ok-reports.ensures.reads) (fails_first (calls_fail f)))));
-      reads = but (and (looked c.in_ok-turns.ensures.reads) c.in_ok-reports.ensures.reads) failed c.in_err-openings.ensures.reads;
+          (IfStorage (FailsInTables g.S.Store c.args.conn.now c.judge-3.new.conn))
+          c.from_residual-in_err-openings.ensures.1
+          (if_storage c.in_err-openings.field-0.0 (c.in_err-openings.ensures.why clean)
+          (λ f.
+          fails_then (inside_of c.in_ok-turns.ensures.reads)
+          (fails_then (inside_of c.in_ok-reports.ensures.reads) (fails_first (calls_fail f)))));
+      reads =
+          but (and (looked c.in_ok-turns.ensures.reads) c.in_ok-reports.ensures.reads) failed
+          c.in_err-openings.ensures.reads;
     }
 
 pub returns : goal.returns
@@ -53,7 +64,8 @@ returns g c =
     record {
       history = λ clean.
           let clean_third : HasCleanDisk third = omega (arith, c.in_ok-openings.ensures.reads.survives.clean) in
-          let clean_second : HasCleanDisk second = omega (arith, clean_third, c.in_ok-reports.ensures.reads.survives.clean) in
+          let clean_second : HasCleanDisk second = omega
+          (arith, clean_third, c.in_ok-reports.ensures.reads.survives.clean) in
           let turns = c.in_ok-turns.ensures.judged clean_second in
           let reports = c.in_ok-reports.ensures.judged clean_third in
           let calls = c.in_ok-openings.ensures.judged clean in
@@ -62,7 +74,8 @@ returns g c =
             reports = reports.0;
             calls = calls.0;
             turns_are = turns.1;
-            reports_are = subst (λ (db : Database). AreReports db.trees reports.0) (one.ok clean_second).0.now_is reports.1;
+            reports_are =
+                subst (λ (db : Database). AreReports db.trees reports.0) (one.ok clean_second).0.now_is reports.1;
             calls_are = subst (λ (db : Database). AreCalls db.trees calls.0) (two.ok clean_third).0.now_is calls.1;
             open_turns = turns.3 c.new.ensures;
             last_reports = reports.3 c.new-2.ensures;

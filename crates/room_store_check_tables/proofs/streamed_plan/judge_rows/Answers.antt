@@ -2,7 +2,7 @@ use Rattle.std.proofs.Common.{arith, refl, subst}
 use Rattle.sqlite.specs.Effect.{Database}
 use Rattle.sqlite.specs.Held.{state}
 use Rattle.sqlite.specs.State.{HasCleanDisk}
-use Rattle.room_tables_laws.proofs.ReadLaws.{and, but, fails, looked, told}
+use Rattle.room_tables_schema.proofs.ReadLaws.{and, but, fails, looked, told}
 use Rattle.room_tables.specs.Failures.{IfStorage}
 use Rattle.room_tables.proofs.Told.{if_storage, told_on}
 use Rattle.room_store_check_tables.proofs.Findings.{none_found}
@@ -15,7 +15,10 @@ use Rattle.room_store_check_tables.proofs.streamed_plan.judge_rows.Goals as goal
 pub returns-in_err-rows : goal.returns-in_err-rows
 returns-in_err-rows g c = record {
   judged = λ clean. none_found _ _ c.from_residual.ensures.0;
-  why = λ clean. told_on _ c.in_err-rows.field-0.0 (IfStorage (FailsInTables g.S.Store c.args.conn.now c.rows_beside.new.conn)) c.from_residual.ensures.1 (c.in_err-rows.ensures.why clean);
+  why =
+      λ clean.
+      told_on _ c.in_err-rows.field-0.0 (IfStorage (FailsInTables g.S.Store c.args.conn.now c.rows_beside.new.conn))
+      c.from_residual.ensures.1 (c.in_err-rows.ensures.why clean);
   reads = fails c.from_residual.ensures.0 c.in_err-rows.ensures.reads;
 }
 
@@ -26,8 +29,11 @@ returns-in-Ok g c =
     record {
       judged = λ clean.
           let early : HasCleanDisk mid = omega (arith, c.in-Ok.ensures.reads.survives.clean) in
-          let history = subst (λ (db : Database). IsHistory db.trees c.args.plan.now.areas c.in_ok-rows.rows c.in-Ok.history) (reads.ok early).0.now_is (c.in-Ok.ensures.history clean) in
-          judged_with c.args.plan.now.areas c.in_ok-rows.rows c.in-Ok.history (state g.S.Store c.args.conn.now).now.trees (c.in_ok-rows.ensures.beside early) history;
+          let history = subst
+          (λ (db : Database). IsHistory db.trees c.args.plan.now.areas c.in_ok-rows.rows c.in-Ok.history)
+          (reads.ok early).0.now_is (c.in-Ok.ensures.history clean) in
+          judged_with c.args.plan.now.areas c.in_ok-rows.rows c.in-Ok.history
+          (state g.S.Store c.args.conn.now).now.trees (c.in_ok-rows.ensures.beside early) history;
       why = λ clean. tt;
       reads = told (and (looked reads) c.in-Ok.ensures.reads);
     }
@@ -35,6 +41,8 @@ returns-in-Ok g c =
 pub returns-in-Err : goal.returns-in-Err
 returns-in-Err g c = record {
   judged = λ clean. tt;
-  why = λ clean. if_storage c.in-Err.fault (c.in-Err.ensures.why clean) (fails_then (inside_of c.in_ok-rows.ensures.reads));
+  why =
+      λ clean.
+      if_storage c.in-Err.fault (c.in-Err.ensures.why clean) (fails_then (inside_of c.in_ok-rows.ensures.reads));
   reads = but (looked c.in_ok-rows.ensures.reads) refl c.in-Err.ensures.reads;
 }

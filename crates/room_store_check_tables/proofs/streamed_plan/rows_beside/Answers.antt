@@ -1,17 +1,27 @@
 use Rattle.std.proofs.Common.{false, refl, ◌≡◌}
 use Rattle.sqlite.specs.Held.{state}
-use Rattle.room_tables_laws.proofs.ReadLaws.{fails_inside, told_inside}
+use Rattle.room_tables_schema.proofs.ReadLaws.{fails_inside, told_inside}
 use Rattle.room_store_check_tables.proofs.RowLaws.{and_read, became, first_read}
 use Rattle.room_store_check_tables.proofs.StreamLaws.{found_beside, outside_of}
-use Rattle.room_store_check_tables.specs.ReadCauses.{assignments_fail, divisions_fail, incidents_fail, loans_fail, offers_fail, points_fail, vehicles_fail}
+use Rattle.room_store_check_tables.specs.ReadCauses.{assignments_fail, divisions_fail, incidents_fail, loans_fail}
+use Rattle.room_store_check_tables.specs.ReadCauses.{offers_fail, points_fail, vehicles_fail}
 use Rattle.room_store_check_tables.proofs.streamed_plan.rows_beside.Goals as goal
 
 pub returns-in-Ok : goal.returns-in-Ok
 returns-in-Ok g c =
-    let four = and_read (and_read (and_read (first_read c.next_streamed.ensures.next divisions_fail) c.next_streamed-2.ensures.next incidents_fail) c.next_streamed-3.ensures.next vehicles_fail) c.next_streamed-4.ensures.next assignments_fail in
-    let seven = and_read (and_read (and_read four c.next_streamed-5.ensures.next points_fail) c.next_streamed-6.ensures.next loans_fail) c.next_streamed-7.ensures.next offers_fail in
+    let four = and_read
+    (and_read
+    (and_read (first_read c.next_streamed.ensures.next divisions_fail) c.next_streamed-2.ensures.next incidents_fail)
+    c.next_streamed-3.ensures.next vehicles_fail) c.next_streamed-4.ensures.next assignments_fail in
+    let seven = and_read
+    (and_read (and_read four c.next_streamed-5.ensures.next points_fail) c.next_streamed-6.ensures.next loans_fail)
+    c.next_streamed-7.ensures.next offers_fail in
     let all = became c.in-Ok.is seven in
-    let mode = λ (outside : c.args.conn.now.in_transaction ≡ false). c.next_streamed-7.ensures.mode (c.next_streamed-6.ensures.mode (c.next_streamed-5.ensures.mode (c.next_streamed-4.ensures.mode (c.next_streamed-3.ensures.mode (c.next_streamed-2.ensures.mode (c.next_streamed.ensures.mode outside)))))) in
+    let mode = λ (outside : c.args.conn.now.in_transaction ≡ false).
+    c.next_streamed-7.ensures.mode
+    (c.next_streamed-6.ensures.mode (c.next_streamed-5.ensures.mode
+    (c.next_streamed-4.ensures.mode
+    (c.next_streamed-3.ensures.mode (c.next_streamed-2.ensures.mode (c.next_streamed.ensures.mode outside)))))) in
     record {
       beside = λ clean. found_beside (state g.S.Store c.args.conn.now).now.trees _ c.new.ensures (all.found clean);
       why = λ clean. tt;
@@ -20,8 +30,17 @@ returns-in-Ok g c =
 
 pub returns-in-Err : goal.returns-in-Err
 returns-in-Err g c =
-    let four = and_read (and_read (and_read (first_read c.next_streamed.ensures.next divisions_fail) c.next_streamed-2.ensures.next incidents_fail) c.next_streamed-3.ensures.next vehicles_fail) c.next_streamed-4.ensures.next assignments_fail in
-    let seven = and_read (and_read (and_read four c.next_streamed-5.ensures.next points_fail) c.next_streamed-6.ensures.next loans_fail) c.next_streamed-7.ensures.next offers_fail in
+    let four = and_read
+    (and_read
+    (and_read (first_read c.next_streamed.ensures.next divisions_fail) c.next_streamed-2.ensures.next incidents_fail)
+    c.next_streamed-3.ensures.next vehicles_fail) c.next_streamed-4.ensures.next assignments_fail in
+    let seven = and_read
+    (and_read (and_read four c.next_streamed-5.ensures.next points_fail) c.next_streamed-6.ensures.next loans_fail)
+    c.next_streamed-7.ensures.next offers_fail in
     let all = became c.in-Err.is seven in
-    let mode = λ (outside : c.args.conn.now.in_transaction ≡ false). c.next_streamed-7.ensures.mode (c.next_streamed-6.ensures.mode (c.next_streamed-5.ensures.mode (c.next_streamed-4.ensures.mode (c.next_streamed-3.ensures.mode (c.next_streamed-2.ensures.mode (c.next_streamed.ensures.mode outside)))))) in
+    let mode = λ (outside : c.args.conn.now.in_transaction ≡ false).
+    c.next_streamed-7.ensures.mode
+    (c.next_streamed-6.ensures.mode (c.next_streamed-5.ensures.mode
+    (c.next_streamed-4.ensures.mode
+    (c.next_streamed-3.ensures.mode (c.next_streamed-2.ensures.mode (c.next_streamed.ensures.mode outside)))))) in
     record { beside = λ clean. tt; why = all.why; reads = outside_of mode (fails_inside refl all.reads) }

@@ -16,7 +16,10 @@ returns-in-Ok-clause-room g c clean =
     let early : HasCleanDisk mid = omega (arith, c.in-Ok.ensures.nothing.survives.clean) in
     let config = c.in_ok-config.config in
     let left = c.in_ok-config.ensures.nothing.left early in
-    IfOk-weaker c.plan_of_judged.result _ _ (λ plan is. rw is.0 (is_plan old mid left.now_is config.plan config.terminals.items (c.in_ok-config.ensures.found early) c.in-Ok.judged (c.in-Ok.ensures.found clean) is.1)) c.plan_of_judged.ensures.sound
+    IfOk-weaker c.plan_of_judged.result _ _
+    (λ plan is.
+    rw is.0 (is_plan old mid left.now_is config.plan config.terminals.items (c.in_ok-config.ensures.found early)
+    c.in-Ok.judged (c.in-Ok.ensures.found clean) is.1)) c.plan_of_judged.ensures.sound
 
 pub returns-in-Ok-clause-no_room : goal.returns-in-Ok-clause-no_room
 returns-in-Ok-clause-no_room g c clean =
@@ -25,7 +28,10 @@ returns-in-Ok-clause-no_room g c clean =
     let early : HasCleanDisk mid = omega (arith, c.in-Ok.ensures.nothing.survives.clean) in
     let config = c.in_ok-config.config in
     let left = c.in_ok-config.ensures.nothing.left early in
-    IfErr-weaker c.plan_of_judged.result _ _ (λ e tells is. is_no_room old mid left.now_is config.plan config.terminals.items (c.in_ok-config.ensures.found early) c.in-Ok.judged (c.in-Ok.ensures.found clean) (tells is)) c.plan_of_judged.ensures.no_room
+    IfErr-weaker c.plan_of_judged.result _ _
+    (λ e tells is.
+    is_no_room old mid left.now_is config.plan config.terminals.items (c.in_ok-config.ensures.found early)
+    c.in-Ok.judged (c.in-Ok.ensures.found clean) (tells is)) c.plan_of_judged.ensures.no_room
 
 pub returns-in-Ok-clause-nothing : goal.returns-in-Ok-clause-nothing
 returns-in-Ok-clause-nothing g c = nothing_then _ _ _ c.in_ok-config.ensures.nothing c.in-Ok.ensures.nothing
@@ -44,7 +50,8 @@ returns-in-Err-clause-nothing g c = nothing_then _ _ _ c.in_ok-config.ensures.no
 
 pub returns-in_err-config-clause-why : goal.returns-in_err-config-clause-why
 returns-in_err-config-clause-why g c clean =
-    told_on _ c.in_err-config.field-0.0 _ c.from_residual.ensures.1 (λ storage. inr (c.in_err-config.ensures.why clean storage))
+    told_on _ c.in_err-config.field-0.0 _ c.from_residual.ensures.1
+    (λ storage. inr (c.in_err-config.ensures.why clean storage))
 
 pub returns-in-Ok-clause-why : goal.returns-in-Ok-clause-why
 returns-in-Ok-clause-why g c clean = none_stored c.plan_of_judged.result _ c.plan_of_judged.ensures.cause
@@ -54,4 +61,5 @@ returns-in-Err-clause-why g c clean storage =
     let mid = c.config_of_file.new.conn in
     let early : HasCleanDisk (state g.S.Store mid) = omega (arith, c.in-Err.ensures.nothing.survives.clean) in
     let config = c.in_ok-config.ensures.nothing in
-    file_fails g.S.Store c.args.conn.now mid _ config early c.in-Err.ensures.nothing.survives.counts c.requires.schema (c.in-Err.ensures.why clean storage)
+    file_fails g.S.Store c.args.conn.now mid _ config early c.in-Err.ensures.nothing.survives.counts c.requires.schema
+    (c.in-Err.ensures.why clean storage)

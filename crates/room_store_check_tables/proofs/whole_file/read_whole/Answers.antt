@@ -4,7 +4,7 @@ use Rattle.sqlite.specs.Held.{state}
 use Rattle.sqlite.specs.State.{HasCleanDisk}
 use Rattle.room_tables.specs.Rowids.{AreAllNumbered}
 use Rattle.room_tables.proofs.Inside.{inside_then}
-use Rattle.room_tables_laws.proofs.ReadLaws.{fails_inside, told_inside}
+use Rattle.room_tables_schema.proofs.ReadLaws.{fails_inside, told_inside}
 use Rattle.room_tables.proofs.Told.{if_storage, told_on}
 use Rattle.room_store_check_tables.proofs.Findings.{none_found, not_told, stands_with, told_storage}
 use Rattle.room_store_check_tables.proofs.RowLaws.{fails_at_rowids, fails_then}
@@ -23,15 +23,21 @@ returns-clause-stands g c clean =
     let all = (c.in_ok-are_numbered.ensures.numbered clean_second).0 c.if-not-branch.false in
     let plan = c.in_ok-config.config.plan in
     let terminals = c.in_ok-config.config.terminals.items in
-    let config = subst (λ (db : Database). AreAllNumbered db.trees → HasConfiguration db.trees plan.areas plan.zone terminals) to_second (c.in_ok-config.ensures.found clean_third) all in
-    let rows = subst (λ (db : Database). AreAllNumbered db.trees → HasRows db.trees c.in_ok-rows.rows) to_third (c.in_ok-rows.ensures.found clean) all in
+    let config = subst
+    (λ (db : Database). AreAllNumbered db.trees → HasConfiguration db.trees plan.areas plan.zone terminals) to_second
+    (c.in_ok-config.ensures.found clean_third) all in
+    let rows = subst (λ (db : Database). AreAllNumbered db.trees → HasRows db.trees c.in_ok-rows.rows) to_third
+    (c.in_ok-rows.ensures.found clean) all in
     stands_with (state g.S.Store c.args.tx.now.conn.now).now.trees plan terminals c.in_ok-rows.rows config rows
 
 pub returns-in_err-are_numbered : goal.returns-in_err-are_numbered
 returns-in_err-are_numbered g c = record {
   stands = λ clean. none_found _ _ c.from_residual.ensures.0;
   no_plan = λ clean. not_told _ c.in_err-are_numbered.field-0.0 _ c.from_residual.ensures.1;
-  why = λ clean. told_storage _ c.in_err-are_numbered.field-0.0 _ c.from_residual.ensures.1 (if_storage c.in_err-are_numbered.field-0.0 (c.in_err-are_numbered.ensures.why clean) fails_at_rowids);
+  why =
+      λ clean.
+      told_storage _ c.in_err-are_numbered.field-0.0 _ c.from_residual.ensures.1
+      (if_storage c.in_err-are_numbered.field-0.0 (c.in_err-are_numbered.ensures.why clean) fails_at_rowids);
   reads = fails_inside c.from_residual.ensures.0 c.in_err-are_numbered.ensures.reads;
   same_reference = c.are_numbered.ensures.same_reference;
 }
@@ -49,15 +55,21 @@ returns-in_err-config-clause-no_plan g c clean =
     let clean_second : HasCleanDisk second = omega (arith, c.read_config.ensures.reads.survives.clean) in
     let same = (c.in_ok-are_numbered.ensures.reads.ok clean_second).0.now_is in
     let all = (c.in_ok-are_numbered.ensures.numbered clean_second).0 c.if-not-branch.false in
-    let none = subst (λ (db : Database). c.in_err-config.field-0.0 ≡ NotARoom → AreAllNumbered db.trees → MakesNoPlan db.trees) same (c.in_err-config.ensures.no_plan clean) in
-    told_on c.from_residual-in_err-config.result c.in_err-config.field-0.0 _ c.from_residual-in_err-config.ensures.1 (λ is. inr (none is all))
+    let none = subst
+    (λ (db : Database). c.in_err-config.field-0.0 ≡ NotARoom → AreAllNumbered db.trees → MakesNoPlan db.trees) same
+    (c.in_err-config.ensures.no_plan clean) in
+    told_on c.from_residual-in_err-config.result c.in_err-config.field-0.0 _ c.from_residual-in_err-config.ensures.1
+    (λ is. inr (none is all))
 
 pub returns-in_err-config-clause-why : goal.returns-in_err-config-clause-why
 returns-in_err-config-clause-why g c clean =
-    told_on c.from_residual-in_err-config.result c.in_err-config.field-0.0 _ c.from_residual-in_err-config.ensures.1 (λ storage. fails_then c.in_ok-are_numbered.ensures.reads (c.in_err-config.ensures.why clean storage))
+    told_on c.from_residual-in_err-config.result c.in_err-config.field-0.0 _ c.from_residual-in_err-config.ensures.1
+    (λ storage. fails_then c.in_ok-are_numbered.ensures.reads (c.in_err-config.ensures.why clean storage))
 
 pub returns-in_err-config-clause-reads : goal.returns-in_err-config-clause-reads
-returns-in_err-config-clause-reads g c = inside_then c.in_ok-are_numbered.ensures.reads _ (fails_inside c.from_residual-in_err-config.ensures.0 c.in_err-config.ensures.reads)
+returns-in_err-config-clause-reads g c =
+    inside_then c.in_ok-are_numbered.ensures.reads _
+    (fails_inside c.from_residual-in_err-config.ensures.0 c.in_err-config.ensures.reads)
 
 pub returns-in_err-rows : goal.returns-in_err-rows
 returns-in_err-rows g c =
@@ -65,11 +77,20 @@ returns-in_err-rows g c =
     record {
       stands = λ clean. none_found _ _ failed.0;
       no_plan = λ clean. not_told _ c.in_err-rows.field-0.0 _ failed.1;
-      why = λ clean. told_storage _ c.in_err-rows.field-0.0 _ failed.1 (if_storage c.in_err-rows.field-0.0 (c.in_err-rows.ensures.why clean) (λ f. fails_then c.in_ok-are_numbered.ensures.reads (fails_then c.in_ok-config.ensures.reads f)));
-      reads = inside_then c.in_ok-are_numbered.ensures.reads _ (inside_then c.in_ok-config.ensures.reads _ (fails_inside failed.0 c.in_err-rows.ensures.reads));
-      same_reference = c.read_rows.ensures.same_reference ∙ c.read_config.ensures.same_reference ∙ c.are_numbered.ensures.same_reference;
+      why =
+          λ clean.
+          told_storage _ c.in_err-rows.field-0.0 _ failed.1
+          (if_storage c.in_err-rows.field-0.0 (c.in_err-rows.ensures.why clean)
+          (λ f. fails_then c.in_ok-are_numbered.ensures.reads (fails_then c.in_ok-config.ensures.reads f)));
+      reads =
+          inside_then c.in_ok-are_numbered.ensures.reads _
+          (inside_then c.in_ok-config.ensures.reads _ (fails_inside failed.0 c.in_err-rows.ensures.reads));
+      same_reference =
+          c.read_rows.ensures.same_reference ∙ c.read_config.ensures.same_reference
+          ∙ c.are_numbered.ensures.same_reference;
     }
 
 pub returns-clause-reads : goal.returns-clause-reads
 returns-clause-reads g c =
-    inside_then c.in_ok-are_numbered.ensures.reads _ (inside_then c.in_ok-config.ensures.reads _ (told_inside _ c.in_ok-rows.ensures.reads))
+    inside_then c.in_ok-are_numbered.ensures.reads _
+    (inside_then c.in_ok-config.ensures.reads _ (told_inside _ c.in_ok-rows.ensures.reads))

@@ -8,10 +8,21 @@ use Rattle.room_store_file.proofs.examined_file.read_room.Goals as goal
 
 pub returns-in-Ok-false-clause-wrong : goal.returns-in-Ok-false-clause-wrong
 returns-in-Ok-false-clause-wrong g c clean =
-    let early : HasCleanDisk (state g.S.Store c.is_room_of.new.conn) = omega (arith, c.read_tables.ensures.nothing.survives.clean) in
-    IfErr-weaker c.read_tables.result _ _ (λ e why. inl (subst (λ (db : Database). Explains db e) (c.in-Ok-false.ensures.ok early) why)) (c.read_tables.ensures.wrong clean)
+    let early : HasCleanDisk (state g.S.Store c.is_room_of.new.conn) = omega
+    (arith, c.read_tables.ensures.nothing.survives.clean) in
+    IfErr-weaker c.read_tables.result _ _
+    (λ e why. inl (subst (λ (db : Database). Explains db e) (c.in-Ok-false.ensures.ok early) why))
+    (c.read_tables.ensures.wrong clean)
 
 pub returns-in-Ok-false-clause-why : goal.returns-in-Ok-false-clause-why
 returns-in-Ok-false-clause-why g c clean =
-    let early : HasCleanDisk (state g.S.Store c.is_room_of.new.conn) = omega (arith, c.read_tables.ensures.nothing.survives.clean) in
-    IfErr-weaker c.read_tables.result _ _ (λ e why storage. inr (record { mid = c.is_room_of.new.conn; same = c.in-Ok-false.ensures.ok early; nothing = c.is_room_of.ensures.nothing; fails = why storage })) (c.read_tables.ensures.why clean)
+    let early : HasCleanDisk (state g.S.Store c.is_room_of.new.conn) = omega
+    (arith, c.read_tables.ensures.nothing.survives.clean) in
+    IfErr-weaker c.read_tables.result _ _
+    (λ e why storage.
+    inr (record {
+      mid = c.is_room_of.new.conn;
+      same = c.in-Ok-false.ensures.ok early;
+      nothing = c.is_room_of.ensures.nothing;
+      fails = why storage;
+    })) (c.read_tables.ensures.why clean)

@@ -11,24 +11,30 @@ returns-in-Ok-clause-room g c clean =
     let whole = c.in-Ok.whole in
     let trees = (state g.S.Store c.args.conn.now).now.trees in
     let stands = stands_new c.args.tables trees _ _ c.requires.new (c.in-Ok.ensures.stands clean) in
-    IfOk-weaker c.judge.result _ _ (λ x sound. rw sound.0 (record { stands = stands; amount = sound.1 })) c.judge.ensures.sound
+    IfOk-weaker c.judge.result _ _ (λ x sound. rw sound.0 (record { stands = stands; amount = sound.1 }))
+    c.judge.ensures.sound
 
 pub returns-in-Ok-clause-wrong : goal.returns-in-Ok-clause-wrong
 returns-in-Ok-clause-wrong g c clean =
     let whole = c.in-Ok.whole in
     let now = (state g.S.Store c.args.conn.now).now in
     let stands = stands_new c.args.tables now.trees _ _ c.requires.new (c.in-Ok.ensures.stands clean) in
-    IfErr-weaker c.judge.result _ _ (weighed now (has_tables c.args.tables now.schema c.requires.tables c.requires.new) whole.config.plan whole.rows whole.config.terminals.items stands) c.judge.ensures.wrong
+    IfErr-weaker c.judge.result _ _
+    (weighed now (has_tables c.args.tables now.schema c.requires.tables c.requires.new) whole.config.plan whole.rows
+    whole.config.terminals.items stands) c.judge.ensures.wrong
 
 pub returns-in-Err-clause-wrong : goal.returns-in-Err-clause-wrong
 returns-in-Err-clause-wrong g c clean =
     let now = (state g.S.Store c.args.conn.now).now in
-    rw c.from.ensures (read_fault now (has_tables c.args.tables now.schema c.requires.tables c.requires.new) c.in-Err.fault (λ is. no_plan_new c.args.tables now.trees c.requires.new (c.in-Err.ensures.no_plan clean is)))
+    rw c.from.ensures (read_fault now (has_tables c.args.tables now.schema c.requires.tables c.requires.new)
+    c.in-Err.fault (λ is. no_plan_new c.args.tables now.trees c.requires.new (c.in-Err.ensures.no_plan clean is)))
 
 pub returns-in-Ok-clause-why : goal.returns-in-Ok-clause-why
 returns-in-Ok-clause-why g c clean =
     let whole = c.in-Ok.whole in
-    IfErr-weaker c.judge.result _ _ (λ e h storage. absurd (subst (Weighs whole.config.plan.areas whole.rows whole.config.terminals.items) storage h)) c.judge.ensures.wrong
+    IfErr-weaker c.judge.result _ _
+    (λ e h storage. absurd (subst (Weighs whole.config.plan.areas whole.rows whole.config.terminals.items) storage h))
+    c.judge.ensures.wrong
 
 pub returns-in-Err-clause-why : goal.returns-in-Err-clause-why
 returns-in-Err-clause-why g c clean storage =

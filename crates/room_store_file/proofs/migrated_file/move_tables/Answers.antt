@@ -9,7 +9,8 @@ pub returns-in-Ok-clause-moves : goal.returns-in-Ok-clause-moves
 returns-in-Ok-clause-moves g c clean =
     let old = state g.S.Store c.args.conn.now in
     let has : old.now.schema ≡ schema_of c.in-Some.tables = search rules in
-    takes_moves old (state g.S.Store c.read_room_in.new.conn) c.in-Some.tables has c.in-Some.ensures.tables.1 (c.in-Ok.ensures.takes clean)
+    takes_moves old (state g.S.Store c.read_room_in.new.conn) c.in-Some.tables has c.in-Some.ensures.tables.1
+    (c.in-Ok.ensures.takes clean)
 
 pub returns-in-Err-clause-no_room : goal.returns-in-Err-clause-no_room
 returns-in-Err-clause-no_room g c clean is has holds =
@@ -17,16 +18,21 @@ returns-in-Err-clause-no_room g c clean is has holds =
     c.in-Err.ensures.no_room clean none (holds_first c.in-Some.tables _ c.in-Some.ensures.tables.1 holds)
 
 pub returns-in-Err-clause-untouched : goal.returns-in-Err-clause-untouched
-returns-in-Err-clause-untouched g c is = c.in-Err.ensures.untouched (told_moved c.in-Err.fault (sym c.from.ensures ∙ is))
+returns-in-Err-clause-untouched g c is =
+    c.in-Err.ensures.untouched (told_moved c.in-Err.fault (sym c.from.ensures ∙ is))
 
 pub returns-in-Ok-clause-survives : goal.returns-in-Ok-clause-survives
 returns-in-Ok-clause-survives g c =
     let old = state g.S.Store c.args.conn.now in
     let has : old.now.schema ≡ schema_of c.in-Some.tables = search rules in
-    survives_less old (state g.S.Store c.read_room_in.new.conn) _ (MayBeMoved old.now) (λ db left. inr (may_be_moved c.in-Some.tables old.now db has c.in-Some.ensures.tables.1 left)) c.read_room_in.ensures.survives
+    survives_less old (state g.S.Store c.read_room_in.new.conn) _ (MayBeMoved old.now)
+    (λ db left. inr (may_be_moved c.in-Some.tables old.now db has c.in-Some.ensures.tables.1 left))
+    c.read_room_in.ensures.survives
 
 pub returns-in-Err-clause-survives : goal.returns-in-Err-clause-survives
 returns-in-Err-clause-survives g c =
     let old = state g.S.Store c.args.conn.now in
     let has : old.now.schema ≡ schema_of c.in-Some.tables = search rules in
-    survives_less old (state g.S.Store c.read_room_in.new.conn) _ (MayBeMoved old.now) (λ db left. inr (may_be_moved c.in-Some.tables old.now db has c.in-Some.ensures.tables.1 left)) c.read_room_in.ensures.survives
+    survives_less old (state g.S.Store c.read_room_in.new.conn) _ (MayBeMoved old.now)
+    (λ db left. inr (may_be_moved c.in-Some.tables old.now db has c.in-Some.ensures.tables.1 left))
+    c.read_room_in.ensures.survives

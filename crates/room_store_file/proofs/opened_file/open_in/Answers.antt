@@ -4,7 +4,7 @@ use Rattle.sqlite.specs.Effect.{Database}
 use Rattle.sqlite.specs.Held.{state}
 use Rattle.sqlite.specs.State.{HasCleanDisk}
 use Rattle.sqlite.proofs.StateLemmas.{survives_then}
-use Rattle.room_tables_laws.proofs.ReadLaws.{any_err}
+use Rattle.room_tables_schema.proofs.ReadLaws.{any_err}
 use Rattle.room_tables_schema.specs.Versions.{HasTables}
 use Rattle.room_store_writes.proofs.CommitLaws.{on_ok, ok_then}
 use Rattle.room_store_file.proofs.FileLaws.{left_left, left_then_opens}
@@ -16,57 +16,89 @@ use Rattle.room_store_check_tables.specs.HeldRooms.{HoldsRoom}
 use Rattle.room_store_file.proofs.opened_file.open_in.Goals as goal
 
 pub returns-clause-schema : goal.returns-clause-schema
-returns-clause-schema g c clean = ok_then c.open_tables.result _ _ (λ opens. opens.schema) (c.open_tables.ensures.opens clean)
+returns-clause-schema g c clean =
+    ok_then c.open_tables.result _ _ (λ opens. opens.schema) (c.open_tables.ensures.opens clean)
 
 pub returns-clause-settled : goal.returns-clause-settled
-returns-clause-settled g c clean = ok_then c.open_tables.result _ _ (λ opens. opens.settled) (c.open_tables.ensures.opens clean)
+returns-clause-settled g c clean =
+    ok_then c.open_tables.result _ _ (λ opens. opens.settled) (c.open_tables.ensures.opens clean)
 
 pub returns-clause-kept : goal.returns-clause-kept
 returns-clause-kept g c clean =
     let mid = state g.S.Store c.is_room_of.new.conn in
     let early : HasCleanDisk mid = omega (arith, c.open_tables.ensures.survives.clean) in
-    ok_then c.open_tables.result _ _ (λ opens. left_then_opens (state g.S.Store c.args.conn.now) mid (state g.S.Store c.open_tables.new.conn) (c.in_ok-is_room_of.ensures.ok early) (c.is_room_of.ensures.nothing.left early) opens.kept) (c.open_tables.ensures.opens clean)
+    ok_then c.open_tables.result _ _
+    (λ opens.
+    left_then_opens (state g.S.Store c.args.conn.now) mid (state g.S.Store c.open_tables.new.conn)
+    (c.in_ok-is_room_of.ensures.ok early) (c.is_room_of.ensures.nothing.left early) opens.kept)
+    (c.open_tables.ensures.opens clean)
 
 pub returns-clause-leaves : goal.returns-clause-leaves
 returns-clause-leaves g c clean =
     let mid = state g.S.Store c.is_room_of.new.conn in
     let early : HasCleanDisk mid = omega (arith, c.open_tables.ensures.survives.clean) in
-    IfErr-weaker c.open_tables.result _ _ (λ _ left. left_left (state g.S.Store c.args.conn.now) mid (state g.S.Store c.open_tables.new.conn) (c.is_room_of.ensures.nothing.left early) left) (c.open_tables.ensures.leaves clean)
+    IfErr-weaker c.open_tables.result _ _
+    (λ _ left.
+    left_left (state g.S.Store c.args.conn.now) mid (state g.S.Store c.open_tables.new.conn)
+    (c.is_room_of.ensures.nothing.left early) left) (c.open_tables.ensures.leaves clean)
 
 pub returns-clause-not_old : goal.returns-clause-not_old
 returns-clause-not_old g c clean =
-    let early : HasCleanDisk (state g.S.Store c.is_room_of.new.conn) = omega (arith, c.open_tables.ensures.survives.clean) in
+    let early : HasCleanDisk (state g.S.Store c.is_room_of.new.conn) = omega
+    (arith, c.open_tables.ensures.survives.clean) in
     let told = c.in_ok-is_room_of.ensures.told early in
-    let none : ¬ IsOldRoom (state g.S.Store c.args.conn.now).now = λ old. true≢false (sym (told.1 old) ∙ c.if-branch.false) in
+    let none : ¬ IsOldRoom (state g.S.Store c.args.conn.now).now = λ old.
+    true≢false (sym (told.1 old) ∙ c.if-branch.false) in
     on_ok _ _ none
 
 pub returns-clause-old_room : goal.returns-clause-old_room
 returns-clause-old_room g c clean =
-    let early : HasCleanDisk (state g.S.Store c.is_room_of.new.conn) = omega (arith, c.open_tables.ensures.survives.clean) in
+    let early : HasCleanDisk (state g.S.Store c.is_room_of.new.conn) = omega
+    (arith, c.open_tables.ensures.survives.clean) in
     let told = c.in_ok-is_room_of.ensures.told early in
-    IfErr-weaker c.open_tables.result _ _ (λ e other. (λ is. absurd (other is), λ is old. absurd (true≢false (sym (told.1 old) ∙ c.if-branch.false)))) c.open_tables.ensures.this_version
+    IfErr-weaker c.open_tables.result _ _
+    (λ e other. (λ is. absurd (other is), λ is old. absurd (true≢false (sym (told.1 old) ∙ c.if-branch.false))))
+    c.open_tables.ensures.this_version
 
 pub returns-clause-no_room : goal.returns-clause-no_room
 returns-clause-no_room g c clean =
-    let early : HasCleanDisk (state g.S.Store c.is_room_of.new.conn) = omega (arith, c.open_tables.ensures.survives.clean) in
+    let early : HasCleanDisk (state g.S.Store c.is_room_of.new.conn) = omega
+    (arith, c.open_tables.ensures.survives.clean) in
     let same = sym (c.in_ok-is_room_of.ensures.ok early) in
-    IfErr-weaker c.open_tables.result _ _ (λ e none is tables holds. none is (subst (λ (db : Database). HasTables db.schema) same tables) (subst (λ (db : Database). HoldsRoom db.trees) same holds)) (c.open_tables.ensures.no_room clean)
+    IfErr-weaker c.open_tables.result _ _
+    (λ e none is tables holds.
+    none is (subst (λ (db : Database). HasTables db.schema) same tables)
+    (subst (λ (db : Database). HoldsRoom db.trees) same holds)) (c.open_tables.ensures.no_room clean)
 
 pub returns-clause-storage : goal.returns-clause-storage
 returns-clause-storage g c clean =
-    let early : HasCleanDisk (state g.S.Store c.is_room_of.new.conn) = omega (arith, c.open_tables.ensures.survives.clean) in
-    IfErr-weaker c.open_tables.result _ _ (λ e has is. inl (subst (λ (db : Database). HasTables db.schema) (c.in_ok-is_room_of.ensures.ok early) (has is))) (c.open_tables.ensures.storage clean)
+    let early : HasCleanDisk (state g.S.Store c.is_room_of.new.conn) = omega
+    (arith, c.open_tables.ensures.survives.clean) in
+    IfErr-weaker c.open_tables.result _ _
+    (λ e has is. inl (subst (λ (db : Database). HasTables db.schema) (c.in_ok-is_room_of.ensures.ok early) (has is)))
+    (c.open_tables.ensures.storage clean)
 
 pub returns-clause-why : goal.returns-clause-why
 returns-clause-why g c clean =
-    let early : HasCleanDisk (state g.S.Store c.is_room_of.new.conn) = omega (arith, c.open_tables.ensures.survives.clean) in
-    IfErr-weaker c.open_tables.result _ _ (λ e why is. inr (record { mid = c.is_room_of.new.conn; same = c.in_ok-is_room_of.ensures.ok early; nothing = c.is_room_of.ensures.nothing; fails = why is })) (c.open_tables.ensures.why clean)
+    let early : HasCleanDisk (state g.S.Store c.is_room_of.new.conn) = omega
+    (arith, c.open_tables.ensures.survives.clean) in
+    IfErr-weaker c.open_tables.result _ _
+    (λ e why is.
+    inr (record {
+      mid = c.is_room_of.new.conn;
+      same = c.in_ok-is_room_of.ensures.ok early;
+      nothing = c.is_room_of.ensures.nothing;
+      fails = why is;
+    })) (c.open_tables.ensures.why clean)
 
 pub returns-clause-untouched : goal.returns-clause-untouched
 returns-clause-untouched g c =
-    both_errs c.open_tables.result _ _ _ c.open_tables.ensures.this_version c.open_tables.ensures.untouched (λ e other none is. elim is [
+    both_errs c.open_tables.result _ _ _ c.open_tables.ensures.this_version c.open_tables.ensures.untouched
+    (λ e other none is. elim is [
       | inl old ↦ absurd (other old)
-      | inr other_is ↦ nothing_then (state g.S.Store c.args.conn.now) (state g.S.Store c.is_room_of.new.conn) (state g.S.Store c.open_tables.new.conn) c.is_room_of.ensures.nothing (none other_is)
+      | inr other_is ↦
+          nothing_then (state g.S.Store c.args.conn.now) (state g.S.Store c.is_room_of.new.conn)
+          (state g.S.Store c.open_tables.new.conn) c.is_room_of.ensures.nothing (none other_is)
     ])
 
 pub returns-clause-survives : goal.returns-clause-survives
@@ -74,7 +106,9 @@ returns-clause-survives g c =
     let old = state g.S.Store c.args.conn.now in
     let mid = state g.S.Store c.is_room_of.new.conn in
     survives_then old mid (state g.S.Store c.open_tables.new.conn) _ _ (MayBeIndexed old.now) (λ _ db none. absurd none)
-    (λ clean db left. let early : HasCleanDisk mid = omega (arith, c.open_tables.ensures.survives.clean) in subst (λ (was : Database). MayBeIndexed was db) (c.in_ok-is_room_of.ensures.ok early) left)
+    (λ clean db left.
+    let early : HasCleanDisk mid = omega (arith, c.open_tables.ensures.survives.clean) in
+    subst (λ (was : Database). MayBeIndexed was db) (c.in_ok-is_room_of.ensures.ok early) left)
     c.is_room_of.ensures.nothing.survives c.open_tables.ensures.survives
 
 pub returns-in_err-is_room_of : goal.returns-in_err-is_room_of
@@ -89,13 +123,29 @@ returns-in_err-is_room_of g c =
       kept = λ clean. none_ok _ _ failed.0;
       leaves = λ clean. any_err c.from_residual.result (looked.left clean);
       not_old = λ clean. none_ok _ _ failed.0;
-      old_room = λ clean. IfErr-weaker c.from_residual.result _ _ (λ e other. (λ is. absurd (other.0 is), λ is. absurd (other.1 is))) (none_opened _ c.in_err-is_room_of.field-0.0 failed.1);
-      no_room = λ clean. IfErr-weaker c.from_residual.result _ _ (λ e other is. absurd (other.1 is)) (none_opened _ c.in_err-is_room_of.field-0.0 failed.1);
-      storage = λ clean. IfErr-weaker c.from_residual.result _ _ (λ e hides is. inr (hides is)) (hidden c.from_residual.result c.in_err-is_room_of.field-0.0 _ failed.1 (c.in_err-is_room_of.ensures.why clean));
-      why = λ clean. IfErr-weaker c.from_residual.result _ _ (λ e hides is. inl (hides is)) (hidden c.from_residual.result c.in_err-is_room_of.field-0.0 _ failed.1 (c.in_err-is_room_of.ensures.why clean));
+      old_room =
+          λ clean.
+          IfErr-weaker c.from_residual.result _ _ (λ e other. (λ is. absurd (other.0 is), λ is. absurd (other.1 is)))
+          (none_opened _ c.in_err-is_room_of.field-0.0 failed.1);
+      no_room =
+          λ clean.
+          IfErr-weaker c.from_residual.result _ _ (λ e other is. absurd (other.1 is))
+          (none_opened _ c.in_err-is_room_of.field-0.0 failed.1);
+      storage =
+          λ clean.
+          IfErr-weaker c.from_residual.result _ _ (λ e hides is. inr (hides is))
+          (hidden c.from_residual.result c.in_err-is_room_of.field-0.0 _ failed.1
+          (c.in_err-is_room_of.ensures.why clean));
+      why =
+          λ clean.
+          IfErr-weaker c.from_residual.result _ _ (λ e hides is. inl (hides is))
+          (hidden c.from_residual.result c.in_err-is_room_of.field-0.0 _ failed.1
+          (c.in_err-is_room_of.ensures.why clean));
       untouched = any_fault c.from_residual.result _ (λ e _. looked);
       ended = c.is_room_of.ensures.ended;
-      survives = survives_less old (state g.S.Store c.is_room_of.new.conn) (λ _. ⊥) (MayBeIndexed old.now) (λ db none. absurd none) looked.survives;
+      survives =
+          survives_less old (state g.S.Store c.is_room_of.new.conn) (λ _. ⊥) (MayBeIndexed old.now)
+          (λ db none. absurd none) looked.survives;
     }
 
 pub returns-then-branch : goal.returns-then-branch
@@ -115,5 +165,7 @@ returns-then-branch g c =
       why = λ clean is. cc;
       untouched = λ is. looked;
       ended = c.is_room_of.ensures.ended;
-      survives = survives_less old (state g.S.Store c.is_room_of.new.conn) (λ _. ⊥) (MayBeIndexed old.now) (λ db none. absurd none) looked.survives;
+      survives =
+          survives_less old (state g.S.Store c.is_room_of.new.conn) (λ _. ⊥) (MayBeIndexed old.now)
+          (λ db none. absurd none) looked.survives;
     }

@@ -10,7 +10,8 @@ returns-in-Ok-clause-opens g c clean =
     let old = state g.S.Store c.args.conn.now in
     let settled : IsTrue old.is_open → old.now ≡ old.committed = search rules in
     let has : old.now.schema ≡ schema_of c.in-Some.tables = search rules in
-    takes_opens old (state g.S.Store c.take.new.conn) c.in-Some.tables has c.in-Some.ensures.tables.1 settled (c.in-Ok.ensures.takes clean)
+    takes_opens old (state g.S.Store c.take.new.conn) c.in-Some.tables has c.in-Some.ensures.tables.1 settled
+    (c.in-Ok.ensures.takes clean)
 
 pub returns-in-Err-clause-no_room : goal.returns-in-Err-clause-no_room
 returns-in-Err-clause-no_room g c clean is has holds =
@@ -35,10 +36,14 @@ pub returns-in-Ok-clause-survives : goal.returns-in-Ok-clause-survives
 returns-in-Ok-clause-survives g c =
     let old = state g.S.Store c.args.conn.now in
     let has : old.now.schema ≡ schema_of c.in-Some.tables = search rules in
-    survives_less old (state g.S.Store c.take.new.conn) _ (MayBeIndexed old.now) (λ db left. inr (may_be_indexed c.in-Some.tables old.now db has c.in-Some.ensures.tables.1 left)) c.take.ensures.survives
+    survives_less old (state g.S.Store c.take.new.conn) _ (MayBeIndexed old.now)
+    (λ db left. inr (may_be_indexed c.in-Some.tables old.now db has c.in-Some.ensures.tables.1 left))
+    c.take.ensures.survives
 
 pub returns-in-Err-clause-survives : goal.returns-in-Err-clause-survives
 returns-in-Err-clause-survives g c =
     let old = state g.S.Store c.args.conn.now in
     let has : old.now.schema ≡ schema_of c.in-Some.tables = search rules in
-    survives_less old (state g.S.Store c.take.new.conn) _ (MayBeIndexed old.now) (λ db left. inr (may_be_indexed c.in-Some.tables old.now db has c.in-Some.ensures.tables.1 left)) c.take.ensures.survives
+    survives_less old (state g.S.Store c.take.new.conn) _ (MayBeIndexed old.now)
+    (λ db left. inr (may_be_indexed c.in-Some.tables old.now db has c.in-Some.ensures.tables.1 left))
+    c.take.ensures.survives

@@ -10,7 +10,16 @@ use Rattle.room_store_file.proofs.room_in_tables.find_room.Goals as goal
 pub returns-in-Ok-clause-room : goal.returns-in-Ok-clause-room
 returns-in-Ok-clause-room g c clean =
     let whole = c.in-Ok.whole in
-    IfOk-weaker c.sound_plan.result _ _ (λ plan sound. rw sound.0 (whole.config.terminals.items, room_of whole.config.plan.areas whole.rows, sound.1, sound.2, refl, c.in-Ok.ensures.stands clean)) c.sound_plan.ensures.sound
+    IfOk-weaker c.sound_plan.result _ _
+    (λ plan sound.
+    rw sound.0 (
+      whole.config.terminals.items,
+      room_of whole.config.plan.areas whole.rows,
+      sound.1,
+      sound.2,
+      refl,
+      c.in-Ok.ensures.stands clean,
+    )) c.sound_plan.ensures.sound
 
 pub returns-in-Ok-clause-becomes : goal.returns-in-Ok-clause-becomes
 returns-in-Ok-clause-becomes g c clean = on_ok _ _ (c.in-Ok.ensures.becomes clean)
@@ -28,7 +37,8 @@ returns-in-Ok-clause-no_room g c clean =
     let whole = c.in-Ok.whole in
     IfErr-weaker c.sound_plan.result _ _ (λ e none is holds.
     let there = becomes_holds c.args.tables old.now.trees new.now.trees (c.in-Ok.ensures.becomes clean) holds in
-    none is (held_is new.now.trees whole.config.plan whole.config.terminals.items (room_of whole.config.plan.areas whole.rows) (c.in-Ok.ensures.stands clean) there)) c.sound_plan.ensures.no_room
+    none is (held_is new.now.trees whole.config.plan whole.config.terminals.items
+    (room_of whole.config.plan.areas whole.rows) (c.in-Ok.ensures.stands clean) there)) c.sound_plan.ensures.no_room
 
 pub returns-in-Err-clause-no_room : goal.returns-in-Err-clause-no_room
 returns-in-Err-clause-no_room g c clean is =

@@ -9,6 +9,9 @@ use Rattle.room_store_file.proofs.row_hash.add_row.Goals as goal
 
 pub loop-at-preserved : goal.loop-at-preserved
 loop-at-preserved c = elim c.match-get_ref.branch [
-  | in-Ok w ↦ rw (w.hasher-is) (less_left (at_drop_more (flat_map value_text) c.args.row.now c.loop-at.at Null w.in-Ok.ensures.ok.0) c.loop-at.invariant (rw (w.in-Ok.ensures.ok.1) at w.add_value.ensures))
+  | in-Ok w ↦
+      rw (w.hasher-is) (less_left
+      (at_drop_more (flat_map value_text) c.args.row.now c.loop-at.at Null w.in-Ok.ensures.ok.0) c.loop-at.invariant
+      (rw (w.in-Ok.ensures.ok.1) at w.add_value.ensures))
   | in_default w ↦ absurd (omega (arith, w.in_default.ensures.err.1))
 ]

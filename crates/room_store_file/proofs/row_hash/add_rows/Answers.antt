@@ -7,5 +7,9 @@ use Rattle.room_store_file.proofs.row_hash.add_rows.Goals as goal
 
 pub loop-row-preserved : goal.loop-row-preserved
 loop-row-preserved c =
-    let more = at_drop_more (flat_map row_text) c.args.rows.now c.loop-row.row-index c.row-item.result c.loop-row-test.true in
-    less_left (more ∙ ap (λ r. row_text r ++ flat_map row_text (drop (c.loop-row.row-index + 1) c.args.rows.now)) (sym c.row-item.is)) c.loop-row.invariant c.add_row.ensures
+    let more = at_drop_more (flat_map row_text) c.args.rows.now c.loop-row.row-index c.row-item.result
+    c.loop-row-test.true in
+    less_left
+    (more
+    ∙ ap (λ r. row_text r ++ flat_map row_text (drop (c.loop-row.row-index + 1) c.args.rows.now)) (sym c.row-item.is))
+    c.loop-row.invariant c.add_row.ensures

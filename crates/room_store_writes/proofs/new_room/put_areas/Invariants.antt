@@ -1,7 +1,7 @@
 use Rattle.std.proofs.Common.{[], take, ◌≡◌}
 use Rattle.sqlite.specs.Held.{state}
 use Rattle.sqlite.specs.State.{HasCleanDisk}
-use Rattle.room_tables_laws.specs.Outcomes.{CommitsNothing}
+use Rattle.room_tables_schema.specs.Outcomes.{CommitsNothing}
 use Rattle.room_model.specs.Room.{Room}
 use Rattle.room_tables_schema.specs.FileConnections.{MayWrite}
 use Rattle.room_tables.specs.Stands.{Configuration, Stands}
@@ -16,5 +16,6 @@ invariant-loop-area g l =
       place : l.at ≡ l.area-index;
       commits : CommitsNothing g.S.Store l.fn.tx.conn.now l.tx.conn.now;
       may : MayWrite g.S.Store l.tx.conn.now;
-      stands : HasCleanDisk now → (config : Configuration) (room : Room) → Stands old.now.trees config room → room.plan ≡ [] → Stands now.now.trees config (record room { plan = take l.area-index l.areas });
+      stands : HasCleanDisk now → (config : Configuration) (room : Room) → Stands old.now.trees config room
+          → room.plan ≡ [] → Stands now.now.trees config (record room { plan = take l.area-index l.areas });
     }

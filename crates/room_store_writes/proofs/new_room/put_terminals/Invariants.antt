@@ -1,7 +1,7 @@
 use Rattle.std.proofs.Common.{take, ◌≡◌}
 use Rattle.sqlite.specs.Held.{state}
 use Rattle.sqlite.specs.State.{HasCleanDisk}
-use Rattle.room_tables_laws.specs.Outcomes.{CommitsNothing}
+use Rattle.room_tables_schema.specs.Outcomes.{CommitsNothing}
 use Rattle.room_model.specs.Room.{Room}
 use Rattle.room_tables_schema.specs.FileConnections.{MayWrite}
 use Rattle.room_tables.specs.Stands.{Configuration, Stands}
@@ -17,5 +17,6 @@ invariant-loop-terminal g l =
       commits : CommitsNothing g.S.Store l.fn.tx.conn.now l.tx.conn.now;
       may : MayWrite g.S.Store l.tx.conn.now;
       stands : HasCleanDisk now → (config : Configuration) (room : Room) → Stands old.now.trees config room
-          → Stands now.now.trees (record config { terminals = put_all config.terminals (take l.terminal-index l.terminals) }) room;
+          → Stands now.now.trees
+          (record config { terminals = put_all config.terminals (take l.terminal-index l.terminals) }) room;
     }

@@ -7,14 +7,18 @@ use Rattle.room_store_writes.proofs.terminal_changes.change.Given.{Over}
 use Rattle.room_store_writes.proofs.terminal_changes.change.Goals.{After-conn-1}
 use Rattle.room_store_writes.proofs.terminal_changes.change.Goals as goal
 
-whole : (g : Over) (c : After-conn-1 g) → IsWhole g.S.Store c.args.conn.now c.conn-1.given.0 c.end.result (Gives c.args.plan.now.areas c.args.change.now.who c.args.change.now.token)
+whole : (g : Over) (c : After-conn-1 g)
+    → IsWhole g.S.Store c.args.conn.now c.conn-1.given.0 c.end.result
+    (Gives c.args.plan.now.areas c.args.change.now.who c.args.change.now.token)
 whole g c =
     let done = c.change_inside-done in
     let P = Gives c.args.plan.now.areas c.args.change.now.who c.args.change.now.token in
     let same : c.end.new.tx.0 ≡ c.conn-1.given.0 = search rules in
     subst (λ end. IsWhole g.S.Store c.args.conn.now end c.end.result P) same
-    (is_whole g.S.Store c.args.conn.now c.transaction-tx.result.conn.now done.new.tx.conn.now c.end.new.tx.0 done.result c.end.result P c.transaction-tx.ensures.begun
-    (λ clean _. sym (c.requires.settled clean).committed) done.ensures.commits (λ clean. on_ok_weaker done.result (λ made. (made.0.room clean, made.1)) (done.ensures.ok clean))
+    (is_whole g.S.Store c.args.conn.now c.transaction-tx.result.conn.now done.new.tx.conn.now c.end.new.tx.0 done.result
+    c.end.result P c.transaction-tx.ensures.begun
+    (λ clean _. sym (c.requires.settled clean).committed) done.ensures.commits
+    (λ clean. on_ok_weaker done.result (λ made. (made.0.room clean, made.1)) (done.ensures.ok clean))
     c.end.ensures.well c.end.ensures.ok c.end.ensures.err c.end.ensures.survives)
 
 pub returns-clause-ok : goal.returns-clause-ok
@@ -30,4 +34,5 @@ pub returns-clause-survives : goal.returns-clause-survives
 returns-clause-survives g c = (whole g c).survives
 
 pub end-requires : goal.end-requires
-end-requires g c clean = on_ok_weaker c.change_inside-done.result (λ made. made.0.inside clean) (c.change_inside-done.ensures.ok clean)
+end-requires g c clean =
+    on_ok_weaker c.change_inside-done.result (λ made. made.0.inside clean) (c.change_inside-done.ensures.ok clean)

@@ -6,7 +6,7 @@ use Rattle.sqlite.specs.State.{HasCleanDisk, Survives}
 use Rattle.sqlite.proofs.Callers.{survives_begin}
 use Rattle.room_model.specs.Room.{Room}
 use Rattle.room_tables_rows.specs.Stands.{Configuration, Stands}
-use Rattle.room_tables_laws.proofs.ReadLaws.{still}
+use Rattle.room_tables_schema.proofs.ReadLaws.{still}
 use Rattle.room_store_writes.specs.Transactions.{Leaves}
 use Rattle.room_store_writes.proofs.CommitLaws.{undone_leaves}
 use Rattle.room_store_writes.proofs.TransactionReads.{outside, reads_commit}
@@ -18,7 +18,11 @@ returns-clause-terminals g c =
     let last = state g.S.Store c.all_terminals-terminals.new.tx.conn.now in
     let end = state g.S.Store c.rollback.new.self.0 in
     let begun = c.transaction-tx.ensures.begun in
-    let all : HasCleanDisk end → IfOk c.all_terminals-terminals.result (λ terminals. (config : Configuration) (room : Room) → Stands old.now.trees config room → terminals.items ≡ config.terminals) = λ clean.
+    let all : HasCleanDisk end
+    → IfOk c.all_terminals-terminals.result
+    (λ terminals.
+    (config : Configuration) (room : Room) → Stands old.now.trees config room → terminals.items ≡ config.terminals) =
+    λ clean.
     let early : HasCleanDisk last = omega (arith, c.rollback.ensures.survives.clean) in
     rw begun at c.all_terminals-terminals.ensures.terminals early in
     search rules
@@ -28,10 +32,13 @@ returns-clause-leaves g c =
     let old = c.args.conn.now in
     let last = c.all_terminals-terminals.new.tx.conn.now in
     let end = c.rollback.new.self.0 in
-    let commits = rw c.transaction-tx.ensures.begun at (reads_commit c.all_terminals-terminals.result c.all_terminals-terminals.ensures.reads) in
+    let commits = rw c.transaction-tx.ensures.begun at
+    (reads_commit c.all_terminals-terminals.result c.all_terminals-terminals.ensures.reads) in
     let all : HasCleanDisk (state g.S.Store end) → Leaves (state g.S.Store old) (state g.S.Store end) = λ clean.
     let early : HasCleanDisk (state g.S.Store last) = omega (arith, c.rollback.ensures.survives.clean) in
-    undone_leaves g.S.Store old last end (commits.kept early) (c.rollback.ensures.undone clean) (outside c.is_autocommit.result _ c.requires.outside c.is_autocommit.ensures.value c.is_autocommit.ensures.settled) in
+    undone_leaves g.S.Store old last end (commits.kept early) (c.rollback.ensures.undone clean)
+    (outside c.is_autocommit.result _ c.requires.outside c.is_autocommit.ensures.value
+    c.is_autocommit.ensures.settled) in
     search rules
 
 pub returns-clause-survives : goal.returns-clause-survives
@@ -39,6 +46,8 @@ returns-clause-survives g c =
     let old = c.args.conn.now in
     let last = c.all_terminals-terminals.new.tx.conn.now in
     let end = c.rollback.new.self.0 in
-    let commits = rw c.transaction-tx.ensures.begun at (reads_commit c.all_terminals-terminals.result c.all_terminals-terminals.ensures.reads) in
-    let all : Survives (state g.S.Store old) (state g.S.Store end) (λ _. ⊥) = still (survives_begin g.S.Store old (state g.S.Store last) (λ _. ⊥) commits.survives) c.rollback.ensures.survives in
+    let commits = rw c.transaction-tx.ensures.begun at
+    (reads_commit c.all_terminals-terminals.result c.all_terminals-terminals.ensures.reads) in
+    let all : Survives (state g.S.Store old) (state g.S.Store end) (λ _. ⊥) = still
+    (survives_begin g.S.Store old (state g.S.Store last) (λ _. ⊥) commits.survives) c.rollback.ensures.survives in
     search rules

@@ -3,7 +3,7 @@ use Rattle.std.proofs.lemmas.List.{drop_all, drop_more}
 use Rattle.sqlite.specs.Held.{state}
 use Rattle.sqlite.specs.State.{HasCleanDisk}
 use Rattle.room_model.specs.Room.{apply}
-use Rattle.room_tables_laws.proofs.WriteLaws.{commits_more}
+use Rattle.room_tables_schema.proofs.WriteLaws.{commits_more}
 use Rattle.room_store_writes.proofs.CommitLaws.{nearer, there}
 use Rattle.room_store_writes.proofs.transactions.put_each.Goals as goal
 
@@ -18,11 +18,16 @@ loop-change-preserved g c =
     record {
       same = c.apply.ensures.same_reference ∙ before.same;
       commits = commits_more before.commits c.apply.ensures.commits;
-      may = record { room = λ clean. (c.in_ok-apply.ensures.ok clean).schema; inside = λ clean. (c.in_ok-apply.ensures.ok clean).inside.mode };
+      may = record {
+        room = λ clean. (c.in_ok-apply.ensures.ok clean).schema;
+        inside = λ clean. (c.in_ok-apply.ensures.ok clean).inside.mode;
+      };
       stands = λ clean config room h.
           let early : HasCleanDisk mid = omega (arith, c.apply.ensures.commits.survives.clean) in
-          let more : drop at changes ≡ item ∷ drop (at + 1) changes = rw c.change-item.is (drop_more changes at _ c.loop-change-test.true) in
-          nearer (drop at changes) (drop (at + 1) changes) item config mid.now.trees new.now.trees (apply room changes) more ((c.in_ok-apply.ensures.ok clean).stands config) (before.stands early config room h);
+          let more : drop at changes
+          ≡ item ∷ drop (at + 1) changes = rw c.change-item.is (drop_more changes at _ c.loop-change-test.true) in
+          nearer (drop at changes) (drop (at + 1) changes) item config mid.now.trees new.now.trees (apply room changes)
+          more ((c.in_ok-apply.ensures.ok clean).stands config) (before.stands early config room h);
     }
 
 pub returns-clause-ok : goal.returns-clause-ok
@@ -34,7 +39,10 @@ returns-clause-ok g c clean =
     record {
       inside = all.may.inside clean;
       schema = all.may.room clean;
-      stands = λ config room h. there (drop at changes) config (state g.S.Store c.loop-change.tx.conn.now).now.trees (apply room changes) (drop_all at changes past) (all.stands clean config room h);
+      stands =
+          λ config room h.
+          there (drop at changes) config (state g.S.Store c.loop-change.tx.conn.now).now.trees (apply room changes)
+          (drop_all at changes past) (all.stands clean config room h);
     }
 
 pub returns-in_err-apply-clause-commits : goal.returns-in_err-apply-clause-commits

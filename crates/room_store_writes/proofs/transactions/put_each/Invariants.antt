@@ -1,7 +1,7 @@
 use Rattle.std.proofs.Common.{drop, ◌≡◌}
 use Rattle.sqlite.specs.Held.{state}
 use Rattle.sqlite.specs.State.{HasCleanDisk}
-use Rattle.room_tables_laws.specs.Outcomes.{CommitsNothing}
+use Rattle.room_tables_schema.specs.Outcomes.{CommitsNothing}
 use Rattle.room_model.specs.Room.{Room, apply}
 use Rattle.room_tables_schema.specs.FileConnections.{MayWrite}
 use Rattle.room_tables.specs.Stands.{Configuration, Stands}
@@ -16,5 +16,6 @@ invariant-loop-change g l =
       same : l.tx.conn.ghost_name ≡ l.fn.tx.conn.ghost_name;
       commits : CommitsNothing g.S.Store l.fn.tx.conn.now l.tx.conn.now;
       may : MayWrite g.S.Store l.tx.conn.now;
-      stands : HasCleanDisk now → (config : Configuration) (room : Room) → Stands old.now.trees config room → StandsBefore (drop l.change-index l.changes) config now.now.trees (apply room l.changes);
+      stands : HasCleanDisk now → (config : Configuration) (room : Room) → Stands old.now.trees config room
+          → StandsBefore (drop l.change-index l.changes) config now.now.trees (apply room l.changes);
     }

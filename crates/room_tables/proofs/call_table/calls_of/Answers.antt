@@ -1,10 +1,10 @@
 -- What was shown is what was asked for.
 use Rattle.room_tables_schema.specs.Schema.{room_schema}
 use Rattle.room_tables_rows.proofs.CallsTable.{calls_of_are, calls_of_means}
-use Rattle.room_tables_rows.specs.declared.call_columns.TheConstants.{CALLS_OF}
+use Rattle.room_tables_rows.specs.declared.call_sql.TheConstants.{CALLS_OF}
 use Rattle.sqlite.specs.Held.{state}
 use Rattle.std.proofs.lemmas.Result.{IfOk-weaker}
-use Rattle.room_tables_laws.proofs.Refusals.{plain_here}
+use Rattle.room_tables_schema.proofs.Refusals.{plain_here}
 use Rattle.room_tables.proofs.RoomReads.{was_clean}
 use Rattle.room_tables.proofs.call_table.calls_of.Goals as goal
 
@@ -15,7 +15,10 @@ pub returns-clause-rows : goal.returns-clause-rows
 returns-clause-rows g c clean =
     let old = state g.S.Store c.args.conn.now in
     let early = was_clean c.load.ensures.reads.survives clean in
-    IfOk-weaker c.load.result _ _ (λ found shown. calls_of_are c.args.division c.args.incident old (state g.S.Store c.load.new.conn) found (c.requires.room early) (rw (c.store.ensures, c.store-2.ensures) at shown)) (c.load.ensures.shown clean)
+    IfOk-weaker c.load.result _ _
+    (λ found shown.
+    calls_of_are c.args.division c.args.incident old (state g.S.Store c.load.new.conn) found (c.requires.room early)
+    (rw (c.store.ensures, c.store-2.ensures) at shown)) (c.load.ensures.shown clean)
 
 pub returns-clause-why : goal.returns-clause-why
 returns-clause-why g c clean = rw (c.store.ensures, c.store-2.ensures) at (c.load.ensures.why clean)

@@ -5,9 +5,9 @@ use Rattle.sqlite.specs.State.{HasCleanDisk}
 use Rattle.room_model.specs.Queries.{greatest_serial, last_serial}
 use Rattle.room_tables_schema.specs.Schema.{room_schema}
 use Rattle.room_tables_rows.proofs.CallsTable.{calls_by_are, calls_by_means}
-use Rattle.room_tables_rows.specs.declared.call_columns.TheConstants.{CALLS_BY}
-use Rattle.room_tables_laws.proofs.ReadLaws.{fails, looked, told}
-use Rattle.room_tables_laws.proofs.Refusals.{plain_here}
+use Rattle.room_tables_rows.specs.declared.call_sql.TheConstants.{CALLS_BY}
+use Rattle.room_tables_schema.proofs.ReadLaws.{fails, looked, told}
+use Rattle.room_tables_schema.proofs.Refusals.{plain_here}
 use Rattle.room_tables.proofs.call_table.last_serial.Goals as goal
 
 pub each_shown-requires : goal.each_shown-requires

@@ -1,12 +1,17 @@
 -- What ran, or failed, is reported.
-use Rattle.room_tables_laws.proofs.WriteLaws.{unwritten, wrote}
+use Rattle.room_tables_schema.proofs.WriteLaws.{unwritten, wrote}
 use Rattle.room_tables.proofs.RoomReads.{was_clean}
 use Rattle.room_tables.proofs.change_statements.run.Goals as goal
 
 pub returns-clause-ran : goal.returns-clause-ran
 returns-clause-ran g c clean =
     let early = was_clean c.write.ensures.writes.survives clean in
-    record { room = c.requires.inside.room early; inside = c.in_ok-write.ensures.ok clean; count = _; ran = c.in_ok-write.ensures.ran clean }
+    record {
+      room = c.requires.inside.room early;
+      inside = c.in_ok-write.ensures.ok clean;
+      count = _;
+      ran = c.in_ok-write.ensures.ran clean;
+    }
 
 pub returns-clause-why : goal.returns-clause-why
 returns-clause-why g c clean = tt

@@ -1,26 +1,43 @@
 -- What was shown is what was asked for.
 use Rattle.room_tables_schema.specs.Schema.{room_schema}
 use Rattle.room_tables_rows.proofs.IncidentsTable.{incidents_opened_are, incidents_opened_means}
-use Rattle.room_tables_rows.specs.declared.incident_columns.TheConstants.{INCIDENTS_OPENED}
+use Rattle.room_tables_rows.specs.declared.incident_sql.TheConstants.{INCIDENTS_OPENED}
 use Rattle.sqlite.specs.Held.{state}
 use Rattle.std.proofs.lemmas.Int.{to_z-of_z}
 use Rattle.std.proofs.lemmas.Result.{IfOk-weaker}
 use Rattle.std.specs.Int.{w64}
-use Rattle.room_tables_laws.proofs.Refusals.{plain_here}
+use Rattle.room_tables_schema.proofs.Refusals.{plain_here}
 use Rattle.room_tables.proofs.RoomReads.{was_clean}
 use Rattle.room_tables.proofs.incident_table.incidents_opened.Goals as goal
 
 pub load-requires : goal.load-requires
-load-requires g c clean = plain_here room_schema _ INCIDENTS_OPENED.now (c.requires.room clean) incidents_opened_means.plain
+load-requires g c clean =
+    plain_here room_schema _ INCIDENTS_OPENED.now (c.requires.room clean) incidents_opened_means.plain
 
 pub returns-clause-rows : goal.returns-clause-rows
 returns-clause-rows g c clean =
     let old = state g.S.Store c.args.conn.now in
     let early = was_clean c.load.ensures.reads.survives clean in
-    IfOk-weaker c.load.result _ _ (λ found shown. incidents_opened_are c.args.from c.args.to c.args.division old (state g.S.Store c.load.new.conn) found (c.requires.room early) (rw (c.second.ensures, to_z-of_z w64 c.args.from c.ranges.from, c.second-2.ensures, to_z-of_z w64 c.args.to c.ranges.to, c.store.ensures) at shown)) (c.load.ensures.shown clean)
+    IfOk-weaker c.load.result _ _
+    (λ found shown.
+    incidents_opened_are c.args.from c.args.to c.args.division old (state g.S.Store c.load.new.conn) found
+    (c.requires.room early) (rw (
+      c.second.ensures,
+      to_z-of_z w64 c.args.from c.ranges.from,
+      c.second-2.ensures,
+      to_z-of_z w64 c.args.to c.ranges.to,
+      c.store.ensures,
+    ) at shown)) (c.load.ensures.shown clean)
 
 pub returns-clause-why : goal.returns-clause-why
-returns-clause-why g c clean = rw (c.second.ensures, to_z-of_z w64 c.args.from c.ranges.from, c.second-2.ensures, to_z-of_z w64 c.args.to c.ranges.to, c.store.ensures) at (c.load.ensures.why clean)
+returns-clause-why g c clean =
+    rw (
+      c.second.ensures,
+      to_z-of_z w64 c.args.from c.ranges.from,
+      c.second-2.ensures,
+      to_z-of_z w64 c.args.to c.ranges.to,
+      c.store.ensures,
+    ) at (c.load.ensures.why clean)
 
 pub returns-clause-reads : goal.returns-clause-reads
 returns-clause-reads g c = c.load.ensures.reads

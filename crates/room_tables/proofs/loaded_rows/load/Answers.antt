@@ -2,7 +2,7 @@
 use Rattle.std.proofs.Common.{subst, sym, ◌∙◌}
 use Rattle.std.proofs.lemmas.Result.{IfErr-weaker, IfOk-weaker}
 use Rattle.sqlite.specs.Held.{state}
-use Rattle.room_tables_laws.proofs.ReadLaws.{fails, looked, told_any}
+use Rattle.room_tables_schema.proofs.ReadLaws.{fails, looked, told_any}
 use Rattle.room_tables.proofs.Told.{shown_fails}
 use Rattle.sqlite.specs.Values.{bound}
 use Rattle.room_tables.specs.Failures.{AreNoRows}
@@ -11,11 +11,18 @@ use Rattle.room_tables.proofs.loaded_rows.load.Goals as goal
 
 pub returns-clause-shown : goal.returns-clause-shown
 returns-clause-shown g c clean =
-    IfOk-weaker c.rows_of.result _ _ (λ found is. subst (Shown c.args.text.now (bound c.args.params.now) (state g.S.Store c.args.conn.now) (state g.S.Store c.select.new.conn)) (sym (is ∙ c.as_slice.ensures.value)) (c.in_ok-shown.ensures.shown clean)) c.rows_of.ensures.shown
+    IfOk-weaker c.rows_of.result _ _
+    (λ found is.
+    subst (Shown c.args.text.now (bound c.args.params.now) (state g.S.Store c.args.conn.now)
+    (state g.S.Store c.select.new.conn)) (sym (is ∙ c.as_slice.ensures.value)) (c.in_ok-shown.ensures.shown clean))
+    c.rows_of.ensures.shown
 
 pub returns-clause-why : goal.returns-clause-why
 returns-clause-why g c clean =
-    IfErr-weaker c.rows_of.result _ _ (shown_fails c.args.text.now (bound c.args.params.now) (state g.S.Store c.args.conn.now) (state g.S.Store c.select.new.conn) (AreNoRows g.X.Stored.is_row g.X.Key.Ord.cmp g.X.Row.key_of g.X.Stored.cells) c.in_ok-shown.shown.items (c.in_ok-shown.ensures.shown clean))
+    IfErr-weaker c.rows_of.result _ _ (shown_fails c.args.text.now (bound c.args.params.now)
+    (state g.S.Store c.args.conn.now) (state g.S.Store c.select.new.conn)
+    (AreNoRows g.X.Stored.is_row g.X.Key.Ord.cmp g.X.Row.key_of g.X.Stored.cells) c.in_ok-shown.shown.items
+    (c.in_ok-shown.ensures.shown clean))
     (rw c.as_slice.ensures.value at c.rows_of.ensures.why)
 
 pub returns-clause-reads : goal.returns-clause-reads

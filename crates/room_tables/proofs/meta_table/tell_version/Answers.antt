@@ -4,9 +4,9 @@ use Rattle.std.proofs.lemmas.Result.{IfOk-weaker}
 use Rattle.sqlite.specs.Effect.{Database}
 use Rattle.sqlite.specs.Held.{state}
 use Rattle.sqlite.specs.State.{HasCleanDisk}
-use Rattle.room_tables_laws.proofs.WriteLaws.{read_writes, unread}
+use Rattle.room_tables_schema.proofs.WriteLaws.{read_writes, unread}
 use Rattle.room_tables_schema.specs.Schema.{meta_table}
-use Rattle.room_tables_rows.specs.MetaColumns.{version_row}
+use Rattle.room_tables_rows.specs.MetaSql.{version_row}
 use Rattle.room_tables_rows.specs.Stands.{StandsFor}
 use Rattle.room_tables.proofs.Inside.{read_renews}
 use Rattle.room_tables.proofs.meta_table.tell_version.Goals as goal
@@ -17,9 +17,12 @@ returns-clause-ok g c clean =
     let mid = state g.S.Store c.zone.new.tx.conn.now in
     let read : HasCleanDisk mid = omega (arith, c.put_meta.ensures.writes.survives.clean) in
     let same = c.in_ok-zone.ensures.reads.ok read in
-    let found = subst (λ zone. StandsFor old.now.trees meta_table (version_row 1) (zone ∷ [])) (sym c.as_str.ensures.value) (c.in_ok-zone.ensures.found read) in
-    let told = subst (λ (db : Database). StandsFor db.trees meta_table (version_row 1) (c.as_str.result.now ∷ [])) (sym same.0.now_is) found in
-    IfOk-weaker c.put_meta.result _ _ (λ _ renews. read_renews old mid _ same (renews told)) (c.put_meta.ensures.renews clean)
+    let found = subst (λ zone. StandsFor old.now.trees meta_table (version_row 1) (zone ∷ []))
+    (sym c.as_str.ensures.value) (c.in_ok-zone.ensures.found read) in
+    let told = subst (λ (db : Database). StandsFor db.trees meta_table (version_row 1) (c.as_str.result.now ∷ []))
+    (sym same.0.now_is) found in
+    IfOk-weaker c.put_meta.result _ _ (λ _ renews. read_renews old mid _ same (renews told))
+    (c.put_meta.ensures.renews clean)
 
 pub returns-clause-writes : goal.returns-clause-writes
 returns-clause-writes g c = read_writes c.in_ok-zone.ensures.reads c.put_meta.result c.put_meta.ensures.writes

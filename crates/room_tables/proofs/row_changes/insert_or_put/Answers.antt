@@ -2,7 +2,7 @@
 use Rattle.std.proofs.Common.{Ok, ap, ◌∙◌}
 use Rattle.std.proofs.lemmas.Result.{IfOk-weaker}
 use Rattle.sqlite.specs.Effect.{Database}
-use Rattle.room_tables_laws.proofs.WriteLaws.{commits_more, write_commits}
+use Rattle.room_tables_schema.proofs.WriteLaws.{commits_more, write_commits}
 use Rattle.room_tables.proofs.RoomReads.{was_clean}
 use Rattle.room_tables.proofs.Made.{inserted, makes, put_unless}
 use Rattle.room_tables.proofs.row_changes.insert_or_put.Goals as goal
@@ -29,7 +29,10 @@ returns-clause-ok g c clean =
     let refused = was_clean c.run.ensures.writes.survives clean in
     let early = was_clean c.insert.ensures.writes.survives refused in
     let same = c.in_ok-insert.ensures.refused refused (ap Ok c.if-branch.false) in
-    IfOk-weaker c.run.result _ _ (λ _ it made is. put_unless _ _ _ made (c.requires.inside.room early) (c.in_ok-insert.ensures.ok refused) same (makes it made is.1)) (c.run.ensures.ran clean)
+    IfOk-weaker c.run.result _ _
+    (λ _ it made is.
+    put_unless _ _ _ made (c.requires.inside.room early) (c.in_ok-insert.ensures.ok refused) same (makes it made is.1))
+    (c.run.ensures.ran clean)
 
 pub returns-then-branch-clause-commits : goal.returns-then-branch-clause-commits
 returns-then-branch-clause-commits g c = write_commits c.insert.result c.insert.ensures.writes c.insert.ensures.ok
@@ -37,7 +40,8 @@ returns-then-branch-clause-commits g c = write_commits c.insert.result c.insert.
 pub returns-clause-commits : goal.returns-clause-commits
 returns-clause-commits g c =
     commits_more (write_commits c.insert.result c.insert.ensures.writes c.insert.ensures.ok)
-    (write_commits c.run.result c.run.ensures.writes (λ clean. IfOk-weaker c.run.result _ _ (λ _ it. it.inside) (c.run.ensures.ran clean)))
+    (write_commits c.run.result c.run.ensures.writes
+    (λ clean. IfOk-weaker c.run.result _ _ (λ _ it. it.inside) (c.run.ensures.ran clean)))
 
 pub returns-in_err-insert-clause-commits : goal.returns-in_err-insert-clause-commits
 returns-in_err-insert-clause-commits g c = write_commits c.insert.result c.insert.ensures.writes c.insert.ensures.ok

@@ -3,7 +3,7 @@ use Rattle.std.proofs.Common.{◌∙◌}
 use Rattle.std.proofs.lemmas.Result.{IfOk-weaker}
 use Rattle.sqlite.specs.Held.{state}
 use Rattle.sqlite.specs.State.{HasCleanDisk}
-use Rattle.room_tables_laws.proofs.WriteLaws.{commits_more, write_commits}
+use Rattle.room_tables_schema.proofs.WriteLaws.{commits_more, write_commits}
 use Rattle.room_tables.proofs.RoomReads.{was_clean}
 use Rattle.room_tables.proofs.Made.{makes, overwrites, overwritten, put_then}
 use Rattle.room_tables.proofs.row_changes.overwrite.Goals as goal
@@ -13,7 +13,8 @@ run-requires g c =
     let made = c.requires.statements in
     let over = λ (clean : HasCleanDisk (state g.S.Store c.write.new.tx.conn.now)).
     let early = was_clean c.write.ensures.writes.survives clean in
-    overwrites _ _ _ _ _ (c.requires.inside.room early) (c.in_ok-write.ensures.ok clean) (c.in_ok-write.ensures.ran clean) c.args.put.now made.0 made.1 in
+    overwrites _ _ _ _ _ (c.requires.inside.room early) (c.in_ok-write.ensures.ok clean)
+    (c.in_ok-write.ensures.ran clean) c.args.put.now made.0 made.1 in
     record { inside = record { room = λ clean. (over clean).schema; inside = λ clean. (over clean).inside.mode } }
 
 pub returns-then-branch-eq0-clause-ok : goal.returns-then-branch-eq0-clause-ok
@@ -22,18 +23,22 @@ returns-then-branch-eq0-clause-ok g c clean =
     let early = was_clean c.write.ensures.writes.survives wrote in
     IfOk-weaker c.run.result _ _
     (λ _ it made is.
-    let over = overwrites _ _ _ _ _ (c.requires.inside.room early) (c.in_ok-write.ensures.ok wrote) (c.in_ok-write.ensures.ran wrote) c.args.put.now made is in
+    let over = overwrites _ _ _ _ _ (c.requires.inside.room early) (c.in_ok-write.ensures.ok wrote)
+    (c.in_ok-write.ensures.ran wrote) c.args.put.now made is in
     put_then _ _ _ c.in_ok-write.field-0 made c.if-branch-eq0.true over (makes it made is.1)) (c.run.ensures.ran clean)
 
 pub returns-clause-ok : goal.returns-clause-ok
 returns-clause-ok g c clean made is =
     let early = was_clean c.write.ensures.writes.survives clean in
-    overwritten _ _ c.in_ok-write.field-0 made c.if-branch-eq0.false (overwrites _ _ _ _ _ (c.requires.inside.room early) (c.in_ok-write.ensures.ok clean) (c.in_ok-write.ensures.ran clean) c.args.put.now made is)
+    overwritten _ _ c.in_ok-write.field-0 made c.if-branch-eq0.false
+    (overwrites _ _ _ _ _ (c.requires.inside.room early) (c.in_ok-write.ensures.ok clean)
+    (c.in_ok-write.ensures.ran clean) c.args.put.now made is)
 
 pub returns-then-branch-eq0-clause-commits : goal.returns-then-branch-eq0-clause-commits
 returns-then-branch-eq0-clause-commits g c =
     commits_more (write_commits c.write.result c.write.ensures.writes c.write.ensures.ok)
-    (write_commits c.run.result c.run.ensures.writes (λ clean. IfOk-weaker c.run.result _ _ (λ _ it. it.inside) (c.run.ensures.ran clean)))
+    (write_commits c.run.result c.run.ensures.writes
+    (λ clean. IfOk-weaker c.run.result _ _ (λ _ it. it.inside) (c.run.ensures.ran clean)))
 
 pub returns-clause-commits : goal.returns-clause-commits
 returns-clause-commits g c = write_commits c.write.result c.write.ensures.writes c.write.ensures.ok

@@ -3,19 +3,20 @@ use Rattle.std.proofs.Common.{None, Some, subst, sym, ◌∙◌}
 use Rattle.std.proofs.lemmas.Result.{IfOk-weaker}
 use Rattle.sqlite.specs.Held.{state}
 use Rattle.sqlite.specs.State.{Shown}
-use Rattle.room_tables_laws.proofs.Refusals.{plain_here}
-use Rattle.room_tables_laws.proofs.ReadLaws.{told_inside}
-use Rattle.room_tables_laws.proofs.WriteLaws.{read_alone, read_writes, unread}
+use Rattle.room_tables_schema.proofs.Refusals.{plain_here}
+use Rattle.room_tables_schema.proofs.ReadLaws.{told_inside}
+use Rattle.room_tables_schema.proofs.WriteLaws.{read_alone, read_writes, unread}
 use Rattle.room_tables_schema.specs.Schema.{room_schema}
 use Rattle.room_tables_rows.specs.KeyColumns.{text_cells}
-use Rattle.room_tables_rows.specs.declared.vehicle_columns.TheConstants.{VEHICLE_AT}
+use Rattle.room_tables_rows.specs.declared.vehicle_sql.TheConstants.{VEHICLE_AT}
 use Rattle.room_tables_rows.proofs.VehiclesTable.{vehicle_at_means}
 use Rattle.room_tables.proofs.RoomReads.{was_clean}
 use Rattle.room_tables.proofs.Settles.{found_by, settles_found, settles_none}
 use Rattle.room_tables.proofs.row_changes.settle.Goals as goal
 
 pub select_inside-requires : goal.select_inside-requires
-select_inside-requires g c clean = plain_here room_schema _ VEHICLE_AT.now (c.requires.inside.room clean) vehicle_at_means.plain
+select_inside-requires g c clean =
+    plain_here room_schema _ VEHICLE_AT.now (c.requires.inside.room clean) vehicle_at_means.plain
 
 pub returns-clause-ok : goal.returns-clause-ok
 returns-clause-ok g c clean =
@@ -24,9 +25,14 @@ returns-clause-ok g c clean =
     let read = was_clean c.put.ensures.writes.survives clean in
     let early = was_clean c.select_inside.ensures.reads.survives read in
     let is = rw c.in-Some.is at c.in_ok-vehicle.ensures.shown in
-    let shown = subst (Shown VEHICLE_AT.now (text_cells c.args.callsign.now) old mid) (sym (is ∙ c.as_slice-2.ensures.value)) (rw (c.as_slice.ensures, c.key_columns.ensures) at (c.in_ok-shown.ensures.shown read)) in
+    let shown = subst (Shown VEHICLE_AT.now (text_cells c.args.callsign.now) old mid)
+    (sym (is ∙ c.as_slice-2.ensures.value))
+    (rw (c.as_slice.ensures, c.key_columns.ensures) at (c.in_ok-shown.ensures.shown read)) in
     let found = found_by old mid c.args.callsign.now (Some c.in-Some.vehicle) (c.requires.inside.room early) shown in
-    IfOk-weaker c.put.result _ _ (λ _ put. settles_found old mid c.args.callsign.now c.args.division (c.in_ok-shown.ensures.reads.ok read) c.in-Some.vehicle _ found put) (c.put.ensures.ok clean)
+    IfOk-weaker c.put.result _ _
+    (λ _ put.
+    settles_found old mid c.args.callsign.now c.args.division (c.in_ok-shown.ensures.reads.ok read) c.in-Some.vehicle _
+    found put) (c.put.ensures.ok clean)
 
 pub returns-clause-writes : goal.returns-clause-writes
 returns-clause-writes g c = read_writes c.in_ok-shown.ensures.reads c.put.result c.put.ensures.writes
@@ -37,9 +43,12 @@ returns-in_default-clause-ok g c clean =
     let mid = state g.S.Store c.select_inside.new.tx.conn.now in
     let early = was_clean c.select_inside.ensures.reads.survives clean in
     let is = rw c.in_default.is at c.in_ok-vehicle.ensures.shown in
-    let shown = subst (Shown VEHICLE_AT.now (text_cells c.args.callsign.now) old mid) (sym (is ∙ c.as_slice-2.ensures.value)) (rw (c.as_slice.ensures, c.key_columns.ensures) at (c.in_ok-shown.ensures.shown clean)) in
+    let shown = subst (Shown VEHICLE_AT.now (text_cells c.args.callsign.now) old mid)
+    (sym (is ∙ c.as_slice-2.ensures.value))
+    (rw (c.as_slice.ensures, c.key_columns.ensures) at (c.in_ok-shown.ensures.shown clean)) in
     let found = found_by old mid c.args.callsign.now None (c.requires.inside.room early) shown in
-    settles_none old mid c.args.callsign.now c.args.division (c.in_ok-shown.ensures.reads.ok clean) (c.requires.inside.inside early) (c.requires.inside.room early) found
+    settles_none old mid c.args.callsign.now c.args.division (c.in_ok-shown.ensures.reads.ok clean)
+    (c.requires.inside.inside early) (c.requires.inside.room early) found
 
 pub returns-in_default-clause-writes : goal.returns-in_default-clause-writes
 returns-in_default-clause-writes g c = read_alone c.in_ok-shown.ensures.reads

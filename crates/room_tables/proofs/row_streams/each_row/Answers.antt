@@ -4,11 +4,13 @@ use Rattle.sqlite.specs.Held.{state}
 use Rattle.sqlite.specs.State.{HasCleanDisk}
 use Rattle.room_tables_rows.proofs.Loads.{all_rows}
 use Rattle.room_tables_schema.specs.Schema.{room_schema}
-use Rattle.room_tables_laws.proofs.Refusals.{plain_here}
+use Rattle.room_tables_schema.proofs.Refusals.{plain_here}
 use Rattle.room_tables.proofs.row_streams.each_row.Goals as goal
 
 pub each_shown-requires : goal.each_shown-requires
-each_shown-requires g c clean = rw c.statements.ensures.all (plain_here room_schema _ _ (c.requires.room clean) g.met.T.Row.Table.is_table.selects_all.plain)
+each_shown-requires g c clean =
+    rw c.statements.ensures.all
+    (plain_here room_schema _ _ (c.requires.room clean) g.met.T.Row.Table.is_table.selects_all.plain)
 
 pub returns-clause-taken : goal.returns-clause-taken
 returns-clause-taken g c clean =
@@ -20,7 +22,8 @@ returns-clause-taken g c clean =
     IfOk-weaker c.each_shown.result _ _ (λ taken told.
     let shown = rw c.statements.ensures.all at told.1.shown in
     let all = all_rows is.is_held text is.selects_all old new told.0 (c.requires.room early) shown told.1.keyed in
-    (told.0, record { keyed = told.1.keyed; stands = all.0; of_any = all.1 }, told.2)) (c.each_shown.ensures.taken clean)
+    (told.0, record { keyed = told.1.keyed; stands = all.0; of_any = all.1 }, told.2))
+    (c.each_shown.ensures.taken clean)
 
 pub returns-clause-why : goal.returns-clause-why
 returns-clause-why g c clean = rw c.statements.ensures.all at (c.each_shown.ensures.why clean)

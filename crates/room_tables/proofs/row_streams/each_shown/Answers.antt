@@ -13,7 +13,8 @@ returns-clause-taken g c clean =
     let old = state g.S.Store c.args.conn.now in
     let new = state g.S.Store c.stream.new.conn in
     let told = c.in_ok-stream.ensures.shown clean in
-    let read = rw c.new-reader.ensures.taker at (c.end.ensures c.new-reader.result.taker told.0 (told.2 c.new-reader.ensures.none c.new-reader.ensures.well)) in
+    let read = rw c.new-reader.ensures.taker at
+    (c.end.ensures c.new-reader.result.taker told.0 (told.2 c.new-reader.ensures.none c.new-reader.ensures.well)) in
     let cells = g.T.Row.Stored.cells in
     let text = c.args.text.now in
     let params = bound c.args.params.now in
@@ -26,9 +27,12 @@ returns-clause-why g c clean =
     let old = state g.S.Store c.args.conn.now in
     let new = state g.S.Store c.stream.new.conn in
     let told = c.in_ok-stream.ensures.shown clean in
-    let read = rw c.new-reader.ensures.taker at (c.end.ensures c.new-reader.result.taker told.0 (told.2 c.new-reader.ensures.none c.new-reader.ensures.well)) in
+    let read = rw c.new-reader.ensures.taker at
+    (c.end.ensures c.new-reader.result.taker told.0 (told.2 c.new-reader.ensures.none c.new-reader.ensures.well)) in
     let AreNone = AreNoRows g.T.Row.Stored.is_row g.T.Row.Key.Ord.cmp g.T.Row.Row.key_of g.T.Row.Stored.cells in
     let text = c.args.text.now in
     let params = bound c.args.params.now in
-    fault_of_all g.T.Row.Stored.is_row g.T.Row.Key.Ord.cmp g.T.Row.Row.key_of g.T.Row.Stored.cells g.T.TypedRowSink.takes c.args.taker told.0
-    (IfStorage (FailsToRead text params old new AreNone)) c.end.result read (shown_fails text params old new AreNone told.0 told.1)
+    fault_of_all g.T.Row.Stored.is_row g.T.Row.Key.Ord.cmp g.T.Row.Row.key_of g.T.Row.Stored.cells
+    g.T.TypedRowSink.takes c.args.taker told.0
+    (IfStorage (FailsToRead text params old new AreNone)) c.end.result read
+    (shown_fails text params old new AreNone told.0 told.1)

@@ -11,7 +11,9 @@ use Rattle.room_tables.proofs.rowids.are_all_numbered.Goals as goal
 
 pub is_numbered-requires-clause-selects : goal.is_numbered-requires-clause-selects
 is_numbered-requires-clause-selects g c clean =
-    let left = subst (Left (state g.S.Store c.args.tx.now.conn.now).now.trees) (at_drop_more (map (λ text. text.now)) c.args.texts.now c.loop-text.text-index _ c.loop-text-test.true) (c.loop-text.invariant.left clean) in
+    let left = subst (Left (state g.S.Store c.args.tx.now.conn.now).now.trees)
+    (at_drop_more (map (λ text. text.now)) c.args.texts.now c.loop-text.text-index _ c.loop-text-test.true)
+    (c.loop-text.invariant.left clean) in
     next_selects _ _ _ left
 
 pub loop-text-preserved : goal.loop-text-preserved
@@ -20,31 +22,51 @@ loop-text-preserved g c =
     let mid = state g.S.Store c.loop-text.tx.conn.now in
     let new = state g.S.Store c.is_numbered.new.tx.conn.now in
     let before = c.loop-text.invariant in
-    let early = λ (clean : HasCleanDisk new). let e : HasCleanDisk mid = omega (arith, c.is_numbered.ensures.reads.survives.clean) in e in
+    let early = λ (clean : HasCleanDisk new).
+    let e : HasCleanDisk mid = omega (arith, c.is_numbered.ensures.reads.survives.clean) in e in
     record {
-      survives = survives_then old mid new (λ _. ⊥) (λ _. ⊥) (λ _. ⊥) (λ _ db none. none) (λ _ db none. none) before.survives c.is_numbered.ensures.reads.survives;
-      stays = λ clean. record { so_far = inr (unchanged_after (before.stays (early clean)) c.is_numbered.new.tx.conn.now (c.in_ok-is_numbered.ensures.reads.ok clean)) };
+      survives =
+          survives_then old mid new (λ _. ⊥) (λ _. ⊥) (λ _. ⊥) (λ _ db none. none) (λ _ db none. none) before.survives
+          c.is_numbered.ensures.reads.survives;
+      stays =
+          λ clean. record {
+            so_far =
+                inr (unchanged_after (before.stays (early clean)) c.is_numbered.new.tx.conn.now
+                (c.in_ok-is_numbered.ensures.reads.ok clean));
+          };
       same_reference = c.is_numbered.ensures.same_reference ∙ before.same_reference;
       left = λ clean.
-          less_left old.now.trees _ _ _ (rw (trees_stay (before.stays (early clean))) at (c.in_ok-is_numbered.ensures.numbered clean))
-          (subst (Left old.now.trees) (at_drop_more (map (λ text. text.now)) c.args.texts.now c.loop-text.text-index _ c.loop-text-test.true) (before.left (early clean))) c.if-not-branch.false;
+          less_left old.now.trees _ _ _
+          (rw (trees_stay (before.stays (early clean))) at (c.in_ok-is_numbered.ensures.numbered clean))
+          (subst (Left old.now.trees)
+          (at_drop_more (map (λ text. text.now)) c.args.texts.now c.loop-text.text-index _ c.loop-text-test.true)
+          (before.left (early clean))) c.if-not-branch.false;
     }
 
 pub returns-in_err-is_numbered-clause-why : goal.returns-in_err-is_numbered-clause-why
 returns-in_err-is_numbered-clause-why g c clean =
     let before = c.loop-text.invariant in
-    let early : HasCleanDisk (state g.S.Store c.loop-text.tx.conn.now) = omega (arith, c.is_numbered.ensures.reads.survives.clean) in
-    let left = subst (Left (state g.S.Store c.args.tx.now.conn.now).now.trees) (at_drop_more (map (λ text. text.now)) c.args.texts.now c.loop-text.text-index _ c.loop-text-test.true) (before.left early) in
+    let early : HasCleanDisk (state g.S.Store c.loop-text.tx.conn.now) = omega
+    (arith, c.is_numbered.ensures.reads.survives.clean) in
+    let left = subst (Left (state g.S.Store c.args.tx.now.conn.now).now.trees)
+    (at_drop_more (map (λ text. text.now)) c.args.texts.now c.loop-text.text-index _ c.loop-text-test.true)
+    (before.left early) in
     let selects = next_selects _ _ _ left in
-    fails_at_last c.is_numbered.new.tx.conn.now FailsAtRowids _ c.in_err-is_numbered.field-0.0 c.from_residual.ensures.1 (well_so_far (before.stays early) before.survives) (c.in_err-is_numbered.ensures.why clean) (λ fails. (_, selects.0, selects.1, fails))
+    fails_at_last c.is_numbered.new.tx.conn.now FailsAtRowids _ c.in_err-is_numbered.field-0.0 c.from_residual.ensures.1
+    (well_so_far (before.stays early) before.survives) (c.in_err-is_numbered.ensures.why clean)
+    (λ fails. (_, selects.0, selects.1, fails))
 
 pub returns-then-not-branch-clause-numbered : goal.returns-then-not-branch-clause-numbered
 returns-then-not-branch-clause-numbered g c clean =
     let old = state g.S.Store c.args.tx.now.conn.now in
     let before = c.loop-text.invariant in
-    let early : HasCleanDisk (state g.S.Store c.loop-text.tx.conn.now) = omega (arith, c.is_numbered.ensures.reads.survives.clean) in
-    let one = one_numbered old.now.trees _ _ _ (rw (trees_stay (before.stays early)) at (c.in_ok-is_numbered.ensures.numbered clean))
-    (subst (Left old.now.trees) (at_drop_more (map (λ text. text.now)) c.args.texts.now c.loop-text.text-index _ c.loop-text-test.true) (before.left early)) in
+    let early : HasCleanDisk (state g.S.Store c.loop-text.tx.conn.now) = omega
+    (arith, c.is_numbered.ensures.reads.survives.clean) in
+    let one = one_numbered old.now.trees _ _ _
+    (rw (trees_stay (before.stays early)) at (c.in_ok-is_numbered.ensures.numbered clean))
+    (subst (Left old.now.trees)
+    (at_drop_more (map (λ text. text.now)) c.args.texts.now c.loop-text.text-index _ c.loop-text-test.true)
+    (before.left early)) in
     (λ yes. absurd (true≢false (sym yes)), λ numbered. sym c.if-not-branch.true ∙ one numbered)
 
 pub returns-clause-numbered : goal.returns-clause-numbered

@@ -1,21 +1,23 @@
 use Rattle.std.proofs.Common.{arith}
 use Rattle.sqlite.specs.Held.{state}
 use Rattle.sqlite.specs.State.{HasCleanDisk}
-use Rattle.room_tables_laws.proofs.Refusals.{plain_here}
-use Rattle.room_tables_laws.proofs.Openings.{rowids_tell}
+use Rattle.room_tables_schema.proofs.Refusals.{plain_here}
+use Rattle.room_tables_schema.proofs.Openings.{rowids_tell}
 use Rattle.room_tables_schema.specs.Schema.{room_schema}
-use Rattle.room_tables_laws.proofs.ReadLaws.{fails_inside, told_inside}
+use Rattle.room_tables_schema.proofs.ReadLaws.{fails_inside, told_inside}
 use Rattle.room_tables.proofs.rowids.is_numbered.Goals as goal
 
 pub select_inside-requires : goal.select_inside-requires
-select_inside-requires g c clean = plain_here room_schema _ c.args.text.now (c.requires.room clean) (c.requires.selects clean).1.plain
+select_inside-requires g c clean =
+    plain_here room_schema _ c.args.text.now (c.requires.room clean) (c.requires.selects clean).1.plain
 
 pub returns-clause-numbered : goal.returns-clause-numbered
 returns-clause-numbered g c clean tree selects =
     let old = state g.S.Store c.args.tx.now.conn.now in
     let new = state g.S.Store c.select_inside.new.tx.conn.now in
     let early : HasCleanDisk old = omega (arith, c.select_inside.ensures.reads.survives.clean) in
-    let tells = rowids_tell room_schema c.args.text.now old new tree _ _ selects (c.requires.room early) (c.in_ok-shown.ensures.shown clean) in
+    let tells = rowids_tell room_schema c.args.text.now old new tree _ _ selects (c.requires.room early)
+    (c.in_ok-shown.ensures.shown clean) in
     let rise = rw c.as_slice.ensures.value at c.rise.ensures in
     (λ yes. tells.0 (rise.0 yes), λ numbered. rise.1 (tells.1 numbered))
 

@@ -1,7 +1,7 @@
 use Rattle.std.proofs.Common.{arith}
 use Rattle.sqlite.specs.Held.{state}
 use Rattle.sqlite.specs.State.{HasCleanDisk}
-use Rattle.room_tables_laws.proofs.Openings.{rowids_tell}
+use Rattle.room_tables_schema.proofs.Openings.{rowids_tell}
 use Rattle.room_tables_schema.specs.Schema.{room_schema}
 use Rattle.room_tables.proofs.RowidLemmas.{tells}
 use Rattle.room_tables.proofs.rowids.is_numbered_streamed.Goals as goal
@@ -13,5 +13,6 @@ returns-clause-numbered g c clean tree selects =
     let early : HasCleanDisk old = omega (arith, c.in_ok-stream.ensures.reads.survives.clean) in
     let told = c.in_ok-stream.ensures.shown clean in
     let numbered = rowids_tell room_schema c.args.text.now old new tree _ _ selects (c.requires.room early) told.1 in
-    let rise = tells told.0 c.stream.new.taker.rise c.stream.new.taker.last (told.2 c.new-rowids.ensures.rise c.new-rowids.ensures.none) in
+    let rise = tells told.0 c.stream.new.taker.rise c.stream.new.taker.last
+    (told.2 c.new-rowids.ensures.rise c.new-rowids.ensures.none) in
     (λ yes. numbered.0 (rise.0 yes), λ is. rise.1 (numbered.1 is))

@@ -11,9 +11,11 @@ loop-row-preserved c =
     let row = c.row-item.result in
     let new = c.take.new.self in
     let more = take_more shown i row c.loop-row-test.true ∙ ap (λ r. take i shown ++ r ∷ []) (sym c.row-item.is) in
-    subst (λ rows. TellsRise rows new.rise new.last) (sym more) (c.take.ensures (record { rise = true; last = None }) (take i shown) (λ rise none. c.loop-row.invariant) refl refl)
+    subst (λ rows. TellsRise rows new.rise new.last) (sym more)
+    (c.take.ensures (record { rise = true; last = None }) (take i shown) (λ rise none. c.loop-row.invariant) refl refl)
 
 pub returns : goal.returns
 returns c =
     let all = take_all c.loop-row.row-index c.args.shown.now c.loop-row-test.false in
-    tells c.args.shown.now c.loop-row.rowids.rise c.loop-row.rowids.last (subst (λ rows. TellsRise rows c.loop-row.rowids.rise c.loop-row.rowids.last) all c.loop-row.invariant)
+    tells c.args.shown.now c.loop-row.rowids.rise c.loop-row.rowids.last
+    (subst (λ rows. TellsRise rows c.loop-row.rowids.rise c.loop-row.rowids.last) all c.loop-row.invariant)

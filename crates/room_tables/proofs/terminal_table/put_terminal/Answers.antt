@@ -5,7 +5,9 @@ use Rattle.room_tables.proofs.terminal_table.put_terminal.Goals as goal
 
 pub returns-clause-ok : goal.returns-clause-ok
 returns-clause-ok g c clean =
-    IfOk-weaker c.run.result _ _ (λ _ it. put_terminal_makes c.args.terminal.now _ _ _ it.room it.inside (rw c.terminal_columns.ensures at it.ran)) (c.run.ensures.ran clean)
+    IfOk-weaker c.run.result _ _
+    (λ _ it. put_terminal_makes c.args.terminal.now _ _ _ it.room it.inside (rw c.terminal_columns.ensures at it.ran))
+    (c.run.ensures.ran clean)
 
 pub returns-clause-why : goal.returns-clause-why
 returns-clause-why g c clean = rw c.terminal_columns.ensures at (c.run.ensures.why clean)

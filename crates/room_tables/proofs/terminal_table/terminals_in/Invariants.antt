@@ -1,5 +1,5 @@
 use Rattle.std.proofs.Common.{◌≡◌, map, take}
-use Rattle.room_tables_rows.specs.TerminalColumns.{terminal_row}
+use Rattle.room_tables_rows.specs.TerminalSql.{terminal_row}
 use Rattle.room_tables.proofs.terminal_table.terminals_in.Given as goal
 
 abbrev pub invariant-loop-columns : goal.invariant-loop-columns

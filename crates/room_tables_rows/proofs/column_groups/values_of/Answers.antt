@@ -9,4 +9,5 @@ returns-then-column_count-width-clause-values g c =
     all_columns c.read_from.result g.T.Fields.cells (length stand) c.args.row.now long c.read_from.ensures.values
 
 pub returns-else-column_count-width-clause-has_all : goal.returns-else-column_count-width-clause-has_all
-returns-else-column_count-width-clause-has_all g c = search (rules, none_stand false refl g.T.Fields.stand c.args.row.now 0)
+returns-else-column_count-width-clause-has_all g c =
+    search (rules, none_stand false refl g.T.Fields.stand c.args.row.now 0)

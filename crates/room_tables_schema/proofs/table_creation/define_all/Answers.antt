@@ -3,7 +3,7 @@ use Rattle.std.proofs.lemmas.List.{at_drop_more, length-map, get_or-map}
 use Rattle.std.specs.Result.{IsErrAnd, IfErr}
 use Rattle.sqlite.specs.Held.{state}
 use Rattle.sqlite.specs.State.{HasCleanDisk}
-use Rattle.room_tables_laws.proofs.WriteLaws.{commits_more, commits_none, write_commits}
+use Rattle.room_tables_schema.proofs.WriteLaws.{commits_more, commits_none, write_commits}
 use Rattle.room_tables_schema.specs.Schema.{room_schema}
 use Rattle.room_tables_schema.specs.Definitions.{Lead}
 use Rattle.room_tables_schema.proofs.Growth.{grows_none, grows_then, leads_on}
@@ -24,11 +24,15 @@ loop-text-preserved g c =
     let mid = state g.S.Store c.loop-text.tx.conn.now in
     let new = state g.S.Store c.write.new.tx.conn.now in
     let before = c.loop-text.invariant in
-    let early = λ (clean : HasCleanDisk new). let e : HasCleanDisk mid = omega (arith, c.write.ensures.writes.survives.clean) in e in
+    let early = λ (clean : HasCleanDisk new).
+    let e : HasCleanDisk mid = omega (arith, c.write.ensures.writes.survives.clean) in e in
     let left = λ (clean : HasCleanDisk new).
-    subst (λ ts. Lead mid.now.schema ts room_schema) (at_drop_more (map (λ t. t.now)) c.args.texts.now c.loop-text.text-index _ c.loop-text-test.true) (before.lead (early clean)) in
+    subst (λ ts. Lead mid.now.schema ts room_schema)
+    (at_drop_more (map (λ t. t.now)) c.args.texts.now c.loop-text.text-index _ c.loop-text-test.true)
+    (before.lead (early clean)) in
     let more = map (λ t. t.now) (drop (c.loop-text.text-index + 1) c.args.texts.now) in
-    let done = λ (clean : HasCleanDisk new). leads_on room_schema _ more mid new _ (left clean) (c.in_ok-write.ensures.ran clean) in
+    let done = λ (clean : HasCleanDisk new).
+    leads_on room_schema _ more mid new _ (left clean) (c.in_ok-write.ensures.ran clean) in
     record {
       same_reference = c.write.ensures.same_reference ∙ before.same_reference;
       inside = λ clean. (c.in_ok-write.ensures.ok clean).mode;
@@ -49,7 +53,14 @@ returns-in_err-write-clause-why g c clean =
       c.loop-text.tx.conn.now,
       record {
         text = _;
-        listed = (at, (let within : at < length (map (λ t. t.now) texts) = omega (arith, c.loop-text-test.true, length-map texts (λ t. t.now)) in within), get_or-map (λ t. t.now) texts at _ _ c.loop-text-test.true);
+        listed = (
+          at,
+          (let within : at
+              < length (map (λ t. t.now) texts) =
+              omega (arith, c.loop-text-test.true, length-map texts (λ t. t.now)) in
+              within),
+          get_or-map (λ t. t.now) texts at _ _ c.loop-text-test.true,
+        );
         reached = c.loop-text.invariant.commits.survives;
         error = c.in_err-write.field-0.0;
         failed = c.in_err-write.ensures.why clean;

@@ -1,7 +1,7 @@
 use Rattle.std.proofs.Common.{◌≡◌, IsTrue, drop, map}
 use Rattle.sqlite.specs.State.{HasCleanDisk}
 use Rattle.sqlite.specs.Held.{state}
-use Rattle.room_tables_laws.specs.Outcomes.{CommitsNothing}
+use Rattle.room_tables_schema.specs.Outcomes.{CommitsNothing}
 use Rattle.room_tables_schema.specs.Schema.{room_schema}
 use Rattle.room_tables_schema.specs.Definitions.{Lead, Grows}
 use Rattle.room_tables_schema.proofs.table_creation.define_all.Given as goal

@@ -3,7 +3,7 @@ use Rattle.std.specs.Result.{IfErr}
 use Rattle.sqlite.specs.Held.{Held, state}
 use Rattle.room_tables_schema.specs.Schema.{first_schema, first_tables_schema, room_schema}
 use Rattle.room_tables_schema.specs.Definitions.{FailsAt, Lead}
-use Rattle.room_tables_schema.specs.declared.texts.TheConstants.{DROPS, MOVES}
+use Rattle.room_tables_schema.specs.declared.schema_sql.TheConstants.{DROPS, MOVES}
 use Rattle.room_tables_schema.proofs.Leading.{first_lead, first_tables_lead}
 use Rattle.room_tables_schema.proofs.table_creation.make_last.Goals as goal
 
@@ -19,8 +19,18 @@ define_all-requires-else-is_indexed-clause-lead g c clean =
 
 pub returns-then-is_indexed-clause-why : goal.returns-then-is_indexed-clause-why
 returns-then-is_indexed-clause-why g c clean =
-    subst (λ b. IfErr c.define_all.result (λ fault. (mid : Held g.row.S.Denot) × FailsAt (map (λ t. t.now) (cond b MOVES (drop DROPS MOVES))) (state g.S.Store c.args.tx.now.conn.now) (state g.S.Store mid) (state g.S.Store c.define_all.new.tx.conn.now) fault)) (sym c.if-is_indexed.true) (c.define_all.ensures.why clean)
+    subst (λ b.
+    IfErr c.define_all.result (λ fault.
+    (mid : Held g.row.S.Denot)
+    × FailsAt (map (λ t. t.now) (cond b MOVES (drop DROPS MOVES))) (state g.S.Store c.args.tx.now.conn.now)
+    (state g.S.Store mid) (state g.S.Store c.define_all.new.tx.conn.now) fault)) (sym c.if-is_indexed.true)
+    (c.define_all.ensures.why clean)
 
 pub returns-else-is_indexed-clause-why : goal.returns-else-is_indexed-clause-why
 returns-else-is_indexed-clause-why g c clean =
-    subst (λ b. IfErr c.define_all-else-is_indexed.result (λ fault. (mid : Held g.row.S.Denot) × FailsAt (map (λ t. t.now) (cond b MOVES (drop DROPS MOVES))) (state g.S.Store c.args.tx.now.conn.now) (state g.S.Store mid) (state g.S.Store c.define_all-else-is_indexed.new.tx.conn.now) fault)) (sym c.if-is_indexed.false) (c.define_all-else-is_indexed.ensures.why clean)
+    subst (λ b.
+    IfErr c.define_all-else-is_indexed.result (λ fault.
+    (mid : Held g.row.S.Denot)
+    × FailsAt (map (λ t. t.now) (cond b MOVES (drop DROPS MOVES))) (state g.S.Store c.args.tx.now.conn.now)
+    (state g.S.Store mid) (state g.S.Store c.define_all-else-is_indexed.new.tx.conn.now) fault))
+    (sym c.if-is_indexed.false) (c.define_all-else-is_indexed.ensures.why clean)

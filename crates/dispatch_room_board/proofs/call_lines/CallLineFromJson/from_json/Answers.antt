@@ -10,7 +10,8 @@ returns-in-None c =
     (read_both c.zip-4.ensures
     (read_both c.zip-3.ensures
     (read_both c.zip-2.ensures
-    (read_both c.zip.ensures c.member.ensures c.member-2.ensures) c.member-3.ensures) c.member-4.ensures) c.member-5.ensures) c.member-6.ensures) c.member-7.ensures) c.member-8.ensures)
+    (read_both c.zip.ensures c.member.ensures c.member-2.ensures) c.member-3.ensures) c.member-4.ensures)
+    c.member-5.ensures) c.member-6.ensures) c.member-7.ensures) c.member-8.ensures)
     (λ it. (((((((it.position, it.serial), it.linked), it.place), it.class), it.needs), it.moment), it.note))
     (λ it h. (((((((h.position, h.serial), h.linked), h.place), h.class), h.needs), h.moment), h.note))
 
@@ -22,5 +23,17 @@ returns-in-Some c =
     (read_both c.zip-4.ensures
     (read_both c.zip-3.ensures
     (read_both c.zip-2.ensures
-    (read_both c.zip.ensures c.member.ensures c.member-2.ensures) c.member-3.ensures) c.member-4.ensures) c.member-5.ensures) c.member-6.ensures) c.member-7.ensures) c.member-8.ensures).is in
-    record { is = record { position = h.0.0.0.0.0.0.0; serial = h.0.0.0.0.0.0.1; linked = h.0.0.0.0.0.1; place = h.0.0.0.0.1; class = h.0.0.0.1; needs = h.0.0.1; moment = h.0.1; note = h.1 } }
+    (read_both c.zip.ensures c.member.ensures c.member-2.ensures) c.member-3.ensures) c.member-4.ensures)
+    c.member-5.ensures) c.member-6.ensures) c.member-7.ensures) c.member-8.ensures).is in
+    record {
+      is = record {
+        position = h.0.0.0.0.0.0.0;
+        serial = h.0.0.0.0.0.0.1;
+        linked = h.0.0.0.0.0.1;
+        place = h.0.0.0.0.1;
+        class = h.0.0.0.1;
+        needs = h.0.0.1;
+        moment = h.0.1;
+        note = h.1;
+      };
+    }

@@ -5,5 +5,7 @@ use Rattle.dispatch_room_board.proofs.call_lines.CallLineTabled.put.Goals as goa
 pub returns : goal.returns
 returns c =
     on_ok_weaker c.put_note.result
-    (λ h. note_shown c.args.page.now c.put_row.new.page c.put_note.new.self _ _ _ c.as_str.ensures.text c.in_ok-put_row.ensures h)
+    (λ h.
+    note_shown c.args.page.now c.put_row.new.page c.put_note.new.self _ _ _ c.as_str.ensures.text
+    c.in_ok-put_row.ensures h)
     c.put_note.ensures

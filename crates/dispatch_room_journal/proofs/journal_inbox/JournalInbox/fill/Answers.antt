@@ -1,4 +1,5 @@
-use Rattle.std.proofs.Common.{rules, ◌∙◌, ap, ℕ, ◌++◌, ◌+◌, ◌-◌, ◌<◌, ◌≤◌, take, length, arith, length-take, length-take-le}
+use Rattle.std.proofs.Common.{rules, ◌∙◌, ap, ℕ, ◌++◌, ◌+◌, ◌-◌, ◌<◌, ◌≤◌, take, length, arith, length-take}
+use Rattle.std.proofs.Common.{length-take-le}
 use Rattle.std.proofs.lemmas.List.{with_items_is, places}
 use borrow.Rule.Slice.PartMut.{put_mid}
 use Rattle.dispatch_room_journal.specs.declared.journal_inbox.TheConstants.{ENTRY_ROOM}
@@ -16,7 +17,9 @@ returns-in-Ok-clause-read g c =
     let within : inbox.len ≤ length all = omega arith in
     let bound : n ≤ length piece = c.in-Ok.ensures.bound in
     let full : inbox.len + n ≤ ENTRY_ROOM = omega arith in
-    let used : inbox.len < ENTRY_ROOM = omega (arith, c.requires, ap (λ v. length v.kept) c.self.view_is, length-take inbox.len inbox.room.items) in
+    let used : inbox.len
+    < ENTRY_ROOM =
+    omega (arith, c.requires, ap (λ v. length v.kept) c.self.view_is, length-take inbox.len inbox.room.items) in
     let some : 0 < length piece = search (rules, places, used) in
     record {
       fits = omega (arith, full, length-take {A = ℕ});
@@ -26,7 +29,8 @@ returns-in-Ok-clause-read g c =
         length-take-le n piece bound,
         ap (take (inbox.len + n)) whole
             ∙ used-read all piece inbox.len _ n within bound
-            ∙ ap (λ t. t ++ take n piece) (ap (take inbox.len) c.as_mut_slice.ensures.value ∙ ap (λ v. v.kept) c.self.view_is),
+            ∙ ap (λ t. t ++ take n piece)
+            (ap (take inbox.len) c.as_mut_slice.ensures.value ∙ ap (λ v. v.kept) c.self.view_is),
         c.in-Ok.ensures.bytes.0,
         λ none. (ended_at_none _ _ n (length piece) c.in-Ok.ensures.ended none some, c.in-Ok.ensures.bytes.1 none some),
       );

@@ -8,7 +8,8 @@ pub returns : goal.returns
 returns g c =
     let old = c.args.self.now in
     let new = c.if-is_empty.self in
-    let before : GivesNext old.line.items old.ready.items old.next new.line.items new.ready.items new.next None = elim c.if-is_empty.branch [
+    let before : GivesNext old.line.items old.ready.items old.next new.line.items new.ready.items new.next
+    None = elim c.if-is_empty.branch [
       | then-is_empty w ↦ rw w.self-is w.look_around.ensures.given
       | else-is_empty w ↦ rw w.self-is (nobody_given _ _ _)
     ] in

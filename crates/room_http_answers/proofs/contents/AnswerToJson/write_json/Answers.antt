@@ -3,8 +3,10 @@ use Rattle.std.proofs.lemmas.Result.{on_ok_weaker}
 use Rattle.room_http_answers.proofs.contents.AnswerToJson.write_json.Goals as goal
 
 pub returns-in_ok-member-in-Called-3 : goal.returns-in_ok-member-in-Called-3
-returns-in_ok-member-in-Called-3 g c = rw c.in-Called.is (on_ok_weaker c.end.result (λ ended. c.in_ok-begin-in-Called.ensures _ _ refl
-    (c.in_ok-member-in-Called.ensures _ _ (c.in_ok-member-in-Called-2.ensures _ _ (c.in_ok-member-in-Called-3.ensures _ _ ended)))) c.end.ensures)
+returns-in_ok-member-in-Called-3 g c =
+    rw c.in-Called.is (on_ok_weaker c.end.result (λ ended. c.in_ok-begin-in-Called.ensures _ _ refl
+    (c.in_ok-member-in-Called.ensures _ _
+    (c.in_ok-member-in-Called-2.ensures _ _ (c.in_ok-member-in-Called-3.ensures _ _ ended)))) c.end.ensures)
 
 pub returns-in-Incidents : goal.returns-in-Incidents
 returns-in-Incidents g c = rw c.in-Incidents.is c.single.ensures
@@ -37,12 +39,17 @@ pub returns-in-Offers : goal.returns-in-Offers
 returns-in-Offers g c = rw c.in-Offers.is c.single-in-Offers.ensures
 
 pub returns-in_ok-member-in-Order-3 : goal.returns-in_ok-member-in-Order-3
-returns-in_ok-member-in-Order-3 g c = rw c.in-Order.is (on_ok_weaker c.end-in-Order.result (λ ended. c.in_ok-begin-in-Order.ensures _ _ refl
-    (c.in_ok-member-in-Order.ensures _ _ (c.in_ok-member-in-Order-2.ensures _ _ (c.in_ok-member-in-Order-3.ensures _ _ ended)))) c.end-in-Order.ensures)
+returns-in_ok-member-in-Order-3 g c =
+    rw c.in-Order.is (on_ok_weaker c.end-in-Order.result (λ ended. c.in_ok-begin-in-Order.ensures _ _ refl
+    (c.in_ok-member-in-Order.ensures _ _
+    (c.in_ok-member-in-Order-2.ensures _ _ (c.in_ok-member-in-Order-3.ensures _ _ ended)))) c.end-in-Order.ensures)
 
 pub returns-in_ok-member-in-Reported-3 : goal.returns-in_ok-member-in-Reported-3
-returns-in_ok-member-in-Reported-3 g c = rw c.in-Reported.is (on_ok_weaker c.end-in-Reported.result (λ ended. c.in_ok-begin-in-Reported.ensures _ _ refl
-    (c.in_ok-member-in-Reported.ensures _ _ (c.in_ok-member-in-Reported-2.ensures _ _ (c.in_ok-member-in-Reported-3.ensures _ _ ended)))) c.end-in-Reported.ensures)
+returns-in_ok-member-in-Reported-3 g c =
+    rw c.in-Reported.is (on_ok_weaker c.end-in-Reported.result (λ ended. c.in_ok-begin-in-Reported.ensures _ _ refl
+    (c.in_ok-member-in-Reported.ensures _ _
+    (c.in_ok-member-in-Reported-2.ensures _ _ (c.in_ok-member-in-Reported-3.ensures _ _ ended))))
+    c.end-in-Reported.ensures)
 
 pub returns-in-LastReport : goal.returns-in-LastReport
 returns-in-LastReport g c = rw c.in-LastReport.is c.pair-in-LastReport.ensures

@@ -6,4 +6,5 @@ pub returns : goal.returns
 returns c =
     let gone = c.args.layout.now.body.end in
     rw (c.copy_within.ensures.items, ← c.self.view_is)
-    (used-removed c.self.inside.room.items gone c.self.inside.len (omega (arith, length-take c.self.inside.len c.self.inside.room.items, ap length c.self.view_is)) (omega arith))
+    (used-removed c.self.inside.room.items gone c.self.inside.len
+    (omega (arith, length-take c.self.inside.len c.self.inside.room.items, ap length c.self.view_is)) (omega arith))

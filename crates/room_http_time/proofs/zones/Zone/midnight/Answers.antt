@@ -11,7 +11,8 @@ pub unwrap-requires : goal.unwrap-requires
 unwrap-requires c =
     let zoned = rw c.from_plain-zone.ensures at c.to_zoned.ensures in
     let offset = compatible_offset (ambiguous_at (zone_of c.args.self.now) zoned.0) in
-    zoned.3.succeeds.1 (midnight_is_instant zoned.0 offset (epoch_day c.args.date) (civil_nanos-midnight zoned.0 c.args.date zoned.1 zoned.2) c.requires)
+    zoned.3.succeeds.1 (midnight_is_instant zoned.0 offset (epoch_day c.args.date)
+    (civil_nanos-midnight zoned.0 c.args.date zoned.1 zoned.2) c.requires)
 
 pub returns : goal.returns
 returns c =
@@ -20,5 +21,8 @@ returns c =
     let fits : FitsSigned w64 c.as_second.result = let r = c.as_second.type_inv in omega (arith, signed_arith, r) in (
       zoned.0,
       civil_nanos-midnight zoned.0 c.args.date zoned.1 zoned.2,
-      rw (to_z-of_z w64 c.as_second.result fits) (c.as_second.ensures ∙ ap (λ (n : ℤ). int_div n (pos 1_000_000_000)) (ap (λ (t : Timestamp). t.nanosecond) c.timestamp.ensures ∙ instant)),
+      rw (to_z-of_z w64 c.as_second.result fits)
+          (c.as_second.ensures
+          ∙ ap (λ (n : ℤ). int_div n (pos 1_000_000_000))
+          (ap (λ (t : Timestamp). t.nanosecond) c.timestamp.ensures ∙ instant)),
     )

@@ -8,7 +8,8 @@ pub of-requires : goal.of-requires
 of-requires c =
     let plan = c.args.self.now in
     let found : Some c.in-Some.division ≡ division_of plan.areas c.args.place = cc in
-    let range = numbered plan.areas plan.zone (λ (area : Area). IsTrue (has_place c.args.place area.rect)) c.in-Some.division plan.sound (inside c.args.place plan.areas (Some c.in-Some.division) found) in
+    let range = numbered plan.areas plan.zone (λ (area : Area). IsTrue (has_place c.args.place area.rect))
+    c.in-Some.division plan.sound (inside c.args.place plan.areas (Some c.in-Some.division) found) in
     (lit< tt, range)
 
 pub returns-in-Some-clause-inside : goal.returns-in-Some-clause-inside

@@ -13,24 +13,35 @@ use Rattle.room_store.proofs.store.Store.act.Goals as goal
 pub returns-in-Ok-clause-bytes : goal.returns-in-Ok-clause-bytes
 returns-in-Ok-clause-bytes g c clean terminals room is addressed =
     let old = c.args.self.now in
-    c.in-Ok.ensures.bytes clean (config_of old.plan terminals) room (for_room g.S.Store old old c.args.event.now terminals room is addressed (c.in-Ok.ensures.ok clean).was_open)
+    c.in-Ok.ensures.bytes clean (config_of old.plan terminals) room
+    (for_room g.S.Store old old c.args.event.now terminals room is addressed (c.in-Ok.ensures.ok clean).was_open)
 
 pub returns-in-Ok-clause-apart : goal.returns-in-Ok-clause-apart
 returns-in-Ok-clause-apart g c clean terminals room other is addressed formed agree =
-    subst (λ told. FnOnceReturnsAt g.F.FnOnce c.args.render told (Ok c.in-Ok.bytes)) (ap answer_of (decided_alike room other is.formed formed c.args.event.now agree)) (returns-in-Ok-clause-bytes g c clean terminals room is addressed)
+    subst (λ told. FnOnceReturnsAt g.F.FnOnce c.args.render told (Ok c.in-Ok.bytes))
+    (ap answer_of (decided_alike room other is.formed formed c.args.event.now agree))
+    (returns-in-Ok-clause-bytes g c clean terminals room is addressed)
 
 pub returns-in-Ok-clause-ok : goal.returns-in-Ok-clause-ok
 returns-in-Ok-clause-ok g c clean terminals room is addressed =
-    room_moved g.S.Store c.args.self.now (record c.args.self.now { conn = c.act_on.new.conn; cache = c.act_on.new.cache }) c.args.event.now terminals room is addressed c.lemma_numbered.ensures refl refl
-    (c.in-Ok.ensures.cache clean (config_of c.args.self.now.plan terminals) room (for_room g.S.Store c.args.self.now c.args.self.now c.args.event.now terminals room is addressed (c.in-Ok.ensures.ok clean).was_open))
+    room_moved g.S.Store c.args.self.now
+    (record c.args.self.now { conn = c.act_on.new.conn; cache = c.act_on.new.cache }) c.args.event.now terminals room is
+    addressed c.lemma_numbered.ensures refl refl
+    (c.in-Ok.ensures.cache clean (config_of c.args.self.now.plan terminals) room
+    (for_room g.S.Store c.args.self.now c.args.self.now c.args.event.now terminals room is addressed
+    (c.in-Ok.ensures.ok clean).was_open))
     (c.in-Ok.ensures.ok clean)
 
 pub returns-in-Ok-clause-survives : goal.returns-in-Ok-clause-survives
-returns-in-Ok-clause-survives g c = event_survives g.S.Store c.args.self.now (state g.S.Store c.act_on.new.conn) c.args.event.now c.act_on.ensures.survives
+returns-in-Ok-clause-survives g c =
+    event_survives g.S.Store c.args.self.now (state g.S.Store c.act_on.new.conn) c.args.event.now
+    c.act_on.ensures.survives
 
 pub returns-in-Err-clause-survives : goal.returns-in-Err-clause-survives
 returns-in-Err-clause-survives g c =
-    survives_read _ _ _ _ (event_survives g.S.Store c.args.self.now (state g.S.Store c.act_on.new.conn) c.args.event.now c.act_on.ensures.survives) c.test_file.ensures.survives
+    survives_read _ _ _ _
+    (event_survives g.S.Store c.args.self.now (state g.S.Store c.act_on.new.conn) c.args.event.now
+    c.act_on.ensures.survives) c.test_file.ensures.survives
 
 pub returns-then-not-self-clause-err : goal.returns-then-not-self-clause-err
 returns-then-not-self-clause-err g c clean = left_same _
@@ -39,14 +50,18 @@ pub returns-then-not-self-clause-survives : goal.returns-then-not-self-clause-su
 returns-then-not-self-clause-survives g c = unchanged_survives g.S.Store c.args.self.now.conn _
 
 pub returns-in-Ok-clause-ready : goal.returns-in-Ok-clause-ready
-returns-in-Ok-clause-ready g c = ready_sound g.S.Store (record c.args.self.now { conn = c.act_on.new.conn; cache = c.act_on.new.cache }) c.act_on.ensures.ended c.if-not-self.false (λ clean. record { schema = (c.in-Ok.ensures.ok clean).schema; settled = (c.in-Ok.ensures.ok clean).settled })
+returns-in-Ok-clause-ready g c =
+    ready_sound g.S.Store (record c.args.self.now { conn = c.act_on.new.conn; cache = c.act_on.new.cache })
+    c.act_on.ensures.ended c.if-not-self.false
+    (λ clean. record { schema = (c.in-Ok.ensures.ok clean).schema; settled = (c.in-Ok.ensures.ok clean).settled })
 
 pub returns-in-Ok-clause-settled : goal.returns-in-Ok-clause-settled
 returns-in-Ok-clause-settled g c clean = (c.in-Ok.ensures.ok clean).settled
 
 pub returns-in-Ok-clause-alone : goal.returns-in-Ok-clause-alone
 returns-in-Ok-clause-alone g c clean =
-    (settled_kept g.S.Store (record c.args.self.now { conn = c.act_on.new.conn; cache = c.act_on.new.cache }) (g.met.S.Store.settled c.act_on.new.conn.store) (c.in-Ok.ensures.ok clean).settled).alone
+    (settled_kept g.S.Store (record c.args.self.now { conn = c.act_on.new.conn; cache = c.act_on.new.cache })
+    (g.met.S.Store.settled c.act_on.new.conn.store) (c.in-Ok.ensures.ok clean).settled).alone
 
 pub returns-then-not-self-clause-failed : goal.returns-then-not-self-clause-failed
 returns-then-not-self-clause-failed g c = c.requires.ready.unsound c.if-not-self.true

@@ -10,22 +10,31 @@ use Rattle.room_store.proofs.store.Store.act_towards.Goals as goal
 pub returns-in-Ok-clause-bytes : goal.returns-in-Ok-clause-bytes
 returns-in-Ok-clause-bytes g c clean terminals room is addressed =
     let old = c.args.self.now in
-    c.in-Ok.ensures.bytes clean (config_of old.plan terminals) room (for_room g.S.Store old old c.args.event.now terminals room is addressed (c.in-Ok.ensures.ok clean).was_open)
+    c.in-Ok.ensures.bytes clean (config_of old.plan terminals) room
+    (for_room g.S.Store old old c.args.event.now terminals room is addressed (c.in-Ok.ensures.ok clean).was_open)
 
 pub returns-in-Ok-clause-ok : goal.returns-in-Ok-clause-ok
 returns-in-Ok-clause-ok g c clean terminals room is addressed =
     let old = c.args.self.now in
-    let it = for_room g.S.Store old old c.args.event.now terminals room is addressed (c.in-Ok.ensures.ok clean).was_open in (
-      room_moved g.S.Store old (record old { conn = c.act_towards_on.new.conn; cache = c.act_towards_on.new.cache }) c.args.event.now terminals room is addressed c.lemma_numbered.ensures refl refl
+    let it = for_room g.S.Store old old c.args.event.now terminals room is addressed
+    (c.in-Ok.ensures.ok clean).was_open in (
+      room_moved g.S.Store old (record old { conn = c.act_towards_on.new.conn; cache = c.act_towards_on.new.cache })
+          c.args.event.now terminals room is addressed c.lemma_numbered.ensures refl refl
           (c.in-Ok.ensures.cache clean (config_of old.plan terminals) room it) (c.in-Ok.ensures.ok clean),
       c.in-Ok.ensures.reaches clean (config_of old.plan terminals) room it,
     )
 
 pub returns-in-Ok-clause-survives : goal.returns-in-Ok-clause-survives
-returns-in-Ok-clause-survives g c = event_survives g.S.Store c.args.self.now (state g.S.Store c.act_towards_on.new.conn) c.args.event.now c.act_towards_on.ensures.survives
+returns-in-Ok-clause-survives g c =
+    event_survives g.S.Store c.args.self.now (state g.S.Store c.act_towards_on.new.conn) c.args.event.now
+    c.act_towards_on.ensures.survives
 
 pub returns-in-Ok-clause-ready : goal.returns-in-Ok-clause-ready
-returns-in-Ok-clause-ready g c = ready_sound g.S.Store (record c.args.self.now { conn = c.act_towards_on.new.conn; cache = c.act_towards_on.new.cache }) c.act_towards_on.ensures.ended c.if-not-self.false (λ clean. record { schema = (c.in-Ok.ensures.ok clean).schema; settled = (c.in-Ok.ensures.ok clean).settled })
+returns-in-Ok-clause-ready g c =
+    ready_sound g.S.Store
+    (record c.args.self.now { conn = c.act_towards_on.new.conn; cache = c.act_towards_on.new.cache })
+    c.act_towards_on.ensures.ended c.if-not-self.false
+    (λ clean. record { schema = (c.in-Ok.ensures.ok clean).schema; settled = (c.in-Ok.ensures.ok clean).settled })
 
 pub returns-in-Ok-clause-settled : goal.returns-in-Ok-clause-settled
 returns-in-Ok-clause-settled g c clean = (c.in-Ok.ensures.ok clean).settled
@@ -47,22 +56,28 @@ act_towards_on-requires-clause-open g c _ clean = (c.requires.ready.sound c.if-n
 
 pub returns-in-Err-clause-survives : goal.returns-in-Err-clause-survives
 returns-in-Err-clause-survives g c =
-    survives_read _ _ _ _ (event_survives g.S.Store c.args.self.now (state g.S.Store c.act_towards_on.new.conn) c.args.event.now c.act_towards_on.ensures.survives) c.test_file.ensures.survives
+    survives_read _ _ _ _
+    (event_survives g.S.Store c.args.self.now (state g.S.Store c.act_towards_on.new.conn) c.args.event.now
+    c.act_towards_on.ensures.survives) c.test_file.ensures.survives
 
 pub returns-in-Err-clause-err : goal.returns-in-Err-clause-err
 returns-in-Err-clause-err g c clean =
-    let early : HasCleanDisk (state g.S.Store c.act_towards_on.new.conn) = omega (arith, c.test_file.ensures.survives.clean) in
+    let early : HasCleanDisk (state g.S.Store c.act_towards_on.new.conn) = omega
+    (arith, c.test_file.ensures.survives.clean) in
     left_then _ _ _ (c.in-Err.ensures.err early) (c.test_file.ensures.leaves clean)
 
 pub returns-in-Err-clause-settled : goal.returns-in-Err-clause-settled
-returns-in-Err-clause-settled g c clean is = (c.test_file.ensures.ready.sound (c.after_test.ensures.sound is) clean).settled
+returns-in-Err-clause-settled g c clean is =
+    (c.test_file.ensures.ready.sound (c.after_test.ensures.sound is) clean).settled
 
 pub returns-in-Err-clause-another : goal.returns-in-Err-clause-another
 returns-in-Err-clause-another g c clean is terminals room stands addressed =
     let old = c.args.self.now in
-    let early : HasCleanDisk (state g.S.Store c.act_towards_on.new.conn) = omega (arith, c.test_file.ensures.survives.clean) in
+    let early : HasCleanDisk (state g.S.Store c.act_towards_on.new.conn) = omega
+    (arith, c.test_file.ensures.survives.clean) in
     let open_ = (returns-in-Err-clause-err g c clean).was_open (returns-in-Err-clause-settled g c clean is).is_open in
-    c.in-Err.ensures.another early (c.after_test.ensures.same is) (config_of old.plan terminals) room (for_room g.S.Store old old c.args.event.now terminals room stands addressed open_)
+    c.in-Err.ensures.another early (c.after_test.ensures.same is) (config_of old.plan terminals) room
+    (for_room g.S.Store old old c.args.event.now terminals room stands addressed open_)
 
 pub returns-in-Err-clause-wants : goal.returns-in-Err-clause-wants
 returns-in-Err-clause-wants g c = c.after_test.ensures.told c.in-Err.ensures.wants

@@ -21,12 +21,22 @@ returns-in-Ok-create_in-clause-room g c clean =
       plan = sym c.in-Ok.ensures.plan.0;
       known = knows_none terminals _ c.new.ensures;
       cache = knows_nothing c.new-in-Ok-create_in.result (new_room plan) c.new-in-Ok-create_in.ensures;
-      tables = λ is_open. subst (λ (zone : List ℕ). Stands trees (record { zone = zone; terminals = terminals }) (new_room plan)) (sym c.in-Ok.ensures.plan.1) begun.stands;
+      tables =
+          λ is_open.
+          subst (λ (zone : List ℕ). Stands trees (record { zone = zone; terminals = terminals }) (new_room plan))
+          (sym c.in-Ok.ensures.plan.1) begun.stands;
     }
 
 pub returns-in-Ok-create_in-clause-kept : goal.returns-in-Ok-create_in-clause-kept
 returns-in-Ok-create_in-clause-kept g c clean =
-    settled_kept g.S.Store (record { conn = c.create_in.new.conn; plan = c.in-Ok.own; terminals = c.new.result; cache = c.new-in-Ok-create_in.result; is_sound = true }) (g.met.S.Store.settled c.create_in.new.conn.store) (c.in-Ok-create_in.ensures.ok clean).settled
+    settled_kept g.S.Store
+    (record {
+      conn = c.create_in.new.conn;
+      plan = c.in-Ok.own;
+      terminals = c.new.result;
+      cache = c.new-in-Ok-create_in.result;
+      is_sound = true;
+    }) (g.met.S.Store.settled c.create_in.new.conn.store) (c.in-Ok-create_in.ensures.ok clean).settled
 
 pub returns-in-Err-clause-err : goal.returns-in-Err-clause-err
 returns-in-Err-clause-err g c clean = left_same _
@@ -35,11 +45,22 @@ pub returns-in-Err-clause-survives_fault : goal.returns-in-Err-clause-survives_f
 returns-in-Err-clause-survives_fault g c = unchanged_survives g.S.Store c.args.conn _
 
 pub create_in-requires-clause-committed : goal.create_in-requires-clause-committed
-create_in-requires-clause-committed g c = outside c.is_autocommit.result _ c.requires.outside c.is_autocommit.ensures.value c.is_autocommit.ensures.settled
+create_in-requires-clause-committed g c =
+    outside c.is_autocommit.result _ c.requires.outside c.is_autocommit.ensures.value c.is_autocommit.ensures.settled
 
 pub returns-in-Ok-create_in-clause-ready : goal.returns-in-Ok-create_in-clause-ready
 returns-in-Ok-create_in-clause-ready g c =
-    ready_sound g.S.Store (record { conn = c.create_in.new.conn; plan = c.in-Ok.own; terminals = c.new.result; cache = c.new-in-Ok-create_in.result; is_sound = true }) c.create_in.ensures.ended refl (λ clean. record { schema = (c.in-Ok-create_in.ensures.ok clean).schema; settled = (c.in-Ok-create_in.ensures.ok clean).settled })
+    ready_sound g.S.Store
+    (record {
+      conn = c.create_in.new.conn;
+      plan = c.in-Ok.own;
+      terminals = c.new.result;
+      cache = c.new-in-Ok-create_in.result;
+      is_sound = true;
+    }) c.create_in.ensures.ended refl (λ clean. record {
+      schema = (c.in-Ok-create_in.ensures.ok clean).schema;
+      settled = (c.in-Ok-create_in.ensures.ok clean).settled;
+    })
 
 pub returns-in-Ok-create_in-clause-settled : goal.returns-in-Ok-create_in-clause-settled
 returns-in-Ok-create_in-clause-settled g c clean = (c.in-Ok-create_in.ensures.ok clean).settled

@@ -19,21 +19,28 @@ loop-row-preserved g c =
     let rows = c.args.rows.now in
     let i = c.loop-row.row-index in
     let row = c.row-item.result in
-    let more : take (i + 1) rows ≡ take i rows ++ row ∷ [] = rw c.row-item.is (take_more rows i _ c.loop-row-test.true) in
-    let early = λ (clean : HasCleanDisk (state g.S.Store new.conn)). let h : HasCleanDisk (state g.S.Store mid.conn) = omega (arith, c.enrol.ensures.survives.clean) in h in
+    let more : take (i + 1) rows
+    ≡ take i rows ++ row ∷ [] = rw c.row-item.is (take_more rows i _ c.loop-row-test.true) in
+    let early = λ (clean : HasCleanDisk (state g.S.Store new.conn)).
+    let h : HasCleanDisk (state g.S.Store mid.conn) = omega (arith, c.enrol.ensures.survives.clean) in h in
     record {
       ready = c.enrol.ensures.ready;
       plan = c.enrol.ensures.plan ∙ before.plan;
       still_open = λ clean is_open. (c.in-Ok.ensures.settled clean).is_open;
-      kept = λ clean kept. record { is_open = (c.in-Ok.ensures.settled clean).is_open; alone = c.in-Ok.ensures.alone clean };
+      kept =
+          λ clean kept.
+          record { is_open = (c.in-Ok.ensures.settled clean).is_open; alone = c.in-Ok.ensures.alone clean };
       done = λ clean terminals room is.
           let done = before.done (early clean) terminals room is in
           let now = terminals_after_rows (take i rows) room terminals in
           let at = room_after_rows (take i rows) room terminals in (
-            subst (λ (p : Room × List Terminal). IsRoom g.S.Store new p.1 p.0) (sym (enrolled_more rows i row more room terminals)) (c.in-Ok.ensures.ok clean now at done.0),
+            subst (λ (p : Room × List Terminal). IsRoom g.S.Store new p.1 p.0)
+                (sym (enrolled_more rows i row more room terminals)) (c.in-Ok.ensures.ok clean now at done.0),
             told_more rows i row more room terminals _ _ _ done.1 (c.in-Ok.ensures.fate clean now at done.0),
           );
-      survives = rows_survive rows i row more g.S.Store first mid new before.plan before.still_open (λ clean terminals room is. (before.done clean terminals room is).0) before.survives c.enrol.ensures.survives;
+      survives =
+          rows_survive rows i row more g.S.Store first mid new before.plan before.still_open
+          (λ clean terminals room is. (before.done clean terminals room is).0) before.survives c.enrol.ensures.survives;
     }
 
 pub returns-in-Err-clause-enrolled : goal.returns-in-Err-clause-enrolled
@@ -43,13 +50,20 @@ returns-in-Err-clause-enrolled g c clean terminals room is =
     let rows = c.args.rows.now in
     let i = c.loop-row.row-index in
     let row = c.row-item.result in
-    let more : take (i + 1) rows ≡ take i rows ++ row ∷ [] = rw c.row-item.is (take_more rows i _ c.loop-row-test.true) in (
+    let more : take (i + 1) rows
+    ≡ take i rows ++ row ∷ [] = rw c.row-item.is (take_more rows i _ c.loop-row-test.true) in (
       record {
         count = c.loop-row.row-index;
         within = omega (arith, c.loop-row-test.true);
         told = rw c.in-Err.ensures.kept done.1;
-        stands = room_left g.S.Store c.loop-row.self c.enrol.new.self _ _ (c.in-Err.ensures.err clean) c.enrol.ensures.plan (rw c.enrol.ensures.known done.0.known) (c.enrol.ensures.cache (room_after_rows (take i rows) room terminals) done.0.cache) done.0;
-        left = λ kept. rows_left rows i row more g.S.Store c.args.self.now c.loop-row.self c.enrol.new.self terminals room c.loop-row.invariant.plan (c.loop-row.invariant.kept early kept) done.0 clean c.enrol.ensures.survives;
+        stands =
+            room_left g.S.Store c.loop-row.self c.enrol.new.self _ _ (c.in-Err.ensures.err clean) c.enrol.ensures.plan
+            (rw c.enrol.ensures.known done.0.known)
+            (c.enrol.ensures.cache (room_after_rows (take i rows) room terminals) done.0.cache) done.0;
+        left =
+            λ kept.
+            rows_left rows i row more g.S.Store c.args.self.now c.loop-row.self c.enrol.new.self terminals room
+            c.loop-row.invariant.plan (c.loop-row.invariant.kept early kept) done.0 clean c.enrol.ensures.survives;
       },
       tt,
     )
@@ -60,19 +74,26 @@ returns-in-Err-clause-survives g c =
     let rows = c.args.rows.now in
     let i = c.loop-row.row-index in
     let row = c.row-item.result in
-    let more : take (i + 1) rows ≡ take i rows ++ row ∷ [] = rw c.row-item.is (take_more rows i _ c.loop-row-test.true) in
-    rows_survive rows i row more g.S.Store c.args.self.now c.loop-row.self c.enrol.new.self before.plan before.still_open (λ clean terminals room is. (before.done clean terminals room is).0) before.survives c.enrol.ensures.survives
+    let more : take (i + 1) rows
+    ≡ take i rows ++ row ∷ [] = rw c.row-item.is (take_more rows i _ c.loop-row-test.true) in
+    rows_survive rows i row more g.S.Store c.args.self.now c.loop-row.self c.enrol.new.self before.plan
+    before.still_open (λ clean terminals room is. (before.done clean terminals room is).0) before.survives
+    c.enrol.ensures.survives
 
 pub returns-clause-enrolled : goal.returns-clause-enrolled
 returns-clause-enrolled g c clean terminals room is =
     let done = c.loop-row.invariant.done clean terminals room is in
-    let whole : c.loop-row.row-index ≡ length c.args.rows.now = omega (arith, c.loop-row-test.false, c.loop-row.auto.row-index-end) in (
+    let whole : c.loop-row.row-index
+    ≡ length c.args.rows.now = omega (arith, c.loop-row-test.false, c.loop-row.auto.row-index-end) in (
       record {
         count = c.loop-row.row-index;
         within = omega (arith, whole);
         told = done.1;
         stands = done.0;
-        left = λ kept db left. inl (rw (sym c.loop-row.invariant.plan) (kept_stands g.S.Store c.loop-row.self _ _ (c.loop-row.invariant.kept clean kept) done.0 db left));
+        left =
+            λ kept db left.
+            inl (rw (sym c.loop-row.invariant.plan)
+            (kept_stands g.S.Store c.loop-row.self _ _ (c.loop-row.invariant.kept clean kept) done.0 db left));
       },
       whole,
     )

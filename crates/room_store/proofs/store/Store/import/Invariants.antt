@@ -19,6 +19,7 @@ invariant-loop-row g l =
       still_open : HasCleanDisk now → IsTrue old.is_open → IsTrue now.is_open;
       kept : HasCleanDisk now → IsKept g.S.Store l.fn.self → IsKept g.S.Store l.self;
       done : HasCleanDisk now → (terminals : List Terminal) (room : Room) → IsRoom g.S.Store l.fn.self terminals room
-          → IsRoom g.S.Store l.self (terminals_after_rows first room terminals) (room_after_rows first room terminals) × (l.out.items ≡ l.fn.out.items ++ fates_of first room terminals);
+          → IsRoom g.S.Store l.self (terminals_after_rows first room terminals) (room_after_rows first room terminals)
+          × (l.out.items ≡ l.fn.out.items ++ fates_of first room terminals);
       survives : Survives old now (MayBeEnrolled g.S.Store l.fn.self l.rows);
     }

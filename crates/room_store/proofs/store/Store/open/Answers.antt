@@ -4,15 +4,42 @@ use Rattle.room_store.proofs.StoreLaws.{ready_sound, settled_kept}
 use Rattle.room_store.proofs.store.Store.open.Goals as goal
 
 pub returns-in-Ok-clause-kept : goal.returns-in-Ok-clause-kept
-returns-in-Ok-clause-kept g c clean = settled_kept g.S.Store (record { conn = c.open_in.new.conn; plan = c.in-Ok.plan; terminals = c.new.result; cache = c.new-in-Ok.result; is_sound = true }) (g.met.S.Store.settled c.open_in.new.conn.store) (c.in-Ok.ensures.settled clean)
+returns-in-Ok-clause-kept g c clean =
+    settled_kept g.S.Store
+    (record {
+      conn = c.open_in.new.conn;
+      plan = c.in-Ok.plan;
+      terminals = c.new.result;
+      cache = c.new-in-Ok.result;
+      is_sound = true;
+    }) (g.met.S.Store.settled c.open_in.new.conn.store) (c.in-Ok.ensures.settled clean)
 
 pub returns-in-Ok-clause-ready : goal.returns-in-Ok-clause-ready
-returns-in-Ok-clause-ready g c = ready_sound g.S.Store (record { conn = c.open_in.new.conn; plan = c.in-Ok.plan; terminals = c.new.result; cache = c.new-in-Ok.result; is_sound = true }) c.open_in.ensures.ended refl (λ clean. record { schema = c.in-Ok.ensures.schema clean; settled = c.in-Ok.ensures.settled clean })
+returns-in-Ok-clause-ready g c =
+    ready_sound g.S.Store
+    (record {
+      conn = c.open_in.new.conn;
+      plan = c.in-Ok.plan;
+      terminals = c.new.result;
+      cache = c.new-in-Ok.result;
+      is_sound = true;
+    }) c.open_in.ensures.ended refl
+    (λ clean. record { schema = c.in-Ok.ensures.schema clean; settled = c.in-Ok.ensures.settled clean })
 
 pub returns-in-Ok-clause-room : goal.returns-in-Ok-clause-room
 returns-in-Ok-clause-room g c clean =
-    let it = c.in-Ok.ensures.room clean in
-    (it.0, it.1, record { formed = it.2; fits = it.3; plan = it.4; known = knows_none it.0 _ c.new.ensures; cache = knows_nothing c.new-in-Ok.result it.1 c.new-in-Ok.ensures; tables = λ _. it.5 })
+    let it = c.in-Ok.ensures.room clean in (
+      it.0,
+      it.1,
+      record {
+        formed = it.2;
+        fits = it.3;
+        plan = it.4;
+        known = knows_none it.0 _ c.new.ensures;
+        cache = knows_nothing c.new-in-Ok.result it.1 c.new-in-Ok.ensures;
+        tables = λ _. it.5;
+      },
+    )
 
 pub returns-in-Ok-clause-survives : goal.returns-in-Ok-clause-survives
 returns-in-Ok-clause-survives g c = c.open_in.ensures.survives

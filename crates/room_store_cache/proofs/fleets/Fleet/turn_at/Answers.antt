@@ -9,7 +9,8 @@ pub returns-in-Some-clause-turn : goal.returns-in-Some-clause-turn
 returns-in-Some-clause-turn g c clean config room h are = sym (c.in-Some.ensures room are)
 
 pub returns-in_default-2-clause-turn : goal.returns-in_default-2-clause-turn
-returns-in_default-2-clause-turn g c clean config room h are = rw c.in_default-2.is at (c.in_ok-turn.ensures.row clean config room h)
+returns-in_default-2-clause-turn g c clean config room h are =
+    rw c.in_default-2.is at (c.in_ok-turn.ensures.row clean config room h)
 
 pub returns-clause-turn : goal.returns-clause-turn
 returns-clause-turn g c clean config room h are = rw c.in-Some-2.is at (c.in_ok-turn.ensures.row clean config room h)
@@ -18,6 +19,7 @@ pub returns-clause-known : goal.returns-clause-known
 returns-clause-known g c clean config room h are =
     let k = c.args.key.now in
     let t = c.in-Some-2.turn in
-    let found : row_at numbered_cmp turn_key room.turns k ≡ Some t = sym (rw c.in-Some-2.is at (c.in_ok-turn.ensures.row clean config room h)) in
+    let found : row_at numbered_cmp turn_key room.turns k
+    ≡ Some t = sym (rw c.in-Some-2.is at (c.in_ok-turn.ensures.row clean config room h)) in
     let own = row_key numbered_cmp turn_key numbered_total exact_numbered room.turns k t found in
     c.fill.ensures room are (subst (λ j. row_at numbered_cmp turn_key room.turns j ≡ Some t) own found)

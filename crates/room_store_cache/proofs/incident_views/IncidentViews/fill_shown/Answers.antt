@@ -11,4 +11,5 @@ loop-incident-preserved c room at in_order read before =
     let same = c.as_slice-incident-items.ensures.all ∙ ap (λ (r : Room). r.incidents) read in
     let inside = rw same at c.loop-incident-test.true in
     let here = rw same at c.incident-item.is in
-    c.fill.ensures room Queue at in_order (shown_read c.args.division at room in_order.incidents i x inside here) read (c.loop-incident.invariant room at in_order read before)
+    c.fill.ensures room Queue at in_order (shown_read c.args.division at room in_order.incidents i x inside here) read
+    (c.loop-incident.invariant room at in_order read before)

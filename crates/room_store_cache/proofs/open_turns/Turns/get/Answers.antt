@@ -6,4 +6,5 @@ use Rattle.room_store_cache.proofs.open_turns.Turns.get.Goals as goal
 
 pub returns : goal.returns
 returns c room are =
-    subst (λ o. IfSome o (λ t. row_at numbered_cmp turn_key room.turns c.args.key.now ≡ Some t)) (sym (c.copied.ensures ∙ c.get.ensures)) (are c.args.key.now)
+    subst (λ o. IfSome o (λ t. row_at numbered_cmp turn_key room.turns c.args.key.now ≡ Some t))
+    (sym (c.copied.ensures ∙ c.get.ensures)) (are c.args.key.now)

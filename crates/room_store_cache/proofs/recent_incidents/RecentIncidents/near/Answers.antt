@@ -7,7 +7,11 @@ use Rattle.room_store_cache.proofs.recent_incidents.RecentIncidents.near.Goals a
 
 pub returns-in-Some-clause-rows : goal.returns-in-Some-clause-rows
 returns-in-Some-clause-rows g c clean =
-    IfOk-weaker c.around.result _ _ (λ x are config room h recent. are ∙ known_near c.in-Some.known.now.from _ room.incidents c.args.division c.args.form.now c.args.at c.in-Some.ensures.reach (c.in-Some.ensures.so room recent)) c.around.ensures.rows
+    IfOk-weaker c.around.result _ _
+    (λ x are config room h recent.
+    are
+    ∙ known_near c.in-Some.known.now.from _ room.incidents c.args.division c.args.form.now c.args.at
+    c.in-Some.ensures.reach (c.in-Some.ensures.so room recent)) c.around.ensures.rows
 
 pub returns-clause-rows : goal.returns-clause-rows
 returns-clause-rows g c clean =
@@ -15,11 +19,19 @@ returns-clause-rows g c clean =
     let is = c.from.ensures in
     let same : to_z w64 (of_z w64 c.from.result) ≡ pos from = omega (arith, ints) in
     let reach : from ≤ c.args.at - 900 = rw c.first_linked-from.ensures (omega arith) in
-    IfOk-weaker c.around-near.result _ _ (λ x are config room h recent. are ∙ known_near from _ room.incidents c.args.division c.args.form.now c.args.at reach (subst (λ z. c.in_ok-since.since ≡ filter (λ i. int_le z (pos i.opened)) room.incidents) same (c.in_ok-since.ensures.rows clean config room h))) c.around-near.ensures.rows
+    IfOk-weaker c.around-near.result _ _
+    (λ x are config room h recent.
+    are
+    ∙ known_near from _ room.incidents c.args.division c.args.form.now c.args.at reach
+    (subst (λ z. c.in_ok-since.since ≡ filter (λ i. int_le z (pos i.opened)) room.incidents) same
+    (c.in_ok-since.ensures.rows clean config room h))) c.around-near.ensures.rows
 
 pub returns-clause-kept : goal.returns-clause-kept
 returns-clause-kept g c clean =
     let from = c.first_linked-from.result in
     let is = c.from.ensures in
     let same : to_z w64 (of_z w64 c.from.result) ≡ pos from = omega (arith, ints) in
-    IfOk-weaker c.around-near.result _ _ (λ x are config room h recent. c.fill.ensures.so room (subst (λ z. c.in_ok-since.since ≡ filter (λ i. int_le z (pos i.opened)) room.incidents) same (c.in_ok-since.ensures.rows clean config room h))) c.around-near.ensures.rows
+    IfOk-weaker c.around-near.result _ _
+    (λ x are config room h recent.
+    c.fill.ensures.so room (subst (λ z. c.in_ok-since.since ≡ filter (λ i. int_le z (pos i.opened)) room.incidents) same
+    (c.in_ok-since.ensures.rows clean config room h))) c.around-near.ensures.rows

@@ -11,7 +11,10 @@ pub returns-in-PutCall-clause-so : goal.returns-in-PutCall-clause-so
 returns-in-PutCall-clause-so c =
     let x = c.args.self.now in
     on_ok_weaker c.put_if.result (λ kept room in_order known. rw c.in-PutCall.is (record {
-      calls = kept ∙ pass_put pair_cmp call_key pairs_total (λ y. y.division == x.division && has x y.incident) x.calls room.calls c.in-PutCall.call _ c.keeps-is_kept.ensures in_order.calls known.calls;
+      calls =
+          kept
+          ∙ pass_put pair_cmp call_key pairs_total (λ y. y.division == x.division && has x y.incident) x.calls
+          room.calls c.in-PutCall.call _ c.keeps-is_kept.ensures in_order.calls known.calls;
       turns = known.turns;
     })) c.put_if.ensures.put
 
@@ -20,5 +23,8 @@ returns-in-PutTurn-clause-so c =
     let x = c.args.self.now in
     on_ok_weaker c.put_if-in-PutTurn.result (λ kept room in_order known. rw c.in-PutTurn.is (record {
       calls = known.calls;
-      turns = kept ∙ pass_put numbered_cmp turn_key numbered_total (λ y. y.division == x.division && has x y.incident) x.turns room.turns c.in-PutTurn.turn _ c.keeps-is_kept-in-PutTurn.ensures in_order.turns known.turns;
+      turns =
+          kept
+          ∙ pass_put numbered_cmp turn_key numbered_total (λ y. y.division == x.division && has x y.incident) x.turns
+          room.turns c.in-PutTurn.turn _ c.keeps-is_kept-in-PutTurn.ensures in_order.turns known.turns;
     })) c.put_if-in-PutTurn.ensures.put

@@ -12,6 +12,9 @@ returns g c first shown (rows, are, keyed, last, taken) =
     let row = c.in-Some.row in
     let put = c.is_next.ensures.next rows keyed (c.as_ref.ensures.value ∙ last) c.if-not-is_next.false in
     let next = subst (IsKeyed order key) put (keyed_put order key total rows row keyed) in
-    by_result g.T.Row.Stored.is_row order key g.T.Row.Stored.cells g.T.TypedRowSink.takes first c.take.new.self _ _ _ c.take.result c.take.ensures.taken
-    (λ takes. taken_next g.T.Row.Stored.is_row order key g.T.Row.Stored.cells g.T.TypedRowSink.takes total first c.take.new.self shown c.args.columns.now row rows are c.in-Some.ensures.row keyed put (takes first rows next taken))
+    by_result g.T.Row.Stored.is_row order key g.T.Row.Stored.cells g.T.TypedRowSink.takes first c.take.new.self _ _ _
+    c.take.result c.take.ensures.taken
+    (λ takes.
+    taken_next g.T.Row.Stored.is_row order key g.T.Row.Stored.cells g.T.TypedRowSink.takes total first c.take.new.self
+    shown c.args.columns.now row rows are c.in-Some.ensures.row keyed put (takes first rows next taken))
     c.take.ensures.memory

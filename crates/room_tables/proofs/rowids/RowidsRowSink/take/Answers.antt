@@ -12,9 +12,11 @@ returns c first rows so_far rise none =
     let before = so_far rise none in
     rw c.rowid_of-id.ensures (elim c.if-le.branch [
       | then-le w ↦
-          let down : is_at_most (integer_in (rowid row)) now.last ≡ true = rw c.rowid_of-id.ensures at (sym c.le.ensures ∙ w.if-le.true) in
+          let down : is_at_most (integer_in (rowid row)) now.last
+          ≡ true = rw c.rowid_of-id.ensures at (sym c.le.ensures ∙ w.if-le.true) in
           rw w.self-is (ends rows row now.rise now.last before down)
       | else-le w ↦
-          let up : is_at_most (integer_in (rowid row)) now.last ≡ false = rw c.rowid_of-id.ensures at (sym c.le.ensures ∙ w.if-le.false) in
+          let up : is_at_most (integer_in (rowid row)) now.last
+          ≡ false = rw c.rowid_of-id.ensures at (sym c.le.ensures ∙ w.if-le.false) in
           rw w.self-is (goes_on rows row now.rise now.last before up)
     ])

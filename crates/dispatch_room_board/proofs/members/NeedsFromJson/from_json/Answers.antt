@@ -1,5 +1,0 @@
-use Rattle.dispatch_room_board.proofs.Readings.{read_none}
-use Rattle.dispatch_room_board.proofs.members.NeedsFromJson.from_json.Goals as goal
-
-pub returns-in-None : goal.returns-in-None
-returns-in-None c = read_none _ c.in-None.is c.from_json.ensures (λ it. it) (λ it h. h.0)

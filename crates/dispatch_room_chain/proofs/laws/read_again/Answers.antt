@@ -1,5 +1,0 @@
-use Rattle.dispatch_room_chain.proofs.AgainLemmas.{read_again_law}
-use Rattle.dispatch_room_chain.proofs.laws.read_again.Goals as goal
-
-pub returns : goal.returns
-returns c = read_again_law

@@ -1,0 +1,89 @@
+//! `times --and`: the report of a division's day over two rooms.
+ghost use Rattle.std.specs.Prelude.{IfErr, IfOk};
+ghost use Rattle.dispatch_room_commands.specs.DoneTasks.{FailsJoinedTimes, IsJoinedTimes};
+ghost use Rattle.dispatch_room_commands.specs.RoomTasks.{FindsDay, FindsNoDay, ReportsBoth, ReportsNone};
+
+use dispatch_room_disk::room_files::{RoomFile, RoomTask, in_file};
+use dispatch_room_exit::exit_status::{Done, Failure};
+use dispatch_room_exit::explainer::Explainer;
+use dispatch_room_tasks::division_days::DivisionDay;
+use dispatch_room_tasks::joined_reports::{day_in, joined_report_in};
+use dispatch_room_tasks::opened_room::TaskResult;
+use room_place::plans::DivisionNumber;
+use sqlite::{Alter, Connection};
+use std::alloc::Global;
+use std::io::Write;
+
+/// Writes the activation times of a division's day as CSV, by the room of a file and by the older
+/// one that it was made of. No row of either is written.
+pub fn joined_times<O: Write>(
+    rt: &HostRuntime,
+    explainer: Explainer<'_>,
+    alloc: Global,
+    files: (&str, &str),
+    division: DivisionNumber,
+    day: &str,
+    out: &mut O,
+) -> Result<Done, Failure>
+    ensures done { IfOk result (λ done.
+        IsJoinedTimes (O.contents out.old) (O.contents out.new) done division day.now) }
+    ensures undone { IfErr result (λ fault.
+        FailsJoinedTimes (O.contents out.old) (O.contents out.new) fault division day.now) }
+{
+    let (file, older) = files;
+    let finding = Finding { division, day };
+    let newer = in_file(rt, explainer, alloc, RoomFile::Kept(file), finding, out)?;
+    let joining = Joining { newer: &newer };
+    let report = in_file(rt, explainer, alloc, RoomFile::Kept(older), joining, out)?;
+    match out.write_all(report.as_slice()) {
+        Ok(()) => Ok(Done::Whole),
+        Err(_) => Err(Failure::Network),
+    }
+}
+
+// The day is looked for in the newer room.
+#[derive(Clone, Copy)]
+struct Finding<'a> {
+    division: DivisionNumber,
+    day: &'a str,
+}
+
+impl<'a> RoomTask for Finding<'a> {
+    type Done = DivisionDay;
+
+    ghost says = { λ work. FindsDay work.division work.day.now };
+
+    ghost refuses = { λ work. FindsNoDay work.division work.day.now };
+
+    fn run<S: Alter + Drop, O: Write>(
+        self,
+        alloc: Global,
+        conn: Connection<S>,
+        _out: &mut O,
+    ) -> TaskResult<DivisionDay, S> {
+        day_in(alloc, conn, self.division, self.day)
+    }
+}
+
+// Its report is made with the older room.
+#[derive(Clone, Copy)]
+struct Joining<'a> {
+    newer: &'a DivisionDay,
+}
+
+impl<'a> RoomTask for Joining<'a> {
+    type Done = Vec<u8>;
+
+    ghost says = { λ work. ReportsBoth work.newer.now };
+
+    ghost refuses = { λ _. ReportsNone };
+
+    fn run<S: Alter + Drop, O: Write>(
+        self,
+        alloc: Global,
+        conn: Connection<S>,
+        _out: &mut O,
+    ) -> TaskResult<Vec<u8>, S> {
+        joined_report_in(alloc, conn, self.newer)
+    }
+}

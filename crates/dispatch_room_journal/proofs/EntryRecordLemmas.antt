@@ -1,0 +1,49 @@
+-- Lemmas on a record that is one entry.
+use Rattle.std.proofs.Common.{◌≡◌, ◌∙◌, refl, sym, ap, arith, ℕ, List, [], ◌∷◌, ◌++◌, length, length-append, drop}
+use Rattle.std.proofs.Common.{append-nil, Bool, true, false, inl, inr, ◌⊎◌, ◌↔◌, IsTrue}
+use Rattle.std.proofs.lemmas.Bool.{false≢true}
+use Rattle.dispatch_room_journal.specs.declared.entry_prefixes.EntryLayout.{EntryLayout}
+use Rattle.dispatch_room_journal.specs.Entries.{Begins, Entry, IsEntry, IsForeign, IsPart, text_of}
+use Rattle.dispatch_room_journal.specs.EntryPrefixes.{IsLayout}
+use Rattle.dispatch_room_journal.proofs.EntryLemmas.{no_end_law, one_entry_law}
+use Rattle.dispatch_room_journal.specs.Chains.{is_end}
+use Rattle.dispatch_room_journal.specs.WholeRecords.{SaysEntry}
+
+pub nothing_left : (rest : List ℕ) → length rest ≡ 0 → rest ≡ []
+nothing_left [] none = refl
+nothing_left (x ∷ rest) none = absurd (omega (arith, none))
+
+-- the entry at the front of a record is all of it where it ends at its end
+pub whole_entry : (body : List ℕ) (layout : EntryLayout) (e : Entry) → IsLayout body layout e
+    → layout.end ≡ length body → SaysEntry body
+whole_entry body layout e is all =
+    let rest = drop layout.end body in
+    let none : rest ≡ [] = nothing_left rest
+    (omega (arith, all, is.end, ap length is.begins.1, length-append (text_of e) rest)) in
+    inr (e, is.begins.0, is.begins.1 ∙ ap (λ t. text_of e ++ t) none ∙ append-nil (text_of e))
+
+begins_all : (body : List ℕ) (e : Entry) → IsEntry e → body ≡ text_of e → Begins body e []
+begins_all body e is all = (is, all ∙ sym (append-nil (text_of e)))
+
+-- and the other way round
+pub entry_whole : (body : List ℕ) (layout : EntryLayout) (e : Entry) → IsLayout body layout e
+    → is_end body ≡ false → SaysEntry body → layout.end ≡ length body
+entry_whole body layout e is none (inl ends) = absurd (false≢true (sym none ∙ ends))
+entry_whole body layout e is none (inr (f, is_one, all)) =
+    let same = (one_entry_law body e f (drop layout.end body) [] is.begins (begins_all body f is_one all)).0 in
+    is.end ∙ ap (λ x. length (text_of x)) same ∙ sym (ap length all)
+
+pub no_part : (body : List ℕ) → IsPart body → is_end body ≡ false → SaysEntry body → ⊥
+no_part body part none (inl ends) = false≢true (sym none ∙ ends)
+no_part body part none (inr (f, is_one, all)) = (no_end_law body f [] (begins_all body f is_one all)).1 part
+
+pub no_foreign : (body : List ℕ) → IsForeign body → is_end body ≡ false → SaysEntry body → ⊥
+no_foreign body foreign none (inl ends) = false≢true (sym none ∙ ends)
+no_foreign body foreign none (inr (f, is_one, all)) = (no_end_law body f [] (begins_all body f is_one all)).2 foreign
+
+-- what begins with no whole entry is none
+pub not_part : (body : List ℕ) → IsPart body → is_end body ≡ false → IsTrue false ↔ SaysEntry body
+not_part body part none = (λ is. absurd (false≢true is), λ says. absurd (no_part body part none says))
+
+pub not_foreign : (body : List ℕ) → IsForeign body → is_end body ≡ false → IsTrue false ↔ SaysEntry body
+not_foreign body foreign none = (λ is. absurd (false≢true is), λ says. absurd (no_foreign body foreign none says))

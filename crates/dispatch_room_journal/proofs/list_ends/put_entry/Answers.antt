@@ -1,0 +1,16 @@
+use Rattle.std.proofs.Common.{sym}
+use Rattle.dispatch_room_journal.proofs.PlainLemmas.{entry_comes, failed_put, plain_put, said_entry}
+use Rattle.dispatch_room_journal.proofs.list_ends.put_entry.Goals as goal
+
+pub returns-in-Plain-clause-put : goal.returns-in-Plain-clause-put
+returns-in-Plain-clause-put g c = rw c.in-Plain.is (plain_put _ _ c.args.entry.now _ _ _ c.write_all.ensures)
+
+pub returns-in-Plain-clause-failed : goal.returns-in-Plain-clause-failed
+returns-in-Plain-clause-failed g c = failed_put _ _ _ _ _ _ c.write_all.ensures
+
+pub put_after-requires-clause-comes : goal.put_after-requires-clause-comes
+put_after-requires-clause-comes g c = entry_comes c.in-Chain.link.has_ended c.args.entry.now c.requires.says
+
+pub returns-in-Chain-clause-put : goal.returns-in-Chain-clause-put
+returns-in-Chain-clause-put g c =
+    rw c.in-Chain.is (rw (said_entry c.args.entry.now c.requires.says) at c.put_after.ensures.put)

@@ -1,0 +1,18 @@
+//! What the text of a chain decides. Each law is the contract of a function that does nothing.
+ghost use Rattle.dispatch_room_journal.specs.ChainLaws.{IsOneChain, IsReadAgain, IsWritten};
+
+/// Two lists that end with the same check are the same, unless two texts have one hash, or one has
+/// that of the check before the first record.
+pub fn one_chain()
+    ensures { IsOneChain }
+{}
+
+/// What is written is read again.
+pub fn read_again()
+    ensures { IsReadAgain }
+{}
+
+/// What is read was written, each record after the one before.
+pub fn written()
+    ensures { IsWritten }
+{}

@@ -1,0 +1,73 @@
+//! How a list goes on.
+ghost use Rattle.std.specs.Prelude.{◌≡◌, [], false, true, is_err};
+ghost use Rattle.dispatch_room_journal.specs.Chains.{IsBody, is_end, said_by};
+ghost use Rattle.dispatch_room_journal.specs.RecordFronts.{comes_next};
+ghost use Rattle.dispatch_room_journal.specs.PlainTexts.{PutsKnown};
+ghost use Rattle.dispatch_room_journal.specs.declared.list_ends.ListEnd.TheVariants.{Chain};
+
+use crate::record_fronts::{END, Link, is_end};
+use crate::record_writer::put_record;
+use room_http_messages::sinks::{Sink, WriteFailed, write_all};
+
+/// How a list goes on.
+#[derive(Clone, Copy)]
+pub enum ListEnd {
+    /// It is no chain: entry follows entry.
+    Plain,
+    /// It is a chain, and has come so far.
+    Chain(Link),
+}
+
+/// Puts an entry behind a list that goes on from here: as it is, or as a record.
+pub fn put_entry<W: Sink>(
+    writer: &mut W,
+    end: &mut ListEnd,
+    entry: &[u8],
+) -> Result<(), WriteFailed>
+    requires sound { W.has_failed writer.old ≡ false }
+    requires is_one { IsBody entry.now }
+    requires says { is_end entry.now ≡ false }
+    ensures put { PutsKnown end.old end.new (W.held writer.old) (W.held writer.new) entry.now result }
+    ensures failed { W.has_failed writer.new ≡ is_err result }
+{
+    match *end {
+        ListEnd::Plain => write_all(writer, entry),
+        ListEnd::Chain(link) => put_after(writer, end, &link, entry),
+    }
+}
+
+// Puts a record behind a chain that has come so far.
+fn put_after<W: Sink>(
+    writer: &mut W,
+    end: &mut ListEnd,
+    link: &Link,
+    body: &[u8],
+) -> Result<(), WriteFailed>
+    requires sound { W.has_failed writer.old ≡ false }
+    requires is_one { IsBody body.now }
+    requires comes { comes_next link.now.has_ended body.now ≡ true }
+    ensures put { PutsKnown (Chain link.now) end.new (W.held writer.old) (W.held writer.new)
+        (said_by body.now) result }
+    ensures failed { W.has_failed writer.new ≡ is_err result }
+{
+    let mut check = link.check;
+    let put = put_record(writer, &mut check, body);
+    *end = ListEnd::Chain(Link {
+        check,
+        has_ended: is_end(body),
+    });
+    put
+}
+
+/// Puts behind a list that goes on from here that it ended well, where it is a chain and does not
+/// end so.
+pub fn put_end<W: Sink>(writer: &mut W, end: &mut ListEnd) -> Result<(), WriteFailed>
+    requires sound { W.has_failed writer.old ≡ false }
+    ensures put { PutsKnown end.old end.new (W.held writer.old) (W.held writer.new) [] result }
+    ensures failed { W.has_failed writer.new ≡ is_err result }
+{
+    match *end {
+        ListEnd::Chain(link) if !link.has_ended => put_after(writer, end, &link, END),
+        ListEnd::Chain(_) | ListEnd::Plain => Ok(()),
+    }
+}

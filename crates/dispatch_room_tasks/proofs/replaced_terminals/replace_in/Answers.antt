@@ -1,0 +1,37 @@
+use Rattle.std.proofs.Common.{arith, sym, ◌∙◌}
+use Rattle.std.proofs.lemmas.Result.{on_ok_weaker}
+use Rattle.sqlite.specs.Held.{state}
+use Rattle.sqlite.specs.State.{HasCleanDisk}
+use Rattle.room_store_writes.specs.Houses.{config_of}
+use Rattle.dispatch_room_tasks.proofs.ReplacedLemmas.{keeps_room}
+use Rattle.dispatch_room_tasks.proofs.replaced_terminals.replace_in.Goals as goal
+
+pub returns-in-Ok-clause-replaced : goal.returns-in-Ok-clause-replaced
+returns-in-Ok-clause-replaced g c =
+    let opened = c.open_in.new.conn in
+    let made = c.replace_opened-done.ensures in
+    record {
+      plan = c.in-Ok.plan;
+      opened = opened;
+      rows = c.in-Ok.ensures.kept;
+      replaced = λ clean.
+          let early : HasCleanDisk (state g.S.Store opened) = omega (arith, made.survives.clean) in
+          on_ok_weaker c.replace_opened-done.result
+          (λ all. keeps_room _ _ c.in-Ok.plan c.args.listed.now _ (c.in-Ok.ensures.room early) all)
+          (made.replaced clean);
+      unchanged = made.unchanged;
+      opening = c.open_in.ensures.survives;
+      survives = made.survives;
+    }
+
+pub returns-in-Err-clause-fault : goal.returns-in-Err-clause-fault
+returns-in-Err-clause-fault g c = record {
+  fault = c.in-Err.fault;
+  told = c.of_opening.ensures;
+  let_go = c.open_in.new.conn;
+  left = c.in-Err.ensures.leaves;
+  untouched = c.in-Err.ensures.untouched;
+  version = c.in-Err.ensures.old_room;
+  no_room = c.in-Err.ensures.no_room;
+  survives = c.open_in.ensures.survives;
+}

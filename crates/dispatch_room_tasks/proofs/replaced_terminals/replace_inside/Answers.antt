@@ -1,0 +1,27 @@
+use Rattle.std.proofs.Common.{ap, arith, subst, ◌∙◌}
+use Rattle.sqlite.specs.Held.{state}
+use Rattle.sqlite.specs.State.{HasCleanDisk}
+use Rattle.room_tables.proofs.RoomReads.{kept}
+use Rattle.room_tables.specs.Stands.{Stands}
+use Rattle.room_store_writes.specs.NewRoom.{put_all}
+use Rattle.dispatch_room_tasks.proofs.RenewalLemmas.{still_in_order}
+use Rattle.dispatch_room_tasks.proofs.replaced_terminals.replace_inside.Goals as goal
+
+pub returns-clause-ok : goal.returns-clause-ok
+returns-clause-ok g c clean =
+    let old = state g.S.Store c.args.tx.now.conn.now in
+    let new = state g.S.Store c.set_terminals.new.tx.conn.now in
+    let early : HasCleanDisk (state g.S.Store c.find_others.new.tx.conn.now) = omega
+    (arith, c.set_terminals.ensures.commits.survives.clean) in
+    let others = c.in_ok-others.others.items in
+    let listed = c.args.listed.now in (
+      c.in_ok-set_terminals.ensures.inside,
+      λ config room h.
+          let found = c.in_ok-others.ensures.ok early config room h in
+          let same = still_in_order others c.in_ok-others.ensures.keyed ∙ found.1 in (
+            found.0,
+            subst (λ ts. Stands new.now.trees (record config { terminals = put_all ts listed }) room) same
+                (rw c.as_slice.ensures.value at (c.in_ok-set_terminals.ensures.stands clean config room
+                (kept _ _ (c.in_ok-others.ensures.reads.ok early) config room h))),
+          ),
+    )

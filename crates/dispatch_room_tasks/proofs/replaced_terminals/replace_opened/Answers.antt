@@ -1,0 +1,8 @@
+use Rattle.dispatch_room_tasks.proofs.replaced_terminals.replace_opened.Goals as goal
+
+pub returns-in-Ok-clause-replaced : goal.returns-in-Ok-clause-replaced
+returns-in-Ok-clause-replaced g c clean = (c.in-Ok.ensures.ok clean, (c.in-Ok.ensures.settled clean).0)
+
+pub returns-in-Err-clause-unchanged : goal.returns-in-Err-clause-unchanged
+returns-in-Err-clause-unchanged g c clean =
+    (c.in-Err.fault, c.failure_of.ensures, c.in-Err.ensures.why clean, c.in-Err.ensures.err clean)

@@ -1,0 +1,32 @@
+use Rattle.std.proofs.Common.{inl}
+use Rattle.std.proofs.lemmas.Result.{IfOk-weaker}
+use Rattle.room_model.specs.Step.{desk_asks}
+use Rattle.room_tables_schema.proofs.ReadLaws.{fails, looked, told_any}
+use Rattle.room_store.proofs.Wants.{failed, machines, says, unsaid}
+use Rattle.room_store.specs.EventDecisions.{unless_out_of_memory}
+use Rattle.room_store.proofs.event_decisions.for_desk.Goals as goal
+
+pub returns-clause-decided : goal.returns-clause-decided
+returns-clause-decided g c clean =
+    IfOk-weaker (unless_out_of_memory c.decide_desk-decision.result) _ _ (λ x told config room h formed planned known.
+    let rows = c.in-Ok.ensures.rows clean config room h formed known in
+    let decides = rw c.in-Ok.ensures.division at c.decide_desk-decision.ensures.decides room formed planned in
+    told (desk_asks c.args.division c.args.event.now.ask c.args.event.now.at room) (decides (inl rows)))
+    (machines c.decide_desk-decision.result)
+
+pub returns-clause-known : goal.returns-clause-known
+returns-clause-known g c clean =
+    says c.decide_desk-decision.result _
+    (λ config room h formed known. c.in-Ok.ensures.known clean config room h formed known)
+
+pub returns-clause-reads : goal.returns-clause-reads
+returns-clause-reads g c = told_any (unless_out_of_memory c.decide_desk-decision.result) (looked c.in-Ok.ensures.reads)
+
+pub returns-in-Err-clause-decided : goal.returns-in-Err-clause-decided
+returns-in-Err-clause-decided g c clean = unsaid c.in-Err.fault c.refusal_of.ensures _
+
+pub returns-in-Err-clause-known : goal.returns-in-Err-clause-known
+returns-in-Err-clause-known g c clean = unsaid c.in-Err.fault c.refusal_of.ensures _
+
+pub returns-in-Err-clause-reads : goal.returns-in-Err-clause-reads
+returns-in-Err-clause-reads g c = fails (failed c.in-Err.fault c.refusal_of.ensures) c.in-Err.ensures.reads

@@ -1,6 +1,0 @@
-use Rattle.std.proofs.Common.{[], refl}
-use Rattle.room_tables_laws.proofs.Standing.{holds_none}
-use Rattle.room_tables_laws.proofs.laws.an_empty_tree_stands_for_no_rows.Goals as goal
-
-pub returns : goal.returns
-returns c places key = holds_none places key [] refl

@@ -1,0 +1,565 @@
+"""Copies without a stop, restores and the weekly new room, from outside: the digest of a file is the
+one that Python works out of its tables; the copy of a night has what was answered, however the list
+was cut; what can't be trusted is one line with its status; a restore that is stopped before any of
+its system calls leaves no file, or one of the two rooms whole; and the units do as they say."""
+# needs: python3 sqlite3 systemd gcc libc6-dev
+# builds: dispatch_room
+import itertools
+import json
+import os
+import pathlib
+import re
+import shutil
+import subprocess
+import sys
+
+from preloaded import Preloaded
+from room import (PATIENT, PROGRAM, TOP, TestCase, call, dump, free_port, made, message, run,
+                  serving, sql, talk)
+
+sys.path.insert(0, str(TOP / 'examples' / 'three'))
+import digest  # noqa: E402
+
+BACKUP = TOP / 'examples' / 'backup'
+WEEKLY = TOP / 'examples' / 'weekly'
+CREW = 'A1,1,1,TQ303804,crewofa1'
+QUEUE = message('deskone1', 'GET /queue')
+REFUSED_FILE = 'refused: file\n'
+
+
+def call_of(serial):
+    """A call at a place of its own."""
+    return call(serial, f'TQ3{serial % 100:02}8{serial // 100 % 100:02}')
+
+
+class CopiesTestCase(TestCase):
+    def setUp(self):
+        super().setUp()
+        self.room = made(self.folder / 'room.db', CREW)
+        self.list = self.folder / 'room.list'
+
+    def serve(self, *sent, words=()):
+        """Serves the room with a journal to one connection."""
+        words = *PATIENT, '--journal', self.list, *words
+        with serving(self.room, 1, *map(str, words)) as (port, process):
+            talk(port, *sent)
+            process.wait(timeout=60)
+
+    def copy(self, name='copy.db'):
+        return shutil.copy(self.room, self.folder / name)
+
+    def names(self, start=''):
+        return sorted(it.name for it in self.folder.iterdir() if it.name.startswith(start))
+
+
+class Digests(CopiesTestCase):
+    def test_digest(self):
+        """It is that of the tables; and the file stays as it is."""
+        for change in ['', "UPDATE meta SET zone = 'UTC0'",
+                       "UPDATE vehicles SET east = east + 1 WHERE callsign = 'A1'"]:
+            sql(self.room, change)
+            before = dump(self.room)
+            self.check(change or 'as it was made', run('digest', self.room),
+                       (0, f'digest {digest.of_file(self.room)}\n', ''))
+            self.check(f'{change}: what it holds', dump(self.room), before)
+
+    def test_after_a_day(self):
+        self.serve(*[call_of(it) for it in range(1, 40)], QUEUE)
+        self.check('after calls', run('digest', self.room),
+                   (0, f'digest {digest.of_file(self.room)}\n', ''))
+
+    def test_refused(self):
+        none = self.folder / 'none.db'
+        self.check('no file', run('digest', none), (1, '', REFUSED_FILE))
+        self.check('which is not made', none.exists(), False)
+        sql(self.room, 'PRAGMA foreign_keys = 0; DELETE FROM divisions')
+        self.check('no room', run('digest', self.room), (1, '', REFUSED_FILE))
+        with serving(made(self.folder / 'other.db'), 1):
+            self.check('a served one', run('digest', self.folder / 'other.db'),
+                       (3, '', 'storage\n'))
+
+
+def replay(room, text, *words):
+    done = subprocess.run([PROGRAM, 'replay', room, *words], input=text, capture_output=True,
+                          timeout=120)
+    return done.returncode, done.stdout.decode(), done.stderr.decode()
+
+
+def ends(text):
+    """Where the records of a list of version 2 end, the first line with them."""
+    found = [7]
+    while found[-1] < len(text):
+        found.append(found[-1] + 71 + int(text[found[-1]:found[-1] + 5]))
+    return found
+
+
+def plain(text):
+    """Its records without their lines, as a list of version 1 has them."""
+    places = ends(text)
+    found = [text[at + 71:end] for at, end in zip(places, places[1:])]
+    return [it for it in found if it != b'end\n']
+
+
+class Open(CopiesTestCase):
+    """A list that is still written."""
+    TOLD = 'the last record is cut off, and was left out\n'
+
+    def setUp(self):
+        super().setUp()
+        self.first = self.copy('first.db')
+        self.serve(call_of(1), call_of(2), call_of(3))
+        self.text = self.list.read_bytes()
+
+    def played(self, text, *words):
+        """A replay over a copy of the first room, and the calls that this has then."""
+        copy = shutil.copy(self.first, self.folder / 'copy.db')
+        copy.with_name('copy.db-wal').unlink(missing_ok=True)
+        told = replay(copy, text, *words)
+        return told, sql(copy, 'SELECT count(*) FROM calls').strip()
+
+    def test_whole(self):
+        """A whole list is replayed as ever, and the digest printed is that of the tables."""
+        (status, out, err), calls = self.played(self.text, '--open', '--digest')
+        self.check('a whole list', (status, out, err, calls),
+                   (0, f'replayed 3\ndigest {digest.of_file(self.room)}\n', '', '3'))
+        self.check('the copy', dump(self.folder / 'copy.db'), dump(self.room))
+
+    def test_cut(self):
+        """Wherever a chain is cut, what is whole before is replayed; without the word it is refused
+        where the cut is within a record."""
+        places = ends(self.text)
+        # The head, and then a message and an answer of each call; the last record says `end`.
+        for number, (at, end) in enumerate(zip(places, places[1:])):
+            whole = min(max(number - 1, 0) // 2, 3)
+            cuts = sorted({at + 1, at + 5, at + 70, at + 71, at + 72, end - 1} & set(range(at + 1, end)))
+            for cut in cuts:
+                told, calls = self.played(self.text[:cut], '--open')
+                self.check(f'record {number} at {cut}', (told, calls),
+                           ((0, f'replayed {whole}\n', self.TOLD), str(whole)))
+                told, calls = self.played(self.text[:cut])
+                self.check(f'by default, {cut}', (told[0], told[2], calls),
+                           (1, f'refused: record {whole + 1}\n', str(whole)))
+
+    def test_between(self):
+        """Between two records it is a list; a message without a status is left out."""
+        for number, end in enumerate(ends(self.text)[1:], 1):
+            (status, out, err), calls = self.played(self.text[:end], '--open')
+            self.check(f'{number} records', (status, calls), (0, str(min((number - 1) // 2, 3))))
+            self.check(f'{number} records: cut', 'cut off' in err, False)
+
+    def test_first_version(self):
+        entries = plain(self.text)
+        text = b''.join(entries)
+        last = len(text) - len(entries[-1])
+        for cut in range(last + 1, len(text)):
+            told, calls = self.played(text[:cut], '--open')
+            self.check(f'cut at {cut}', (told, calls), ((0, 'replayed 2\n', self.TOLD), '2'))
+
+    def test_changed(self):
+        """A byte that was changed is no cut, in the last record either, nor what stands behind it."""
+        for place in [-1, -3, -40, -69, -80]:
+            text = bytearray(self.text)
+            text[place] ^= 1
+            told, _ = self.played(bytes(text), '--open')
+            self.check(f'byte {place}', (told[0], told[2].startswith('refused: record ')), (1, True))
+        # A length that announces more than there is can't be distinguished from a cut.
+        text = bytearray(self.text)
+        text[-72] ^= 1
+        told, _ = self.played(bytes(text), '--open')
+        self.check('a longer record', told, (0, 'replayed 3\n', self.TOLD))
+        for more in [b'x' * 80, self.text[:90], b'00005 ' + b'0' * 64 + b'\nwhat\n']:
+            told, _ = self.played(self.text + more, '--open')
+            self.check(f'{more[:7]} behind it', (told[0], told[2]), (1, 'refused: record 4\n'))
+
+    def test_another_room(self):
+        shutil.copy(self.room, self.first)
+        told, _ = self.played(self.text, '--open', '--digest')
+        self.check('another room', told, (1, '', 'refused: another room at record 1\n'))
+
+    def test_answers(self):
+        """Where each message is answered, nothing is printed but the answers."""
+        one, _ = self.played(self.text, '--answers')
+        two, _ = self.played(self.text, '--answers', '--digest', '--open')
+        self.check('the same', two, one)
+        self.check('answers', one[1].startswith('answer 200 '), True)
+
+
+class Restores(CopiesTestCase):
+    def test_restore(self):
+        """A copy in the place of a crashed room, with its log beside it, is the copy's room; what
+        was there stays beside it."""
+        copy = self.copy('copy.db')
+        with serving(self.room, 2) as (port, process):
+            talk(port, call_of(1), call_of(2))
+            process.kill()
+        self.check('the log has something', self.room.with_name('room.db-wal').stat().st_size > 0,
+                   True)
+        wanted = dump(copy)
+        self.check('restored', run('restore', copy, self.room), run('check', copy))
+        self.check('its digest', run('digest', self.room)[1], f'digest {digest.of_file(copy)}\n')
+        self.check('its rows', dump(self.room), wanted)
+        self.check('the copy stays', dump(copy), wanted)
+        self.check('the mode', self.room.stat().st_mode & 0o777, 0o600)
+        self.check('the old room', sql(self.folder / 'room.db.old', 'SELECT count(*) FROM calls'),
+                   '2\n')
+
+    def test_where_none_is(self):
+        copy, new = self.copy(), self.folder / 'new.db'
+        self.check('restored', run('restore', copy, new)[0], 0)
+        self.check('its rows', dump(new), dump(copy))
+        self.check('nothing old', self.names('new.db.'), [])
+
+    def test_a_log_alone(self):
+        """A log that lies where no file is goes to the old one's."""
+        copy, new = self.copy(), self.folder / 'new.db'
+        with serving(self.room, 1) as (port, process):
+            talk(port, call_of(1))
+            process.wait(timeout=60)
+        shutil.copy(self.folder / 'room.db-wal', self.folder / 'new.db-wal')
+        self.check('restored', run('restore', copy, new)[0], 0)
+        self.check('its rows', dump(new), dump(copy))
+
+    def test_a_rollback_journal(self):
+        """A journal of another program beside the file is no hindrance."""
+        copy = self.copy()
+        self.room.with_name('room.db-journal').write_bytes(b'journal')
+        self.check('the room', run('digest', self.room)[0], 3)
+        self.check('restored', run('restore', copy, self.room)[0], 0)
+        self.check('its digest', run('digest', self.room)[0], 0)
+
+    def test_twice(self):
+        """What an earlier restore left makes room."""
+        copy = self.copy()
+        for serial in 1, 2:
+            with serving(self.room, 1) as (port, process):
+                talk(port, call_of(serial))
+                process.wait(timeout=60)
+            was = sql(self.room, 'SELECT serial FROM calls')
+            self.check(f'{serial}', run('restore', copy, self.room)[0], 0)
+            self.check(f'{serial}: old', sql(self.folder / 'room.db.old',
+                                             'SELECT serial FROM calls'), was)
+
+    def refused(self, what, words, wanted):
+        before = {it: it.read_bytes() for it in self.folder.iterdir() if it.is_file()}
+        self.check(what, run('restore', *words)[::2], wanted)
+        after = {it: it.read_bytes() for it in self.folder.iterdir() if it.is_file()}
+        changed = [it.name for it in {*before, *after} if before.get(it) != after.get(it)]
+        self.check(f'{what}: what changed', [it for it in changed if not it.endswith('-wal')], [])
+
+    def test_refused(self):
+        copy = self.copy()
+        none = self.folder / 'none.db'
+        self.refused('no copy', [none, self.room], (1, REFUSED_FILE))
+        text = self.folder / 'text.db'
+        text.write_text('what?' * 1000)
+        self.refused('no database', [text, self.room], (3, 'storage\n'))
+        bad = self.copy('bad.db')
+        sql(bad, "UPDATE vehicles SET status = 5 WHERE callsign = 'A1'")
+        self.refused('no well-formed room', [bad, self.room], (1, REFUSED_FILE))
+        self.refused('the same file', [copy, copy], (1, REFUSED_FILE))
+        self.refused('in no folder', [copy, none / 'room.db'], (3, 'storage\n'))
+        with serving(self.room, 2) as (port, _):
+            talk(port, call_of(1))
+            self.refused('over a served room', [copy, self.room], (3, 'storage\n'))
+            self.refused('of a served room', [self.room, none], (3, 'storage\n'))
+
+
+# Ends the program at the call of this number that moves, removes, writes or syncs a file.
+STOPS = r"""
+#define _GNU_SOURCE
+#include <dlfcn.h>
+#include <stdlib.h>
+#include <unistd.h>
+#define NEXT(name) ((__typeof__(&name))dlsym(RTLD_NEXT, #name))
+int rename(const char *from, const char *to);
+static void count(void) {
+  static long left = -1;
+  if (left < 0) left = atol(getenv("STOP_AT"));
+  if (left > 0 && --left == 0) _exit(9);
+}
+int rename(const char *from, const char *to) { count(); return NEXT(rename)(from, to); }
+int unlink(const char *path) { count(); return NEXT(unlink)(path); }
+int fsync(int file) { count(); return NEXT(fsync)(file); }
+ssize_t write(int file, const void *bytes, size_t size) {
+  if (file > 2) count();
+  return NEXT(write)(file, bytes, size);
+}
+"""
+
+
+class Stopped(CopiesTestCase):
+    """A restore over a crashed room that is stopped before any of its calls leaves no file, or the
+    crashed room, or the copy's; and then it is done again."""
+
+    def setUp(self):
+        super().setUp()
+        self.program = Preloaded(self.folder, STOPS)
+        self.place = self.folder / 'place'
+        self.copied = self.copy()
+        with serving(self.room, 2) as (port, process):
+            talk(port, call_of(1))
+            process.kill()
+        self.held = {it: (self.folder / it).read_bytes() for it in ('room.db', 'room.db-wal')}
+
+    def stopped(self, at):
+        """The status of a restore that is stopped at a call."""
+        shutil.rmtree(self.place, ignore_errors=True)
+        self.place.mkdir()
+        for name, held in self.held.items():
+            (self.place / name).write_bytes(held)
+        return self.program.run({'STOP_AT': at}, 'restore', self.copied, self.place / 'room.db')[0]
+
+    def test_stops(self):
+        room = self.place / 'room.db'
+        copied, crashed = digest.of_file(self.copied), self.crashed()
+        seen = []
+        for at in itertools.count(1):
+            status = self.stopped(at)
+            if status == 0:
+                break
+            self.check(f'stopped at {at}', status, 9)
+            seen.append(self.digest_of(room))
+            self.check(f'again after {at}', run('restore', self.copied, room)[0], 0)
+            self.check(f'the copy after {at}', self.digest_of(room), copied)
+        self.check('in this order', [it for it, _ in itertools.groupby(seen)],
+                   [crashed, 'none', copied])
+
+    def crashed(self):
+        """The digest of the room that crashed, as its file and log give it."""
+        self.stopped(1)
+        return self.digest_of(self.place / 'room.db')
+
+    def digest_of(self, room):
+        """A room's digest, of copies of its file and log; or none."""
+        if not room.exists():
+            return 'none'
+        seen = self.folder / 'seen.db'
+        for end in '', '-wal':
+            seen.with_name(seen.name + end).unlink(missing_ok=True)
+            if room.with_name(room.name + end).exists():
+                shutil.copy(room.with_name(room.name + end), seen.with_name(seen.name + end))
+        status, out, _ = run('digest', seen)
+        return out.split()[-1] if status == 0 else f'status {status}'
+
+
+class Names(CopiesTestCase):
+    def test_names(self):
+        """A journal has no name of the database's; and the room opens after that."""
+        address = f'127.0.0.1:{free_port()}'
+        for end in '-journal', '-wal', '-shm':
+            before = self.names()
+            for path in f'{self.room}{end}', f'./room.db{end}':
+                status, out, err = run('serve', self.room, address, '--journal', path)
+                self.check(f'{end}', (status, out, err.splitlines()[0]), (
+                    2, '', f"error: invalid value '{path}' for '--journal <LIST>': the database of "
+                           f'{self.room} uses a file of this name'))
+            self.check(f'{end}: no file is made', self.names(), before)
+        self.check('the room opens', run('digest', self.room)[0], 0)
+        for name in 'room-journal', 'room.db-list', 'other.db-wal', 'xroom.db-wal':
+            with serving(self.room, 1, *PATIENT, '--journal', str(self.folder / name)) as (port, it):
+                talk(port, QUEUE)
+                self.check(name, it.wait(timeout=60), 0)
+
+
+class Nights(CopiesTestCase):
+    """Copies of a room that is served on."""
+
+    def setUp(self):
+        super().setUp()
+        self.copies = self.folder / 'copies'
+        self.copies.mkdir()
+
+    def backup(self, *words):
+        done = subprocess.run([BACKUP / 'backup.py', *map(str, words)], capture_output=True,
+                              text=True, timeout=120,
+                              env=os.environ | {'DISPATCH_ROOM': str(PROGRAM)})
+        return done.returncode, done.stdout, done.stderr
+
+    def begin(self):
+        return self.backup('begin', self.room, self.list, self.copies)
+
+    def night(self, *words):
+        return self.backup('night', self.list, self.copies, *words)
+
+    def newest(self):
+        """The newest copy, from outside."""
+        file = sorted(self.copies.glob('*.json'))[-1]
+        return file.with_suffix('.db'), json.loads(file.read_text())
+
+    def copied(self, calls):
+        """Whether a night gives a copy with so many calls, whose digest is that of its tables."""
+        status, out, err = self.night()
+        self.assertEqual((status, err), (0, ''))
+        path, found = self.newest()
+        self.assertEqual(sql(path, 'SELECT count(*) FROM calls'), f'{calls}\n')
+        self.assertEqual((digest.of_file(path), out.split()[-1]), (found['digest'],) * 2)
+        return path
+
+    def test_nights(self):
+        """Three nights while the room is served, and a last one after its end."""
+        self.check('the first', self.begin()[0], 0)
+        words = *PATIENT, '--journal', str(self.list), '--history'
+        with serving(self.room, 4, *words) as (port, process):
+            talk(port, call_of(1), call_of(2))
+            self.copied(2)
+            self.copied(2)
+            talk(port, call_of(3), QUEUE)
+            self.copied(3)
+            talk(port, call_of(4))
+            talk(port, QUEUE)
+            process.wait(timeout=60)
+        path = self.copied(4)
+        self.check('the copy is the room', dump(path), dump(self.room))
+        self.check('what is left in the folder', {it.name.partition('.db')[0] for it in
+                                                  self.copies.iterdir() if '.db' in it.name} &
+                   {'part', 'third'}, set())
+
+    def test_a_torn_record(self):
+        """A list that is cut within a record gives the copy of what is whole; the next night goes on
+        from there."""
+        self.begin()
+        self.serve(call_of(1), call_of(2))
+        text = self.list.read_bytes()
+        for cut in [*range(ends(text)[3] + 1, ends(text)[4] + 1, 40), ends(text)[4] - 1]:
+            for it in self.copies.iterdir():
+                it.unlink()
+            self.list.write_bytes(b'')
+            first = made(self.folder / f'first{cut}.db', CREW)
+            self.check('the first', self.backup('begin', first, self.list, self.copies)[0], 0)
+            self.list.write_bytes(text[:cut])
+            self.check(f'cut at {cut}', self.night()[0], 0)
+            self.list.write_bytes(text)
+            self.check(f'and then, {cut}', self.night()[0], 0)
+            self.check(f'the last copy, {cut}', digest.of_file(self.newest()[0]),
+                       digest.of_file(self.room))
+
+    def test_untrusted(self):
+        """What can't be trusted is one line and status 1, and the copies of before stay."""
+        self.check('no first copy', self.night()[0], 1)
+        self.begin()
+        self.serve(call_of(1))
+        self.copied(1)
+        self.serve(call_of(2))
+        text, place = self.list.read_bytes(), self.newest()[1]['bytes']
+        for what, other in [('a changed byte', text[:-100] + bytes([text[-100] ^ 1]) + text[-99:]),
+                            ('a record that is lost', text[:place] + text[ends(text)[-3]:]),
+                            ('a list that is shorter', text[:place - 80]),
+                            ('another list', b'room 2 ' + text)]:
+            self.list.write_bytes(other)
+            before = self.newest()
+            status, out, err = self.night()
+            self.check(what, (status, out, len(err.splitlines()),
+                              err.startswith('no copy that can be trusted: ')), (1, '', 1, True))
+            self.check(f'{what}: the copies', self.newest(), before)
+        self.list.write_bytes(text)
+        self.copied(2)
+        # A change that no list has is found by the next head.
+        sql(self.room, "UPDATE vehicles SET east = east + 1 WHERE callsign = 'A1'")
+        self.serve(call_of(3))
+        status, out, err = self.night()
+        self.check('a change beside the list', (status, 'another room at record' in err), (1, True))
+
+    def test_a_damaged_copy(self):
+        self.begin()
+        self.serve(call_of(1))
+        path, _ = self.newest()
+        sql(path, "UPDATE vehicles SET east = east + 1 WHERE callsign = 'A1'")
+        status, _, err = self.night()
+        self.check('another room', (status, 'another room at record 1' in err), (1, True))
+        path.write_bytes(path.read_bytes()[:5000])
+        self.check('no room', self.night()[0], 1)
+
+    def test_kept(self):
+        self.begin()
+        for serial in range(1, 5):
+            self.serve(call_of(serial))
+            self.check(f'night {serial}', self.night('--keep', '2')[0], 0)
+        self.check('kept', len(list(self.copies.glob('*.db'))), 2)
+        self.check('of each', len(list(self.copies.glob('*.json'))), 2)
+
+
+class Units(TestCase):
+    FILES = [*BACKUP.glob('dispatch-room-*'), *WEEKLY.glob('dispatch-room-*')]
+
+    def test_verify(self):
+        """systemd takes them."""
+        self.check('there are four', len(self.FILES), 4)
+        for file in self.FILES:
+            text = re.sub(r'/usr/share/doc/\S+\.(?:py|sh)', '/bin/true', file.read_text())
+            for name, held in [(file.name, text),
+                               (file.name.replace('.timer', '.service'),
+                                '[Service]\nExecStart=/bin/true\n')]:
+                if not (self.folder / name).exists():
+                    (self.folder / name).write_text(held)
+            (self.folder / file.name).write_text(text)
+            told = self.verified(file.name)
+            self.check(f'{file.name} as it is', told, '')
+            (self.folder / file.name).write_text(text.replace('Description=', 'Descriptoin='))
+            self.check('a word that is none', 'Unknown key' in self.verified(file.name), True)
+
+    def verified(self, name):
+        done = subprocess.run(['systemd-analyze', '--no-pager', 'verify', '--man=no',
+                               self.folder / name], stdin=subprocess.DEVNULL, capture_output=True,
+                              text=True, timeout=120, env=os.environ | {'LC_ALL': 'C'})
+        return '\n'.join(it for it in (done.stdout + done.stderr).splitlines() if name in it)
+
+    def test_calendar(self):
+        for file in self.FILES:
+            for when in re.findall('^OnCalendar=(.*)$', file.read_text(), re.M):
+                done = subprocess.run(['systemd-analyze', 'calendar', when], capture_output=True,
+                                      timeout=60)
+                self.check(f'{when}', done.returncode, 0)
+
+
+class Weekly(CopiesTestCase):
+    """The script of each week, with a systemctl that notes what it is asked for."""
+
+    def setUp(self):
+        super().setUp()
+        self.asked = self.folder / 'asked'
+        bin_of = self.folder / 'bin'
+        bin_of.mkdir()
+        (bin_of / 'systemctl').write_text(f'#!/bin/sh\necho "$@" >>{self.asked}\n')
+        (bin_of / 'dispatch_room').write_text(f'#!/bin/sh\nexec {PROGRAM} "$@"\n')
+        for it in bin_of.iterdir():
+            it.chmod(0o755)
+        self.path = f'{bin_of}:{os.environ["PATH"]}'
+
+    def renew(self):
+        self.asked.unlink(missing_ok=True)
+        done = subprocess.run([WEEKLY / 'renew.sh', self.folder, 'room'], capture_output=True,
+                              text=True, timeout=120, env=os.environ | {'PATH': self.path})
+        return done.returncode, done.stdout, self.asked.read_text().splitlines()
+
+    def test_renew(self):
+        """The new room stands in the old one's place, and this beside it, with its list."""
+        self.serve(call_of(1), call_of(2))
+        old = dump(self.room)
+        status, out, asked = self.renew()
+        self.check('done', (status, asked), (0, ['stop room', 'start room']))
+        self.check('how long', re.search(r'stood still for \d+ s', out) is not None, True)
+        self.check('the new room', sql(self.room, 'SELECT count(*) FROM calls'), '2\n')
+        self.check('it opens', run('digest', self.room)[0], 0)
+        archives = [it for it in self.names('room.2') if it.endswith('.db')]
+        self.check('the archive', [dump(self.folder / it) for it in archives], [old])
+        self.check('the list', len([it for it in self.names('room.2') if it.endswith('.list')]), 1)
+        self.check('it is served', self.serve(call_of(3)), None)
+
+    def test_fails(self):
+        """Where it fails the old room is served again."""
+        old = dump(self.room)
+        sql(self.room, "UPDATE vehicles SET status = 5 WHERE callsign = 'A1'")
+        bad = self.room.read_bytes()
+        status, _, asked = self.renew()
+        self.check('not done', (status != 0, asked), (True, ['stop room', 'start room']))
+        self.check('the room stays', self.room.read_bytes(), bad)
+        self.check('it was another', dump(self.room) == old, False)
+
+    def test_after_a_stop(self):
+        """Where a stop left no room but the new one, it is put in its place."""
+        self.serve(call_of(1))
+        run('renew', self.room, self.folder / 'next.db', '--since', '2020-01-01')
+        self.room.rename(self.folder / 'room.db.old')
+        status, _, asked = self.renew()
+        self.check('done', (status, asked), (0, ['stop room', 'start room']))
+        self.check('the room', sql(self.room, 'SELECT count(*) FROM calls'), '1\n')

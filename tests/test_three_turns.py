@@ -1,0 +1,102 @@
+"""The turns by which companions of three machines put, and how the connection to a member of etcd
+is read."""
+# needs: python3
+import asyncio
+import sys
+
+from room import TOP, TestCase
+
+sys.path.insert(0, str(TOP / 'examples' / 'three'))
+import channel  # noqa: E402
+import etcd  # noqa: E402
+import turns  # noqa: E402
+
+WHOLE = b'HTTP/1.1 200 OK\r\nContent-Length: 2\r\n\r\n{}'
+CHUNKS = (b'HTTP/1.1 200 OK\r\nTransfer-Encoding: chunked\r\n\r\n'
+          b'3\r\n{"a\r\n5\r\n": 1}\r\n0\r\n\r\n')
+
+
+class Turns(TestCase):
+    def waits(self, last, active):
+        """Which of three machines waits how many turns, once one has put and some were active."""
+        found = []
+        for machine in 1, 2, 3:
+            it = turns.Turns(machine, 3)
+            for other in *active, last:
+                it.note(other)
+            found.append(round(it.wait() / (2 * it.takes)))
+        return found
+
+    def test_order(self):
+        """The next one puts at once, and the others wait for those that come before."""
+        self.check('all put', self.waits(1, [1, 2, 3]), [2, 0, 1])
+        self.check('all put, behind the last', self.waits(3, [1, 2]), [0, 1, 2])
+        self.check('two put', self.waits(1, [3]), [1, 0, 0])
+        self.check('one puts', self.waits(2, []), [0, 0, 0])
+
+    def test_alone(self):
+        """Who is alone waits for nobody, nor does one that puts seldom."""
+        it = turns.Turns(2, 3)
+        self.check('at first', it.wait() <= 0, True)
+        it.note(2)
+        self.check('behind its own', (it.wait() <= 0, it.others()), (True, 0))
+        it.note(1)
+        it.put[1] -= turns.ACTIVE
+        self.check('behind one of long ago', (it.wait() <= 0, it.others()), (True, 0))
+        it.note(9)
+        self.check('what is no machine is none', it.last, 1)
+
+
+class Wires(TestCase):
+    def taken(self, sent, size):
+        """What a wire makes of bytes that come in pieces."""
+        async def take():
+            wire = channel.Wire()
+            for at in range(0, len(sent), size):
+                wire.data_received(sent[at:at + size])
+            return wire.answered.result()
+        return asyncio.run(take())
+
+    def test_pieces(self):
+        """An answer is the same in whatever pieces it comes."""
+        for size in 1, 2, 7, 1000:
+            self.check(f'with a length, by {size}', self.taken(WHOLE, size), (200, b'{}'))
+            self.check(f'in chunks, by {size}', self.taken(CHUNKS, size), (200, b'{"a": 1}'))
+
+    def test_lines(self):
+        """An answer without an end is taken line by line, as it comes."""
+        async def take():
+            wire, lines = channel.Wire(), []
+            wire.take_line = lines.append
+            wire.data_received(CHUNKS[:-5].replace(b'3\r\n{"a', b'4\r\n1\n{"'))
+            wire.data_received(b'3\r\n\n3\n\r\n')
+            return lines, wire.answered.done()
+        self.check('lines', asyncio.run(take()), ([b'1', b'{"": 1}', b'3'], False))
+
+    def test_silence(self):
+        """A member that says nothing is given up, and its answer is none of the next request."""
+        async def ask():
+            async def serve(reader, writer):
+                count[0] += 1
+                await reader.readuntil(b'}')
+                if count[0] > 1:
+                    writer.write(WHOLE)
+                else:
+                    await asyncio.sleep(0.3)
+                    writer.write(WHOLE.replace(b'{}', b'[]'))
+                await writer.drain()
+                writer.close()
+            count = [0]
+            server = await asyncio.start_server(serve, '127.0.0.1', 0)
+            by = channel.Channel(etcd.Reach(*server.sockets[0].getsockname()), 0.2)
+            told = []
+            for _ in range(2):
+                try:
+                    told.append(await by.ask('/', {}))
+                except etcd.Unreached as reason:
+                    told.append(str(reason))
+            await asyncio.sleep(0.2)
+            by.close()
+            server.close()
+            return told
+        self.check('told', asyncio.run(ask()), ['etcd: timed out', {}])
