@@ -1,7 +1,7 @@
 -- A room that begins by what another one left is that one renewed.
 use Rattle.std.proofs.Common.{IfNone, IfSome, List, None, Option, Some, [], ap, false, inr, is_some, refl, subst, sym}
 use Rattle.std.proofs.Common.{ℕ, ℤ, ◌+◌, ◌<◌, ◌∙◌, ◌≡◌, ◌≤◌, ◌∷◌}
-use Rattle.std.specs.Prelude.{IsSome}
+use Rattle.std.specs.Prelude.{Err, IfOk, IsSome, Ok, Result}
 use Rattle.std.proofs.lemmas.Cmp.{nat_list_cmp_total}
 use Rattle.std.proofs.lemmas.Map.Lookups.{exact_bytes}
 use Rattle.std.specs.Ordering.{nat_cmp}
@@ -30,6 +30,7 @@ use Rattle.room_store_file.specs.ExaminedFile.{HoldsAll, IsSummaryOf}
 use Rattle.room_store_writes.specs.Houses.{config_of}
 use Rattle.room_store_writes.specs.NewRoom.{StandsWith, in_order, new_room, put_all}
 use Rattle.room_tables.specs.Stands.{Stands}
+use Rattle.dispatch_room_exit.specs.declared.exit_status.Failure.{Failure}
 use Rattle.dispatch_room_tasks.specs.Renewal.{IsLeftBy, IsLeftSince, IsMomentOf, IsNoStart, IsStart, StandsRenewed}
 use Rattle.dispatch_room_tasks.specs.Renewal.{last_moment}
 use Rattle.dispatch_room_tasks.specs.TimesReport.{IsSpanOf}
@@ -113,6 +114,16 @@ left_by left trees day whole summary holds config since =
           subst (λ (c : Configuration). IsLeftSince c.plan.zone (last_moment room) day room left.changes.items)
           (sym config) dated;
     }
+
+pub if_left_by : (left : Result Successor Failure) (trees : Trees) (day : List ℕ)
+    (whole : ReadFile) (summary : Summary) → HoldsAll trees whole summary
+    → IfOk left (λ left. left.config ≡ whole.config)
+    → IfOk left (λ left. IsLeftSince whole.config.plan.zone summary.newest day
+    (room_of whole.config.plan.areas whole.rows) left.changes.items)
+    → IfOk left (IsLeftBy trees day)
+if_left_by (Ok left) trees day whole summary holds config since =
+    left_by left trees day whole summary holds config since
+if_left_by (Err failure) trees day whole summary holds config since = tt
 
 -- so the file holds a room of which there is so much
 pub amount_of : (trees : Trees) (whole : ReadFile) (summary : Summary)

@@ -48,8 +48,8 @@ pub fn enrol_in<S: Alter + Drop, O: Write>(
     Ok((done, room.close()))
 }
 
-// Enrols the good rows of the lines, reports what became of each line, and explains the others.
-fn enrol<S: Alter, O: Write>(
+/// Enrols the good rows of the lines, reports what became of each line, and explains the others.
+pub fn enrol<S: Alter, O: Write>(
     alloc: Global,
     room: &mut Store<S>,
     sheet: Sheet<'_>,

@@ -45,11 +45,29 @@ pub fn day_in<S: Alter + Drop>(
         WritesNothing (state S.Store conn) (state S.Store worked.1)) }
     ensures fault { IfErr result (LacksDay S.Store conn division day.now) }
 {
-    match read_room(alloc, &mut conn) {
-        Ok((whole, _summary)) => match day_of(alloc, &whole, division, day) {
-            Ok(found) => Ok((Ok(found), conn)),
-            Err(fault) => Err(fault),
-        },
+    let found = find_day(alloc, &mut conn, division, day)?;
+    Ok((Ok(found), conn))
+}
+
+// The day in the room of a file, of which all is read.
+fn find_day<S: Alter>(
+    alloc: Global,
+    conn: &mut Connection<S>,
+    division: DivisionNumber,
+    day: &str,
+) -> Result<DivisionDay, Failure>
+    requires outside { conn.old.in_transaction ≡ false }
+    ensures day { HasCleanDisk (state S.Store conn.new)
+        → IfOk result (IsDayIn (state S.Store conn.old).now.trees division day.now) }
+    ensures nothing { WritesNothing (state S.Store conn.old) (state S.Store conn.new) }
+    ensures fault { IfErr result (LacksDay S.Store conn.old division day.now) }
+{
+    match read_room(alloc, conn) {
+        Ok((whole, _summary)) => {
+            let found = day_of(alloc, &whole, division, day);
+            drop(whole);
+            found
+        }
         Err(wrong) => Err(failure_of(wrong)),
     }
 }
@@ -101,11 +119,28 @@ pub fn joined_report_in<S: Alter + Drop>(
         WritesNothing (state S.Store conn) (state S.Store worked.1)) }
     ensures fault { IfErr result (JoinsNone S.Store conn) }
 {
-    match read_room(alloc, &mut conn) {
-        Ok((whole, _summary)) => match joined_report(alloc, newer, &whole.rows) {
-            Ok(report) => Ok((Ok(report), conn)),
-            Err(fault) => Err(fault),
-        },
+    let report = join(alloc, &mut conn, newer)?;
+    Ok((Ok(report), conn))
+}
+
+// The report by the incidents of a file's room too, of which all is read.
+fn join<S: Alter>(
+    alloc: Global,
+    conn: &mut Connection<S>,
+    newer: &DivisionDay,
+) -> Result<Vec<u8>, Failure>
+    requires outside { conn.old.in_transaction ≡ false }
+    ensures report { HasCleanDisk (state S.Store conn.new) → IfOk result (λ report.
+        JoinsDay (state S.Store conn.old).now.trees newer.now report.items) }
+    ensures nothing { WritesNothing (state S.Store conn.old) (state S.Store conn.new) }
+    ensures fault { IfErr result (JoinsNone S.Store conn.old) }
+{
+    match read_room(alloc, conn) {
+        Ok((whole, _summary)) => {
+            let report = joined_report(alloc, newer, &whole.rows);
+            drop(whole);
+            report
+        }
         Err(wrong) => Err(failure_of(wrong)),
     }
 }

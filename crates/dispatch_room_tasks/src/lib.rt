@@ -24,5 +24,5 @@ pub mod replacement_laws;
 pub mod replanned_room;
 pub mod replanning_faults;
 pub mod replanning_laws;
-mod row_outcomes;
+pub mod row_outcomes;
 pub mod times_report;

@@ -27,6 +27,7 @@ use crate::opened_room::TaskResult;
 use crate::times_report::span;
 use dispatch_room_exit::exit_status::{Done, Failure};
 use room_http_time::zones::Zone;
+use room_place::plans::Plan;
 use room_renewal::successor::puts_since;
 use room_store_check_tables::whole_file::{Configuration, ReadFile};
 use room_store_file::examined_file::read_room;
@@ -35,6 +36,7 @@ use room_tables_schema::database_faults::Fault;
 use room_tables_schema::schema_tests::is_empty;
 use room_types::changes::Change;
 use room_types::numbers::Moment;
+use room_types::slices::DivisionRows;
 use sqlite::{Alter, Connection};
 use std::alloc::Global;
 use std::io::Write;
@@ -65,11 +67,24 @@ pub fn left_in<S: Alter + Drop>(
         WritesNothing (state S.Store conn) (state S.Store worked.1)) }
     ensures fault { IfErr result (LeavesNone S.Store conn day.now) }
 {
-    match read_room(alloc, &mut conn) {
-        Ok((whole, summary)) => match left_of(alloc, whole, summary.newest, day) {
-            Ok(left) => Ok((Ok(left), conn)),
-            Err(fault) => Err(fault),
-        },
+    let left = find_left(alloc, &mut conn, day)?;
+    Ok((Ok(left), conn))
+}
+
+// What the room of a file leaves, of which all is read.
+fn find_left<S: Alter>(
+    alloc: Global,
+    conn: &mut Connection<S>,
+    day: &str,
+) -> Result<Successor, Failure>
+    requires outside { conn.old.in_transaction ≡ false }
+    ensures left { HasCleanDisk (state S.Store conn.new)
+        → IfOk result (IsLeftBy (state S.Store conn.old).now.trees day.now) }
+    ensures nothing { WritesNothing (state S.Store conn.old) (state S.Store conn.new) }
+    ensures fault { IfErr result (LeavesNone S.Store conn.old day.now) }
+{
+    match read_room(alloc, conn) {
+        Ok((whole, summary)) => left_of(alloc, whole, summary.newest, day),
         Err(wrong) => Err(failure_of(wrong)),
     }
 }
@@ -82,10 +97,28 @@ fn left_of(alloc: Global, whole: ReadFile, newest: Moment, day: &str) -> Result<
     ensures fault { IfErr result (ExplainsStay whole.config.plan.zone newest day.now) }
 {
     let ReadFile { config, rows } = whole;
-    match Zone::read(config.plan.zone()) {
+    let changes = changes_of(alloc, &config.plan, &rows, newest, day);
+    drop(rows);
+    let changes = changes?;
+    Ok(Successor { config, changes })
+}
+
+// The changes that put what rows leave, by the zone of their plan.
+fn changes_of(
+    alloc: Global,
+    plan: &Plan,
+    rows: &DivisionRows,
+    newest: Moment,
+    day: &str,
+) -> Result<Vec<Change>, Failure>
+    ensures since { IfOk result (λ changes. IsLeftSince plan.now.zone newest day.now
+        (room_of plan.now.areas rows.now) changes.items) }
+    ensures fault { IfErr result (ExplainsStay plan.now.zone newest day.now) }
+{
+    match Zone::read(plan.zone()) {
         Ok(zone) => match start(&zone, newest, day) {
-            Some(since) => match puts_since(alloc, since, &rows) {
-                Ok(changes) => Ok(Successor { config, changes }),
+            Some(since) => match puts_since(alloc, since, rows) {
+                Ok(changes) => Ok(changes),
                 Err(_) => Err(Failure::Memory),
             },
             None => Err(Failure::Day),

@@ -1,8 +1,10 @@
 use Rattle.std.proofs.Common.{ap, arith, subst, ◌∙◌}
 use Rattle.sqlite.specs.Held.{state}
 use Rattle.sqlite.specs.State.{HasCleanDisk}
+use Rattle.room_tables_schema.proofs.WriteLaws.{commits_more}
 use Rattle.room_tables.proofs.RoomReads.{kept}
 use Rattle.room_tables.specs.Stands.{Stands}
+use Rattle.room_store_writes.proofs.TransactionReads.{reads_commit}
 use Rattle.room_store_writes.specs.NewRoom.{put_all}
 use Rattle.dispatch_room_tasks.proofs.RenewalLemmas.{still_in_order}
 use Rattle.dispatch_room_tasks.proofs.replaced_terminals.replace_inside.Goals as goal
@@ -25,3 +27,14 @@ returns-clause-ok g c clean =
                 (kept _ _ (c.in_ok-others.ensures.reads.ok early) config room h))),
           ),
     )
+
+pub returns-in_err-others-clause-commits : goal.returns-in_err-others-clause-commits
+returns-in_err-others-clause-commits g c = reads_commit c.find_others.result c.find_others.ensures.reads
+
+pub returns-in_err-set_terminals-clause-commits : goal.returns-in_err-set_terminals-clause-commits
+returns-in_err-set_terminals-clause-commits g c =
+    commits_more (reads_commit c.find_others.result c.find_others.ensures.reads) c.set_terminals.ensures.commits
+
+pub returns-clause-commits : goal.returns-clause-commits
+returns-clause-commits g c =
+    commits_more (reads_commit c.find_others.result c.find_others.ensures.reads) c.set_terminals.ensures.commits

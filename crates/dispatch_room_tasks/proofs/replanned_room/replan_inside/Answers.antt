@@ -2,8 +2,10 @@ use Rattle.std.proofs.Common.{ap, arith, subst, sym, ◌∙◌}
 use Rattle.sqlite.specs.Held.{state}
 use Rattle.sqlite.specs.State.{HasCleanDisk}
 use Rattle.room_model.specs.Room.{apply}
+use Rattle.room_tables_schema.proofs.WriteLaws.{commits_more}
 use Rattle.room_tables.proofs.RoomReads.{kept}
 use Rattle.room_tables.specs.Stands.{Stands}
+use Rattle.room_store_writes.proofs.TransactionReads.{reads_commit}
 use Rattle.room_store_writes.specs.Houses.{config_of}
 use Rattle.room_store_writes.specs.NewRoom.{put_all}
 use Rattle.dispatch_room_tasks.proofs.RenewalLemmas.{still_in_order}
@@ -40,3 +42,22 @@ returns-clause-ok g c clean =
                 (rw (c.as_slice.ensures.value, c.as_slice-listed.ensures.value) at put)),
           ),
     )
+
+pub returns-in_err-others-clause-commits : goal.returns-in_err-others-clause-commits
+returns-in_err-others-clause-commits g c = reads_commit c.find_others.result c.find_others.ensures.reads
+
+pub returns-in_err-set_plan-clause-commits : goal.returns-in_err-set_plan-clause-commits
+returns-in_err-set_plan-clause-commits g c =
+    commits_more (reads_commit c.find_others.result c.find_others.ensures.reads) c.set_plan.ensures.commits
+
+pub returns-in_err-set_terminals-clause-commits : goal.returns-in_err-set_terminals-clause-commits
+returns-in_err-set_terminals-clause-commits g c =
+    commits_more
+    (commits_more (reads_commit c.find_others.result c.find_others.ensures.reads) c.set_plan.ensures.commits)
+    c.set_terminals.ensures.commits
+
+pub returns-clause-commits : goal.returns-clause-commits
+returns-clause-commits g c =
+    commits_more
+    (commits_more (reads_commit c.find_others.result c.find_others.ensures.reads) c.set_plan.ensures.commits)
+    c.set_terminals.ensures.commits

@@ -4,6 +4,8 @@ use Rattle.std.specs.Prelude.{OnOk}
 use Rattle.sqlite.specs.Held.{state}
 use Rattle.sqlite.specs.State.{HasCleanDisk}
 use Rattle.room_model.specs.Room.{Room, apply}
+use Rattle.room_tables_schema.proofs.WriteLaws.{commits_more}
+use Rattle.room_store_writes.proofs.CommitLaws.{put_commits}
 use Rattle.room_tables.specs.Stands.{Configuration, Stands}
 use Rattle.dispatch_room_tasks.specs.ReplannedRoom.{additions}
 use Rattle.dispatch_room_tasks.proofs.replanned_room.set_plan.Goals as goal
@@ -31,3 +33,28 @@ returns-clause-stands g c clean =
     ((c.in_ok-put_each.ensures.ok put).stands _ room ((c.in_ok-put_meta.ensures.ok named).stands config room h))) refl)
     (c.put_areas.ensures.stands clean) in
     rw (c.zone.ensures, added, c.areas-2.ensures) at stand
+
+pub returns-in_err-put_meta-clause-commits : goal.returns-in_err-put_meta-clause-commits
+returns-in_err-put_meta-clause-commits g c =
+    put_commits _ _ _ _ _ c.put_meta.result c.put_meta.ensures.ok c.put_meta.ensures.writes
+
+pub returns-in_err-put_each-clause-commits : goal.returns-in_err-put_each-clause-commits
+returns-in_err-put_each-clause-commits g c =
+    commits_more (put_commits _ _ _ _ _ c.put_meta.result c.put_meta.ensures.ok c.put_meta.ensures.writes)
+    c.put_each.ensures.commits
+
+pub returns-in_err-clear_areas-clause-commits : goal.returns-in_err-clear_areas-clause-commits
+returns-in_err-clear_areas-clause-commits g c =
+    commits_more
+    (commits_more (put_commits _ _ _ _ _ c.put_meta.result c.put_meta.ensures.ok c.put_meta.ensures.writes)
+    c.put_each.ensures.commits)
+    (put_commits _ _ _ _ _ c.clear_areas.result c.clear_areas.ensures.ok c.clear_areas.ensures.writes)
+
+pub returns-clause-commits : goal.returns-clause-commits
+returns-clause-commits g c =
+    commits_more
+    (commits_more
+    (commits_more (put_commits _ _ _ _ _ c.put_meta.result c.put_meta.ensures.ok c.put_meta.ensures.writes)
+    c.put_each.ensures.commits)
+    (put_commits _ _ _ _ _ c.clear_areas.result c.clear_areas.ensures.ok c.clear_areas.ensures.writes))
+    c.put_areas.ensures.commits
