@@ -1,9 +1,11 @@
 """Copies without a stop, restores and the weekly new room, from outside: the digest of a file is the
 one that Python works out of its tables; the copy of a night has what was answered, however the list
 was cut; what can't be trusted is one line with its status; a restore that is stopped before any of
-its system calls leaves no file, or one of the two rooms whole; and the units do as they say."""
+its system calls leaves no file, or one of the two rooms whole; a night takes a fleet of the list
+with the head behind it; and the units do as they say."""
 # needs: python3 sqlite3 systemd gcc libc6-dev
 # builds: dispatch_room
+import hashlib
 import itertools
 import json
 import os
@@ -14,8 +16,8 @@ import subprocess
 import sys
 
 from preloaded import Preloaded
-from room import (PATIENT, PROGRAM, TOP, TestCase, call, dump, free_port, made, message, run,
-                  serving, sql, talk)
+from room import (PATIENT, PROGRAM, TOP, TestCase, call, dump, fleet_of, free_port, made, message,
+                  run, serving, sql, talk)
 
 sys.path.insert(0, str(TOP / 'examples' / 'three'))
 import digest  # noqa: E402
@@ -23,6 +25,8 @@ import digest  # noqa: E402
 BACKUP = TOP / 'examples' / 'backup'
 WEEKLY = TOP / 'examples' / 'weekly'
 CREW = 'A1,1,1,TQ303804,crewofa1'
+B1 = 'B1,2,2,TQ600800,crewofb1'
+C1 = 'C1,1,1,TQ303804,crewofc1'
 QUEUE = message('deskone1', 'GET /queue')
 REFUSED_FILE = 'refused: file\n'
 
@@ -98,6 +102,21 @@ def plain(text):
     places = ends(text)
     found = [text[at + 71:end] for at, end in zip(places, places[1:])]
     return [it for it in found if it != b'end\n']
+
+
+def goes_on(text, bodies):
+    """A list of version 2 that goes on with these records, each with the SHA-256 of the check of
+    the one before and of itself; at first the check is zeros."""
+    places = ends(text)
+    check = text[places[-2] + 6:places[-2] + 70] if len(places) > 1 else b'0' * 64
+    for body in bodies:
+        check = hashlib.sha256(check + body).hexdigest().encode()
+        text += b'%05d %s\n' % (len(body), check) + body
+    return text
+
+
+def head_of(room):
+    return f'room 2 {digest.of_file(room)}\n'.encode()
 
 
 class Open(CopiesTestCase):
@@ -371,7 +390,7 @@ class Nights(CopiesTestCase):
 
     def backup(self, *words):
         done = subprocess.run([BACKUP / 'backup.py', *map(str, words)], capture_output=True,
-                              text=True, timeout=120,
+                              text=True, timeout=300,
                               env=os.environ | {'DISPATCH_ROOM': str(PROGRAM)})
         return done.returncode, done.stdout, done.stderr
 
@@ -468,6 +487,61 @@ class Nights(CopiesTestCase):
         self.check('another room', (status, 'another room at record 1' in err), (1, True))
         path.write_bytes(path.read_bytes()[:5000])
         self.check('no room', self.night()[0], 1)
+
+    def enrols(self, *rows, stopped=0):
+        """Enrols a fleet, or all but its last rows, and puts into the list what an import leaves
+        there: where the room was, the lines of the file, and where the room is then."""
+        head, fleet = head_of(self.room), self.folder / 'next.csv'
+        fleet.write_text(fleet_of(*rows[:len(rows) - stopped]))
+        self.assertEqual(run('import', self.room, fleet)[0], 0)
+        lines = [f'row {it}\n'.encode() for it in fleet_of(*rows).splitlines()]
+        text = self.list.read_bytes()
+        self.list.write_bytes(goes_on(text, [head, *lines, head_of(self.room)]))
+
+    def vehicles(self):
+        """The vehicles of the newest copy."""
+        return sql(self.newest()[0], 'SELECT callsign FROM vehicles ORDER BY 1').split()
+
+    def test_a_fleet(self):
+        """A fleet in the list is enrolled in the copy, as far as the head behind it says."""
+        self.begin()
+        for stopped, wanted in [(1, ['A1', 'B1']), (0, ['A1', 'B1', 'C1'])]:
+            head, place = head_of(self.newest()[0]), self.newest()[1]['bytes']
+            self.serve(call_of(2 * stopped + 1))
+            self.enrols(B1, C1, stopped=stopped)
+            self.serve(call_of(2 * stopped + 2))
+            text = self.list.read_bytes()
+            path = self.copied(4 - 2 * stopped)
+            self.check(f'{stopped} not enrolled', self.vehicles(), wanted)
+            self.check(f'{stopped} not enrolled: the room', dump(path), dump(self.room))
+            # What was played: where the copy was, and what the list has had since.
+            since = plain(b'list 2\n' + text[place:])
+            self.check(f'{stopped} not enrolled: the list', path.with_suffix('.list').read_bytes(),
+                       goes_on(b'list 2\n', [head, *since]))
+
+    def test_a_fleet_without_its_head(self):
+        """Where the head behind a fleet is not written yet, or not whole, the copy has none of it;
+        the next night goes on from there."""
+        first = self.copy('first.db')
+        self.serve(call_of(1))
+        self.enrols(B1, C1)
+        text = self.list.read_bytes()
+        # The last records: a head, three lines of a file, and a head.
+        places = ends(text)[-6:]
+        for cut in sorted({*places[1:-1], *(it - 1 for it in places[1:])}):
+            for it in self.copies.iterdir():
+                it.unlink()
+            self.list.write_bytes(b'')
+            room = shutil.copy(first, self.folder / f'first{cut}.db')
+            self.check('the first', self.backup('begin', room, self.list, self.copies)[0], 0)
+            self.list.write_bytes(text[:cut])
+            self.check(f'cut at {cut}', self.night()[0], 0)
+            self.check(f'cut at {cut}: the copy', self.vehicles(), ['A1'])
+            self.check(f'cut at {cut}: its place', self.newest()[1]['bytes'],
+                       places[1] if cut >= places[1] else places[0])
+            self.list.write_bytes(text)
+            self.check(f'and then, {cut}', self.night()[0], 0)
+            self.check(f'the last copy, {cut}', dump(self.newest()[0]), dump(self.room))
 
     def test_kept(self):
         self.begin()

@@ -42,7 +42,7 @@ def plain(text):
         check = hashlib.sha256(check + body).hexdigest().encode()
         assert piece[:71] == b'%05d %s\n' % (len(body), check), piece
         bodies.append(body)
-    return b''.join(it for it in bodies if it != b'end\n')
+    return b''.join(it for it in bodies if it != b'end\n' and not it.startswith(b'row '))
 
 
 def entries(text):
@@ -665,6 +665,67 @@ class Chained(JournalTestCase):
             self.list.write_bytes(text)
             self.check(what, verify(self.list), (0, wanted, ''))
         self.check('no list', verify(self.folder / 'none')[:2], (1, ''))
+
+    # what an import leaves in a list: the lines of the fleet's file
+    ROWS = [b'row callsign,division,kind,place,token\n', b'row A9,1,0,TQ303804,crewofa9\n']
+
+    def test_rows(self):
+        """Rows of the fleet's file are passed over, wherever they stand; those of a list of version
+        1 are none."""
+        moments = [it[1] for it in self.found if it[0] == 'message']
+        span = f'verified 3\nfrom {moments[0]} to {moments[-1]}\n'
+        for at in range(len(self.bodies) + 1):
+            for end, wanted in [([], 'not ended\n'), ([self.END], 'ended\n')]:
+                rows = self.ROWS * (at % 3 + 1)
+                self.list.write_bytes(chain([*self.bodies[:at], *rows, *self.bodies[at:], *end]))
+                self.check(f'rows at {at}', verify(self.list), (0, span + wanted, ''))
+        self.list.write_bytes(chain([*self.bodies, self.END, *self.ROWS]))
+        self.check('rows at last', verify(self.list), (0, span + 'not ended\n', ''))
+        self.list.write_bytes(chain(self.ROWS))
+        self.check('only rows', verify(self.list), (0, 'verified 0\nnot ended\n', ''))
+        for what, text in [
+            ('version 1', written(self.found) + b''.join(self.ROWS)),
+            ('another word', chain([*self.bodies, b'rows A9\n'])),
+            ('two lines in a row', chain([*self.bodies, b'row A9\nB9\n'])),
+            ('no line end', chain([*self.bodies, b'row A9'])),
+            ('two ends', chain([*self.bodies, self.END, self.END, *self.ROWS])),
+        ]:
+            self.list.write_bytes(text)
+            self.check(what, verify(self.list)[:2], (1, ''))
+
+    def test_each_byte_of_rows(self):
+        """A bit that changed in a row, or a row that was lost, is found."""
+        stood = pieces(chain([self.bodies[0], *self.ROWS, *self.bodies[1:3], self.END]))
+        start = len(b'list 2\n' + stood[0])
+        text = b'list 2\n' + b''.join(stood)
+        self.list.write_bytes(text)
+        self.check('the whole', verify(self.list)[0], 0)
+        for at in range(start, start + len(stood[1] + stood[2])):
+            changed = bytearray(text)
+            changed[at] ^= 1 << at % 8
+            self.list.write_bytes(changed)
+            with self.subTest(f'byte {at}'):
+                status, out, err = verify(self.list)
+                self.assertEqual((status, out), (1, ''))
+                self.assertRegex(err, r'record 1\n')
+        for nth in (1, 2):
+            self.list.write_bytes(b'list 2\n' + b''.join(stood[:nth] + stood[nth + 1:]))
+            self.check(f'row {nth} lost', verify(self.list)[:2], (1, ''))
+
+    def test_served_behind_rows(self):
+        """A service goes on behind rows, and takes away one that was cut off."""
+        whole = chain([*self.bodies, self.END, *self.ROWS])
+        for what, cut in [('whole', len(whole)), ('cut off', len(whole) - 5)]:
+            self.list.write_bytes(whole[:cut])
+            told = self.serve([QUEUE])[1]
+            rows = 2 if what == 'whole' else 1
+            kept = chain([*self.bodies, self.END, *self.ROWS[:rows]])
+            now = self.list.read_bytes()
+            self.check(f'{what}: what stood', now[:len(kept)] == kept, True)
+            self.check(f'{what}: it is told', 'cut off' in told, what != 'whole')
+            self.check(f'{what}: its records', [it[0] for it in entries(now)][-3:],
+                       ['room', 'message', 'answer'])
+            self.check(f'{what}: it is whole', verify(self.list)[0], 0)
 
     def test_each_byte(self):
         """A bit that changed anywhere is found at its record."""

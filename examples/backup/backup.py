@@ -10,6 +10,10 @@ them to a copy of the last copy. A restore of the result is tried on a third fil
 stand in the folder: NAME.db, a room in one file; NAME.list, what was played to the copy before it;
 and NAME.json, its digest and its place in the list.
 
+A list has rows, too, where `import --journal` kept a fleet in it: records `row LINE`, one for
+each line of the fleet's file, and behind the last of them a head, `room 2 DIGEST`. The head says how
+many of the rows are enrolled, so a night takes rows only with the head behind them.
+
 One line says what was done, with status 0; or why there is no copy that can be trusted, with
 status 1."""
 import argparse
@@ -121,6 +125,15 @@ def header(size: int, check: str) -> bytes:
     return b'%05d %s\n' % (size, check.encode())
 
 
+def chain(bodies: list[bytes]) -> bytes:
+    """The list of these records. A list of version 1 has no rows."""
+    text, check = [OPENING], Place().check
+    for body in bodies:
+        check = hashlib.sha256(check.encode() + body).hexdigest()
+        text += [header(len(body), check), body]
+    return b''.join(text)
+
+
 def behind(file: pathlib.Path, place: Place) -> bytes:
     """What a list has behind a place."""
     with file.open('rb') as it:
@@ -134,14 +147,14 @@ def behind(file: pathlib.Path, place: Place) -> bytes:
 
 
 def since(file: pathlib.Path, place: Place) -> tuple[list[bytes], Place]:
-    """The entries that a list has behind a place, and the place behind them. A last message without
-    a status is left to the next night."""
+    """The entries and rows that a list has behind a place, and the place behind them. A last
+    message without a status is left to the next night, and so are last rows without a head."""
     entries, size, settled = [], place.bytes, (0, place)
     for body, check in records(behind(file, place), place.check):
         size += HEADER + len(body)
         if body != b'end\n':
             entries.append(body)
-        if not body.startswith(b'message '):
+        if not body.startswith((b'message ', b'row ')):
             settled = len(entries), Place(size, check)
     return entries[:settled[0]], settled[1]
 
@@ -162,7 +175,7 @@ def night(file: pathlib.Path, folder: pathlib.Path, kept: int) -> str:
     """Tonight's copy."""
     last = noted(newest(folder)[0])
     entries, place = since(file, last.place)
-    text = b''.join([f'room 2 {last.digest}\n'.encode(), *entries])
+    text = chain([f'room 2 {last.digest}\n'.encode(), *entries])
     part, third = folder / 'part.db', folder / 'third.db'
     restored(last.of('.db'), part)
     lines = said('replay', part, '--digest', '--history', text=text)

@@ -10,7 +10,7 @@ use Rattle.dispatch_room_cli.specs.declared.tasks.Task.TheVariants.{SetTerminals
 -- the path of the room's file, where the task has one
 abbrev pub file_of : Task → Option (List ℕ)
 file_of (Init file plan) = Some file.now
-file_of (Import file fleet) = Some file.now
+file_of (Import file fleet list) = Some file.now
 file_of (Migrate file) = Some file.now
 file_of (Check file) = Some file.now
 file_of (Digest file) = Some file.now

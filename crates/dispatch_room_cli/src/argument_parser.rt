@@ -164,6 +164,7 @@ fn task_over<'a>(file: &'a str, name: &str, given: &ArgMatches<'a>) -> Result<Ta
         "import" => Ok(Task::Import {
             file,
             fleet: text(given, "FLEET")?,
+            list: list_of(file, given)?,
         }),
         "replan" => Ok(Task::Replan {
             file,
@@ -258,16 +259,21 @@ fn serve_of<'a>(file: &'a str, given: &ArgMatches<'a>) -> Result<Task<'a>, Mista
     Ok(Task::Serve { file, service })
 }
 
+// The list that is kept of a room's file, where there is one.
+fn list_of<'a>(file: &'a str, given: &ArgMatches<'a>) -> Result<Option<&'a str>, Mistake<'a>> {
+    match given.get_str("journal") {
+        Some(list) if is_of_database(file, list) => Err(Mistake::OfDatabase { list, file }),
+        list => Ok(list),
+    }
+}
+
 fn journal_of<'a>(
     file: &'a str,
     given: &ArgMatches<'a>,
 ) -> Result<Option<Journal<'a>>, Mistake<'a>> {
-    let Some(list) = given.get_str("journal") else {
+    let Some(list) = list_of(file, given)? else {
         return Ok(None);
     };
-    if is_of_database(file, list) {
-        return Err(Mistake::OfDatabase { list, file });
-    }
     Ok(Some(Journal {
         list,
         is_synced: text(given, "journal-sync")? == "always",

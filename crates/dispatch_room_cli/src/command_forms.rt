@@ -87,6 +87,16 @@ const IMPORT: CommandForm = CommandForm {
             kind: TEXT,
             help: "The fleet as CSV: callsign, division, kind, place, token",
         },
+        Word {
+            name: "journal",
+            kind: WordKind::Named {
+                value: "LIST",
+                parser: ValueParser::String,
+                default: &[],
+            },
+            help: "Keep the rows in this file, which is no service's meanwhile, before they are \
+                 enrolled: the room's journal stays whole then",
+        },
         EXPLAIN,
     ],
 };

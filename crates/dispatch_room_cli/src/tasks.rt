@@ -13,10 +13,11 @@ pub enum Task<'a> {
         file: &'a str,
         plan: &'a str,
     },
-    /// The rows of a fleet are enrolled in a room.
+    /// The rows of a fleet are enrolled in a room, and kept in a list before, where there is one.
     Import {
         file: &'a str,
         fleet: &'a str,
+        list: Option<&'a str>,
     },
     /// A room of the first version is moved to this one.
     Migrate {

@@ -7,6 +7,10 @@ use Rattle.dispatch_room_exit.specs.declared.exit_status.Failure.{Failure}
 use Rattle.dispatch_room_serving.specs.declared.served_room.Terms.{Terms}
 use Rattle.dispatch_room_commands.specs.ServedParts.{EndsPart, Interval, IsPart, PartsBefore}
 
+pub not_both : (b : Bool) → b ≡ true → b ≡ false → ⊥
+not_both true is other = absurd (cc)
+not_both false is other = absurd (cc)
+
 pub not_false : (b : Bool) → not b ≡ false → b ≡ true
 not_false true is = refl
 not_false false is = absurd (cc)

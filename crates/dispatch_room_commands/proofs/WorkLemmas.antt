@@ -1,5 +1,6 @@
 -- What a call gives, said by two of its clauses, and what is handed on where it fails.
-use Rattle.std.proofs.Common.{Err, IfErr, IfOk, MatchResult, Ok, Result}
+use Rattle.std.proofs.Common.{Err, IfErr, IfOk, MatchResult, Ok, Result, false, ◌≡◌}
+use Rattle.std.specs.Prelude.{OnOk, is_err}
 use Rattle.std.specs.Result.{IsErrAnd}
 
 pub both : {T E : Type 0} (r : Result T E) (P Q : T → Type 0) → IfOk r P → IfOk r Q → IfOk r (λ x. P x × Q x)
@@ -15,3 +16,8 @@ pub handed_on : {T E : Type 0} {P : E → Type 0} (r : Result T E) (Q : E → Ty
     → IfErr r Q
 handed_on (Ok x) Q is by = tt
 handed_on (Err e) Q is by = by e is
+
+-- what holds where a call went well, once it is known that it did
+pub where_well : {T E : Type 0} (r : Result T E) (P : Type 0) → is_err r ≡ false → OnOk r P → P
+where_well (Ok x) P well holds = holds
+where_well (Err e) P well holds = absurd (cc)

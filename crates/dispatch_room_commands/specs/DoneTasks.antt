@@ -33,7 +33,7 @@ use Rattle.dispatch_room_cli.specs.declared.tasks.Task.TheVariants.{SetTerminals
 use Rattle.dispatch_room_tasks.specs.declared.division_days.DivisionDay.{DivisionDay}
 use Rattle.dispatch_room_commands.specs.CommandEnds.{IsPrinted, IsWordsStatus}
 use Rattle.dispatch_room_commands.specs.RoomTasks.{Begins, BeginsNone, Creates, CreatesNone, Digests, Enrols}
-use Rattle.dispatch_room_commands.specs.RoomTasks.{EnrolsNone, Examines, ExaminesNone, FindsDay, FindsNoDay}
+use Rattle.dispatch_room_commands.specs.RoomTasks.{EnrolsKept, EnrolsNone, Examines, ExaminesNone, FindsDay, FindsNoDay}
 use Rattle.dispatch_room_commands.specs.RoomTasks.{HoldsNoRoom, LeavesNothing, LeavesRows, Lists, Moves, MovesNone}
 use Rattle.dispatch_room_commands.specs.RoomTasks.{OpensNone, Reissues, Replans, Replays, Reports, ReportsBoth}
 use Rattle.dispatch_room_commands.specs.RoomTasks.{ReportsNone, Serves, ServesNone, Sets, is_endless, terms_of}
@@ -69,6 +69,12 @@ module _ (before after : Option (List ℕ)) (done : Done) where
   -- the rows of some fleet were enrolled
   abbrev pub IsImport : Type 0
   IsImport = (lines : List FleetLine) × IsDoneInFile (Enrols lines) before after done
+
+  -- the rows of some fleet were kept in a list, and enrolled
+  abbrev pub IsKeptImport : Type 0
+  IsKeptImport =
+      (lines : List FleetLine) × (text : List ℕ)
+      × IsDoneInFile (EnrolsKept lines text) before after done
 
   -- a room was moved, and then that was reported
   pub record IsMigrate : Type 0 where
@@ -187,7 +193,8 @@ module _ (before after : Option (List ℕ)) (done : Done) where
   -- what was asked for was done
   abbrev pub IsTask : Task → Type 0
   IsTask (Init file plan) = IsInit
-  IsTask (Import file fleet) = IsImport
+  IsTask (Import file fleet None) = IsImport
+  IsTask (Import file fleet (Some list)) = IsKeptImport
   IsTask (Replan file plan) = IsReplan
   IsTask (Migrate file) = IsMigrate
   IsTask (Check file) = IsCheck
@@ -226,6 +233,12 @@ module _ (before after : Option (List ℕ)) (fault : Failure) where
   abbrev pub FailsImport : Type 0
   FailsImport = (after ≡ before)
       ⊎ ((lines : List FleetLine) × IsUndoneInFile (Enrols lines) EnrolsNone before after fault)
+
+  -- the same where it was to be kept in a list: there is none either, and nothing is said
+  abbrev pub FailsKeptImport : Type 0
+  FailsKeptImport = (after ≡ before)
+      ⊎ ((lines : List FleetLine) × (text : List ℕ)
+      × IsUndoneInFile (EnrolsKept lines text) EnrolsNone before after fault)
 
   -- no room was moved; or one was, and the output failed
   abbrev pub FailsMigrate : Type 0
@@ -333,7 +346,8 @@ module _ (before after : Option (List ℕ)) (fault : Failure) where
   -- what was asked for was not done
   abbrev pub FailsTask : Task → Type 0
   FailsTask (Init file plan) = FailsInit
-  FailsTask (Import file fleet) = FailsImport
+  FailsTask (Import file fleet None) = FailsImport
+  FailsTask (Import file fleet (Some list)) = FailsKeptImport
   FailsTask (Replan file plan) = FailsReplan
   FailsTask (Migrate file) = FailsMigrate
   FailsTask (Check file) = FailsCheck

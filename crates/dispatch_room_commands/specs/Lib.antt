@@ -10,6 +10,12 @@ pub mod RoomDigests
 pub mod ReplayEnds
 -- the terminals that a fleet's file gives
 pub mod TerminalFiles
+-- an import that is kept in a list
+pub mod KeptImports
+-- how many rows of a fleet that a list has are enrolled
+pub mod ListedRows
+-- a list that is replayed leg by leg
+pub mod ReplayedLegs
 -- a room that is served in parts
 pub mod ServedParts
 -- what each command does in a database

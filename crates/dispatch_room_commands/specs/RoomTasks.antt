@@ -9,13 +9,9 @@ use Rattle.sqlite_trees.specs.declared.store.Store.{Ghosts}
 use Rattle.room_types.specs.Texts.{Token}
 use Rattle.room_types.specs.declared.asks.Who.{Who}
 use Rattle.room_types.specs.declared.fleet.Terminal.{Terminal}
-use Rattle.room_model.specs.Room.{Room}
 use Rattle.room_http.specs.Settings.{IsSetting}
 use Rattle.room_http.specs.declared.settings.Setting.{Setting}
-use Rattle.room_model.specs.Rooms.{Step, machine}
-use Rattle.room_store.specs.StoredRoom.{IsRoom}
 use Rattle.room_store.specs.declared.store.Store.{Store}
-use Rattle.room_store_file.specs.DigestTexts.{digest_of}
 use Rattle.room_store_check_tables.specs.HeldRooms.{WritesNothing}
 use Rattle.dispatch_room_disk.specs.RoomFiles.{Refusing, Saying}
 use Rattle.dispatch_room_exit.specs.declared.exit_status.Done.{Done}
@@ -25,20 +21,21 @@ use Rattle.dispatch_room_exit.specs.declared.exit_status.Failure.TheVariants.{Me
 use Rattle.dispatch_room_csv.specs.declared.fleet_file.FleetLine.{FleetLine}
 use Rattle.dispatch_room_csv.specs.declared.plan_file.PlanFile.{PlanFile}
 use Rattle.dispatch_room_tasks.specs.OpenedRoom.{HoldsNone, IsUnopened, OpensRoom}
-use Rattle.dispatch_room_journal.specs.AnswerFrames.{AnswersEach}
-use Rattle.dispatch_room_journal.specs.Replays.{DigitsOf, digits_of}
-use Rattle.dispatch_room_journal.specs.Replays as replay
 use Rattle.dispatch_room_journal.specs.declared.replay_faults.Stopped.{Stopped}
 use Rattle.dispatch_room_journal.specs.declared.replayed_journal.Replayed.{Replayed}
 use Rattle.dispatch_room_cli.specs.declared.tasks.Journal.{Journal}
 use Rattle.dispatch_room_cli.specs.declared.tasks.Replay.{Replay as How}
 use Rattle.dispatch_room_cli.specs.declared.tasks.Service.{Service}
 use Rattle.dispatch_room_commands.specs.CommandEnds.{failure_of}
+use Rattle.dispatch_room_commands.specs.KeptImports.{ImportsKeptIn}
+use Rattle.dispatch_room_commands.specs.declared.kept_fleets.FleetList.{FleetList}
 use Rattle.dispatch_room_commands.specs.ReplayEnds.{Concludes}
+use Rattle.dispatch_room_commands.specs.ReplayedLegs.{ReplaysLegs, count_in}
 use Rattle.dispatch_room_commands.specs.RoomDigests.{HasDigest}
 use Rattle.dispatch_room_commands.specs.ServedParts.{Interval, OpensNoPart, ServesParts}
 use Rattle.dispatch_room_commands.specs.declared.serve.Served.{Served}
 use Rattle.dispatch_room_serving.specs.Callers.{Opening}
+use Rattle.dispatch_room_serving.specs.declared.journal_files.SystemFile.{SystemFile}
 use Rattle.dispatch_room_serving.specs.declared.served_room.Terms.{Terms}
 use Rattle.dispatch_room_tasks.specs.Examination as checked
 use Rattle.dispatch_room_tasks.specs.Creation as created
@@ -73,6 +70,13 @@ abbrev pub Enrols : List FleetLine → Saying Done
 Enrols lines = λ S g old new before after done.
     (HasCleanDisk (state g new) → imported.HasImportedIn g old new lines before after done)
     × IfOk done (imported.IsTold lines before after)
+
+-- The same once the fleet lasts in a list, and then it is kept where the room is. What the file of a
+-- list holds no contract can say.
+abbrev pub EnrolsKept : List FleetLine → List ℕ → Saying Done
+EnrolsKept lines text = λ S g old new before after done.
+    (from to : FleetList SystemFile)
+    × ImportsKeptIn g (λ _. None) (λ _. None) old new from to lines text before after done
 
 -- or memory is wanting, or no room is opened
 abbrev pub EnrolsNone : Refusing
@@ -250,24 +254,22 @@ abbrev pub EndsAs : Result ℕ Stopped → Result Done Failure → Type 0
 EndsAs (Ok records) done = done ≡ Ok Whole
 EndsAs (Err stopped) done = done ≡ Err (failure_of stopped)
 
--- Where a room is served by these steps in this setting, and stood for the first and stands for the
--- last: what is done with a list.
-module _ (step : Step) (setting : Setting) (digits : DigitsOf) (trusted : Type 0)
-    (stood stands : List Terminal → Room → Type 0) (list before after : Option (List ℕ))
-    (read_failed : Bool) (done : Result Done Failure) where
-  -- it is replayed up to a moment, and how much it was is reported
-  pub record IsReplayed (until : Option ℕ) : Type 0 where
+-- What is done with a list in a store that is first this and then that, in this setting and so.
+module _ {S : Type 0} (g : Ghosts S) (setting : Setting) (how : How) (first last : Store S)
+    (list before after : Option (List ℕ)) (done : Result Done Failure) where
+  -- it is replayed leg by leg, and how much it was is reported
+  pub record IsReplayed : Type 0 where
     pub result : Result Replayed Stopped
-    pub is : replay.Replays step setting digits trusted stood stands list until read_failed result
+    pub is : ReplaysLegs g setting how
+        (record { store = first; left = list; held = None; records = 0 }) last None result
     pub told : IsTold result before after done
 
-  -- each of its messages is answered, and the answers are written
+  -- each of its messages is answered, leg by leg, and the answers are written
   pub record AreAnswered : Type 0 where
-    pub result : Result ℕ Stopped
-    pub write_failed : Bool
-    pub is : AnswersEach step setting digits trusted stood stands list before after read_failed
-        write_failed result
-    pub ends : EndsAs result done
+    pub result : Result Replayed Stopped
+    pub is : ReplaysLegs g setting how
+        (record { store = first; left = list; held = before; records = 0 }) last after result
+    pub ends : EndsAs (count_in result) done
 
 -- A list was replayed to the room, or its messages answered, as it was asked. What is written of
 -- the answers is said by who writes them. Then the replay ended, with the digest of the room where
@@ -280,15 +282,12 @@ pub record HasReplayed {S : Type 0} (g : Ghosts S) (old new : Held S) (how : How
   pub opens : HasCleanDisk (state g first.conn) → OpensRoom g old first
   pub is_set : IsSetting first.plan.zone how.history setting
   pub list : Option (List ℕ)
-  pub read_failed : Bool
   pub came : Result Done Failure
   pub between : Option (List ℕ)
-  pub replayed : how.answers ≡ false → IsReplayed machine setting
-      (digits_of digest_of first.plan.zone) (HasCleanDisk (state g last.conn)) (IsRoom g first)
-      (IsRoom g last) list before between read_failed came how.until
-  pub answered : how.answers ≡ true → (holds : Option (List ℕ)) × AreAnswered machine setting
-      (digits_of digest_of first.plan.zone) (HasCleanDisk (state g last.conn)) (IsRoom g first)
-      (IsRoom g last) list before holds read_failed came
+  pub replayed : how.answers ≡ false
+      → IsReplayed g setting how first last list before between came
+  pub answered : how.answers ≡ true
+      → (holds : Option (List ℕ)) × AreAnswered g setting how first last list before holds came
   pub ended : Store S
   pub has_ended : Bool
   pub ends : Concludes g last ended how came has_ended between after done

@@ -14,6 +14,7 @@ use crate::files::is_open_to_others;
 use crate::import::import;
 use crate::init::init;
 use crate::joined_times::joined_times;
+use crate::kept_import::import_kept;
 use crate::migrate::migrate;
 use crate::renew::renew;
 use crate::replan::replan;
@@ -136,7 +137,16 @@ fn perform<O: Write, E: Write>(
 {
     match *task {
         Task::Init { file, plan } => init(rt, explainer, alloc, file, plan, out),
-        Task::Import { file, fleet } => import(rt, explainer, alloc, file, fleet, out),
+        Task::Import {
+            file,
+            fleet,
+            list: None,
+        } => import(rt, explainer, alloc, file, fleet, out),
+        Task::Import {
+            file,
+            fleet,
+            list: Some(list),
+        } => import_kept(rt, explainer, alloc, (file, fleet), list, out, err),
         Task::Replan { file, plan } => replan(rt, explainer, alloc, file, plan, out),
         Task::Migrate { file } => migrate(rt, explainer, alloc, file, out),
         Task::Check { file } => check(rt, explainer, alloc, file, out),

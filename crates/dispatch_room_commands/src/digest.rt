@@ -63,13 +63,13 @@ pub fn tell_digest<S: Alter, O: Write>(room: &mut Store<S>, out: &mut O) -> Resu
         result }
 {
     match digest_of_room(room, Version::Second) {
-        Ok(digest) => tell(&digest_of(&digest), out),
+        Ok(digest) => tell(digest_of(&digest).as_slice(), out),
         Err(refusal) => Err(refused(refusal)),
     }
 }
 
 // Prints a digest.
-fn tell<O: Write>(digits: &[u8; 64], out: &mut O) -> Result<Done, Failure>
+fn tell<O: Write>(digits: &[u8], out: &mut O) -> Result<Done, Failure>
     ensures whole { IfOk result (λ done. done ≡ Whole) }
     ensures told { OnOk result
         (Appends (O.contents out.old) (O.contents out.new) (digest_line digits.now)) }
@@ -80,11 +80,12 @@ fn tell<O: Write>(digits: &[u8; 64], out: &mut O) -> Result<Done, Failure>
     }
 }
 
-fn put_line<O: Write>(digits: &[u8; 64], out: &mut O) -> io::Result<()>
+// Prints the line of a digest.
+fn put_line<O: Write>(digits: &[u8], out: &mut O) -> io::Result<()>
     ensures { OnOk result
         (Appends (O.contents out.old) (O.contents out.new) (digest_line digits.now)) }
 {
     out.write_all(b"digest ")?;
-    out.write_all(digits.as_slice())?;
+    out.write_all(digits)?;
     out.write_all(b"\n")
 }

@@ -39,8 +39,8 @@ pub fn import<O: Write>(
     in_file(rt, explainer, alloc, RoomFile::Kept(file), enrolment, out)
 }
 
-// The rows that a file of a fleet has, or it is explained why it has none.
-fn lines_in(sheet: Sheet<'_>) -> Result<Vec<FleetLine>, Failure> {
+/// The rows that a file of a fleet has, or it is explained why it has none.
+pub fn lines_in(sheet: Sheet<'_>) -> Result<Vec<FleetLine>, Failure> {
     match read_fleet(sheet.alloc, sheet.text) {
         Ok(lines) => Ok(lines),
         Err(fault) => {

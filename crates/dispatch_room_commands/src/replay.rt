@@ -1,28 +1,32 @@
 //! `replay`: what a list says is done to the room of a file.
-ghost use Rattle.std.specs.Prelude.{◌≡◌, ℕ, List, Option, Ok, true, false, IfErr, IfOk};
+ghost use Rattle.std.specs.Prelude.{◌≡◌, ◌==◌, ◌||◌, List, Ok, Option, true, false, IfErr, IfOk, ℕ};
+ghost use Rattle.sqlite.specs.Held.{state};
+ghost use Rattle.sqlite.specs.State.{HasCleanDisk};
+ghost use Rattle.room_store.specs.StoredRoom.{IsReady};
 ghost use Rattle.dispatch_room_commands.specs.CommandEnds.{failure_of};
 ghost use Rattle.dispatch_room_commands.specs.DoneTasks.{FailsReplay, IsReplay};
-ghost use Rattle.dispatch_room_commands.specs.RoomTasks.{AreAnswered, IsReplayed, IsTold, OpensNone, Replays};
-ghost use Rattle.dispatch_room_journal.specs.Replays.{digits_of};
+ghost use Rattle.dispatch_room_commands.specs.ReplayedLegs.{count_in};
+ghost use Rattle.dispatch_room_commands.specs.RoomTasks.{AreAnswered, EndsAs, IsReplayed, IsTold, OpensNone, Replays};
+ghost use Rattle.dispatch_room_journal.specs.ReadSteps.{left_in, most_rows};
 
+use crate::leg_readers::LegReader;
+use crate::leg_writers::LegWriter;
 use crate::replay_ends::{Noted, conclude};
+use crate::replayed_legs::{Course, replay_legs};
 use dispatch_room_cli::tasks::Replay;
 use dispatch_room_disk::room_files::{RoomFile, RoomTask, in_file};
 use dispatch_room_exit::exit_status::{Done, Failure, refused};
 use dispatch_room_exit::explainer::Explainer;
-use dispatch_room_journal::chain_source::Unchained;
 use dispatch_room_journal::replay_faults::{ReplayFault, Stopped};
-use dispatch_room_journal::replayed_journal::{self, Replayed};
-use dispatch_room_journal::streamed_messages::answer_each;
+use dispatch_room_journal::replayed_journal::Replayed;
 use dispatch_room_tasks::opened_room::{TaskResult, open_room};
 use room_http::settings::Setting;
-use room_http_messages::sinks::Sink;
 use room_http_messages::sources::Source;
 use room_http_messages::standard_wires::Wire;
-use room_model::digests::Digested;
+use room_store::store::Store;
 use sqlite::{Alter, Connection};
 use std::alloc::Global;
-use std::io::Write;
+use std::io::{self, Write};
 
 /// Does to the room of a file what a list from standard input says, and prints how many messages
 /// that were, and the room's digest where it is wanted; or writes the answer to each message, as
@@ -72,9 +76,14 @@ impl<'a, E: Write> RoomTask for Replaying<'a, E> {
             zone,
             history: replay.history,
         };
+        let course = Course {
+            alloc,
+            setting: &setting,
+            replay,
+        };
         let mut has_ended = false;
-        let mut list = Unchained::new(Noted::new(Wire::new(rt.stdin()), &mut has_ended));
-        let came = replay_in(alloc, &mut list, &mut room, &setting, replay, out, err);
+        let mut list = LegReader::new(Noted::new(Wire::new(rt.stdin()), &mut has_ended));
+        let came = replay_in(&course, &mut list, &mut room, out, err);
         drop(list);
         let done = conclude(&mut room, replay, came, has_ended, out, err);
         Ok((done, room.close()))
@@ -82,57 +91,44 @@ impl<'a, E: Write> RoomTask for Replaying<'a, E> {
 }
 
 // Replays a list in a room, and reports how much that was, or answers each record.
-fn replay_in<R: Source, M: Digested, O: Write, E: Write>(
-    alloc: Global,
-    list: &mut R,
-    room: &mut M,
-    setting: &Setting,
-    replay: &Replay,
+fn replay_in<R: Source, S: Alter, O: Write, E: Write>(
+    course: &Course<'_>,
+    list: &mut LegReader<R>,
+    room: &mut Store<S>,
     out: &mut O,
     err: &mut E,
 ) -> Result<Done, Failure>
-    requires list { R.has_failed list.old ≡ false }
-    requires ready { M.is_ready room.old }
-    ensures ready { M.is_ready room.new }
-    ensures trusted { M.is_trusted room.new → M.is_trusted room.old }
-    ensures replayed { replay.now.answers ≡ false → IsReplayed M.step setting.now
-        (digits_of M.digest_of (M.zone room.old)) (M.is_trusted room.new) (M.stands room.old)
-        (M.stands room.new) (R.left list.old) (O.contents out.old) (O.contents out.new)
-        (R.has_failed list.new) result replay.now.until }
-    ensures answered { replay.now.answers ≡ true → (holds : Option (List ℕ))
-        × AreAnswered M.step setting.now (digits_of M.digest_of (M.zone room.old))
-        (M.is_trusted room.new) (M.stands room.old) (M.stands room.new) (R.left list.old)
-        (O.contents out.old) holds (R.has_failed list.new) result }
+    requires list { (R.has_failed list.old.reader || list.old.passed == most_rows) ≡ false }
+    requires ready { IsReady S.Store room.old }
+    ensures ready { IsReady S.Store room.new }
+    ensures trusted { HasCleanDisk (state S.Store room.new.conn)
+        → HasCleanDisk (state S.Store room.old.conn) }
+    ensures replayed { course.now.replay.now.answers ≡ false → IsReplayed S.Store
+        course.now.setting.now course.now.replay.now room.old room.new
+        (left_in list.old.reel.mode list.old.reel.vouched list.old.reel.inbox
+        (R.left list.old.reader)) (O.contents out.old) (O.contents out.new) result }
+    ensures answered { course.now.replay.now.answers ≡ true → (holds : Option (List ℕ))
+        × AreAnswered S.Store course.now.setting.now course.now.replay.now room.old room.new
+        (left_in list.old.reel.mode list.old.reel.vouched list.old.reel.inbox
+        (R.left list.old.reader)) (O.contents out.old) holds result }
 {
-    if replay.answers {
-        return answer(alloc, list, room, setting, &mut Wire::new(out));
+    if course.replay.answers {
+        let mut writer = LegWriter::new(out);
+        return answered(&replay_legs(course, list, room, &mut writer, err));
     }
-    match replayed_journal::replay(alloc, list, room, setting, &replay.until) {
+    match replay_legs(course, list, room, &mut LegWriter::new(io::sink()), err) {
         Ok(replayed) => tell(&replayed, out, err),
         Err(stopped) => Err(failure_of(&stopped)),
     }
 }
 
-// Writes the answer to each record of a list.
-fn answer<R: Source, M: Digested, W: Sink>(
-    alloc: Global,
-    list: &mut R,
-    room: &mut M,
-    setting: &Setting,
-    writer: &mut W,
-) -> Result<Done, Failure>
-    requires list { R.has_failed list.old ≡ false }
-    requires writer { W.has_failed writer.old ≡ false }
-    requires ready { M.is_ready room.old }
-    ensures ready { M.is_ready room.new }
-    ensures trusted { M.is_trusted room.new → M.is_trusted room.old }
-    ensures answered { AreAnswered M.step setting.now (digits_of M.digest_of (M.zone room.old))
-        (M.is_trusted room.new) (M.stands room.old) (M.stands room.new) (R.left list.old)
-        (W.held writer.old) (W.held writer.new) (R.has_failed list.new) result }
+// How the program ends by how answering each message did.
+fn answered(came: &Result<Replayed, Stopped>) -> Result<Done, Failure>
+    ensures { EndsAs (count_in came.now) result }
 {
-    match answer_each(alloc, list, writer, room, setting) {
+    match came {
         Ok(_) => Ok(Done::Whole),
-        Err(stopped) => Err(failure_of(&stopped)),
+        Err(stopped) => Err(failure_of(stopped)),
     }
 }
 

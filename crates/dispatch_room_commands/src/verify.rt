@@ -57,7 +57,8 @@ fn verify_in<R: Source + Drop, O: Write>(
     mut list: Unchained<R>,
     out: &mut O,
 ) -> Result<Done, Failure>
-    requires { R.has_failed list.reader ≡ false }
+    requires sound { R.has_failed list.reader ≡ false }
+    requires none { list.passed ≡ 0 }
     ensures done { IfOk result (λ done. IsVerifyOf (O.contents out.old) (O.contents out.new) done
         (left_in list.reel.mode list.reel.vouched list.reel.inbox (R.left list.reader))) }
     ensures undone { IfErr result (FailsVerify (O.contents out.old) (O.contents out.new)) }

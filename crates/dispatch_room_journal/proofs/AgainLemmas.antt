@@ -8,6 +8,7 @@ use Rattle.std.specs.Str.{bytes_eq}
 use Rattle.dispatch_room_journal.specs.declared.journal_inbox.TheConstants.{ENTRY_ROOM}
 use Rattle.dispatch_room_journal.specs.declared.record_headers.TheConstants.{HEADER}
 use Rattle.dispatch_room_journal.specs.declared.record_fronts.Front.TheVariants.{Whole}
+use Rattle.dispatch_room_journal.specs.declared.read_progress.Reach.TheVariants.{Full}
 use Rattle.dispatch_room_journal.specs.Chains.{IsBody, chain_text, first_check, header, is_end, next_check, opening}
 use Rattle.dispatch_room_journal.specs.Chains.{record_text, said_by, size_text}
 use Rattle.dispatch_room_journal.specs.RecordFronts.{after, body_in, comes_next, front_of, number_in, says, sized_front}
@@ -78,13 +79,13 @@ module _ (hash : List ℕ → List ℕ) (long : (text : List ℕ) → length (ha
         ∙ read_whole
 
   pub chain_says : (bodies : List (List ℕ)) (check : List ℕ) (has_ended : Bool) → AreBodies has_ended bodies
-      → says hash check has_ended (chain_text hash check bodies) ≡ flat_map said_by bodies
-  chain_says [] check has_ended are = says_none hash check has_ended
+      → says hash Full check has_ended (chain_text hash check bodies) ≡ flat_map said_by bodies
+  chain_says [] check has_ended are = says_none hash Full check has_ended
   chain_says (body ∷ more) check has_ended are =
       let next = next_check hash check body in
       let rest = chain_text hash next more in
-      says_whole hash check has_ended (record_text hash check body ++ rest) (length body) next
-      (read_front check has_ended body rest are.0 are.1)
+      says_whole hash Full check has_ended (record_text hash check body ++ rest) (length body) next
+      (read_front check has_ended body rest are.0 are.1) refl
       ∙ rw (read_body check has_ended body rest are.0 are.1, read_after check has_ended body rest are.0 are.1)
       (ap (λ t. said_by body ++ t) (chain_says more next (is_end body) are.2))
 

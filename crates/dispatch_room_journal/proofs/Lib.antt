@@ -26,6 +26,9 @@ pub mod TallyLemmas
 pub mod AdvanceLemmas
 pub mod RecordLemmas
 pub mod PlainLemmas
+pub mod RunLemmas
 pub mod WholeLemmas
+pub mod RowLemmas
+pub mod LegLemmas
 pub mod EntryRecordLemmas
 pub mod FormLemmas

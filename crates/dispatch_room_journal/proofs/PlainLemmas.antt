@@ -1,8 +1,9 @@
 -- Lemmas on the entries of a list, as records are put behind it.
 use Rattle.std.proofs.Common.{◌≡◌, ◌∙◌, refl, sym, ap, arith, ℕ, zero, suc, ◌+◌, ◌*◌, ◌<◌, ◌≤◌, List, [], ◌∷◌, ◌++◌}
 use Rattle.std.proofs.Common.{length, length-append, length-drop, take, drop, append_assoc, append-nil, Bool, true}
-use Rattle.std.proofs.Common.{false, ◌⊎◌, inl, inr, Option, Some, None, Result, Ok, Err, OnOk, OnErr, is_err}
+use Rattle.std.proofs.Common.{false, ◌⊎◌, inl, inr, Option, Some, None, Result, Ok, Err, OnOk, OnErr, is_err, ◌||◌}
 use Rattle.std.specs.Io.KnownBytes.{Appends}
+use Rattle.std.proofs.lemmas.Bool.{false≢true}
 use Rattle.std.proofs.lemmas.List.{take-append-le, drop-append-le}
 use Rattle.std.specs.List.{flat_map}
 use Rattle.std.specs.Str.{bytes_eq}
@@ -17,12 +18,14 @@ use Rattle.dispatch_room_journal.specs.declared.record_fronts.Front.TheVariants.
 use Rattle.dispatch_room_journal.specs.declared.record_fronts.Link.{Link}
 use Rattle.dispatch_room_journal.specs.declared.list_ends.ListEnd.{ListEnd}
 use Rattle.dispatch_room_journal.specs.declared.list_ends.ListEnd.TheVariants.{Plain, Chain}
-use Rattle.dispatch_room_journal.specs.Chains.{IsBody, chain_text, first_check, header, is_end, last_check, next_check}
+use Rattle.dispatch_room_journal.specs.Chains.{IsBody, chain_text, first_check, header, is_end, is_row, is_silent, last_check}
+use Rattle.dispatch_room_journal.specs.Chains.{next_check}
 use Rattle.dispatch_room_journal.specs.Chains.{opening, record_text, said_by, sha256_digits}
 use Rattle.dispatch_room_journal.specs.RecordFronts.{after, body_in, comes_next, front_of, number_in}
 use Rattle.dispatch_room_journal.specs.ChainLaws.{AreBodies}
 use Rattle.dispatch_room_journal.specs.PlainTexts.{PutsKnown, StandsAt, last_ended, plain_in, plain_of, plain_says}
 use Rattle.dispatch_room_journal.specs.PlainTexts.{plain_with}
+use Rattle.dispatch_room_journal.specs.RowRuns.{PutsBody}
 use Rattle.dispatch_room_journal.proofs.AgainLemmas.{five_digits, read_after, read_body, read_front}
 use Rattle.dispatch_room_journal.proofs.FrontLemmas.{front_short, front_sized, number_stays, sized_short}
 
@@ -120,6 +123,14 @@ pub bodies-push : (bodies : List (List ℕ)) (has_ended : Bool) (body : List ℕ
 bodies-push [] has_ended body are is_one comes = (is_one, comes, tt)
 bodies-push (x ∷ more) has_ended body are is_one comes =
     (are.0, are.1, bodies-push more (is_end x) body are.2 is_one comes)
+
+-- an entry does not say that the list ended well
+no_end : (ends row : Bool) → (ends || row) ≡ false → ends ≡ false
+no_end false row neither = refl
+no_end true row neither = absurd (false≢true (sym neither))
+
+pub never_end : (body : List ℕ) → is_silent body ≡ false → is_end body ≡ false
+never_end body says = no_end (is_end body) (is_row body) says
 
 -- what does not say that the list ended well always comes next
 pub entry_comes : (has_ended : Bool) (body : List ℕ) → is_end body ≡ false → comes_next has_ended body ≡ true
@@ -295,8 +306,8 @@ module _ (link : Link) (text body : List ℕ) (stands : StandsAt (Chain link) te
             ∙ ap (λ t. plain_of sha256_digits t ++ cut.0) (sym stands.2),
       )
 
--- what a record says that is no end
-pub said_entry : (body : List ℕ) → is_end body ≡ false → said_by body ≡ body
+-- what a record says that is an entry
+pub said_entry : (body : List ℕ) → is_silent body ≡ false → said_by body ≡ body
 said_entry body says = rw says refl
 
 -- what follows a list that is no chain
@@ -363,3 +374,12 @@ module _ {W E : Type 0} (held : W → Option (List ℕ)) (failed : W → Bool) w
       → WritesAll held failed a b text r → failed b ≡ is_err r
   failed_put _ a b (Ok u) wrote = wrote.all.1
   failed_put _ a b (Err e) wrote = wrote.part.4
+
+  -- and where it was written, that record stands there now
+  pub body_put : (link : Link) (body : List ℕ) (a b : W) (r : Result (Unit {0}) E)
+      → WritesAll held failed a b (record_text sha256_digits link.check body) r
+      → OnOk r (PutsBody (Chain link)
+      (Chain (record { check = next_check sha256_digits link.check body; has_ended = is_end body }))
+      (held a) (held b) body)
+  body_put link body a b (Ok u) wrote = (wrote.all.0, refl)
+  body_put link body a b (Err e) wrote = tt

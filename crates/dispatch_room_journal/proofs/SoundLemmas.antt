@@ -11,6 +11,7 @@ use Rattle.dispatch_room_journal.specs.declared.journal_inbox.TheConstants.{ENTR
 use Rattle.dispatch_room_journal.specs.declared.record_headers.TheConstants.{HEADER}
 use Rattle.dispatch_room_journal.specs.declared.record_fronts.Front.{Front}
 use Rattle.dispatch_room_journal.specs.declared.record_fronts.Front.TheVariants.{Empty, Short, Wrong, Whole}
+use Rattle.dispatch_room_journal.specs.declared.read_progress.Reach.TheVariants.{Full}
 use Rattle.dispatch_room_journal.specs.Chains.{IsBody, chain_text, first_check, header, is_end, next_check, opening}
 use Rattle.dispatch_room_journal.specs.Chains.{record_text, said_by}
 use Rattle.dispatch_room_journal.specs.RecordFronts.{after, body_in, comes_next, front_of, list_says, number_in}
@@ -99,23 +100,23 @@ module _ (hash : List ℕ → List ℕ) where
 
   -- a chain says what follows its first line
   pub opened : (text : List ℕ)
-      → list_says hash (opening ++ text) ≡ said_in hash (length text) first_check false text
+      → list_says hash Full (opening ++ text) ≡ said_in hash Full (length text) first_check false text
   unfolding says
-  opened text = list_chain hash opening text (omega arith) refl
+  opened text = list_chain hash Full opening text (omega arith) refl
 
   -- the same, as it is said
-  pub chain_opened : (text : List ℕ) → list_says hash (opening ++ text) ≡ says hash first_check false text
-  chain_opened text = list_chain hash opening text (omega arith) refl
+  pub chain_opened : (text : List ℕ) → list_says hash Full (opening ++ text) ≡ says hash Full first_check false text
+  chain_opened text = list_chain hash Full opening text (omega arith) refl
 
   -- what a text goes on with, and what it says
   abbrev pub GoesOn : ℕ → List ℕ → Bool → List ℕ → Type 0
   GoesOn n check has_ended text =
       (bodies : List (List ℕ)) × (rest : List ℕ) × AreBodies has_ended bodies
       × (text ≡ chain_text hash check bodies ++ rest)
-      × (said_in hash n check has_ended text ≡ flat_map said_by bodies ++ says_rest rest)
+      × (said_in hash Full n check has_ended text ≡ flat_map said_by bodies ++ says_rest rest)
 
   rest_only : (n : ℕ) (check : List ℕ) (has_ended : Bool) (text : List ℕ)
-      → said_in hash n check has_ended text ≡ says_rest text → GoesOn n check has_ended text
+      → said_in hash Full n check has_ended text ≡ says_rest text → GoesOn n check has_ended text
   rest_only n check has_ended text says = ([], text, tt, refl, says)
 
   neither : (test : Bool) (x y : Front) → x ≢ Empty → y ≢ Empty → (if test then x else y) ≢ Empty
@@ -142,7 +143,7 @@ module _ (hash : List ℕ → List ℕ) where
   goes_on_by : (n : ℕ) (check : List ℕ) (has_ended : Bool) (text : List ℕ) → 1 ≤ length text
       → ((size : ℕ) (next : List ℕ) → GoesOn n next (is_end (body_in size text)) (after size text))
       → (front : Front) → front_of hash check has_ended text ≡ front
-      → said_in hash (suc n) check has_ended text ≡ said_with (λ c e t. said_in hash n c e t) text front
+      → said_in hash Full (suc n) check has_ended text ≡ said_with Full (λ c e t. said_in hash Full n c e t) text front
       → GoesOn (suc n) check has_ended text
   goes_on_by n check has_ended text some later Empty is says = absurd (never_empty check has_ended text some is)
   goes_on_by n check has_ended [] some later Short is says = absurd (omega (arith, some))

@@ -1,5 +1,9 @@
 -- Lemmas on texts: first parts, and what stands before a mark.
 use Rattle.std.proofs.Common.{◌≡◌, ◌≢◌, ◌∙◌, sym, ap, refl, ℕ, ◌+◌, List, [], ◌∷◌, ◌++◌, length, take, drop, get_or}
+use Rattle.std.proofs.Common.{true, false}
+use Rattle.std.proofs.lemmas.Bool.{ne_eqb}
+use Rattle.std.specs.Prelude.{◌==◌}
+use Rattle.dispatch_room_journal.specs.Chains.{is_whole_line, row_body, said_by}
 use Rattle.std.proofs.Common.{◌⊎◌, inl, inr}
 use Rattle.std.proofs.lemmas.List.{take_at, drop_at}
 use Rattle.std.proofs.lemmas.List.Elements.{All-head, All-tail, All-cons}
@@ -44,6 +48,24 @@ cut_unique mark (k ∷ a) b (m ∷ c) d a_lacks c_lacks is =
     let parts = cut_unique mark a b c d (All-tail (λ byte. byte ≢ mark) k a a_lacks)
     (All-tail (λ byte. byte ≢ mark) m c c_lacks) (ap (drop 1) is) in
     ((λ i. ap head is i ∷ parts.0 i), parts.1)
+
+-- a line end is not its last byte
+pub lacks_line : (text : List ℕ) → Lacks 10 text → is_whole_line text ≡ false
+lacks_line [] lacks = refl
+lacks_line (byte ∷ text) lacks =
+    let other : (byte == 10) ≡ false = ne_eqb byte 10 (All-head (λ b. b ≢ 10) byte text lacks) in
+    rw other (lacks_line text (All-tail (λ b. b ≢ 10) byte text lacks))
+
+-- what stands before the first line end is the line where nothing stands behind it
+pub cut_line : (front back : List ℕ) → Lacks 10 front → is_whole_line (front ++ 10 ∷ back) ≡ (length back == 0)
+cut_line [] back lacks = refl
+cut_line (byte ∷ front) back lacks =
+    let other : (byte == 10) ≡ false = ne_eqb byte 10 (All-head (λ b. b ≢ 10) byte front lacks) in
+    rw other (cut_line front back (All-tail (λ b. b ≢ 10) byte front lacks))
+
+-- the record of a line says nothing
+pub row_said : (line : List ℕ) → Lacks 10 line → said_by (row_body line) ≡ []
+row_said line lacks = let is : is_whole_line (line ++ 10 ∷ []) ≡ true = cut_line line [] lacks in rw is refl
 
 -- the first byte of a text that is not empty is in it, and the mark is not
 pub lacks_append : (mark : ℕ) (a b : List ℕ) → Lacks mark a → Lacks mark b → Lacks mark (a ++ b)

@@ -2,8 +2,6 @@
 use Rattle.std.proofs.Common.{◌≡◌, ◌∙◌, refl, sym, ap, subst, arith, ℕ, ◌+◌, ◌*◌, ◌≤◌, List, [], ◌∷◌, ◌++◌, length}
 use Rattle.std.proofs.Common.{length-append, length-drop, length-take-le, take, drop, min, append_assoc, append-nil}
 use Rattle.std.proofs.Common.{All, Bool, true, false, Option, Some, None, ◌⊎◌, inl, inr}
-use Rattle.std.proofs.lemmas.List.{drop-append-le}
-use Rattle.std.proofs.lemmas.List.Elements.{All-nil, All-push}
 use Rattle.std.specs.Io.KnownBytes.{prepend_known, Consumes, IsAtEnd, Keeps}
 use Rattle.dispatch_room_journal.specs.WholeEntries.{most_bytes}
 use Rattle.dispatch_room_journal.specs.declared.record_headers.TheConstants.{HEADER}
@@ -14,10 +12,11 @@ use Rattle.dispatch_room_journal.specs.declared.whole_records.WholeChain.{WholeC
 use Rattle.dispatch_room_journal.specs.Chains.{chain_text, first_check, header, is_end, last_check, next_check}
 use Rattle.dispatch_room_journal.specs.Chains.{record_text, sha256_digits}
 use Rattle.dispatch_room_journal.specs.RecordFronts.{Stays, after, body_in, front_of}
-use Rattle.dispatch_room_journal.specs.PlainTexts.{last_ended}
+use Rattle.dispatch_room_journal.specs.RecordRuns.{first_link}
 use Rattle.dispatch_room_journal.specs.WholeRecords.{EndsChain, FailsChain, GivesMore, GoesOnTo, SaysEntry}
 use Rattle.dispatch_room_journal.proofs.FrontLemmas.{body_stays}
-use Rattle.dispatch_room_journal.proofs.PlainLemmas.{bodies-push, chain-push, digits_long, ended-push, last-push}
+use Rattle.dispatch_room_journal.proofs.PlainLemmas.{chain-push, digits_long}
+use Rattle.dispatch_room_journal.proofs.RunLemmas.{none_run, run_more}
 use Rattle.dispatch_room_journal.proofs.SoundLemmas.{next_whole}
 
 pub record_length : (check body : List ℕ)
@@ -82,37 +81,6 @@ module _ (whole : WholeChain) (kept : List ℕ) (size : ℕ) (check : List ℕ)
   body_long : length body ≡ size
   body_long = length-take-le size (drop HEADER kept) (omega (arith, stays.0, length-drop HEADER kept))
 
-  -- the text goes on to one record more
-  goes_more : (text more : List ℕ) → GoesOnTo text bodies (kept ++ more) whole.link → SaysEntry body
-      → GoesOnTo text (bodies ++ body ∷ []) (drop (HEADER + size) kept ++ more) next_link
-  goes_more text more goes says =
-      let next = next_whole sha256_digits whole.link.check whole.link.has_ended (kept ++ more) size check
-      (stays.3 more) in
-      let same : body_in size (kept ++ more) ≡ body = body_stays size kept more stays.0 in
-      let is_one = (rw same at next.is_one) in
-      let comes = (rw same at next.comes) in
-      let split = (rw same at next.text_is) in
-      let checked = (rw same at next.next_is) in
-      let after_is : after size (kept ++ more)
-      ≡ drop (HEADER + size) kept ++ more = drop-append-le (HEADER + size) kept more stays.0 in
-      record {
-        are = bodies-push bodies false body goes.are is_one (rw goes.has_ended at comes);
-        entries = All-push SaysEntry bodies body goes.entries says;
-        is =
-            goes.is
-            ∙ ap (λ t. chained bodies ++ t)
-            (split ∙ ap (λ t. record_text sha256_digits whole.link.check body ++ t) after_is)
-            ∙ sym (append_assoc (chained bodies) (record_text sha256_digits whole.link.check body)
-            (drop (HEADER + size) kept ++ more))
-            ∙ ap (λ t. t ++ (drop (HEADER + size) kept ++ more))
-            (ap (λ k. chained bodies ++ record_text sha256_digits k body) goes.check
-            ∙ sym (chain-push sha256_digits bodies first_check body));
-        check =
-            checked ∙ ap (λ k. next_check sha256_digits k body) goes.check
-            ∙ sym (last-push sha256_digits bodies first_check body);
-        has_ended = sym (ended-push bodies false body);
-      }
-
   pub chain_more : (first left : Option (List ℕ)) (bytes looks looks_now : ℕ)
       → ChainTaken first (prepend_known kept left) whole (length kept) looks bodies
       → SaysEntry body → bytes ≡ min (whole.bytes + (HEADER + size)) most_bytes → looks_now ≤ looks + 1
@@ -153,7 +121,8 @@ module _ (whole : WholeChain) (kept : List ℕ) (size : ℕ) (check : List ℕ)
           let same : kept ++ more ≡ b.0 = cc in (
             drop (HEADER + size) kept ++ more,
             refl,
-            goes_more text more (subst (λ (t : List ℕ). GoesOnTo text bodies t whole.link) (sym same) b.2) says,
+            run_more SaysEntry first_link whole.link kept size check stays bodies text more
+                (subst (λ (t : List ℕ). GoesOnTo text bodies t whole.link) (sym same) b.2) says,
           )
 
 pub none_taken : (first : Option (List ℕ)) (kept : ℕ)
@@ -162,7 +131,7 @@ none_taken first kept = record {
   follows = λ text known. (
     text,
     known,
-    record { are = tt; entries = All-nil SaysEntry; is = refl; check = refl; has_ended = refl },
+    none_run SaysEntry first_link text,
   );
   count = refl;
   few = omega arith;

@@ -3,6 +3,7 @@ use Rattle.std.specs.Prelude.{◌≡◌, ◌≢◌, ◌⊎◌, ⊤, ℕ, List, [
 use Rattle.std.specs.List.{flat_map}
 use Rattle.dispatch_room_journal.specs.Chains.{IsBody, chain_text, first_check, is_end, last_check, opening, said_by}
 use Rattle.dispatch_room_journal.specs.RecordFronts.{comes_next, list_says}
+use Rattle.dispatch_room_journal.specs.declared.read_progress.Reach.TheVariants.{Full}
 
 -- a hash of two texts is the same, or the one of a text is the check before the first record
 abbrev pub HasTwin : (List ℕ → List ℕ) → Type 0
@@ -30,7 +31,7 @@ abbrev pub IsReadAgain : Type 0
 IsReadAgain =
     (hash : List ℕ → List ℕ) → ((text : List ℕ) → length (hash text) ≡ 64)
     → (bodies : List (List ℕ)) → AreBodies false bodies
-    → list_says hash (opening ++ chain_text hash first_check bodies) ≡ flat_map said_by bodies
+    → list_says hash Full (opening ++ chain_text hash first_check bodies) ≡ flat_map said_by bodies
 
 -- what the rest of a chain says: nothing where there is none, and otherwise a byte with which no
 -- entry begins
@@ -46,4 +47,4 @@ IsWritten =
     (hash : List ℕ → List ℕ) (text : List ℕ)
     → (bodies : List (List ℕ)) × (rest : List ℕ) × AreBodies false bodies
     × (text ≡ chain_text hash first_check bodies ++ rest)
-    × (list_says hash (opening ++ text) ≡ flat_map said_by bodies ++ says_rest rest)
+    × (list_says hash Full (opening ++ text) ≡ flat_map said_by bodies ++ says_rest rest)

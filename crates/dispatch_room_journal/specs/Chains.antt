@@ -1,7 +1,6 @@
 -- A chain: records, one after another, each of which has a check of itself and of all before it.
 use Rattle.std.specs.Prelude.{◌≡◌, ◌≢◌, ◌≤◌, ◌⊎◌, ℕ, ◌+◌, ◌*◌, ◌/◌, ◌%◌, List, [], ◌∷◌, ◌++◌, length, replicate, codes}
-use Rattle.std.specs.Prelude.{All, Bool, true, false, if◌then◌else◌}
-use Rattle.std.specs.List.{flat_map}
+use Rattle.std.specs.Prelude.{Bool, true, false, ◌||◌, ◌&&◌, ◌==◌, take, drop, if◌then◌else◌}
 use Rattle.std.specs.Str.{bytes_eq}
 use Rattle.hex.specs.Hex.{encode_lower}
 use Rattle.sha2.specs.Sha256.{sha256}
@@ -26,9 +25,34 @@ end_body = codes "end\n"
 abbrev pub is_end : List ℕ → Bool
 is_end body = bytes_eq body end_body
 
--- what a record says: that the list ended well says nothing more
+-- the word with which a record begins that is a row of a file which changes the room
+abbrev pub row_word : List ℕ
+row_word = codes "row "
+
+-- a line with its end: a line end is its last byte, and no other
+abbrev pub is_whole_line : List ℕ → Bool
+is_whole_line [] = false
+is_whole_line (byte ∷ more) = if byte == 10 then length more == 0 else is_whole_line more
+
+-- a row: that word, and a line with its end
+abbrev pub is_row : List ℕ → Bool
+is_row body = bytes_eq row_word (take 4 body) && is_whole_line (drop 4 body)
+
+-- the record of a line of that file, which is given without its end
+abbrev pub row_body : List ℕ → List ℕ
+row_body line = row_word ++ line ++ 10 ∷ []
+
+-- the line in the record of a row, with its end
+abbrev pub row_line : List ℕ → List ℕ
+row_line body = drop 4 body
+
+-- a record that is no entry: one that says that the list ended well, and a row
+abbrev pub is_silent : List ℕ → Bool
+is_silent body = is_end body || is_row body
+
+-- what a record says among the entries
 abbrev pub said_by : List ℕ → List ℕ
-said_by body = if is_end body then [] else body
+said_by body = if is_silent body then [] else body
 
 -- a record is not empty, and not longer than an entry
 abbrev pub IsBody : List ℕ → Type 0

@@ -17,5 +17,9 @@ pub mod RecordFronts
 pub mod ReadSteps
 pub mod ListTallies
 pub mod ChainLaws
+pub mod RecordRuns
+pub mod RowRuns
+pub mod Legs
+pub mod LegLaws
 pub mod PlainTexts
 pub mod WholeRecords

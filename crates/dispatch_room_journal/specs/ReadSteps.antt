@@ -1,6 +1,7 @@
 -- How far a list was read, and what is left to be given of what it says.
 use Rattle.std.specs.Prelude.{◌≡◌, ◌⊎◌, ⊤, ℕ, zero, suc, ◌+◌, ◌-◌, ◌*◌, ◌<◌, ◌≤◌, List, [], ◌∷◌, ◌++◌, length, take}
-use Rattle.std.specs.Prelude.{drop, Bool, true, false, cond, is_err, ◌||◌, Option, MatchResult, Result, Ok, Err}
+use Rattle.std.specs.Prelude.{drop, Bool, true, false, cond, is_err, ◌||◌, if◌then◌else◌, Option, MatchResult, Result, Ok}
+use Rattle.std.specs.Prelude.{Err, None, Some}
 use Rattle.std.specs.Option.{option_map}
 use Rattle.std.specs.Io.KnownBytes.{Consumes, IsAtEnd, Keeps}
 use Rattle.dispatch_room_journal.specs.declared.record_inbox.TheConstants.{RECORD_ROOM}
@@ -8,9 +9,14 @@ use Rattle.dispatch_room_journal.specs.declared.record_fronts.Link.{Link}
 use Rattle.dispatch_room_journal.specs.declared.read_progress.Mode.{Mode}
 use Rattle.dispatch_room_journal.specs.declared.read_progress.Mode.TheVariants.{Fresh, Plain, Chain, Done}
 use Rattle.dispatch_room_journal.specs.declared.read_progress.Step.{Step}
-use Rattle.dispatch_room_journal.specs.declared.read_progress.Step.TheVariants.{Ended, More, Moved, Wrong}
-use Rattle.dispatch_room_journal.specs.Chains.{sha256_digits}
-use Rattle.dispatch_room_journal.specs.RecordFronts.{list_says, says}
+use Rattle.dispatch_room_journal.specs.declared.read_progress.Reach.{Reach}
+use Rattle.dispatch_room_journal.specs.declared.read_progress.Reach.TheVariants.{Full, Leg}
+use Rattle.dispatch_room_journal.specs.declared.read_progress.Step.TheVariants.{Ended, More, Moved, Passed, Wrong}
+use Rattle.dispatch_room_journal.specs.declared.record_fronts.Front.{Front}
+use Rattle.dispatch_room_journal.specs.declared.record_fronts.Front.TheVariants.{Empty, Short, Whole}
+use Rattle.dispatch_room_journal.specs.declared.record_fronts.Front.TheVariants.{Wrong as NoFront}
+use Rattle.dispatch_room_journal.specs.Chains.{is_row, sha256_digits}
+use Rattle.dispatch_room_journal.specs.RecordFronts.{body_in, front_of, list_says, says}
 
 -- one read to the back of the bytes that were kept: what it gave, and whether it failed
 pub record Fills {R E : Type 0} (left : R → Option (List ℕ)) (has_failed : R → Bool)
@@ -24,10 +30,10 @@ pub record Fills {R E : Type 0} (left : R → Option (List ℕ)) (has_failed : R
 
 -- what a text says that goes on where reading is
 abbrev pub rest_of : Mode → List ℕ → List ℕ
-rest_of Fresh text = list_says sha256_digits text
-rest_of Plain text = text
-rest_of (Chain link) text = says sha256_digits link.check link.has_ended text
-rest_of Done text = []
+rest_of (Fresh reach) text = list_says sha256_digits reach text
+rest_of (Plain reach) text = text
+rest_of (Chain reach link) text = says sha256_digits reach link.check link.has_ended text
+rest_of (Done reach) text = []
 
 -- what is left to be given, of a text of which so many bytes may be given as they are
 abbrev pub left_of : Mode → ℕ → List ℕ → List ℕ
@@ -39,25 +45,74 @@ left_in mode vouched kept left = option_map (λ more. left_of mode vouched (kept
 
 -- what is left to be given where nothing more follows
 abbrev pub last_of : Mode → List ℕ → List ℕ
-last_of Fresh text = text
-last_of Plain text = text
-last_of (Chain link) [] = []
-last_of (Chain link) (byte ∷ more) = 0 ∷ []
-last_of Done text = []
+last_of (Fresh reach) text = text
+last_of (Plain reach) text = text
+last_of (Chain reach link) [] = []
+last_of (Chain reach link) (byte ∷ more) = 0 ∷ []
+last_of (Done reach) text = []
 
 -- the last record that was read says that the list ended well
 abbrev pub ends_well : Mode → Bool
-ends_well (Chain link) = link.has_ended
-ends_well Fresh = false
-ends_well Plain = false
-ends_well Done = false
+ends_well (Chain reach link) = link.has_ended
+ends_well (Fresh reach) = false
+ends_well (Plain reach) = false
+ends_well (Done reach) = false
 
--- how far it is to where a read has to give something
+-- as many rows as are counted
+abbrev pub most_rows : ℕ
+most_rows = 18446744073709551615
+
+-- how far a list is to be read
+abbrev pub reach_of : Mode → Reach
+reach_of (Fresh reach) = reach
+reach_of (Plain reach) = reach
+reach_of (Chain reach link) = reach
+reach_of (Done reach) = reach
+
+-- nothing that is left of it says anything
+abbrev pub done_of : Mode → Mode
+done_of mode = Done (reach_of mode)
+
+-- no more rows were passed over than bytes are gone from a text, where it is known
+abbrev pub PassesRows : Option (List ℕ) → Option (List ℕ) → ℕ → ℕ → Type 0
+PassesRows None after passed now = ⊤
+PassesRows (Some text) None passed now = ⊥
+PassesRows (Some text) (Some rest) passed now = now + length rest ≤ passed + length text
+
+-- the rows at the front of a text: one, or none
+abbrev pub rows_at : List ℕ → Front → ℕ
+rows_at text Empty = 0
+rows_at text Short = 0
+rows_at text NoFront = 0
+rows_at text (Whole size check) = if is_row (body_in size text) then 1 else 0
+
+-- the rows that the next step passes over: in a list that is read by legs none
+abbrev pub rows_next : Mode → List ℕ → ℕ
+rows_next (Fresh reach) kept = 0
+rows_next (Plain reach) kept = 0
+rows_next (Chain Full link) kept =
+    rows_at kept (front_of sha256_digits link.check link.has_ended kept)
+rows_next (Chain Leg link) kept = 0
+rows_next (Done reach) kept = 0
+
+-- the rows that a step passed over
+abbrev pub rows_by : Step → ℕ
+rows_by More = 0
+rows_by Moved = 0
+rows_by Passed = 1
+rows_by Wrong = 0
+rows_by Ended = 0
+
+abbrev pub rows_of : {E : Type 0} → Result Step E → ℕ
+rows_of (Ok step) = rows_by step
+rows_of (Err e) = 0
+
+-- how far it is to where a read has to give something, or passes over a row
 abbrev pub effort : Mode → ℕ → ℕ
-effort Fresh len = 5 * RECORD_ROOM - len
-effort Plain len = RECORD_ROOM - len
-effort (Chain link) len = cond link.has_ended (RECORD_ROOM - len) (3 * RECORD_ROOM - len)
-effort Done len = RECORD_ROOM - len
+effort (Fresh reach) len = 5 * RECORD_ROOM - len
+effort (Plain reach) len = RECORD_ROOM - len
+effort (Chain reach link) len = cond link.has_ended (RECORD_ROOM - len) (3 * RECORD_ROOM - len)
+effort (Done reach) len = RECORD_ROOM - len
 
 -- the same, and nothing where something may be given
 abbrev pub weight : Mode → ℕ → ℕ → ℕ
@@ -69,8 +124,13 @@ abbrev pub Nears : Mode → ℕ → Mode → ℕ → ℕ → Type 0
 Nears mode len new_mode new_vouched new_len =
     (0 < new_vouched) ⊎ (effort new_mode new_len < effort mode len)
 
--- One step, with nothing that may be given: it leaves what is left as it is, and it is nearer; or
--- more has to be read, for which there is room; or it was found what is left.
+-- or a row is passed over
+abbrev pub Nearer : Mode → List ℕ → Mode → ℕ → ℕ → Type 0
+Nearer mode kept new_mode new_vouched new_len =
+    Nears mode (length kept) new_mode new_vouched new_len ⊎ (rows_next mode kept ≡ 1)
+
+-- One step, with nothing that may be given: it leaves what is left as it is, and it is nearer, or a
+-- row was passed over; or more has to be read, for which there is room; or it was found what is left.
 module _ (mode : Mode) (kept : List ℕ) (new_mode : Mode) (new_vouched : ℕ) (new_kept : List ℕ) where
   abbrev pub StepIs : Step → Type 0
   StepIs More = (new_mode ≡ mode) × (new_vouched ≡ 0) × (new_kept ≡ kept)
@@ -78,6 +138,8 @@ module _ (mode : Mode) (kept : List ℕ) (new_mode : Mode) (new_vouched : ℕ) (
   StepIs Moved = ((more : List ℕ)
       → left_of new_mode new_vouched (new_kept ++ more) ≡ rest_of mode (kept ++ more))
       × Nears mode (length kept) new_mode new_vouched (length new_kept)
+  StepIs Passed = (more : List ℕ)
+      → left_of new_mode new_vouched (new_kept ++ more) ≡ rest_of mode (kept ++ more)
   StepIs Wrong = (new_vouched ≡ 0) × ((more : List ℕ) → rest_of mode (kept ++ more) ≡ 0 ∷ [])
   StepIs Ended = ((more : List ℕ) → rest_of mode (kept ++ more) ≡ [])
       × ((more : List ℕ) → left_of new_mode new_vouched (new_kept ++ more) ≡ [])
@@ -86,14 +148,17 @@ module _ (mode : Mode) (kept : List ℕ) (new_mode : Mode) (new_vouched : ℕ) (
   abbrev pub EndIs : Step → Type 0
   EndIs More = ⊥
   EndIs Moved = (0 < new_vouched) × (left_of new_mode new_vouched new_kept ≡ last_of mode kept)
+  EndIs Passed = ⊥
   EndIs Wrong = (new_vouched ≡ 0) × (last_of mode kept ≡ 0 ∷ [])
   EndIs Ended = (last_of mode kept ≡ []) × (left_of new_mode new_vouched new_kept ≡ [])
 
--- one step, and a read where one is needed: what was left before and is after it
+-- one step, and a read where one is needed: what was left before and is after it; and where it was
+-- not found what is left, this holds
 abbrev pub Advances : {E : Type 0} → Option (List ℕ) → Option (List ℕ) → Option (List ℕ) → Type 0
     → Result Step E → Type 0
 Advances before after told Near (Ok More) = Keeps before after × Near
 Advances before after told Near (Ok Moved) = Keeps before after × Near
+Advances before after told Near (Ok Passed) = Keeps before after × Near
 Advances before after told Near (Ok Wrong) = Consumes before told (0 ∷ [])
 Advances before after told Near (Ok Ended) = Keeps before after × IsAtEnd after
 Advances before after told Near (Err e) = Keeps before after

@@ -7,7 +7,9 @@ use Rattle.dispatch_room_journal.specs.declared.record_inbox.TheConstants.{RECOR
 use Rattle.dispatch_room_journal.specs.declared.record_headers.TheConstants.{HEADER}
 use Rattle.dispatch_room_journal.specs.declared.record_fronts.Front.{Front}
 use Rattle.dispatch_room_journal.specs.declared.record_fronts.Front.TheVariants.{Empty, Short, Wrong, Whole}
-use Rattle.dispatch_room_journal.specs.Chains.{first_check, header, is_end, next_check, opening, said_by}
+use Rattle.dispatch_room_journal.specs.Chains.{first_check, header, is_end, is_row, next_check, opening, said_by}
+use Rattle.dispatch_room_journal.specs.declared.read_progress.Reach.{Reach}
+use Rattle.dispatch_room_journal.specs.declared.read_progress.Reach.TheVariants.{Full, Leg}
 
 -- the number whose five digits a text begins with
 abbrev pub number_in : List ℕ → ℕ
@@ -63,23 +65,30 @@ Stays look has_ended text (Whole size check) =
     × (comes_next has_ended (body_in size text) ≡ true)
     × ((more : List ℕ) → look (text ++ more) ≡ Whole size check)
 
--- what is at the front of a text says, and then what the rest does; where there is anything that is
--- no record, a byte with which no entry begins
-abbrev pub said_with : (List ℕ → Bool → List ℕ → List ℕ) → List ℕ → Front → List ℕ
-said_with rest text Empty = []
-said_with rest text Short = 0 ∷ []
-said_with rest text Wrong = 0 ∷ []
-said_with rest text (Whole size check) =
-    said_by (body_in size text) ++ rest check (is_end (body_in size text)) (after size text)
+-- a leg of a list ends where a row stands
+abbrev pub stops_at : Reach → List ℕ → Bool
+stops_at Full body = false
+stops_at Leg body = is_row body
 
-module _ (hash : List ℕ → List ℕ) where
+-- what is at the front of a text says, and then what the rest does, so far as it is read; where
+-- there is anything that is no record, a byte with which no entry begins
+abbrev pub said_with : Reach → (List ℕ → Bool → List ℕ → List ℕ) → List ℕ → Front → List ℕ
+said_with reach rest text Empty = []
+said_with reach rest text Short = 0 ∷ []
+said_with reach rest text Wrong = 0 ∷ []
+said_with reach rest text (Whole size check) =
+    if stops_at reach (body_in size text) then []
+    else said_by (body_in size text) ++ rest check (is_end (body_in size text)) (after size text)
+
+module _ (hash : List ℕ → List ℕ) (reach : Reach) where
   -- what so many records at most say
   abbrev pub said_in : ℕ → List ℕ → Bool → List ℕ → List ℕ
   said_in zero check has_ended text = []
   said_in (suc more) check has_ended text =
-      said_with (λ c e t. said_in more c e t) text (front_of hash check has_ended text)
+      said_with reach (λ c e t. said_in more c e t) text (front_of hash check has_ended text)
 
-  -- what the records of a text say, each of which comes next after the one before
+  -- what the records of a text say, each of which comes next after the one before: all of them, or
+  -- those before the first row
   unfoldable pub says : List ℕ → Bool → List ℕ → List ℕ
   says check has_ended text = said_in (length text) check has_ended text
 

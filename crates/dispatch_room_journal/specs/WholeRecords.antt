@@ -12,23 +12,18 @@ use Rattle.dispatch_room_journal.specs.declared.record_fronts.Link.{Link}
 use Rattle.dispatch_room_journal.specs.declared.whole_records.ListForm.{ListForm}
 use Rattle.dispatch_room_journal.specs.declared.whole_records.ListForm.TheVariants.{Chain, New, Plain}
 use Rattle.dispatch_room_journal.specs.declared.whole_records.WholeChain.{WholeChain}
-use Rattle.dispatch_room_journal.specs.Chains.{chain_text, first_check, is_end, last_check, opening, sha256_digits}
+use Rattle.dispatch_room_journal.specs.Chains.{chain_text, first_check, is_silent, opening, sha256_digits}
 use Rattle.dispatch_room_journal.specs.RecordFronts.{front_of}
-use Rattle.dispatch_room_journal.specs.ChainLaws.{AreBodies}
-use Rattle.dispatch_room_journal.specs.PlainTexts.{last_ended}
+use Rattle.dispatch_room_journal.specs.RecordRuns.{Runs, first_link}
 
--- a record is an entry, or says that the list ended well
+-- a record is an entry, or says none
 abbrev pub SaysEntry : List ℕ → Type 0
-SaysEntry body = (is_end body ≡ true) ⊎ ((e : Entry) × IsEntry e × (body ≡ text_of e))
+SaysEntry body = (is_silent body ≡ true) ⊎ ((e : Entry) × IsEntry e × (body ≡ text_of e))
 
--- The text after a chain's first line begins with these records, and this rest follows them; and
--- how far the chain has come after them.
-pub record GoesOnTo (text : List ℕ) (bodies : List (List ℕ)) (rest : List ℕ) (link : Link) : Type 0 where
-  pub are : AreBodies false bodies
-  pub entries : All SaysEntry bodies
-  pub is : text ≡ chain_text sha256_digits first_check bodies ++ rest
-  pub check : link.check ≡ last_check sha256_digits first_check bodies
-  pub has_ended : link.has_ended ≡ last_ended false bodies
+-- the text after a chain's first line begins with these records, and this rest follows them; and how
+-- far the chain has come after them
+abbrev pub GoesOnTo : List ℕ → List (List ℕ) → List ℕ → Link → Type 0
+GoesOnTo text bodies rest link = Runs SaysEntry first_link text bodies rest link
 
 -- so many bytes of the text are whole records: after them there is nothing, or a record that is cut
 -- short

@@ -1,5 +1,6 @@
 //! What the text of a chain decides. Each law is the contract of a function that does nothing.
 ghost use Rattle.dispatch_room_journal.specs.ChainLaws.{IsOneChain, IsReadAgain, IsWritten};
+ghost use Rattle.dispatch_room_journal.specs.LegLaws.{IsLegByLeg};
 
 /// Two lists that end with the same check are the same, unless two texts have one hash, or one has
 /// that of the check before the first record.
@@ -15,4 +16,9 @@ pub fn read_again()
 /// What is read was written, each record after the one before.
 pub fn written()
     ensures { IsWritten }
+{}
+
+/// What a list says is its legs, one after another.
+pub fn leg_by_leg()
+    ensures { IsLegByLeg }
 {}

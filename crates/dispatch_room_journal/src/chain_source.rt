@@ -1,36 +1,71 @@
 //! What the records of a list say, as a source.
-ghost use Rattle.std.specs.Prelude.{◌≡◌, ◌||◌, ◌<◌, is_err, None, length, false};
+ghost use Rattle.std.specs.Prelude.{◌≡◌, ◌||◌, ◌==◌, ◌+◌, ◌<◌, ◌≤◌, is_err, None, Ok, IfOk, length, false, true};
+ghost use Rattle.std.specs.Io.KnownBytes.{ReadConsumes, prepend_known};
 ghost use Rattle.std.specs.Option.{option_map};
+ghost use Rattle.room_http_messages.specs.Streams.{found_end};
 ghost use Rattle.dispatch_room_journal.specs.Chains.{sha256_digits};
 ghost use Rattle.dispatch_room_journal.specs.RecordFronts.{list_says};
-ghost use Rattle.dispatch_room_journal.specs.ReadSteps.{Advances, Nears, ends_well, last_of, left_in, rest_of};
+ghost use Rattle.dispatch_room_journal.specs.ReadSteps.{Advances, Nearer, PassesRows, done_of, ends_well, last_of, left_in};
+ghost use Rattle.dispatch_room_journal.specs.ReadSteps.{most_rows, reach_of, rest_of, rows_next, rows_of};
+ghost use Rattle.dispatch_room_journal.specs.RowRuns.{is_read};
+ghost use Rattle.dispatch_room_journal.specs.Legs.{TakesIn};
 ghost use Rattle.dispatch_room_journal.specs.declared.record_inbox.TheConstants.{RECORD_ROOM};
-ghost use Rattle.dispatch_room_journal.specs.declared.read_progress.Mode.TheVariants.{Done};
+ghost use Rattle.dispatch_room_journal.specs.declared.read_progress.Reach.TheVariants.{Full, Leg};
+ghost use Rattle.dispatch_room_journal.specs.declared.read_progress.Mode.TheVariants.{Chain};
+ghost use Rattle.dispatch_room_journal.specs.declared.row_runs.Behind.TheVariants.{Unread};
 
-use crate::read_progress::{Mode, Reel, Step};
+use crate::read_progress::{Mode, Reach, Reel, Step};
+use crate::record_fronts::Link;
+use crate::row_runs::{Behind, RowsFault, take_run};
 use room_http_messages::sources::{ReadFailed, Source};
 
 /// What the records of a list say, and a byte with which no entry begins where a record is not the
-/// one that comes next.
+/// one that comes next. Either all that the list says is read, over the rows in it; or one leg
+/// after another, each up to the next row, and the rows between them are taken.
 #[derive(Drop)]
 pub struct Unchained<R> {
     reader: R,
     reel: Reel,
     has_ended: bool,
+    // The number of the rows that were passed over. As many as this counts are too many.
+    passed: u64,
+    ghost fits: { passed ≤ most_rows },
+    // By legs none are, so nothing but a read of the list fails.
+    ghost legs: { reach_of reel.mode ≡ Leg → passed ≡ 0 },
 }
 
 impl<R: Source> Unchained<R> {
-    /// What a list says of which nothing was read.
+    /// All that a list says of which nothing was read.
     pub fn new(reader: R) -> Unchained<R>
         ensures left { left_in result.reel.mode result.reel.vouched result.reel.inbox
-            (R.left result.reader) ≡ option_map (list_says sha256_digits) (R.left reader) }
+            (R.left result.reader) ≡ option_map (list_says sha256_digits Full) (R.left reader) }
         ensures reader { result.reader ≡ reader }
         ensures fresh { result.has_ended ≡ false }
+        ensures none { result.passed ≡ 0 }
+        ensures reach { reach_of result.reel.mode ≡ Full }
     {
         Unchained {
             reader,
-            reel: Reel::new(),
+            reel: Reel::new(Reach::Full),
             has_ended: false,
+            passed: 0,
+        }
+    }
+
+    /// The first leg of a list of which nothing was read.
+    pub fn by_legs(reader: R) -> Unchained<R>
+        ensures left { left_in result.reel.mode result.reel.vouched result.reel.inbox
+            (R.left result.reader) ≡ option_map (list_says sha256_digits Leg) (R.left reader) }
+        ensures reader { result.reader ≡ reader }
+        ensures fresh { result.has_ended ≡ false }
+        ensures none { result.passed ≡ 0 }
+        ensures reach { reach_of result.reel.mode ≡ Leg }
+    {
+        Unchained {
+            reader,
+            reel: Reel::new(Reach::Leg),
+            has_ended: false,
+            passed: 0,
         }
     }
 
@@ -39,8 +74,66 @@ impl<R: Source> Unchained<R> {
         ensures { result ≡ ends_well self.now.reel.mode }
     {
         match self.reel.mode {
-            Mode::Chain(link) => link.has_ended,
-            Mode::Fresh | Mode::Plain | Mode::Done => false,
+            Mode::Chain(_, link) => link.has_ended,
+            Mode::Fresh(_) | Mode::Plain(_) | Mode::Done(_) => false,
+        }
+    }
+
+    /// Takes the rows that stand behind a leg which was read to its end, and puts their lines
+    /// behind `rows`. What stands behind them is the next leg. A list that is no chain has none.
+    pub fn take_rows(&mut self, rows: &mut Vec<u8>) -> Result<Behind, RowsFault>
+        requires sound { (R.has_failed self.old.reader || self.old.passed == most_rows) ≡ false }
+        ensures failed { (R.has_failed self.new.reader || self.new.passed == most_rows) ≡ is_read result }
+        ensures same { self.new.passed ≡ self.old.passed }
+        ensures reach { reach_of self.new.reel.mode ≡ reach_of self.old.reel.mode }
+        ensures unread { self.old.has_ended ≡ false
+            → (result ≡ Ok Unread) × (self.new ≡ self.old) × (rows.new ≡ rows.old) }
+        ensures taken { self.old.has_ended ≡ true → self.old.reel.vouched ≡ 0
+            → (self.new.reel.vouched ≡ 0) × IfOk result (TakesIn self.old.reel.mode
+            self.new.reel.mode (prepend_known self.old.reel.inbox (R.left self.old.reader))
+            (prepend_known self.new.reel.inbox (R.left self.new.reader))
+            rows.old.items rows.new.items) }
+    {
+        if !self.has_ended {
+            return Ok(Behind::Unread);
+        }
+        if 0 < self.reel.vouched {
+            return Ok(Behind::Unread);
+        }
+        match self.reel.mode {
+            Mode::Chain(Reach::Leg, link) => self.take_behind(&link, rows),
+            Mode::Chain(Reach::Full, _) => Ok(Behind::End),
+            Mode::Fresh(_) => Ok(Behind::End),
+            Mode::Plain(_) => Ok(Behind::End),
+            Mode::Done(_) => Ok(Behind::Other),
+        }
+    }
+
+    // Takes the rows that stand next, and goes on behind them.
+    fn take_behind(&mut self, link: &Link, rows: &mut Vec<u8>) -> Result<Behind, RowsFault>
+        requires sound { (R.has_failed self.old.reader || self.old.passed == most_rows) ≡ false }
+        requires none { self.old.reel.vouched ≡ 0 }
+        requires mode { self.old.reel.mode ≡ Chain Leg link.now }
+        ensures failed { (R.has_failed self.new.reader || self.new.passed == most_rows) ≡ is_read result }
+        ensures same { self.new.passed ≡ self.old.passed }
+        ensures reach { reach_of self.new.reel.mode ≡ Leg }
+        ensures none { self.new.reel.vouched ≡ 0 }
+        ensures taken { IfOk result (TakesIn (Chain Leg link.now) self.new.reel.mode
+            (prepend_known self.old.reel.inbox (R.left self.old.reader))
+            (prepend_known self.new.reel.inbox (R.left self.new.reader))
+            rows.old.items rows.new.items) }
+    {
+        let mut next = *link;
+        match take_run(&mut self.reel.inbox, &mut self.reader, &mut next, rows) {
+            Ok(behind) => {
+                self.reel.mode = Mode::Chain(Reach::Leg, next);
+                self.has_ended = false;
+                Ok(behind)
+            }
+            Err(fault) => {
+                self.reel.mode = Mode::Done(Reach::Leg);
+                Err(fault)
+            }
         }
     }
 
@@ -52,11 +145,18 @@ impl<R: Source> Unchained<R> {
             ≡ last_of self.old.reel.mode self.old.reel.inbox }
         ensures failed { R.has_failed self.new.reader ≡ (R.has_failed self.old.reader || is_err result) }
         ensures ended { self.new.has_ended ≡ self.old.has_ended }
+        ensures rows { rows_of result ≡ 0 }
+        ensures passed { self.new.passed ≡ self.old.passed }
+        ensures reach { reach_of self.new.reel.mode ≡ reach_of self.old.reel.mode }
+        ensures counts { PassesRows (prepend_known self.old.reel.inbox (R.left self.old.reader))
+            (prepend_known self.new.reel.inbox (R.left self.new.reader))
+            self.old.passed self.new.passed }
         ensures step { Advances
             (left_in self.old.reel.mode self.old.reel.vouched self.old.reel.inbox (R.left self.old.reader))
             (left_in self.new.reel.mode self.new.reel.vouched self.new.reel.inbox (R.left self.new.reader))
-            (left_in Done self.new.reel.vouched self.new.reel.inbox (R.left self.new.reader))
-            (Nears self.old.reel.mode (length self.old.reel.inbox) self.new.reel.mode
+            (left_in (done_of self.new.reel.mode) self.new.reel.vouched self.new.reel.inbox
+            (R.left self.new.reader))
+            (Nearer self.old.reel.mode self.old.reel.inbox self.new.reel.mode
             self.new.reel.vouched (length self.new.reel.inbox)) result }
     {
         match self.reel.inbox.fill(&mut self.reader) {
@@ -66,37 +166,59 @@ impl<R: Source> Unchained<R> {
         }
     }
 
-    // A step, and a read where one is needed.
+    // A step, and a read where one is needed. A row that is passed over is counted.
     fn advance(&mut self) -> Result<Step, ReadFailed>
         requires none { self.old.reel.vouched ≡ 0 }
+        requires counts { self.old.passed < most_rows }
         ensures failed { R.has_failed self.new.reader ≡ (R.has_failed self.old.reader || is_err result) }
         ensures ended { self.new.has_ended ≡ self.old.has_ended }
+        ensures rows { rows_of result ≡ rows_next self.old.reel.mode self.old.reel.inbox }
+        ensures passed { self.new.passed ≡ self.old.passed + rows_of result }
+        ensures reach { reach_of self.new.reel.mode ≡ reach_of self.old.reel.mode }
+        ensures counts { PassesRows (prepend_known self.old.reel.inbox (R.left self.old.reader))
+            (prepend_known self.new.reel.inbox (R.left self.new.reader))
+            self.old.passed self.new.passed }
         ensures step { Advances
             (left_in self.old.reel.mode self.old.reel.vouched self.old.reel.inbox (R.left self.old.reader))
             (left_in self.new.reel.mode self.new.reel.vouched self.new.reel.inbox (R.left self.new.reader))
-            (left_in Done self.new.reel.vouched self.new.reel.inbox (R.left self.new.reader))
-            (Nears self.old.reel.mode (length self.old.reel.inbox) self.new.reel.mode
+            (left_in (done_of self.new.reel.mode) self.new.reel.vouched self.new.reel.inbox
+            (R.left self.new.reader))
+            (Nearer self.old.reel.mode self.old.reel.inbox self.new.reel.mode
             self.new.reel.vouched (length self.new.reel.inbox)) result }
     {
         match self.reel.step() {
             Step::More => self.read_on(),
             Step::Moved => Ok(Step::Moved),
+            Step::Passed => {
+                self.passed += 1;
+                Ok(Step::Passed)
+            }
             Step::Wrong => Ok(Step::Wrong),
             Step::Ended => Ok(Step::Ended),
         }
     }
 
-    // Steps until something may be given, or it is found what is left.
+    // Steps until something may be given, or it is found what is left, or too many rows were passed
+    // over.
     fn ready(&mut self) -> Result<Step, ReadFailed>
-        ensures failed { R.has_failed self.new.reader ≡ (R.has_failed self.old.reader || is_err result) }
+        ensures failed { (R.has_failed self.new.reader || self.new.passed == most_rows)
+            ≡ ((R.has_failed self.old.reader || self.old.passed == most_rows) || is_err result) }
         ensures ended { self.new.has_ended ≡ self.old.has_ended }
+        ensures reach { reach_of self.new.reel.mode ≡ reach_of self.old.reel.mode }
+        ensures counts { PassesRows (prepend_known self.old.reel.inbox (R.left self.old.reader))
+            (prepend_known self.new.reel.inbox (R.left self.new.reader))
+            self.old.passed self.new.passed }
         ensures step { Advances
             (left_in self.old.reel.mode self.old.reel.vouched self.old.reel.inbox (R.left self.old.reader))
             (left_in self.new.reel.mode self.new.reel.vouched self.new.reel.inbox (R.left self.new.reader))
-            (left_in Done self.new.reel.vouched self.new.reel.inbox (R.left self.new.reader))
+            (left_in (done_of self.new.reel.mode) self.new.reel.vouched self.new.reel.inbox
+            (R.left self.new.reader))
             (0 < self.new.reel.vouched) result }
     {
-        'steps: while self.reel.vouched == 0 {
+        'steps: while self.passed < u64::MAX {
+            if 0 < self.reel.vouched {
+                return Ok(Step::Moved);
+            }
             match self.advance() {
                 Err(failed) => return Err(failed),
                 Ok(Step::Wrong) => return Ok(Step::Wrong),
@@ -104,28 +226,32 @@ impl<R: Source> Unchained<R> {
                 Ok(_) => {}
             }
         }
-        Ok(Step::Moved)
+        Err(ReadFailed)
     }
-}
 
-impl<R: Source> Source for Unchained<R> {
-    ghost left = { λ list. left_in list.reel.mode list.reel.vouched list.reel.inbox
-        (R.left list.reader) };
-
-    ghost reads = { λ _. None };
-
-    ghost has_failed = { λ list. R.has_failed list.reader };
-
-    ghost has_ended = { λ list. list.has_ended };
-
-    fn read(&mut self, buf: &mut [u8]) -> Result<usize, ReadFailed> {
+    // What a read does, with how far the list is to be read, and the rows that are passed over.
+    fn read_ready(&mut self, buf: &mut [u8]) -> Result<usize, ReadFailed>
+        ensures bound { IfOk result (λ n. n ≤ length buf.new) }
+        ensures bytes { ReadConsumes
+            (left_in self.old.reel.mode self.old.reel.vouched self.old.reel.inbox (R.left self.old.reader))
+            (left_in self.new.reel.mode self.new.reel.vouched self.new.reel.inbox (R.left self.new.reader))
+            result buf.new }
+        ensures failed { (R.has_failed self.new.reader || self.new.passed == most_rows)
+            ≡ ((R.has_failed self.old.reader || self.old.passed == most_rows) || is_err result) }
+        ensures ended { self.new.has_ended
+            ≡ (self.old.has_ended || found_end result (length buf.new)) }
+        ensures reach { reach_of self.new.reel.mode ≡ reach_of self.old.reel.mode }
+        ensures counts { PassesRows (prepend_known self.old.reel.inbox (R.left self.old.reader))
+            (prepend_known self.new.reel.inbox (R.left self.new.reader))
+            self.old.passed self.new.passed }
+    {
         if buf.is_empty() {
             return Ok(0);
         }
         match self.ready() {
             Err(failed) => Err(failed),
             Ok(Step::Wrong) => {
-                self.reel.mode = Mode::Done;
+                self.reel.mode = Mode::Done(self.reel.mode.reach());
                 buf[0] = 0;
                 Ok(1)
             }
@@ -135,5 +261,20 @@ impl<R: Source> Source for Unchained<R> {
             }
             Ok(_) => Ok(self.reel.give(buf)),
         }
+    }
+}
+
+impl<R: Source> Source for Unchained<R> {
+    ghost left = { λ list. left_in list.reel.mode list.reel.vouched list.reel.inbox
+        (R.left list.reader) };
+
+    ghost reads = { λ _. None };
+
+    ghost has_failed = { λ list. R.has_failed list.reader || list.passed == most_rows };
+
+    ghost has_ended = { λ list. list.has_ended };
+
+    fn read(&mut self, buf: &mut [u8]) -> Result<usize, ReadFailed> {
+        self.read_ready(buf)
     }
 }

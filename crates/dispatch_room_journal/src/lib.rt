@@ -30,9 +30,13 @@
 //! POST /call HTTP/1.1 ..
 //! ```
 //!
-//! Where the list ended well, its last record is a line `end`. `Unchained` reads what the records
-//! say, and a byte with which no entry begins where a record is not the one that comes next;
-//! `put_record` writes a record, and `verify` looks a whole list through.
+//! Where the list ended well, its last record is a line `end`. A record `row ..` is a line of the
+//! fleet's file, which an import puts there. Neither is an entry.
+//!
+//! `Unchained` reads what the records say, and a byte with which no entry begins where a record is
+//! not the one that comes next: all that a list says, over the rows in it, or one leg after another,
+//! each up to the next row, and the rows between them. `put_record` writes a record, and `verify`
+//! looks a whole list through.
 #![tactic(auto)]
 
 pub mod answer_frames;
@@ -65,6 +69,7 @@ pub mod replay_laws;
 pub mod replay_outcomes;
 pub mod replay_progress;
 pub mod replayed_journal;
+pub mod row_runs;
 pub mod streamed_messages;
 pub mod verification;
 pub mod whole_entries;

@@ -4,17 +4,26 @@ ghost use Rattle.std.specs.Prelude.{◌≤◌, length};
 use crate::record_fronts::Link;
 use crate::record_inbox::RecordInbox;
 
+/// How far a list is to be read.
+#[derive(Clone, Copy)]
+pub enum Reach {
+    /// To its end, over the rows in it.
+    Full,
+    /// To the next row.
+    Leg,
+}
+
 /// How far a list was read.
 #[derive(Clone, Copy)]
 pub enum Mode {
     /// Nothing of it was looked at.
-    Fresh,
+    Fresh(Reach),
     /// It is no chain, and says itself.
-    Plain,
+    Plain(Reach),
     /// It is a chain, and has come so far.
-    Chain(Link),
+    Chain(Reach, Link),
     /// Nothing that is left says anything.
-    Done,
+    Done(Reach),
 }
 
 /// What was found of what comes next.
@@ -24,6 +33,8 @@ pub enum Step {
     More,
     /// It was looked at.
     Moved,
+    /// A row was passed over.
+    Passed,
     /// It is no record that comes next.
     Wrong,
     /// It is the end.

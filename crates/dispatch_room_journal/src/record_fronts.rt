@@ -1,12 +1,13 @@
 //! What is at the front of the bytes of a chain.
 ghost use Rattle.std.specs.Prelude.{◌≡◌, ◌≤◌, ◌+◌, ◌-◌, length, take};
 ghost use Rattle.std.specs.Str.{bytes_eq};
-ghost use Rattle.dispatch_room_journal.specs.Chains.{is_end, next_check, sha256_digits};
+ghost use Rattle.dispatch_room_journal.specs.Chains.{is_end, is_whole_line, is_row, is_silent, next_check, sha256_digits};
 ghost use Rattle.dispatch_room_journal.specs.RecordFronts.{Stays, body_in, comes_next, front_of};
 ghost use Rattle.dispatch_room_journal.specs.RecordFronts.{number_in, sized_front, whole_front};
 ghost use Rattle.dispatch_room_journal.specs.declared.record_headers.TheConstants.{HEADER};
 ghost use Rattle.dispatch_room_journal.specs.declared.journal_inbox.TheConstants.{ENTRY_ROOM};
 
+use crate::entry_lines::cut;
 use crate::journal_inbox::ENTRY_ROOM;
 use crate::record_headers::{CHECK_DIGITS, FIRST_CHECK, HEADER, check_after, header_of};
 
@@ -44,11 +45,38 @@ pub const OPENING: &[u8] = b"list 2\n";
 /// The record of a list that ended well.
 pub const END: &[u8] = b"end\n";
 
+/// The word with which a record begins that is a row of a file which changes the room.
+pub const ROW: &[u8] = b"row ";
+
 /// Whether a record says that the list ended well.
 pub fn is_end(body: &[u8]) -> bool
     ensures { result ≡ is_end body.now }
 {
     body == END
+}
+
+// Whether these bytes are a line with its end.
+fn is_whole_line(bytes: &[u8]) -> bool
+    ensures { result ≡ is_whole_line bytes.now }
+{
+    match cut(bytes, b'\n') {
+        Some((_, rest)) => rest.is_empty(),
+        None => false,
+    }
+}
+
+/// Whether a record is a row of such a file: that word, and a line with its end.
+pub fn is_row(body: &[u8]) -> bool
+    ensures { result ≡ is_row body.now }
+{
+    body.starts_with(ROW) && is_whole_line(&body[ROW.len()..])
+}
+
+/// Whether a record is no entry: it says that the list ended well, or is a row.
+pub fn is_silent(body: &[u8]) -> bool
+    ensures { result ≡ is_silent body.now }
+{
+    is_end(body) || is_row(body)
 }
 
 // Whether a record may come next: a list ends well once before it goes on.

@@ -9,7 +9,7 @@ ghost use Rattle.dispatch_room_journal.specs.declared.record_inbox.TheConstants.
 
 use crate::entry_prefixes::{self, EntryLayout, EntryPrefix};
 use crate::entry_reader::EntryFault;
-use crate::record_fronts::{FIRST_LINK, Front, Link, OPENING, body_of, is_end, look_at};
+use crate::record_fronts::{FIRST_LINK, Front, Link, OPENING, body_of, is_end, is_silent, look_at};
 use crate::record_headers::HEADER;
 use crate::record_inbox::RecordInbox;
 use room_http_messages::sources::Source;
@@ -23,11 +23,11 @@ pub struct WholeChain {
     pub link: Link,
 }
 
-// Whether a record is an entry, or says that the list ended well.
+// Whether a record is an entry, or none as those are that stand among them.
 fn says_entry(body: &[u8]) -> bool
     ensures { IsTrue result ↔ SaysEntry body.now }
 {
-    if is_end(body) {
+    if is_silent(body) {
         return true;
     }
     match entry_prefixes::look_at(body) {
@@ -37,15 +37,15 @@ fn says_entry(body: &[u8]) -> bool
     }
 }
 
-// Whether an entry ends where these bytes do.
-fn ends_with(layout: &EntryLayout, bytes: &[u8]) -> bool
+/// Whether an entry ends where these bytes do.
+pub fn ends_with(layout: &EntryLayout, bytes: &[u8]) -> bool
     ensures { IsTrue result ↔ (layout.now.end ≡ length bytes.now) }
 {
     layout.end == bytes.len()
 }
 
-// Reads once more, and says whether that gave anything.
-fn read_more<R: Source>(inbox: &mut RecordInbox, reader: &mut R) -> Result<bool, EntryFault>
+/// Reads once more, and says whether that gave anything.
+pub fn read_more<R: Source>(inbox: &mut RecordInbox, reader: &mut R) -> Result<bool, EntryFault>
     requires sound { R.has_failed reader.old ≡ false }
     requires room { length inbox.old < RECORD_ROOM }
     ensures failed { R.has_failed reader.new ≡ is_err result }

@@ -77,10 +77,7 @@ pub fn open_journal<E: Write>(
 fn begin_chain(explainer: Explainer<'_>, path: &str, file: &File) -> Result<ListEnd, Failure>
     ensures { IfErr result (λ fault. (fault ≡ failure.Memory) ⊎ (fault ≡ failure.Journal)) }
 {
-    let mut out = WrittenFile {
-        file: SystemFile::new(file, explainer, path),
-        failed: false,
-    };
+    let mut out = WrittenFile::new(SystemFile::new(file, explainer, path));
     if put_opening(&mut out).is_err() {
         return Err(Failure::Journal);
     }
@@ -379,8 +376,20 @@ impl<'a> Lasting for SystemFile<'a> {
 /// A file that is written to, and whether a write failed.
 #[derive(Drop)]
 pub struct WrittenFile<F> {
-    file: F,
-    failed: bool,
+    pub file: F,
+    pub failed: bool,
+}
+
+impl<F> WrittenFile<F> {
+    /// A file to which no write failed.
+    pub fn new(file: F) -> WrittenFile<F>
+        ensures { result ≡ record { file = file; failed = false } }
+    {
+        WrittenFile {
+            file,
+            failed: false,
+        }
+    }
 }
 
 impl<F: Lasting> Sink for WrittenFile<F> {
@@ -429,10 +438,7 @@ impl<F: Lasting> JournalFile<F> {
         ensures { result ≡ (record { file = file; failed = false }, end) }
     {
         JournalFile {
-            out: WrittenFile {
-                file,
-                failed: false,
-            },
+            out: WrittenFile::new(file),
             end,
         }
     }

@@ -10,7 +10,8 @@ returns-in-Ok g c = record {
       λ clean.
       on_ok_weaker c.tell.result
       (λ told terminals room is.
-      rw (c.in-Ok.ensures.known clean terminals room is) at rw c.digest_of.ensures.written at told) c.tell.ensures.told;
+      rw (c.in-Ok.ensures.known clean terminals room is) at rw c.digest_of.ensures.written at
+      rw c.as_slice.ensures at told) c.tell.ensures.told;
 }
 
 pub returns-in-Err : goal.returns-in-Err

@@ -11,7 +11,6 @@ returns-clause-done g c =
       opens = c.in_ok-room.ensures.room;
       is_set = record { zone = c.in_ok-room.ensures.zone; history = refl };
       list = None;
-      read_failed = c.replay_in-came.new.list.reader.reader.failed;
       came = c.replay_in-came.result;
       between = _;
       replayed = said.replayed;

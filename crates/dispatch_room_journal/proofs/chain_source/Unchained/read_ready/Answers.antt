@@ -1,7 +1,7 @@
 use Rattle.std.proofs.Common.{◌≡◌, ◌∙◌, sym, arith, ℕ, List, [], ◌∷◌, subst}
 use Rattle.std.specs.Io.KnownBytes.{Consumes}
 use Rattle.dispatch_room_journal.proofs.AdvanceLemmas.{first_set}
-use Rattle.dispatch_room_journal.proofs.chain_source.UnchainedSource.read.Goals as goal
+use Rattle.dispatch_room_journal.proofs.chain_source.Unchained.read_ready.Goals as goal
 
 pub returns-in-Ok-Wrong-clause-bytes : goal.returns-in-Ok-Wrong-clause-bytes
 returns-in-Ok-Wrong-clause-bytes g c =

@@ -1,0 +1,27 @@
+use Rattle.std.proofs.Common.{false}
+use Rattle.dispatch_room_commands.proofs.PartLemmas.{not_both}
+use Rattle.dispatch_room_commands.proofs.replayed_legs.replay_leg.Goals as goal
+
+pub returns-then-not-replay-clause-leg : goal.returns-then-not-replay-clause-leg
+returns-then-not-replay-clause-leg g c before = record {
+  read_failed = g.R.Source.has_failed c.replay.new.reader;
+  write_failed = false;
+  replayed = λ no. c.replay.ensures.replay;
+  answered = λ yes. absurd (not_both _ yes c.if-not-replay.true);
+}
+
+pub returns-in-Ok-clause-leg : goal.returns-in-Ok-clause-leg
+returns-in-Ok-clause-leg g c before = record {
+  read_failed = g.R.Source.has_failed c.answer_each.new.reader;
+  write_failed = c.answer_each.new.writer.failed;
+  replayed = λ no. absurd (not_both c.args.course.now.replay.now.answers c.if-not-replay.false no);
+  answered = λ yes. rw c.begin.ensures at c.in-Ok.ensures.answers;
+}
+
+pub returns-in-Err-clause-leg : goal.returns-in-Err-clause-leg
+returns-in-Err-clause-leg g c before = record {
+  read_failed = g.R.Source.has_failed c.answer_each.new.reader;
+  write_failed = c.answer_each.new.writer.failed;
+  replayed = λ no. absurd (not_both c.args.course.now.replay.now.answers c.if-not-replay.false no);
+  answered = λ yes. rw c.begin.ensures at c.in-Err.ensures.answers;
+}

@@ -1,0 +1,8 @@
+use Rattle.std.proofs.Common.{◌∙◌, subst}
+use Rattle.dispatch_room_journal.proofs.TextLemmas.{row_said}
+use Rattle.dispatch_room_journal.proofs.list_ends.put_row.Goals as goal
+
+pub returns-clause-put : goal.returns-clause-put
+returns-clause-put g c =
+    let body = c.as_slice.ensures.value ∙ c.row_of-body.ensures in
+    (rw (body, row_said c.args.line.now c.requires.line) at c.put_after.ensures.put)
