@@ -25,13 +25,13 @@ program() {
   "$dispatch_room" "$@"
 }
 
-# Shows a request of a terminal, and its answer.
+# Shows a request of a terminal, and its answer, which is kept.
 ask() {
   local terminal=$1 method=$2 path=$3 body=${4-}
   echo "$terminal: $method $path $body"
-  curl --silent --show-error --request "$method" --header "X-Terminal: $terminal" --header 'Connection: close' \
-    ${body:+--data "$body"} "http://$address$path"
-  echo
+  answer=$(curl --silent --show-error --request "$method" --header "X-Terminal: $terminal" \
+    --header 'Connection: close' ${body:+--data "$body"} "http://$address$path")
+  echo "$answer"
 }
 
 now=$(date +%s)
@@ -43,8 +43,8 @@ say 'Its fleet is enrolled: four vehicles of division 1, one of division 2.'
 program import "$room" examples/fleet.csv
 
 say 'The room is served to 20 connections, one after another.'
-echo "\$ dispatch_room serve room.db $address --connections 20"
-"$dispatch_room" serve "$room" "$address" --connections 20 >"$folder/serving" &
+echo "\$ dispatch_room serve room.db $address --connections 20 --idle 60000"
+"$dispatch_room" serve "$room" "$address" --connections 20 --idle 60000 >"$folder/serving" &
 server=$!
 until [ -s "$folder/serving" ]; do
   kill -0 "$server" || exit 1
@@ -63,6 +63,8 @@ ask takerone POST /call '{"class":2,"needs":[1,0,0],"note":"a fall","place":"TQ3
 say 'A second caller, 200 m away, tells of the same: the call is linked.'
 ask takerone POST /call '{"class":2,"needs":[1,0,0],"note":"man down","place":"TQ302800","serial":2}'
 ask deskone1 GET /incidents
+opened=${answer#*'"opened":'}
+opened=${opened%%,*}
 
 say 'The desk asks whom to send: the nearest of the kind that is needed. It sends A3.'
 ask deskone1 GET /incidents/1/propose
@@ -79,7 +81,7 @@ ask desktwo2 POST /vehicles/A1/accept
 ask deskone1 POST /vehicles/A1/off
 
 say 'What desk 1 sees now, over one connection more: its board.'
-program board "$address" deskone1
+program board "$address" deskone1 --patience 60
 
 say 'Desk 1 wants it back: with the next press of the home button it is.'
 ask deskone1 POST /vehicles/A1/recall
@@ -91,4 +93,4 @@ ask deskone1 POST /incidents/1/close
 wait "$server"
 
 say 'The day of division 1, as CSV: an incident a line, the seconds from its opening to its first order.'
-program times "$room" 1 "$(date -u +%F)"
+program times "$room" 1 "$(TZ=GMT0BST,M3.5.0/1,M10.5.0 date --date "@$opened" +%F)"

@@ -5,7 +5,7 @@ import json
 import socket
 import threading
 
-from room import free_port
+from room import PROGRAM, free_port
 
 PATHS = ['/queue', '/incidents', '/vehicles', '/points', '/offers', '/loans']
 TITLES = ['Queue', 'Incidents', 'Vehicles', 'Points', 'Offers', 'Loans']
@@ -14,6 +14,20 @@ NOTHING = 'Room at no moment: nothing was heard'
 DATE = 'Date: Wed, 25 Nov 2026 06:40:00 GMT\r\n'
 # A board waits so long where a busy machine keeps a test waiting.
 UNHURRIED = ['--patience', '60']
+
+
+def typed(folder):
+    """Puts a command `dispatch_room` into a folder, for what is typed as a document has it: the
+    program, which waits so long where the words name no other patience."""
+    command = folder / 'dispatch_room'
+    command.write_text(f'''#!/bin/sh
+case "$* " in
+*--patience*) ;;
+'board '* | 'serve '*) set -- "$@" {' '.join(UNHURRIED)} ;;
+esac
+exec {PROGRAM} "$@"
+''')
+    command.chmod(0o755)
 
 
 def answer(content, status='200 OK', date=DATE):

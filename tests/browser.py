@@ -12,7 +12,7 @@ import time
 import urllib.error
 import urllib.request
 
-from room import free_port
+from room import PATIENCE, free_port
 
 OPENER = urllib.request.build_opener(urllib.request.ProxyHandler({}))
 
@@ -33,7 +33,7 @@ class Stale(Unmet):
     """The page put another element in the place of the one that was found."""
 
 
-def until(holds, seconds):
+def until(holds, seconds=PATIENCE):
     """Waits until something holds, so long at most; gives what it gave last."""
     end = time.monotonic() + seconds
     while not (found := holds()) and time.monotonic() < end:
@@ -50,17 +50,30 @@ class Browser:
         self.process = subprocess.Popen(['chromedriver', f'--port={self.address.split(":")[-1]}'],
                                         stdin=subprocess.DEVNULL, stdout=self.log,
                                         stderr=subprocess.STDOUT, start_new_session=True)
-        words = ['--headless=new', '--no-sandbox', '--disable-gpu', '--disable-dev-shm-usage',
-                 '--no-proxy-server', '--hide-scrollbars', '--window-size=1280,720',
-                 f'--user-data-dir={folder}/profile']
-        wanted = {'alwaysMatch': {'browserName': 'chrome', 'goog:chromeOptions': {'args': words}}}
+        self.session = ''
         try:
-            assert until(self.is_ready, 20), 'chromedriver does not answer'
-            self.session = ''
-            self.session = f'/{self.send("POST", "", capabilities=wanted)["sessionId"]}'
+            assert until(self.is_ready), 'chromedriver does not answer'
+            self.begin(folder)
         except BaseException:
             self.end()
             raise
+
+    def begin(self, folder):
+        """Begins a session, and once more where a busy machine takes longer to start a browser than
+        the driver waits."""
+        for nth in range(2):
+            words = ['--headless=new', '--no-sandbox', '--disable-gpu', '--disable-dev-shm-usage',
+                     '--no-proxy-server', '--hide-scrollbars', '--window-size=1280,720',
+                     f'--user-data-dir={folder}/profile{nth}']
+            wanted = {'alwaysMatch': {'browserName': 'chrome',
+                                      'goog:chromeOptions': {'args': words}}}
+            try:
+                told = self.send('POST', '', capabilities=wanted)
+                self.session = f'/{told["sessionId"]}'
+                return
+            except Unmet:
+                if nth:
+                    raise
 
     def __enter__(self):
         return self
@@ -89,7 +102,7 @@ class Browser:
         request = urllib.request.Request(f'{self.address}/session{self.session}{path}', body,
                                          {'Content-Type': 'application/json'}, method=method)
         try:
-            with OPENER.open(request, timeout=120) as answer:
+            with OPENER.open(request, timeout=PATIENCE) as answer:
                 return json.load(answer)['value']
         except urllib.error.HTTPError as told:
             value = json.load(told)['value']
@@ -122,13 +135,15 @@ class Browser:
         return self.send('POST', '/execute/sync', script=script, args=list(values))
 
     def size(self, width, height):
-        """Gives the page a size, whatever the window's frame takes."""
-        for _ in range(2):
-            self.send('POST', '/window/rect', width=width, height=height)
-            seen = self.run('return [innerWidth, innerHeight]')
-            width, height = width + width - seen[0], height + height - seen[1]
-            if seen == [width, height]:
-                return
+        """Gives the page a size, whatever the window's frame takes, and waits until it has it."""
+        frame = [0, 0]
+
+        def fits():
+            self.send('POST', '/window/rect', width=width + frame[0], height=height + frame[1])
+            outer, seen = self.run('return [[outerWidth, outerHeight], [innerWidth, innerHeight]]')
+            frame[:] = (max(0, one - other) for one, other in zip(outer, seen))
+            return seen == [width, height]
+        until(fits)
 
     def picture(self):
         """The page as a picture, in base64 of PNG."""
@@ -136,7 +151,7 @@ class Browser:
 
     # ---- as a person does
 
-    def find(self, css, seconds=5):
+    def find(self, css, seconds=PATIENCE):
         """The element that a selector names first, waited for."""
         return until(lambda: next(iter(self.all(css)), None), seconds) or self.miss(css)
 
@@ -276,7 +291,7 @@ class Line:
 
     def done(self, work):
         """What some work of the line's own thread gives."""
-        return asyncio.run_coroutine_threadsafe(work, self.loop).result(10)
+        return asyncio.run_coroutine_threadsafe(work, self.loop).result(PATIENCE)
 
     async def end(self):
         """Ends all that it does."""

@@ -66,7 +66,8 @@ class Faults:
     def put_foreign(self, number):
         """Something else is put where entries are."""
         key = f'{kept_list.LIST}stray{len(self.put)}'
-        self.machines.list(number).change([], [kept_list.put(key, b'stray')])
+        self.machines.list(number).change([kept_list.is_none(kept_list.span(key))],
+                                          [kept_list.put(key, b'stray')])
         self.put.append(key)
 
     def two_members(self, number):

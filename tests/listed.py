@@ -14,8 +14,9 @@ from room import PROGRAM, TestCase, dump, message, read_answer, run
 import copies
 import digest
 import kept_list
+import upkeep
 
-LATEST = 30  # seconds until a request is kept, or never: the deadline, and what a busy machine adds
+ADDED = 20  # seconds by which a busy machine is late, where a request is past its deadline
 AT_END = message('deskof01', 'POST /vehicles/V1/off')
 
 
@@ -77,7 +78,7 @@ class ThreeTestCase(TestCase):
             found = exchange(self.machines.address(number), sent, PATIENCE)
             if found and found[1] != 503:
                 return found
-            assert time.monotonic() < until, f'no answer\n{self.machines.said()}'
+            assert time.monotonic() < until, f'no answer\n{self.machines.said()[-6000:]}'
             time.sleep(0.2)
 
     def level(self):
@@ -92,6 +93,13 @@ class ThreeTestCase(TestCase):
                                           for it in told)
         self.machines.until(are_level, 'the machines are level')
         return last.pop()
+
+    def reported(self, record):
+        """Waits until each machine has told the others of its copy of a record, which is compared
+        with theirs."""
+        self.machines.until(
+            lambda: len(upkeep.digests_told(self.machines.list()).get(record, ())) == 3,
+            f'each has told of its copy of {record}')
 
     def last_asked(self):
         """A change by each machine at the end. Behind it nothing comes that was on its way."""
@@ -136,8 +144,9 @@ class ThreeTestCase(TestCase):
         more = {it: count for it, count in kept.items() if count > len(sent[it])}
         self.check('nothing is in the list that was not sent, or more often', more, {})
         self.check('no question is', [it for it in kept if it.startswith(b'GET ')], [])
+        latest = self.machines.deadline + ADDED
         late = [it for moment, it in records
-                if not any(-1 <= moment - began <= LATEST for began in sent[it.content])]
+                if not any(-1 <= moment - began <= latest for began in sent[it.content])]
         self.check('nothing was kept long after it was sent', late[:3], [])
 
     def check_answered(self, records, answered):

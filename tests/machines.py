@@ -7,6 +7,8 @@ import http.client
 import json
 import os
 import pathlib
+import random
+import select
 import signal
 import socket
 import subprocess
@@ -14,7 +16,7 @@ import sys
 import threading
 import time
 
-from room import PROGRAM, TOP, free_port
+from room import PATIENCE, PROGRAM, TOP, held_port
 
 THREE = TOP / 'examples' / 'three'
 sys.path.insert(0, str(THREE))
@@ -24,21 +26,20 @@ import members  # noqa: E402
 import three  # noqa: E402
 
 COPY_EVERY = 3000
-PATIENCE = 180.0  # seconds that a test waits for what has to come, where other work has the machine
 DEADLINE = 60.0  # seconds that a companion has for an answer, so that none is given up in a test
 SHIFTED = pathlib.Path(__file__).resolve().parent / 'shifted.py'
+three.STARTS_WITHIN = PATIENCE
 
 
 def free_ports():
     """A port before three tens that are free, and what keeps other tests away while it is open."""
     while True:
-        first = free_port() // 100 * 100
+        first = 100 * random.randrange(100, 300)
         with contextlib.ExitStack() as tried, contextlib.suppress(OSError):
-            held = tried.enter_context(socket.create_server(('127.0.0.1', first)))
-            for it in range(first + 1, first + 30):
-                tried.enter_context(socket.create_server(('127.0.0.1', it))).close()
-            tried.pop_all()
-            return first, held
+            for it in range(first, first + 30):
+                socket.create_server(('127.0.0.1', it)).close()
+                tried.enter_context(held_port(it))
+            return first, tried.pop_all()
 
 
 def children_of(pid):
@@ -47,6 +48,17 @@ def children_of(pid):
         return [int(it) for task in tasks.iterdir()
                 for it in (task / 'children').read_text().split()]
     return []
+
+
+def end_all(pid):
+    """Kills a process with all that it started, and waits until they are gone."""
+    with contextlib.suppress(ProcessLookupError), open(os.pidfd_open(pid)) as process:
+        signal.pidfd_send_signal(process.fileno(), signal.SIGSTOP)
+        children = children_of(pid)
+        signal.pidfd_send_signal(process.fileno(), signal.SIGKILL)
+        for it in children:
+            end_all(it)
+        select.select([process], [], [], PATIENCE)
 
 
 class Machines:
@@ -116,7 +128,8 @@ class Machines:
     def until(self, holds, what):
         until = time.monotonic() + PATIENCE
         while not holds():
-            assert time.monotonic() < until, f'not within {PATIENCE} s: {what}\n{self.said()}'
+            if time.monotonic() > until:
+                raise AssertionError(f'not within {PATIENCE} s: {what}\n{self.said()[-6000:]}')
             time.sleep(0.05)
 
     def health(self, number):
@@ -137,7 +150,8 @@ class Machines:
         return etcd.Reach(host, int(port))
 
     def list(self, number=1):
-        return kept_list.KeptList(etcd.Member(self.reach(number), PATIENCE))
+        """The list, which is asked again where etcd is silent. What is done twice is the same."""
+        return kept_list.KeptList(etcd.PatientMember(self.reach(number), PATIENCE, PATIENCE))
 
     def companion_does(self, number, *words):
         """Runs a command of the companion; gives its status and what it reported."""
@@ -147,7 +161,7 @@ class Machines:
         return done.returncode, done.stdout + done.stderr
 
     def said(self):
-        return (self.folder / 'told').read_text(errors='replace')[-6000:]
+        return (self.folder / 'told').read_text(errors='replace')
 
     def process_ids(self, kind, number):
         """Of a room they are those of its companion's children."""
@@ -183,7 +197,7 @@ class Machines:
     def close(self):
         for it in self.processes.values():
             if it.poll() is None:
-                it.kill()
+                end_all(it.pid)
             it.wait()
         self.held.close()
         self.told.close()
@@ -213,7 +227,7 @@ class Witness(threading.Thread):
         connection.request('POST', '/v3/watch', json.dumps(asked))
         with contextlib.closing(connection), connection.getresponse() as answer:
             while not self.is_over and (line := answer.readline()):
-                self.take(json.loads(line)['result'])
+                self.take(json.loads(line).get('result', {}))
 
     def take(self, result):
         if result.get('canceled'):

@@ -5,12 +5,13 @@ import subprocess
 import sys
 import time
 
-from browser import until
+from browser import Unmet, until
 from room import PLAN, TOP
 
 DESKS = TOP / 'examples' / 'desks'
 PLACES = DESKS / 'places.csv'
 PAGES = {'taker': 'taker.html', 'desk': 'allocator.html', 'crew': 'crew.html'}
+SIGNED = "return [location.pathname, document.querySelector('#refused')?.textContent]"
 TARGET = 44  # pixels, what a finger needs
 PHONE = 390, 844
 
@@ -32,13 +33,23 @@ def companion(room_port, plan=PLAN, listen='127.0.0.1:0'):
 
 
 def sign_in(browser, address, kind, token):
-    """Signs a terminal in, and gives whether its page came."""
+    """Signs a terminal in, and gives whether its page came. Where a busy machine gives no answer,
+    it is asked again, as a person does."""
     browser.open(f'{address}desks/index.html')
     browser.click(f'[value={kind}]')
     browser.click('#token')
     browser.type(token)
     browser.press('Enter')
-    return until(lambda: browser.run('return location.pathname').endswith(PAGES[kind]), 10)
+
+    def has_come():
+        with contextlib.suppress(Unmet):  # as where one page just follows the other
+            path, refused = browser.run(SIGNED)
+            if refused == 'The room does not answer.':
+                browser.run("document.querySelector('#refused').textContent = ''")
+                browser.press('Enter')
+            return path.endswith(PAGES[kind])
+        return False
+    return until(has_come)
 
 
 def time_of(moment):

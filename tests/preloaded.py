@@ -106,7 +106,7 @@ class Preloaded:
         """Runs the program over what it is given; its status, what it printed, and what it said on
         standard error."""
         process = self.start(switches, *words, stdin=subprocess.PIPE)
-        out, err = process.communicate(given, timeout=60)
+        out, err = process.communicate(given, timeout=180)
         return process.returncode, out, err
 
     def serve(self, switches, room, sent, *words, ask=ask):
@@ -120,7 +120,7 @@ class Preloaded:
             if process.stdout.readline() == b'serving\n':
                 with contextlib.suppress(OSError):
                     answers = ask(port, sent)
-            _, err = process.communicate(timeout=60)
+            _, err = process.communicate(timeout=180)
         return answers, process.returncode, err
 
     def total(self):

@@ -1,5 +1,6 @@
 """What the tests of the program share: its commands, the dry run, the command sqlite3, a room that
 is served, and what their test cases stand on."""
+import collections
 import contextlib
 import email.utils
 import io
@@ -10,6 +11,7 @@ import re
 import socket
 import subprocess
 import tempfile
+import time
 import unittest
 
 TOP = pathlib.Path(__file__).resolve().parent.parent
@@ -20,13 +22,16 @@ PROGRAM = TOP / 'crates' / 'dispatch_room' / 'out' / 'dispatch_room'
 DRY_RUN = TOP / 'crates' / 'dispatch_room_dry_run_main' / 'out' / 'dispatch_room_dry_run_main'
 PLAN = TOP / 'examples' / 'plan.csv'
 FLEET = TOP / 'examples' / 'fleet.csv'
+PATIENCE = 180.0  # seconds that a test waits for what has to come, where other work has the machine
 
 
 class TestCase(unittest.TestCase):
     """A test case with a folder. What differs is reported whole, and which of it was wanted."""
 
     def setUp(self):
-        self.folder = pathlib.Path(self.enterContext(tempfile.TemporaryDirectory()))
+        # (a process that was killed may not have ended yet, and still write there)
+        self.folder = pathlib.Path(self.enterContext(
+            tempfile.TemporaryDirectory(ignore_cleanup_errors=True)))
 
     def assertEqual(self, got, wanted, msg=None):
         if got != wanted:
@@ -38,6 +43,13 @@ class TestCase(unittest.TestCase):
         with self.subTest(what):
             self.assertEqual(got, wanted)
 
+    def check_comes(self, what, get, wanted):
+        """One check of what comes to be so: at once, or on a busy machine later."""
+        end = time.monotonic() + PATIENCE
+        while (got := get()) != wanted and time.monotonic() < end:
+            time.sleep(0.05)
+        self.check(what, got, wanted)
+
 
 # ---- commands
 
@@ -45,14 +57,14 @@ class TestCase(unittest.TestCase):
 def run(*words):
     """Runs a command; gives its status, what it printed, and what it wrote to standard error."""
     done = subprocess.run([PROGRAM, *map(str, words)], stdin=subprocess.DEVNULL,
-                          capture_output=True, timeout=120)
+                          capture_output=True, timeout=180)
     return done.returncode, done.stdout.decode(), done.stderr.decode()
 
 
 def sql(file, *texts):
     """What the command sqlite3 prints of a room's file."""
     done = subprocess.run(['sqlite3', '-bail', file, *texts], stdin=subprocess.DEVNULL,
-                          capture_output=True, timeout=60)
+                          capture_output=True, timeout=180)
     return done.stdout.decode() if done.returncode == 0 else f'sqlite3: {done.stderr.decode()}'
 
 
@@ -101,7 +113,7 @@ def dry_run(stdin, stdout=subprocess.PIPE, program=PROGRAM, **named):
     """Runs the dry run over a stream, or what is open; gives what it wrote, and its status with
     what it told."""
     given = {'input': stdin} if isinstance(stdin, bytes) else {'stdin': stdin}
-    done = subprocess.run([program], **given, stdout=stdout, stderr=subprocess.PIPE, timeout=60,
+    done = subprocess.run([program], **given, stdout=stdout, stderr=subprocess.PIPE, timeout=180,
                           **named)
     return done.stdout, (done.returncode, done.stderr)
 
@@ -129,12 +141,28 @@ def refusal(name, number):
 # ---- a room that is served
 
 
+def held_port(port):
+    """What keeps a port away from all other tests until it is closed: a name that only one has."""
+    sign = socket.socket(socket.AF_UNIX)
+    try:
+        sign.bind(f'\0dispatch_room tests {port}')
+    except OSError:
+        sign.close()
+        raise
+    return sign
+
+
+HELD = collections.deque(maxlen=100)  # the ports that this process was given last
+
+
 def free_port():
-    """A port that is free, below those that the system gives to connections by itself."""
+    """A port that is free, below those that the system gives to connections by itself. No test that
+    runs beside is given it, before it is served or while its server is away."""
     while True:
         port = random.randrange(10_000, 30_000)
-        with socket.socket() as it, contextlib.suppress(OSError):
+        with contextlib.suppress(OSError), socket.socket() as it:
             it.bind(('127.0.0.1', port))
+            HELD.append(held_port(port))
             return port
 
 
@@ -197,7 +225,7 @@ def read_dated(stream):
 def talk(port, *messages):
     """Sends messages over one connection, in one piece, and gives the bytes that come until it
     ends."""
-    with socket.create_connection(('127.0.0.1', port), timeout=30) as it:
+    with socket.create_connection(('127.0.0.1', port), timeout=180) as it:
         it.sendall(b''.join(messages))
         it.shutdown(socket.SHUT_WR)
         return it.makefile('rb').read()

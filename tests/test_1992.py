@@ -64,7 +64,7 @@ def played(folder, given, rate):
 def play(*words, **environment):
     """Runs the command; its status, and what it wrote to standard error."""
     done = subprocess.run([sys.executable, FOLDER / 'play.py', *map(str, words)],
-                          stdin=subprocess.DEVNULL, capture_output=True, timeout=300,
+                          stdin=subprocess.DEVNULL, capture_output=True, timeout=1200,
                           env=os.environ | environment)
     return done.returncode, done.stderr.decode()
 
@@ -97,7 +97,7 @@ class Day(TestCase):
         copy = shutil.copy(self.kept / 'before.db', self.folder / 'copy.db')
         with (self.kept / 'day.list').open('rb') as text:
             done = subprocess.run([PROGRAM, 'replay', copy], stdin=text, capture_output=True,
-                                  timeout=300)
+                                  timeout=1200)
         self.check('it is replayed', (done.returncode, done.stdout, done.stderr),
                    (0, f'replayed {len(self.watch.seen)}\n'.encode(), b''))
         self.check('the room', digest.of_file(copy), digest.of_file(self.kept / 'room.db'))

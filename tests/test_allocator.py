@@ -18,9 +18,8 @@ import unittest
 from browser import Browser, Unmet, until
 from pages import (PHONE, companion, nameless, sign_in, small_targets, time_of, unseen_focus,
                    weak_texts)
-from room import TestCase, ask, made, message, serving, sql
+from room import PATIENCE, TestCase, ask, made, message, serving, sql
 
-SOON = 20  # seconds within which the page does what is waited for, on a busy machine too
 NOW = 1795608000  # the moment of the played room: 25 November 2026, noon
 BROWSER = None
 
@@ -36,7 +35,7 @@ def show(address, token='deskone1'):
     """Signs in as a desk does, and comes to the allocator's page with its first lists."""
     BROWSER.size(1600, 900)
     sign_in(BROWSER, address, 'desk', token)
-    assert until(shown, 3 * SOON), 'the page shows nothing'
+    assert until(shown), 'the page shows nothing'
 
 
 # ---- what is seen on the page
@@ -58,25 +57,31 @@ def patiently(ask):
 def refresh(times=1):
     """Waits for so many rounds more that began after this."""
     wanted = BROWSER.run('return Number(document.documentElement.dataset.round)') + times
-    until(lambda: shown() >= wanted, SOON + 5 * times)
+    until(lambda: shown() >= wanted)
 
 
 def catch_up():
     """Waits until the lists show what this page did."""
     until(lambda: BROWSER.run("const { due, shown } = document.documentElement.dataset;"
-                              "return Number(shown) >= Number(due ?? 0)"), SOON)
+                              "return Number(shown) >= Number(due ?? 0)"))
 
 
 def told(css):
     """The words of an element, in one line, waited for."""
     script = "return document.querySelector(arguments[0])?.innerText.replace(/\\s+/g, ' ').trim()"
-    return until(lambda: BROWSER.run(script, css), SOON) or ''
+    return until(lambda: BROWSER.run(script, css)) or ''
 
 
 def told_in(css):
     """The words of all such elements, once there is one."""
     BROWSER.find(css)
     return [' '.join(it.split()) for it in BROWSER.texts(css)]
+
+
+def absent(wanted, css):
+    """Which of these words no element has."""
+    shown = BROWSER.texts(css)
+    return [it for it in wanted if it not in shown]
 
 
 def cells(number):
@@ -306,12 +311,12 @@ class Played(TestCase):
         self.check('proposals', told_in('.choice'), ['A1 ambulance, 312 m',
                                                      'A2 ambulance, 5.1 km breaks cover'])
         BROWSER.press('Enter')
-        self.check('what was done', told('.queue .said'),
-                   'A1 is sent to incident 3: order 7. u takes it back: stand A1 down.')
-        until(lambda: not BROWSER.is_shown('.drawer'), SOON)
+        self.check_comes('what was done', lambda: told('.queue .said'),
+                         'A1 is sent to incident 3: order 7. u takes it back: stand A1 down.')
+        until(lambda: not BROWSER.is_shown('.drawer'))
         self.check('what was sent', posted(room), [('/incidents/3/mobilise', '{"vehicle":"A1"}')])
         BROWSER.press('u')
-        until(lambda: len(posted(room)) > 1, SOON)
+        until(lambda: len(posted(room)) > 1)
         self.check('taken back', posted(room)[1:], [('/vehicles/A1/standdown', '')])
         self.check_unanswered(room)
 
@@ -320,7 +325,8 @@ class Played(TestCase):
         before = len(posted(room))
         room.answer_of.answers['POST /incidents/3/close'] = (None, None)
         BROWSER.press('c', 'Enter')
-        self.check('no answer', told('.queue .drawer .bad').startswith('No answer came.'), True)
+        self.check_comes('no answer', lambda: told('.queue .drawer .bad').startswith(
+            'No answer came.'), True)
         refresh(2)
         self.check('sent once', posted(room)[before:], [('/incidents/3/close', '')])
 
@@ -334,7 +340,7 @@ class Played(TestCase):
         for _ in range(8):  # a machine may be too busy to press in the two seconds that are meant
             before = len(posted(room))
             del offers[0]
-            until(lambda: rows('loans')[0][2] == offers[0]['vehicle'], SOON)
+            until(lambda: rows('loans')[0][2] == offers[0]['vehicle'])
             BROWSER.press('a')
             if told('.loans .said') == moved:
                 break
@@ -345,8 +351,7 @@ class Played(TestCase):
         BROWSER.press('a')
         name = offers[0]['vehicle']
         wanted = f'{name} is lent to this division. u takes it back: give {name} back.'
-        until(lambda: told('.loans .said') == wanted, SOON)
-        self.check('then it is sent', told('.loans .said'), wanted)
+        self.check_comes('then it is sent', lambda: told('.loans .said'), wanted)
 
     # ---- refusals
 
@@ -370,11 +375,10 @@ class Played(TestCase):
             BROWSER.press(PANELS[name])
             for place, key in enumerate(rest):
                 if place:
-                    until(lambda: BROWSER.is_shown('.drawer'), SOON)
+                    until(lambda: BROWSER.is_shown('.drawer'))
                 BROWSER.press(key)
             shown = f'({abs(number[0])})'
-            found = until(lambda: [it for it in BROWSER.texts(f'.{name} .bad') if shown in it],
-                          SOON)
+            found = until(lambda: [it for it in BROWSER.texts(f'.{name} .bad') if shown in it])
             self.check(f'{number[0]} after {keys}', [words in it for it in found], [True])
             BROWSER.press('Escape')
 
@@ -418,8 +422,8 @@ class Played(TestCase):
                    loan('A6', 1, 2, recalled=False)],
             answers={'GET /incidents/4': (200, history(4, 'A2', scene=NOW - 7500))})
         self.show(lists)
-        until(lambda: 'A2' in [it[2] for it in rows('unranked')], SOON)
-        pages, words = int(told('.unranked .page').split(' ')[-1] or 1), []
+        until(lambda: 'A2' in [it[2] for it in rows('unranked')])
+        pages, words = int(BROWSER.text('.unranked .page').split(' ')[-1] or 1), []
         BROWSER.press('2')
         for _ in range(pages):
             words += [[it[2], it[3]] for it in rows('unranked')]
@@ -430,9 +434,10 @@ class Played(TestCase):
         BROWSER.type('130')
         BROWSER.press('Enter', 'Home')
         refresh()
-        found = [[it[2], it[3]] for it in rows('unranked')]
-        self.check('a further call', ['Incident 6', 'a further call: 2 now'] in found, True)
-        self.check('the bound that was set', [it for it in found if it[0] == 'A2'], [])
+        self.check_comes('a further call', lambda: ['Incident 6', 'a further call: 2 now'] in [
+            [it[2], it[3]] for it in rows('unranked')], True)
+        self.check_comes('the bound that was set', lambda: [
+            it for it in rows('unranked') if it[2] == 'A2'], [])
 
     def test_incident(self):
         """An incident's page: calls and turns; and without history what the lists know."""
@@ -441,20 +446,20 @@ class Played(TestCase):
         answers = {'GET /incidents/4': (200, told_of)}
         self.show(Lists(answers, incidents=[incident(4)], vehicles=[vehicle('A2', 3, incident=4)]))
         BROWSER.press('3', 'o')
-        until(lambda: BROWSER.is_shown('#incident td'), SOON)
+        until(lambda: BROWSER.is_shown('#incident td'))
         self.check('calls', cells(1)[0], ['1', '1', time_of(NOW - 1000), '2', '1 ambulance',
                                           'TQ 300 800', 'first', HOSTILE[1]])
         self.check('turns', cells(2)[0], ['A2', '1', 'ambulance', *map(time_of, [
             NOW - 900, NOW - 890, NOW - 100]), '\u2013', '\u2013', '\u2013',
             'its order does not say class 1'])
         BROWSER.press('Escape')
-        self.check('the lists again', until(lambda: BROWSER.is_shown('#lists'), SOON), True)
+        self.check('the lists again', until(lambda: BROWSER.is_shown('#lists')), True)
         del answers['GET /incidents/4']
         BROWSER.press('i')
         BROWSER.type('4')
         BROWSER.press('Enter')
-        until(lambda: BROWSER.is_shown('#incident td'), SOON)
-        self.check('without history', [it in told('#incident') for it in (
+        until(lambda: BROWSER.is_shown('#incident td'))
+        self.check_comes('without history', lambda: [it in told('#incident') for it in (
             'This room does not tell calls', 'lacks 1 ambulance; A2 at scene')], 2 * [True])
         BROWSER.press('Escape')
 
@@ -467,18 +472,19 @@ class Played(TestCase):
             BROWSER.press(begins, '/')
             BROWSER.type(text)
             BROWSER.press('Enter')
-            until(lambda: not BROWSER.is_shown('.drawer'), SOON)
-            self.check(f'{text}: which list has the keys', BROWSER.run(
+            until(lambda: not BROWSER.is_shown('.drawer'))
+            self.check_comes(f'{text}: which list has the keys', lambda: BROWSER.run(
                 'return document.activeElement.id'), f'{name}-list')
-            self.check(f'{text}: which line', told(f'.{name} [aria-selected=true] .what'), line)
+            self.check_comes(f'{text}: which line',
+                             lambda: told(f'.{name} [aria-selected=true] .what'), line)
         BROWSER.press('/')
         BROWSER.type('A2')
         BROWSER.press('Enter')
-        until(lambda: not BROWSER.is_shown('.drawer'), SOON)
+        until(lambda: not BROWSER.is_shown('.drawer'))
         BROWSER.press('d')
-        until(lambda: BROWSER.is_shown('.drawer'), SOON)
+        until(lambda: BROWSER.is_shown('.drawer'))
         BROWSER.press('Enter')
-        until(lambda: posted(room), SOON)
+        until(lambda: posted(room))
         self.check('the next key', [it[0] for it in posted(room)], ['/vehicles/A2/duty'])
 
     def test_hostile(self):
@@ -493,10 +499,10 @@ class Played(TestCase):
         self.check('a confirmation', told('.drawer .note'),
                    f'Stand {HOSTILE[0]} down? Its crew loses the order.')
         BROWSER.press('Enter')
-        until(lambda: posted(room), SOON)
+        until(lambda: posted(room))
         self.check('a path is one path', posted(room)[0][0].count('/'), 3)
         BROWSER.press('Escape', '3', 'o')
-        until(lambda: BROWSER.is_shown('#incident td'), SOON)
+        until(lambda: BROWSER.is_shown('#incident td'))
         self.check('a note', cells(1)[0][-1], HOSTILE[2])
         self.check('no markup', BROWSER.run("return document.querySelectorAll('img, li b, td b, "
                                             "script:not([type=module])').length"), 0)
@@ -511,25 +517,25 @@ class Played(TestCase):
         refresh()
         self.check('served, or less urgent', BROWSER.is_shown('#alarm'), False)
         lists.lists['incidents'].append(incident(1, 1))
-        self.check('it shows', until(lambda: BROWSER.is_shown('#alarm'), SOON), True)
+        self.check('it shows', until(lambda: BROWSER.is_shown('#alarm')), True)
         self.check('which', 'incident 1 at TQ 300 800' in told('#alarm'), True)
         BROWSER.press('ArrowDown')
-        self.check('it sounds', until(lambda: BROWSER.run('return tones') > 2, SOON), True)
+        self.check('it sounds', until(lambda: BROWSER.run('return tones') > 2), True)
         self.check('a key is no look', BROWSER.is_shown('#alarm'), True)
         BROWSER.press('v')
-        self.check('somebody looks', until(lambda: not BROWSER.is_shown('#alarm'), SOON), True)
-        self.check('at its proposals', told('.incidents .drawer h3'), 'Send to incident 1')
+        self.check('somebody looks', until(lambda: not BROWSER.is_shown('#alarm')), True)
+        self.check_comes('at its proposals', lambda: told('.incidents .drawer h3'),
+                         'Send to incident 1')
         BROWSER.press('Escape')
         time.sleep(1)
         before = BROWSER.run('return tones')
         refresh(2)
         self.check('it is silent', BROWSER.run('return tones'), before)
         lists.lists['incidents'].append(incident(2, 1))
-        until(lambda: BROWSER.is_shown('#alarm'), SOON)
-        self.check('the next one', ['incident 2' in told('#alarm'), 'incident 1' in told('#alarm')],
-                   [True, False])
+        self.check_comes('the next one', lambda: [
+            f'incident {it}' in told('#alarm') for it in (2, 1)], [True, False])
         lists.lists['incidents'][-1]['lack'] = (0, 0, 0)
-        self.check('somebody is sent', until(lambda: not BROWSER.is_shown('#alarm'), SOON), True)
+        self.check('somebody is sent', until(lambda: not BROWSER.is_shown('#alarm')), True)
 
     def test_rounds(self):
         """How old each list is; and what it costs the room."""
@@ -537,9 +543,9 @@ class Played(TestCase):
                        'POST /incidents/4/close': (200, {'done': True})},
                       incidents=[incident(4)], vehicles=[vehicle('A2', 3, incident=4)])
         room = self.show(lists)
+        BROWSER.run('performance.setResourceTimingBufferSize(9999)')
         refresh(3)
-        self.check('new lists have no age', until(
-            lambda: BROWSER.texts('.old') == 6 * [''], SOON), True)
+        self.check_comes('new lists have no age', lambda: BROWSER.texts('.old'), 6 * [''])
         self.check('several rounds', len(self.gaps()) > 2, True)
         self.check('a round every two seconds', [it for it in self.gaps() if it < 1900], [])
         self.check('never two at once', room.most, 1)
@@ -547,11 +553,11 @@ class Played(TestCase):
         self.check_soon()
         lists.is_silent = True
         self.check('old lists say so', until(lambda: all(
-            re.fullmatch('0:[0-9]+ old', it) for it in BROWSER.texts('.old')), SOON), True)
-        self.check('and then the page', until(lambda: BROWSER.is_shown('#stale'), SOON), True)
+            re.fullmatch('[0-9]+:[0-9]+ old', it) for it in BROWSER.texts('.old'))), True)
+        self.check('and then the page', until(lambda: BROWSER.is_shown('#stale')), True)
         self.check('in words', 'No new answer from the room since' in told('#stale'), True)
         lists.is_silent = False
-        self.check('an answer again', until(lambda: not BROWSER.is_shown('#stale'), SOON), True)
+        self.check('an answer again', until(lambda: not BROWSER.is_shown('#stale')), True)
 
     def gaps(self):
         """The milliseconds between the beginnings of rounds."""
@@ -562,7 +568,7 @@ class Played(TestCase):
         """The lists are read anew once something was done, and not two seconds after the last."""
         for _ in range(9):  # of which some may be done just before a round begins anyway
             BROWSER.press('3', 'c')
-            until(lambda: BROWSER.is_shown('.drawer'), SOON)
+            until(lambda: BROWSER.is_shown('.drawer'))
             BROWSER.press('Enter')
             catch_up()
             if min(self.gaps()) < 1900:
@@ -631,13 +637,12 @@ class Played(TestCase):
     def check_keys_told(self):
         """The keys that fit a line are seen, and ? shows all."""
         BROWSER.press('6')
+        self.check_comes('keys of an offer', lambda: absent('ae', '#keys kbd'), [])
         shown = BROWSER.texts('#keys kbd')
-        self.check('keys of an offer', [it for it in 'ae' if it not in shown], [])
         self.check('no keys of a loan', [it for it in 'rb' if it in shown], [])
         BROWSER.press('?')
-        all_keys = BROWSER.texts('#help kbd')
         wanted = ['Enter', *'gsnmcpdfxtlwaerboiuvh/?']
-        self.check('all keys', [it for it in wanted if it not in all_keys], [])
+        self.check_comes('all keys', lambda: absent(wanted, '#help kbd'), [])
         BROWSER.press('Escape')
 
     def test_many(self):
@@ -664,7 +669,7 @@ class Served(TestCase):
             ask(port, *[message('takerone', 'POST /call', '{"class":1,"needs":[1,0,0],'
                                 f'"note":"<b>fall</b>","place":"{place}","serial":{serial}}}')
                         for serial, place in ((1, 'TQ300800'), (2, 'TQ310800'))])
-            process.wait(60)
+            process.wait(PATIENCE)
         # Both are in the queue where nobody was sent for three minutes.
         told = sql(self.room, 'UPDATE incidents SET opened = opened - 200',
                    'UPDATE calls SET moment = moment - 200')
@@ -691,12 +696,10 @@ class Served(TestCase):
                 catch_up()
             else:
                 if key == 'Enter' and place:
-                    until(lambda: BROWSER.is_shown('.drawer'), SOON)
+                    until(lambda: BROWSER.is_shown('.drawer'))
                 BROWSER.press(key)
-        found = []
-        until(lambda: found.append(self.rows(query)) or found[-1] == wanted, SOON)
-        self.check(what, found[-1], wanted)
-        until(lambda: not BROWSER.is_shown('.drawer'), SOON)
+        self.check_comes(what, lambda: self.rows(query), wanted)
+        until(lambda: not BROWSER.is_shown('.drawer'))
 
     def told(self, *words):
         (status, body), = ask(self.port, message(*words))
@@ -730,9 +733,9 @@ class Served(TestCase):
 
     def check_sending(self):
         """Both incidents are in the queue, and two keys send the nearest vehicle to the first."""
-        self.check('the queue', [it[1:] for it in rows('queue')],
-                   [['class 1', f'Incident {it}', 'nobody sent', place]
-                    for it, place in ((1, 'TQ 300 800'), (2, 'TQ 310 800'))])
+        self.check_comes('the queue', lambda: [it[1:] for it in rows('queue')],
+                         [['class 1', f'Incident {it}', 'nobody sent', place]
+                          for it, place in ((1, 'TQ 300 800'), (2, 'TQ 310 800'))])
         refresh()
         BROWSER.press('1')
         sent = 'SELECT callsign, incident FROM assignments'
@@ -771,8 +774,9 @@ class Served(TestCase):
         loans = 'SELECT callsign, borrower, recalled FROM loans'
         self.does('recalled', '6 Home r Enter', loans, 'A1|2|1')
         BROWSER.press('e', 'Enter')
-        self.check('a refusal', told('.loans .drawer .bad'), 'The offer is no longer there: it was '
-                   'withdrawn, accepted or declined. (22)')
+        self.check_comes('a refusal', lambda: told('.loans .drawer .bad'),
+                         'The offer is no longer there: it was withdrawn, accepted or declined. '
+                         '(22)')
         BROWSER.press('Escape')
         self.told('desktwo2', 'POST /vehicles/A1/giveback')
 
@@ -811,6 +815,5 @@ class Served(TestCase):
         BROWSER.press('Enter')
         wanted = ('This room does not tell calls, notes and moments of an incident. '
                   'No active incident has this number.')
-        until(lambda: wanted in told('#incident'), SOON)
-        self.check('what it says', wanted in told('#incident'), True)
+        self.check_comes('what it says', lambda: wanted in told('#incident'), True)
         BROWSER.press('Escape')

@@ -14,6 +14,7 @@ import re
 import shutil
 import subprocess
 import sys
+import time
 
 from preloaded import Preloaded
 from room import (PATIENT, PROGRAM, TOP, TestCase, call, dump, fleet_of, free_port, made, message,
@@ -47,7 +48,7 @@ class CopiesTestCase(TestCase):
         words = *PATIENT, '--journal', self.list, *words
         with serving(self.room, 1, *map(str, words)) as (port, process):
             talk(port, *sent)
-            process.wait(timeout=60)
+            process.wait(timeout=180)
 
     def copy(self, name='copy.db'):
         return shutil.copy(self.room, self.folder / name)
@@ -85,7 +86,7 @@ class Digests(CopiesTestCase):
 
 def replay(room, text, *words):
     done = subprocess.run([PROGRAM, 'replay', room, *words], input=text, capture_output=True,
-                          timeout=120)
+                          timeout=180)
     return done.returncode, done.stdout.decode(), done.stderr.decode()
 
 
@@ -233,7 +234,7 @@ class Restores(CopiesTestCase):
         copy, new = self.copy(), self.folder / 'new.db'
         with serving(self.room, 1) as (port, process):
             talk(port, call_of(1))
-            process.wait(timeout=60)
+            process.wait(timeout=180)
         shutil.copy(self.folder / 'room.db-wal', self.folder / 'new.db-wal')
         self.check('restored', run('restore', copy, new)[0], 0)
         self.check('its rows', dump(new), dump(copy))
@@ -252,7 +253,7 @@ class Restores(CopiesTestCase):
         for serial in 1, 2:
             with serving(self.room, 1) as (port, process):
                 talk(port, call_of(serial))
-                process.wait(timeout=60)
+                process.wait(timeout=180)
             was = sql(self.room, 'SELECT serial FROM calls')
             self.check(f'{serial}', run('restore', copy, self.room)[0], 0)
             self.check(f'{serial}: old', sql(self.folder / 'room.db.old',
@@ -377,7 +378,7 @@ class Names(CopiesTestCase):
         for name in 'room-journal', 'room.db-list', 'other.db-wal', 'xroom.db-wal':
             with serving(self.room, 1, *PATIENT, '--journal', str(self.folder / name)) as (port, it):
                 talk(port, QUEUE)
-                self.check(name, it.wait(timeout=60), 0)
+                self.check(name, it.wait(timeout=180), 0)
 
 
 class Nights(CopiesTestCase):
@@ -405,6 +406,11 @@ class Nights(CopiesTestCase):
         file = sorted(self.copies.glob('*.json'))[-1]
         return file.with_suffix('.db'), json.loads(file.read_text())
 
+    def later(self):
+        """Waits for a second of which no copy has its name."""
+        while time.strftime('%Y-%m-%d.%H%M%S') == self.newest()[0].stem:
+            time.sleep(0.01)
+
     def copied(self, calls):
         """Whether a night gives a copy with so many calls, whose digest is that of its tables."""
         status, out, err = self.night()
@@ -426,7 +432,7 @@ class Nights(CopiesTestCase):
             self.copied(3)
             talk(port, call_of(4))
             talk(port, QUEUE)
-            process.wait(timeout=60)
+            process.wait(timeout=180)
         path = self.copied(4)
         self.check('the copy is the room', dump(path), dump(self.room))
         self.check('what is left in the folder', {it.name.partition('.db')[0] for it in
@@ -547,6 +553,7 @@ class Nights(CopiesTestCase):
         self.begin()
         for serial in range(1, 5):
             self.serve(call_of(serial))
+            self.later()
             self.check(f'night {serial}', self.night('--keep', '2')[0], 0)
         self.check('kept', len(list(self.copies.glob('*.db'))), 2)
         self.check('of each', len(list(self.copies.glob('*.json'))), 2)
@@ -574,14 +581,14 @@ class Units(TestCase):
     def verified(self, name):
         done = subprocess.run(['systemd-analyze', '--no-pager', 'verify', '--man=no',
                                self.folder / name], stdin=subprocess.DEVNULL, capture_output=True,
-                              text=True, timeout=120, env=os.environ | {'LC_ALL': 'C'})
+                              text=True, timeout=180, env=os.environ | {'LC_ALL': 'C'})
         return '\n'.join(it for it in (done.stdout + done.stderr).splitlines() if name in it)
 
     def test_calendar(self):
         for file in self.FILES:
             for when in re.findall('^OnCalendar=(.*)$', file.read_text(), re.M):
                 done = subprocess.run(['systemd-analyze', 'calendar', when], capture_output=True,
-                                      timeout=60)
+                                      timeout=180)
                 self.check(f'{when}', done.returncode, 0)
 
 
@@ -602,7 +609,7 @@ class Weekly(CopiesTestCase):
     def renew(self):
         self.asked.unlink(missing_ok=True)
         done = subprocess.run([WEEKLY / 'renew.sh', self.folder, 'room'], capture_output=True,
-                              text=True, timeout=120, env=os.environ | {'PATH': self.path})
+                              text=True, timeout=180, env=os.environ | {'PATH': self.path})
         return done.returncode, done.stdout, self.asked.read_text().splitlines()
 
     def test_renew(self):

@@ -14,12 +14,13 @@ import sys
 import time
 
 import first_version
+from boards import typed
 from broken_rooms import WORK
 from documents import blocks, commands
 from room import (FLEET, PLAN, PROGRAM, TOP, TestCase, ask, call, dump, fleet_of, free_port, made,
                   message, run, sql)
 from test_errors import on_terminal
-from test_journal import chain
+from test_journal import chain, entries
 from test_renew import DAYS, MONDAY, play
 
 sys.path.append(str(TOP / 'examples' / 'three'))
@@ -254,7 +255,7 @@ class Typing(TestCase):
         for name, text in STUBS.items():
             (self.folder / 'bin' / name).write_text(f'#!/bin/sh\n{text}\n')
             (self.folder / 'bin' / name).chmod(0o755)
-        (self.folder / 'bin' / 'dispatch_room').symlink_to(PROGRAM)
+        typed(self.folder / 'bin')
         self.place = self.folder / 'place'
         self.room = self.place / 'room.db'
         self.unit_room = self.folder / 'state' / 'dispatch-room' / 'room.db'
@@ -284,7 +285,7 @@ class Typing(TestCase):
         out = self.folder / 'out'
         with out.open('wb') as to:  # (a file, since what is started in it would hold a pipe open)
             done = subprocess.run(['bash', '-e', '-c', self.here(text)], cwd=self.place, stdout=to,
-                                  stderr=subprocess.STDOUT, stdin=subprocess.DEVNULL, timeout=300,
+                                  stderr=subprocess.STDOUT, stdin=subprocess.DEVNULL, timeout=1200,
                                   env=self.environment)
         self.check(f'{text}: its status', (done.returncode, out.read_text() if done.returncode
                                            != status else ''), (status, ''))
@@ -358,10 +359,11 @@ class Operating(Typing):
         with self.served():
             ask(self.port, call(1), QUEUE)
             ask(self.port, message('nobody12', 'POST /report', '{}'))
-            time.sleep(0.2)
-            lines = self.type(command).splitlines()
+            until, log = time.monotonic() + 180, ''
+            while log.count('\n') < len(shown) and time.monotonic() < until:
+                log = self.type(command)  # (a line comes behind its answer)
         formed = lambda it: re.sub(r'\d+ ms$', 'N ms', re.sub(r'^[-\dT:]{19}Z', 'MOMENT', it))
-        self.check('lines', [formed(it) for it in lines], [formed(it) for it in shown])
+        self.check('lines', [formed(it) for it in log.splitlines()], [formed(it) for it in shown])
 
     def test_copy_of_a_served_room(self):
         with self.served():
@@ -430,14 +432,18 @@ class Operating(Typing):
         ask(self.port, call(1), call(2), QUEUE)
         process.terminate()
         process.wait()
-        day = time.strftime('%Y-%m-%d')
-        early = int(subprocess.check_output(['date', '-d', '03:15', '+%s']))
-        is_later = time.time() > early
+        moments = [int(it[1]) for it in entries((self.place / 'room.list').read_bytes())
+                   if it[0] == 'message']
+        early = lambda: int(subprocess.check_output(['date', '-d', '03:15', '+%s']))
         for words in others:
             (self.place / 'copy.db').write_bytes(first)
+            before = early()
             printed = self.type(words)
-            if '--until' in words:
-                self.check(f'{words} on {day}', printed, f'replayed {0 if is_later else 3}\n')
+            if '--until' in words:  # (of the day on which that was typed, at midnight of either)
+                wanted = [f'replayed {sum(at <= until for at in moments)}\n'
+                          for until in (before, early())]
+                with self.subTest(f'{words}, of {moments}, at {before}'):
+                    self.assertIn(printed, wanted)
             elif 'verify' in words:
                 self.check(words, printed.splitlines()[0], 'verified 3')
             else:
@@ -453,7 +459,7 @@ class Operating(Typing):
             self.check('what is in it', printed.splitlines()[0],
                        'renewed: incidents 1, calls 1, turns 0, reports 0')
             self.check('it is served', self.asked(call(1), QUEUE), [200, 200])
-            old = self.unit_room.with_name(f'room.{time.strftime("%Y-%m-%d")}.db')
+            [old] = self.unit_room.parent.glob('room.2*.db')
             self.check('the archive', [run('check', old)[0], sql(old, CALLS)], [0, '1\n'])
 
     def test_archive(self):
@@ -505,7 +511,7 @@ class Files(Typing):
         sent = digest.head_of(room).encode()
         sent += b''.join(b'message %d %d\n%s\n' % (moment, len(it), it) for moment, it in messages)
         done = subprocess.run([PROGRAM, 'replay', room, '--answers', '--history'], input=sent,
-                              capture_output=True, timeout=120)
+                              capture_output=True, timeout=180)
         self.check('each is answered well', [done.returncode, done.stdout.count(b'HTTP/1.1 200')],
                    [0, len(messages)])
         return room

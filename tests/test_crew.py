@@ -28,6 +28,17 @@ STANDS, STANDS_AT = (51.48936564950, -0.11992557180), (530620, 178380)
 BUTTONS = ['position', 'mobile', 'scene', 'leave', 'hospital', 'return', 'home']
 OUTCOMES = ['normal', 'skipped', 'wrong', 'late', 'stale']
 YEAR_BEGAN = 1767225600  # 2026, from whose seconds a page that knows no number begins
+# The greatest number of the reports that are shown, and of those that the page has given.
+SHOWN_LAST = """return Math.max(0, ...[...document.querySelectorAll('#reports li')].map((it) =>
+  Number(it.dataset.number)));"""
+GIVEN_LAST = """return new Promise((resolve) => {
+  const request = indexedDB.open('desks outbox');
+  request.onsuccess = () => {
+    const store = request.result;
+    const last = store.transaction('last').objectStore('last').get('/report crewofa1');
+    last.onsuccess = () => { store.close(); resolve(last.result.number); };
+  };
+});"""
 BROWSER = None
 
 
@@ -123,35 +134,37 @@ class Served(TestCase):
 
     def sign_in(self):
         self.check('signed in', sign_in(BROWSER, self.address, 'crew', 'crewofa1'), True)
-        self.check('the room is heard', bool(until(lambda: BROWSER.text('#status'), 20)), True)
-        until(self.is_placed, 20)
+        self.check('the room is heard', bool(until(lambda: BROWSER.text('#status'))), True)
+        BROWSER.find('[data-button]:enabled')
+        until(self.is_placed)
 
     def is_placed(self):
         return BROWSER.text('#fix').startswith('By the phone')
 
     def tap(self, button):
-        """Presses a button as soon as the page takes another one."""
+        """Presses a button as soon as the page takes another one, and waits until it is kept."""
         time.sleep(max(0, self.last_press + AGAIN_AFTER - time.monotonic()))
+        before = BROWSER.run(SHOWN_LAST)
         BROWSER.click(f'[data-button={button}]:enabled')
         self.last_press = time.monotonic()
         self.pressed.append(button)
+        until(lambda: BROWSER.run(SHOWN_LAST) > before)
 
-    def tell(self, count=None, seconds=60):
-        """What stands of the latest press, once so many are shown and it is answered."""
-        wanted = len(self.pressed) if count is None else count
-
+    def tell(self):
+        """What stands of the latest press, once all are shown and it is answered."""
         def told():
             shown = BROWSER.texts('#reports li')
-            is_whole = len(shown) >= min(wanted, 20) and 'Not sent yet' not in shown[0]
+            is_whole = (len(shown) >= min(len(self.pressed), 20)
+                        and 'Not sent yet' not in shown[0])
             return shown[0].split('\n') if is_whole else None
-        return until(told, seconds)
+        return until(told)
 
     def waits(self, words):
         """Whether the page comes to say so of what is not sent yet."""
-        return until(lambda: BROWSER.text('#waiting').startswith(words), 20)
+        return until(lambda: BROWSER.text('#waiting').startswith(words))
 
-    def is_all_sent(self, seconds=60):
-        return until(lambda: not BROWSER.text('#waiting'), seconds)
+    def is_all_sent(self):
+        return until(lambda: not BROWSER.text('#waiting'))
 
     # -- what became of it
 
@@ -198,10 +211,10 @@ def shown(where):
 class Turn(Served):
     def check_front(self, status, is_acknowledged=True):
         """The status in words, and in front what the table calls normal at it."""
-        until(lambda: BROWSER.text('#status') == status, 20)
-        self.check('the status', BROWSER.text('#status'), status)
+        self.check_comes('the status', lambda: BROWSER.text('#status'), status)
+        self.check_comes(f'in front: {status}', lambda: set(shown('front')),
+                         normal_at(status, is_acknowledged))
         front = shown('front')
-        self.check(f'in front: {status}', set(front), normal_at(status, is_acknowledged))
         self.check(f'all seven: {status}', sorted(front + shown('behind')), sorted(BUTTONS))
         return front
 
@@ -212,9 +225,9 @@ class Turn(Served):
         self.check_front('off duty')
         self.send_out()
         self.check('the first in front', self.check_front('mobilised', False)[0], 'mobile')
-        self.check('the order', BROWSER.text('#order').split('\n'),
-                   ['New order: press Mobile.', 'Class 2', 'Order 1', 'TQ 300 800',
-                    'Incident 1 of division 1'])
+        self.check_comes('the order', lambda: BROWSER.text('#order').split('\n'),
+                         ['New order: press Mobile.', 'Class 2', 'Order 1', 'TQ 300 800',
+                          'Incident 1 of division 1'])
         sizes = BROWSER.run("return [...document.querySelectorAll('body, body *')].map((it) => "
                             "[parseFloat(getComputedStyle(it).fontSize), it.className])")
         self.check('in the largest letters', [max(sizes)[1], max(sizes)[0] >= 40], ['loud', True])
@@ -236,11 +249,12 @@ class Turn(Served):
         self.ask('deskone1', 'POST /points/4', '{"cover":1,"place":"TQ300800"}')
         self.ask('deskone1', 'POST /vehicles/A1/standby', '{"point":4}')
         self.sign_in()
-        self.check('no order', BROWSER.text('#order').split('\n'),
-                   ['No order', 'Wait at standby point 4.'])
+        self.check_comes('no order', lambda: BROWSER.text('#order').split('\n'),
+                         ['No order', 'Wait at standby point 4.'])
 
     def test_two_taps(self):
-        """A finger that taps twice presses once, whatever stands under it then."""
+        """A finger that taps twice presses once, whatever stands under it then. (The page's clock
+        is stopped meanwhile, for a busy machine may take as long as somebody who presses twice.)"""
         self.send_out()
         self.sign_in()
         button = BROWSER.find('[data-button=mobile]')
@@ -248,7 +262,9 @@ class Turn(Served):
             ELEMENT: button}, 'x': 0, 'y': 0}
         taps = 2 * [{'type': 'pointerDown', 'button': 0}, {'type': 'pointerUp', 'button': 0},
                     {'type': 'pause', 'duration': 150}]
+        BROWSER.run('window.clock = Date.now; const now = clock(); Date.now = () => now')
         BROWSER.act({'type': 'pointer', 'id': 'finger', 'actions': [move, *taps]})
+        BROWSER.run('Date.now = clock')
         self.pressed.append('mobile')
         self.check('taken', self.tell()[1], 'Taken: you are mobilised.')
         time.sleep(1.5)
@@ -273,11 +289,12 @@ class Words(Served):
         first = self.number()
         self.tap('position')
         self.tell()
-        until(lambda: time.time() > YEAR_BEGAN + first + 4, 60)
+        until(lambda: time.time() > YEAR_BEGAN + first + 4)
         self.report(first + 3)
         self.tap('position')
         self.check('late', self.tell()[1], 'Not taken: a report with a later number came before '
                    'it. Your desk sees that. Press it again where it still holds.')
+        until(lambda: BROWSER.run(GIVEN_LAST) > first + 3)
         self.tap('position')
         self.check('not late again', self.tell()[1], 'Taken: you are at scene.')
         self.check('the table', [OUTCOMES[int(it)] for it in self.reports('outcome')],
@@ -293,15 +310,15 @@ class Words(Served):
         self.sign_in()
         self.line.cut()
         self.tap('mobile')
-        self.check('it waits, and is not answered', bool(until(
-            lambda: 'Not sent yet' in ''.join(BROWSER.texts('#reports li')[:1]), 20)), True)
+        self.check('it waits, and is not answered', until(
+            lambda: 'Not sent yet' in ''.join(BROWSER.texts('#reports li')[:1])), True)
         self.ask('deskone1', 'POST /vehicles/A1/standdown')
         self.mobilise()
         self.line.mend()
         self.check('stale', self.tell(), ['Mobile at TQ30627838, order 1, number ' +
                    self.tell()[0].split('number ')[1],
                    'Not taken: it is about an order that you no longer have. Your desk sees that.'])
-        self.check('the new order', until(lambda: 'Order 2' in BROWSER.text('#order'), 20), True)
+        self.check('the new order', until(lambda: 'Order 2' in BROWSER.text('#order')), True)
         self.tap('mobile')
         self.check('and it is taken', self.tell()[1], 'Taken: you are mobilised.')
         self.check('the table', self.reports('ord, outcome'), ['1|4', '2|0'])
@@ -327,13 +344,12 @@ class Words(Served):
         other = made(self.folder / 'other.db', 'A2,1,1,TQ303804,crewofa2')
         with serving_at(other, self.room_port):
             words = 'The room does not know this terminal. Sign in with its token.'
-            until(lambda: BROWSER.text('#trouble') == words, 30)
-            self.check('in words', BROWSER.text('#trouble'), words)
+            self.check_comes('in words', lambda: BROWSER.text('#trouble'), words)
             self.tap('mobile')
             self.check('it waits', self.waits('1 button is not'), True)
         self.room.enter_context(serving_at(self.file, self.room_port))
         self.check('it is taken', self.tell()[1], 'Taken: you are mobilised.')
-        self.check('no trouble is left', until(lambda: not BROWSER.text('#trouble'), 30), True)
+        self.check('no trouble is left', until(lambda: not BROWSER.text('#trouble')), True)
         self.check_once()
 
 
@@ -351,9 +367,9 @@ class Place(Served):
             BROWSER.press('Control+a')
             BROWSER.type(typed)
             self.check(f'{typed}: at once', BROWSER.text('#fault'), words)
-            BROWSER.click('[data-button=mobile]')
-            self.check(f'{typed}: not pressed', BROWSER.text('#refused'),
-                       f'Not pressed, for the place is missing. {words}')
+            BROWSER.click('[data-button=mobile]:enabled')
+            self.check_comes(f'{typed}: not pressed', lambda: BROWSER.text('#refused'),
+                             f'Not pressed, for the place is missing. {words}')
             self.check(f'{typed}: the keys are at the place',
                        BROWSER.run('return document.activeElement.id'), 'hand')
         BROWSER.press('Control+a')
@@ -373,18 +389,16 @@ class Place(Served):
         self.send_out()
         self.sign_in()
         BROWSER.stand_at(55.9486, -3.1999)  # Edinburgh
-        until(lambda: not self.is_placed(), 20)
         words = 'The phone is outside of the squares TQ, TL, SU and SP. Type the place.'
-        self.check('outside', BROWSER.text('#fix'), words)
-        BROWSER.click('[data-button=mobile]')
-        self.check('not pressed', BROWSER.text('#refused'),
-                   f'Not pressed, for the place is missing. {words}')
+        self.check_comes('outside', lambda: BROWSER.text('#fix'), words)
+        BROWSER.click('[data-button=mobile]:enabled')
+        self.check_comes('not pressed', lambda: BROWSER.text('#refused'),
+                         f'Not pressed, for the place is missing. {words}')
         BROWSER.devtools('Browser.setPermission', permission={'name': 'geolocation'},
                          setting='denied')
         BROWSER.open(f'{self.address}desks/crew.html')
         words = 'This page may not use the phone\u2019s position. Type the place.'
-        until(lambda: BROWSER.text('#fix') == words, 20)
-        self.check('not allowed', BROWSER.text('#fix'), words)
+        self.check_comes('not allowed', lambda: BROWSER.text('#fix'), words)
         self.check('nothing was sent', self.reports(), [])
 
 
@@ -423,18 +437,24 @@ class Network(Served):
         self.sign_in()
         self.line.loses = True
         self.tap('scene')
-        self.check('it was done', until(self.is_at_scene, 20), True)
+        self.check('it was done', until(self.is_at_scene), True)
         self.check('and not heard', self.waits('1 button is not'), True)
         self.tap('position')
-        time.sleep(2.5)
-        ages = [re.search(r'Not sent yet, waits (\d+):(\d\d)\.$', it)
-                for it in BROWSER.texts('#reports li')]
-        self.check('two wait, with their age', list(map(bool, ages)), [True, True])
-        later, first = (60 * int(it[1]) + int(it[2]) for it in ages)
-        self.check('which grows', first > later >= 2, True)
+        self.check_comes('two wait, with their age', lambda: len(self.ages()), 2)
+        self.check_comes('which grows', self.has_grown, True)
         self.line.mend()
         self.tell()
         self.check_once()
+
+    def ages(self):
+        """For how many seconds those have waited that are not sent yet, the latest first."""
+        found = [re.search(r'Not sent yet, waits (\d+):(\d\d)\.$', it)
+                 for it in BROWSER.texts('#reports li')]
+        return [60 * int(it[1]) + int(it[2]) for it in found if it]
+
+    def has_grown(self):
+        later, first = self.ages()
+        return first > later >= 2
 
     def is_at_scene(self):
         return self.ask('crewofa1', 'GET /order')['status'] == 3
@@ -444,34 +464,34 @@ class Network(Served):
         self.send_out()
         self.sign_in()
         self.line.cut()
-        said = until(lambda: BROWSER.text('#trouble'), 30)
+        said = until(lambda: BROWSER.text('#trouble'))
         self.check('in words', re.sub(r'\d:\d\d', 'AGE', said),
                    'No answer from the room for AGE: what you see is as old as that.')
         self.check('the order stays', 'Order 1' in BROWSER.text('#order'), True)
         self.line.mend()
-        self.check('and then no longer', until(lambda: not BROWSER.text('#trouble'), 30), True)
+        self.check('and then no longer', until(lambda: not BROWSER.text('#trouble')), True)
 
     def test_closed_page(self):
         """A page that is closed in the middle goes on when it is opened, also without a network."""
         self.send_out()
         self.sign_in()
-        self.check('its files are kept', until(self.is_kept, 30), True)
+        self.check('its files are kept', until(self.is_kept), True)
         first = BROWSER.send('GET', '/window')
         other = BROWSER.tab('about:blank')
         BROWSER.turn_to(first)
         self.line.loses = True
         self.tap('mobile')
-        until(lambda: self.line.is_cut, 20)
+        until(lambda: self.line.is_cut)
         self.tap('scene')
         self.check('two wait', self.waits('2 buttons are not'), True)
         BROWSER.close(first, then=other)
         second = BROWSER.tab(f'{self.address}desks/crew.html')
         BROWSER.stand_at(*STANDS)
         self.check('it opens without a network', until(
-            lambda: 'Order 1' in BROWSER.text('#order'), 30), True)
+            lambda: 'Order 1' in BROWSER.text('#order')), True)
         self.check('both wait', self.waits('2 buttons are not'), True)
-        self.check('what is in front is as they will be', shown('front')[0], 'leave')
-        until(self.is_placed, 20)
+        self.check_comes('what is in front is as they will be', lambda: shown('front')[0], 'leave')
+        until(self.is_placed)
         self.tap('leave')
         self.check('all three wait', self.waits('3 buttons are not'), True)
         BROWSER.close(second, then=other)
@@ -492,13 +512,13 @@ class Network(Served):
         one = BROWSER.send('GET', '/window')
         two = BROWSER.tab(f'{self.address}desks/crew.html')
         BROWSER.stand_at(*STANDS)
-        until(self.is_placed, 20)
+        until(self.is_placed)
         self.line.cut()
         for nth, button in enumerate(['mobile', 'scene', 'leave', 'hospital', 'return', 'home']):
             BROWSER.turn_to((one, two)[nth % 2])
-            until(lambda count=nth: len(BROWSER.all('#reports li')) == count, 20)
+            until(lambda count=nth: len(BROWSER.all('#reports li')) == count)
             self.tap(button)
-        until(lambda: len(BROWSER.all('#reports li')) == 6, 20)
+        until(lambda: len(BROWSER.all('#reports li')) == 6)
         self.line.mend()
         for it in (one, two):
             BROWSER.turn_to(it)
@@ -521,16 +541,16 @@ class Everyone(Served):
         self.tell()
         self.line.cut()
         self.tap('position')
-        until(lambda: BROWSER.text('#trouble'), 30)
+        until(lambda: BROWSER.text('#trouble'))
         self.check('contrast, names, targets, focus', faults_everywhere(BROWSER), [])
         BROWSER.size(*PHONE)
         self.line.mend()
-        until(lambda: not BROWSER.text('#trouble'), 30)
+        until(lambda: not BROWSER.text('#trouble'))
         BROWSER.run('scrollTo(0, 0)')
-        seen = BROWSER.run("return ['#order .loud', '#front button'].map((it) => "
-                           "document.querySelector(it).getBoundingClientRect().bottom)")
-        self.check('order and button are seen at once', [it <= PHONE[1] for it in seen],
-                   [True, True])
+        bottoms = "return ['#order .loud', '#front button'].map((it) => " \
+                  "document.querySelector(it).getBoundingClientRect().bottom)"
+        self.check_comes('order and button are seen at once', lambda: [
+            it <= PHONE[1] for it in BROWSER.run(bottoms)], [True, True])
 
     def test_by_keys(self):
         """The focus stays on the button that was pressed, wherever it then stands."""
@@ -540,6 +560,6 @@ class Everyone(Served):
         BROWSER.press('Enter')
         self.pressed.append('mobile')
         self.tell()
-        self.check('the focus', BROWSER.run('return document.activeElement.dataset.button'),
-                   'mobile')
+        self.check_comes('the focus', lambda: BROWSER.run(
+            'return document.activeElement.dataset.button'), 'mobile')
         self.check_once()

@@ -5,7 +5,7 @@ are told as T, minutes that are left as M, the day as DAY."""
 import subprocess
 
 from documents import told
-from room import TOP, TestCase
+from room import TOP, TestCase, free_port
 
 
 class Day(TestCase):
@@ -13,11 +13,11 @@ class Day(TestCase):
 
     def test_day(self):
         # A file, for a server that is left behind where the day breaks off would hold a pipe open.
-        day = self.folder / 'day'
+        day, port = self.folder / 'day', free_port()
         with day.open('wb') as out:
-            subprocess.run([TOP / 'examples' / 'day.sh', self.folder], stdin=subprocess.DEVNULL,
-                           stdout=out, stderr=subprocess.STDOUT)
-        lines = day.read_bytes().decode().split('\n')
+            subprocess.run([TOP / 'examples' / 'day.sh', self.folder, str(port)],
+                           stdin=subprocess.DEVNULL, stdout=out, stderr=subprocess.STDOUT)
+        lines = day.read_bytes().decode().replace(f':{port}', ':8192').split('\n')
         wanted = (TOP / 'examples' / 'day.out').read_bytes().decode()
         # Where they differ, lines with '-' are what was got and lines with '+' what was wanted.
         self.assertMultiLineEqual('\n'.join(told(it, self.folder) for it in lines), wanted)

@@ -91,7 +91,7 @@ def on_terminal(*words):
     try:
         process = subprocess.Popen([PROGRAM, *map(str, words)], stdin=subprocess.DEVNULL,
                                    stdout=subprocess.DEVNULL, stderr=slave)
-        status = process.wait(60)
+        status = process.wait(180)
     finally:
         os.close(slave)
     told = b''
@@ -210,7 +210,7 @@ class Rooms(ErrorCase):
         if user is None:
             self.room.chmod(0)
         done = subprocess.run([PROGRAM, 'check', self.room, '--explain'], user=user,
-                              stdin=subprocess.DEVNULL, capture_output=True, timeout=60)
+                              stdin=subprocess.DEVNULL, capture_output=True, timeout=180)
         self.assertEqual((done.returncode, done.stderr.decode()),
                          (3, f'{self.room}: {os_words(errno.EACCES)}\nstorage\n'))
 
@@ -274,7 +274,7 @@ class Journals(ErrorCase):
         self.list.unlink()
         with serving(self.room, 1, *PATIENT, '--journal', str(self.list)) as (port, process):
             ask(port, message('deskone1', 'GET /queue'))
-            process.wait(60)
+            process.wait(180)
         whole = self.list.stat().st_size
         with self.list.open('a') as file:
             file.write('no record\n')

@@ -23,7 +23,7 @@ def dry_run_of_two(first, second):
     process.stdin.write(first)
     process.stdin.flush()
     time.sleep(0.02)
-    out, err = process.communicate(second, timeout=60)
+    out, err = process.communicate(second, timeout=180)
     return out, (process.returncode, err)
 
 

@@ -31,7 +31,7 @@ class Faults(PreloadedTestCase):
                     with contextlib.suppress(OSError):
                         answers.append(ask(port, call(1)))
             try:
-                _, err = process.communicate(timeout=5)
+                _, err = process.communicate(timeout=180)
             except subprocess.TimeoutExpired:
                 process.kill()
                 raise
@@ -92,7 +92,7 @@ class Faults(PreloadedTestCase):
                 is_served = bool(answer)
                 answers += [answer] if is_served else []
             with contextlib.suppress(subprocess.TimeoutExpired):
-                process.wait(0 if is_served else 5)
+                process.wait(0 if is_served else 60)
             status = process.poll()
             process.kill()
             return answers, status, process.stderr.read()

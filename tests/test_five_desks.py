@@ -16,7 +16,7 @@ import time
 import nginx
 from browser import until
 from pages import DESKS
-from room import PROGRAM, TOP, TestCase, free_port
+from room import PATIENCE, PROGRAM, TOP, TestCase, free_port
 
 UNITS = {'dispatch-room': TOP / 'examples' / 'dispatch_room.service',
          'dispatch-desks': DESKS / 'dispatch_desks.service'}
@@ -81,7 +81,7 @@ class FiveDesks(TestCase):
         """Types a block of commands; gives what it printed and what was asked of the system."""
         self.notes.write_text('')
         done = subprocess.run(['bash', '-e', '-c', self.here(block)], cwd=self.folder,
-                              stdin=subprocess.DEVNULL, capture_output=True, timeout=120,
+                              stdin=subprocess.DEVNULL, capture_output=True, timeout=PATIENCE,
                               env=self.environment)
         self.check(f'{block.partition(chr(10))[0]}: done', [done.returncode, done.stderr.decode()
                    if done.returncode else ''], [0, ''])
@@ -125,7 +125,7 @@ class FiveDesks(TestCase):
             self.check('nginx', asked, ['apt install nginx-light openssl',
                                         'systemctl reload nginx'])
             stack.enter_context(nginx.running(self.nginx))
-            self.check('nginx listens', until(self.is_there, 60), True)
+            self.check('nginx listens', until(self.is_there), True)
             self.check_day()
 
     def is_there(self):
@@ -140,7 +140,7 @@ class FiveDesks(TestCase):
                  f'room.example:{self.tls}:127.0.0.1', '--header', f'X-Terminal: {token}',
                  *(['--data', body] if body is not None else []),
                  f'https://room.example:{self.tls}{path}']
-        done = subprocess.run(words, capture_output=True, timeout=60)
+        done = subprocess.run(words, capture_output=True, timeout=PATIENCE)
         return done.stdout.decode() or done.stderr.decode()
 
     def told(self, *words):

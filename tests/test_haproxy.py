@@ -10,10 +10,12 @@ import ssl
 import subprocess
 import time
 
-from room import TOP, TestCase, call, fleet_of, free_port, made, message, read_answer, run, serving
+from room import PATIENCE, TOP, TestCase, call, free_port, made, message, read_answer, serving
 
 HAPROXY = TOP / 'examples' / 'haproxy'
-PATIENCE = '--patience', '1', '--idle', '1000'
+# Of a room that lets go what isn't quick, and for how long something is slow.
+IMPATIENT, SLOW = ('--patience', '2', '--idle', '2000'), 2.5
+HEARD_WITHIN = 4.5  # seconds, below those that HAProxy gives a request to come whole
 # A vehicle for each of these makes an answer of some 80 kB.
 FLEET = [f'V{it},1,1,TQ{300 + it:03}804,crewofv{it:03}' for it in range(600)]
 
@@ -55,10 +57,12 @@ class Proxied(TestCase):
         if certificate:
             context.load_cert_chain(self.certificates / certificate)
         plain = socket.socket()
-        plain.settimeout(20)
+        plain.settimeout(PATIENCE)
         if receives:
             plain.setsockopt(socket.SOL_SOCKET, socket.SO_RCVBUF, receives)
+        end = time.monotonic() + PATIENCE
         while plain.connect_ex(('127.0.0.1', self.port)):
+            assert time.monotonic() < end, 'HAProxy does not listen'
             time.sleep(0.05)
         return context.wrap_socket(plain, server_hostname='localhost')
 
@@ -91,23 +95,34 @@ class Proxied(TestCase):
                 self.check('the one call was heard', len(json.loads(told)['incidents']), 1)
 
     def test_slow_request(self):
-        """(Were the room to hear of it before it is whole, it would let it go unanswered.)"""
+        """(Were the room to hear of it before it is whole, it would let it go unanswered.) It's sent
+        anew where a busy machine took longer than HAProxy waits for a request."""
+        end = time.monotonic() + PATIENCE
+        while not self.is_heard_slowly():
+            self.assertLess(time.monotonic(), end, 'no request was sent in time')
+
+    def is_heard_slowly(self):
         sent = call(1)
-        with self.served(9, *PATIENCE), self.connect() as slow:
-            for upto in range(3):
-                slow.sendall(sent[upto:upto + 1])
+        with self.served(9, *IMPATIENT), self.connect() as slow:
+            end = time.monotonic() + HEARD_WITHIN
+            for piece in sent[:1], sent[1:2], sent[2:3], sent[3:-1]:
+                slow.sendall(piece)
                 self.check_beside('beside a request that drips')
-            slow.sendall(sent[3:-1])
-            time.sleep(1.5)
+                if time.monotonic() > end - SLOW:
+                    return False
+            time.sleep(SLOW)
             self.check_beside('beside a request that lacks a byte')
+            if time.monotonic() > end:
+                return False
             slow.sendall(sent[-1:])
             self.check('once it is whole', read_answer(slow.makefile('rb'))[0], 200)
+        return True
 
     def test_slow_reader(self):
         """(Were the room to wait for it, it would let it go, and its answer were cut.)"""
-        with self.served(9, *PATIENCE), self.connect(receives=2048) as slow:
+        with self.served(9, *IMPATIENT), self.connect(receives=2048) as slow:
             slow.sendall(message('deskone1', 'GET /vehicles'))
-            time.sleep(1.5)
+            time.sleep(SLOW)
             self.check_beside('beside an answer that is not read')
             status, told = read_answer(slow.makefile('rb'))
             count = len(json.loads(told)['vehicles'])
@@ -115,14 +130,17 @@ class Proxied(TestCase):
 
     def test_kept_connections(self):
         """Forty terminals that keep their connections: each request is one connection inside."""
+        sent, kept = message('deskone1', 'GET /points'), []
         with self.served(120), contextlib.ExitStack() as stack:
-            kept = [stack.enter_context(self.connect()) for _ in range(40)]
-            for nth in range(3):
+            for _ in range(40):  # each asks at once, as HAProxy waits for seconds only
+                kept.append(stack.enter_context(self.connect()))
+                self.check('at first', self.answer(kept[-1], sent), (200, '{"points":[]}'))
+            for nth in range(2):
                 for it in kept:
-                    it.sendall(message('deskone1', 'GET /points'))
+                    it.sendall(sent)
                 told = {read_answer(it.makefile('rb')) for it in kept}
                 self.check(f'round {nth}', told, {(200, '{"points":[]}')})
-            self.check('the room had 120 connections', self.room.wait(timeout=10), 0)
+            self.check('the room had 120 connections', self.room.wait(PATIENCE), 0)
 
     def test_room_that_is_gone(self):
         with self.served(9):

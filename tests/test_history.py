@@ -88,10 +88,10 @@ class Replayed(PreloadedTestCase):
         words = *PATIENT, '--journal', str(journal), '--history'
         with serving(room, 1, *words) as (port, process):
             talk(port, message('takerone', 'GET /last'), message('deskone1', 'GET /queue'))
-            process.wait(timeout=60)
+            process.wait(timeout=180)
         for history, wanted in [([], (1, 'differs: record 1\n')), (['--history'], (0, ''))]:
             done = subprocess.run([PROGRAM, 'replay', shutil.copy(first, self.folder / 'copy.db'),
                                    *history], input=journal.read_bytes(), capture_output=True,
-                                  timeout=60)
+                                  timeout=180)
             self.check(' '.join(history) or 'by default',
                        (done.returncode, done.stderr.decode()), wanted)

@@ -166,7 +166,7 @@ class Page(PreloadedTestCase):
         """What a command prints."""
         text = command.replace('localhost:8080', f'127.0.0.1:{self.port}')
         done = subprocess.run(['bash', '-c', text], stdin=subprocess.DEVNULL, capture_output=True,
-                              timeout=60)
+                              timeout=180)
         self.check(f'{command}: its status', done.returncode, 0)
         return done.stdout.decode().replace('\r\n', '\n')
 

@@ -189,7 +189,7 @@ class Joined(TestCase):
         with open('/dev/full', 'wb') as full:
             done = subprocess.run([PROGRAM, 'times', self.new, '1', day(MONDAY), '--and', self.old],
                                   stdin=subprocess.DEVNULL, stdout=full, stderr=subprocess.PIPE,
-                                  timeout=60)
+                                  timeout=180)
         self.check('network', (done.returncode, done.stderr), (4, b'network\n'))
 
 
@@ -205,7 +205,7 @@ class Archives(TestCase):
 
     def script(self, *words):
         done = subprocess.run([TIMES, *map(str, words)], stdin=subprocess.DEVNULL, cwd=self.folder,
-                              capture_output=True, text=True, timeout=60,
+                              capture_output=True, text=True, timeout=180,
                               env=os.environ | {'PATH': self.path})
         return done.returncode, done.stdout, done.stderr
 

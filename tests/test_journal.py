@@ -3,11 +3,13 @@ over a room that stands where the list begins a replay gives the room again, row
 the program or the machine stopped in between; and a list that is none is refused at its record."""
 # needs: python3 gcc libc6-dev sqlite3
 # builds: dispatch_room
+import contextlib
 import hashlib
 import io
 import os
 import re
 import shutil
+import signal
 import socket
 import stat
 import subprocess
@@ -26,7 +28,7 @@ import digest  # noqa: E402
 import terminals  # noqa: E402
 
 CREW = 'A1,1,1,TQ303804,crewofa1'
-UNTIL = int(time.time()) + 3600
+UNTIL = int(time.time()) + 8 * 3600
 DUTY = message('deskone1', 'POST /vehicles/A1/duty', f'{{"place":"TQ303804","until":{UNTIL}}}')
 MOBILISE = message('deskone1', 'POST /incidents/1/mobilise', '{"vehicle":"A1"}')
 REPORT = message('crewofa1', 'POST /report',
@@ -98,7 +100,7 @@ def pieces(text):
 
 def verify(path):
     """Looks through a list; the status, what was printed, and what was told."""
-    done = subprocess.run([PROGRAM, 'verify', path], capture_output=True, timeout=60)
+    done = subprocess.run([PROGRAM, 'verify', path], capture_output=True, timeout=180)
     return done.returncode, done.stdout.decode(), done.stderr.decode()
 
 
@@ -129,7 +131,7 @@ class JournalTestCase(TestCase):
             for sent in connections:
                 stream = io.BytesIO(talk(port, *sent))
                 found += iter(lambda: read_dated(stream), None)
-            process.wait(timeout=60)
+            process.wait(timeout=180)
             return found, process.stderr.read().decode()
 
     def entries(self):
@@ -306,11 +308,14 @@ class Renewed(JournalTestCase):
 
     def begun(self, *beside):
         """Waits until a new part has begun, and other files are there."""
-        for _ in range(300):
+        until = time.monotonic() + 180
+        while time.monotonic() < until:
             time.sleep(0.1)
-            if all(it.exists() for it in (self.list, *beside)):
-                if b'\nroom 2 ' in self.list.read_bytes():
-                    return
+            # (the old part is moved away before the new one is there)
+            with contextlib.suppress(FileNotFoundError):
+                if all(it.exists() for it in beside):
+                    if b'\nroom 2 ' in self.list.read_bytes():
+                        return
         self.fail('no new part has begun')
 
     def stopped(self):
@@ -330,7 +335,7 @@ class Renewed(JournalTestCase):
 
     def test_renamed(self):
         old = self.folder / 'room.list.1'
-        with socket.create_connection(('127.0.0.1', self.port), timeout=30) as stays:
+        with socket.create_connection(('127.0.0.1', self.port), timeout=180) as stays:
             answers = stays.makefile('rb')
             stays.sendall(call(1))
             self.check('the call', read_dated(answers)[1], 200)
@@ -352,21 +357,22 @@ class Renewed(JournalTestCase):
         """As a rotation by night moves it, which makes the next file itself, beside desks that ask
         without a pause: each message is in one part, none is in two, and nobody is closed."""
         olds, sent = [self.folder / f'room.list.{it}' for it in (1, 2, 3)], 0
-        with socket.create_connection(('127.0.0.1', self.port), timeout=30) as stays:
+        with socket.create_connection(('127.0.0.1', self.port), timeout=180) as stays:
             answers = stays.makefile('rb')
             for old in olds:
                 self.list.rename(old)
                 os.close(os.open(self.list, os.O_CREAT | os.O_WRONLY, 0o600))  # if none is there
-                until = time.monotonic() + 30
-                while b'\nroom 2 ' not in self.list.read_bytes() and time.monotonic() < until:
+                until, has_begun = time.monotonic() + 180, False
+                while not has_begun and time.monotonic() < until:
                     sent += 1
                     stays.sendall(call(sent))
                     self.check('a call', read_dated(answers)[1], 200)
+                    has_begun = b'\nroom 2 ' in self.list.read_bytes()
         self.stopped()
         parts = [it.read_bytes() for it in (*olds, self.list)]
         found = [it for part in parts for it in entries(part) if it[0] == 'message']
         self.check('each once', [it[2] for it in found], [call(it + 1) for it in range(sent)])
-        self.check('some', sent > 0, True)
+        self.check('some', sent >= len(olds), True)
         for old in olds:
             self.check('an old one', verify(old)[1].splitlines()[-1], 'ended')
         self.check('a head for each', [entries(part)[0][0] for part in parts], ['room'] * 4)
@@ -415,9 +421,13 @@ class Renewed(JournalTestCase):
         self.check('the call', self.asked(call(1)), [200])
         folder = self.folder / 'moved'
         folder.mkdir()
+        # The program is held, or it might look between the two and make its new list there.
+        self.process.send_signal(signal.SIGSTOP)
+        os.waitid(os.P_PID, self.process.pid, os.WSTOPPED)
         old = self.list.rename(folder / 'room.list')
         self.list.mkdir()
-        self.process.wait(timeout=60)
+        self.process.send_signal(signal.SIGCONT)
+        self.process.wait(timeout=180)
         self.check('it ended', self.process.returncode, 6)
         self.check('the old one', verify(old)[1].splitlines()[-1], 'ended')
         self.replayed(old.read_bytes())
@@ -429,7 +439,7 @@ class Renewed(JournalTestCase):
             talk(port, call(1))
             old = self.list.rename(self.folder / 'room.list.1')
             talk(port, QUEUE)
-            process.wait(timeout=60)
+            process.wait(timeout=180)
         self.check('its messages', sum(it[0] == 'message' for it in entries(old.read_bytes())), 2)
         self.check('no other', self.list.exists(), False)
 
@@ -568,7 +578,7 @@ class Replayed(JournalTestCase):
     def test_zeros_without_end(self):
         with open('/dev/zero', 'rb') as zeros:
             done = subprocess.run([PROGRAM, 'replay', self.fresh()], stdin=zeros,
-                                  capture_output=True, timeout=60)
+                                  capture_output=True, timeout=180)
         self.check('zeros', (done.returncode, done.stdout), (1, b''))
 
     def test_another_status(self):
@@ -801,13 +811,13 @@ class Piped(JournalTestCase):
                 self.check(f'answer {nth} ends', process.stdout.read(1), b'\n')
             process.stdin.close()
             self.check('nothing more', process.stdout.read(), b'')
-            self.check('its end', (process.wait(timeout=60), process.stderr.read()), (0, b''))
+            self.check('its end', (process.wait(timeout=180), process.stderr.read()), (0, b''))
         self.check('one call', sql(self.room, 'SELECT count(*) FROM calls'), '1\n')
 
     def test_no_message(self):
         text = written([('room', '2', digest.of_file(self.room)), ('message', '1000', b'what')])
         done = subprocess.run([PROGRAM, 'replay', self.room, '--answers'], input=text,
-                              capture_output=True, timeout=60)
+                              capture_output=True, timeout=180)
         self.check('no message', (done.returncode, done.stdout, b'record 1' in done.stderr),
                    (1, b'', True))
 
@@ -865,7 +875,7 @@ class Stopped(PreloadedTestCase):
         self.stopped('a call', before, call(1))
         with serving(before, 1) as (port, process):
             talk(port, call(1), DUTY)
-            process.wait(timeout=60)
+            process.wait(timeout=180)
         self.stopped('an order', before, MOBILISE)
 
 

@@ -27,7 +27,7 @@ def commands():
 def printed(command, folder=TOP):
     """What a command prints."""
     done = subprocess.run(command, shell=True, cwd=folder, stdin=subprocess.DEVNULL,
-                          capture_output=True, text=True, timeout=60)
+                          capture_output=True, text=True, timeout=180)
     return done.stdout if (done.returncode, done.stderr) == (0, '') else f'failed: {done}'
 
 

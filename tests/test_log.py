@@ -61,7 +61,7 @@ class LogTestCase(TestCase):
         """The answers to all messages on one connection, and the lines of the log."""
         with serving(self.room, 1, *PATIENT, *words) as (port, process):
             answers = dated(port, *self.messages)
-            process.wait(timeout=10)
+            process.wait(timeout=180)
             return answers, process.stderr.read().decode()
 
 
@@ -79,7 +79,7 @@ class Lines(LogTestCase):
                 at, said, took = LINE.fullmatch(line).groups()
                 self.assertEqual((at, said), (written(moment), told))
                 self.assertEqual(said.endswith(f' {status}'), True)
-                self.assertLess(int(took), 10_000)
+                self.assertLess(int(took), 100_000)
 
     def test_tokens(self):
         """No token is in it, known or not, wherever a message shows it but in its path."""
@@ -113,7 +113,7 @@ class Unwritten(LogTestCase):
                 statuses = [status for _, status, _ in dated(port, *self.messages)]
                 wanted = [int(told.split()[-1]) for _, told in TOLD]
                 self.check(f'the {turn} connection', statuses, wanted)
-            self.check('its end', process.wait(timeout=10), 0)
+            self.check('its end', process.wait(timeout=180), 0)
 
     def test_nobody_reads(self):
         reads, writes = os.pipe()

@@ -303,7 +303,7 @@ class Again(MemoryTestCase):
                         left.pop(0)
             if spare and not left:
                 process.kill()
-            _, err = process.communicate(timeout=60)
+            _, err = process.communicate(timeout=180)
         return got, (process.returncode, err)
 
     def check_answers(self, what, asked, got):

@@ -66,7 +66,7 @@ TOOK = {
 def printed(log):
     """What is written of a log that has ended."""
     done = subprocess.run([sys.executable, METRICS, '--print'], input=log.encode(),
-                          capture_output=True, timeout=20)
+                          capture_output=True, timeout=180)
     assert (done.returncode, done.stderr) == (0, b''), done
     return done.stdout.decode()
 
@@ -74,7 +74,7 @@ def printed(log):
 def promtool(*words, given=''):
     """The status of Prometheus' tool, and what it said."""
     done = subprocess.run(['promtool', *words], input=given.encode(), capture_output=True,
-                          timeout=60)
+                          timeout=180)
     return done.returncode, (done.stdout + done.stderr).decode()
 
 
@@ -144,14 +144,14 @@ class Words(TestCase):
                             (['--room', 'localhost:http'], 'nonnumeric port'),
                             (['--port', '99999'], 'port 99999')]:
             done = subprocess.run([sys.executable, METRICS, *words], stdin=subprocess.DEVNULL,
-                                  capture_output=True, timeout=20)
+                                  capture_output=True, timeout=180)
             said = done.stderr.decode()
             self.check(f'{words}', [done.returncode, told in said, 'deskone1' in said],
                        [2, True, False])
 
 
 def fetched(url):
-    with OPENER.open(urllib.request.Request(url), timeout=20) as answer:
+    with OPENER.open(urllib.request.Request(url), timeout=180) as answer:
         return answer.headers['Content-Type'], answer.read().decode()
 
 
@@ -203,7 +203,7 @@ class Served(TestCase):
             queues = [len(json.loads(body)['queue']) for desk in ('deskone1', 'desktwo2')
                       for _, body in ask(self.port, message(desk, 'GET /queue'))]
             self.check('the queues have the reports', queues, [2, 0])
-            kind, text = fetched(url)
+            kind, text = self.caught_up(url)
             self.check('kind', kind, 'text/plain; version=0.0.4; charset=utf-8')
             self.check('Prometheus reads it', promtool('check', 'metrics', given=text), (0, ''))
             found = samples(text)
@@ -220,6 +220,18 @@ class Served(TestCase):
             self.check_end(room, url)
         self.check('a desk that is refused', 'desk lost: the room answers with status 403'
                    in self.said, True)
+
+    def caught_up(self, url):
+        """What is fetched once the log was read up to the queues that were asked for, which comes
+        behind the answers, and the room was not silent for too long as it was asked."""
+        until, name = time.monotonic() + 180, 'dispatch_room_requests_total'
+        while True:
+            kind, text = fetched(url)
+            found = samples(text)
+            asked = found.get(f'{name}{{method="GET",path="/queue",status="200"}}', 0)
+            if found['dispatch_room_up'] and asked >= 2 or time.monotonic() > until:
+                return kind, text
+            time.sleep(0.1)
 
     def check_calls(self, found):
         calls = {it: found[it] for it in found if 'requests_total' in it and '/call' in it}
@@ -240,7 +252,7 @@ class Served(TestCase):
 
     def status(self, url):
         try:
-            with OPENER.open(url, timeout=20) as answer:
+            with OPENER.open(url, timeout=180) as answer:
                 return answer.status
         except urllib.error.HTTPError as answer:
             return answer.code

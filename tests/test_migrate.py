@@ -99,9 +99,9 @@ class GoesOn(TestCase):
         self.told = run('migrate', self.file)
 
     def ask(self, *messages):
-        with serving(self.file, 1, '--patience', '10') as (port, process):
+        with serving(self.file, 1) as (port, process):
             answers = ask(port, *messages)
-            process.wait(timeout=30)
+            process.wait(timeout=180)
         return answers
 
     def test_day_stands(self):

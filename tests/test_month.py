@@ -76,7 +76,7 @@ def table_of(incidents):
 
 def month(*words):
     done = subprocess.run([MONTH, *map(str, words)], stdin=subprocess.DEVNULL, capture_output=True,
-                          timeout=120)
+                          timeout=600)
     return done.returncode, done.stdout.decode(), done.stderr.decode()
 
 

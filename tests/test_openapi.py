@@ -242,7 +242,7 @@ class Client:
         if self.count % self.MANY == 0:
             self.close()
         if self.socket is None:
-            self.socket = socket.create_connection(('127.0.0.1', self.port), timeout=30)
+            self.socket = socket.create_connection(('127.0.0.1', self.port), timeout=180)
             self.stream = self.socket.makefile('rb')
         self.socket.sendall(sent)
         status = int(self.stream.readline().split(b' ')[1])

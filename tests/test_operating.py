@@ -66,12 +66,12 @@ class OperatingTestCase(TestCase):
         """Leaves the room as a program does that was killed after a call was answered."""
         with self.called() as (_, process):
             process.kill()
-            process.wait(timeout=10)
+            process.wait(timeout=180)
 
     def end(self):
         """Leaves the room as a program does that came to its end after a call."""
         with self.called(1) as (_, process):
-            process.wait(timeout=10)
+            process.wait(timeout=180)
 
 
 class Document(OperatingTestCase):
@@ -141,6 +141,7 @@ class Served(OperatingTestCase):
         with serving(self.room, 65535) as (port, process):
             caller = Caller(port)
             for copy in copies:
+                caller.goes_on()
                 time.sleep(0.02)
                 process.send_signal(signal.SIGSTOP)
                 os.waitid(os.P_PID, process.pid, os.WSTOPPED)
@@ -169,11 +170,15 @@ class Caller(threading.Thread):
             with contextlib.suppress(OSError):
                 self.answered += len(ask(self.port, call_of(self.answered + 1)))
 
+    def goes_on(self):
+        """Waits for one more answer."""
+        last, until = self.answered, time.monotonic() + 180
+        while self.answered == last and time.monotonic() < until:
+            time.sleep(0.001)
+
     def end(self):
         """Ends it after one more answer."""
-        last, until = self.answered, time.monotonic() + 10
-        while self.answered == last and time.monotonic() < until:
-            time.sleep(0.01)
+        self.goes_on()
         self.is_ending = True
         self.join()
 
@@ -213,7 +218,7 @@ class NotServed(OperatingTestCase):
             self.check('its rows', dump(self.copy), dump(self.room))
             with serving(self.copy, 1) as (port, process):
                 self.check('it is served', ask(port, call(1), call(2)), [ANSWERED, LINKED])
-                process.wait(timeout=10)
+                process.wait(timeout=180)
             self.check('its pages', sql(self.copy, 'PRAGMA page_size'), f'{size}\n')
             self.check('its calls', sql(self.copy, CALLS), '2\n')
             self.room, self.copy = self.copy, self.folder / 'second.db'
@@ -257,20 +262,20 @@ class Stopped(OperatingTestCase):
         """The signal of a stop ends it at once; what was answered is there."""
         with self.called() as (_, process):
             process.terminate()
-            self.check('its status', process.wait(timeout=10), -signal.SIGTERM)
+            self.check('its status', process.wait(timeout=180), -signal.SIGTERM)
         self.check('what was answered', calls_in(self.room), '1')
 
     def test_callers(self):
         """Who waits as the program ends gets no answer, and who comes after is refused."""
         with serving(self.room, 1) as (port, process):
-            first = socket.create_connection(('127.0.0.1', port), timeout=30)
-            with socket.create_connection(('127.0.0.1', port), timeout=30) as waits:
+            first = socket.create_connection(('127.0.0.1', port), timeout=180)
+            with socket.create_connection(('127.0.0.1', port), timeout=180) as waits:
                 waits.sendall(call(1))
                 first.close()
-                self.check('it ends', process.wait(timeout=10), 0)
+                self.check('it ends', process.wait(timeout=180), 0)
                 self.check('who waited', answer_of(waits), b'')
             with self.assertRaises(ConnectionRefusedError):
-                socket.create_connection(('127.0.0.1', port), timeout=30)
+                socket.create_connection(('127.0.0.1', port), timeout=180)
         with serving(self.room, 1) as (port, _):
             self.check('sent again', ask(port, call(1)), [ANSWERED])
 

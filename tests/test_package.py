@@ -49,7 +49,7 @@ TYPED = [
 def output(*words, **named):
     """What a command prints; that it fails, or writes anything to standard error, is an error."""
     done = subprocess.run(list(map(str, words)), stdin=subprocess.DEVNULL, capture_output=True,
-                          timeout=60, **named)
+                          timeout=180, **named)
     assert (done.returncode, done.stderr) == (0, b''), f'{words}: {done}'
     return done.stdout.decode()
 
@@ -109,7 +109,7 @@ class Package(TestCase):
         for name, mask, zone in [('one', 0o022, 'UTC'), ('two', 0o077, 'Asia/Tokyo')]:
             (folder / name).mkdir()
             made.append(starts_package(folder / name, mask, zone))
-        cls.packages = [pathlib.Path(it.communicate(timeout=300)[0].decode().strip())
+        cls.packages = [pathlib.Path(it.communicate(timeout=1200)[0].decode().strip())
                         for it in made]
 
     def setUp(self):
@@ -271,7 +271,7 @@ class Package(TestCase):
     def test_manual_page(self):
         source = gzip.decompress(self.path(PAGE).read_bytes())
         done = subprocess.run(['groff', '-man', '-Tascii', '-ww', '-P-cbou'], input=source,
-                              capture_output=True, timeout=60)
+                              capture_output=True, timeout=180)
         self.check('no warnings', (done.returncode, done.stderr), (0, b''))
         lines = done.stdout.decode().splitlines()
         headings = [it for it in lines[1:-1] if re.match('[A-Z]', it)]
@@ -288,7 +288,7 @@ class Package(TestCase):
         """The manual page has each fault that the program reports, and each status."""
         source = gzip.decompress(self.path(PAGE).read_bytes())
         shown = subprocess.run(['groff', '-man', '-Tascii', '-P-cbou'], input=source,
-                               capture_output=True, timeout=60).stdout.decode()
+                               capture_output=True, timeout=180).stdout.decode()
         part = ' '.join(shown.partition('DIAGNOSTICS')[2].partition('\nFILES')[0].split())
         endings = TOP / 'crates' / 'dispatch_room_exit' / 'src' / 'exit_status.rt'
         faults = re.findall(r'#\[error\("(.*)"\)\]', endings.read_text())
@@ -321,7 +321,7 @@ class Package(TestCase):
             drains = threading.Thread(target=drain, args=[screen])
             drains.start()
             words = told.read().splitlines()
-            shell.wait(timeout=60)
+            shell.wait(timeout=180)
             drains.join()
         return words[1:]
 

@@ -273,7 +273,7 @@ class Rows(RenewTestCase):
         with serving(room, 2) as (port, process):
             self.assertEqual(ask(port, call(1))[0][0], 200)
             process.kill()
-            process.wait(timeout=10)
+            process.wait(timeout=180)
         rows = tables_of(room)
         self.check('renew', run('renew', room, self.folder / 'new.db', '--since', '2026-01-01'),
                    (0, line_of(rows), ''))
@@ -365,7 +365,7 @@ class Lists(RenewTestCase):
         words = *PATIENT, '--journal', str(self.folder / name)
         with serving(room, 1, *words) as (port, process):
             answers = ask(port, *sent)
-            process.wait(timeout=60)
+            process.wait(timeout=180)
         self.check(f'{name}: answers', [it for it, _ in answers], [200] * len(sent))
         return (self.folder / name).read_bytes()
 
@@ -374,7 +374,7 @@ class Lists(RenewTestCase):
 
     def replayed(self, room, text):
         done = subprocess.run([PROGRAM, 'replay', room], input=text, capture_output=True,
-                              timeout=60)
+                              timeout=180)
         return done.returncode, done.stdout.decode(), done.stderr.decode()
 
     def test_lists(self):
@@ -496,7 +496,7 @@ class Refused(RenewTestCase):
         before = self.old.read_bytes()
         done = subprocess.run([PROGRAM, 'renew', self.old, self.new, '--since', day(MONDAY)],
                               preexec_fn=limit, restore_signals=False, stdin=subprocess.DEVNULL,
-                              capture_output=True, timeout=60)
+                              capture_output=True, timeout=180)
         self.check('it fails', (done.returncode, done.stdout, done.stderr), (3, b'', b'storage\n'))
         self.check('the old file', self.old.read_bytes(), before)
         self.check('no room', run('check', self.new)[0] != 0, True)

@@ -74,27 +74,27 @@ def day_by_curl(folder):
 # ---- what a desk does by keys
 
 
-def said(words, seconds=20):
+def said(words):
     """Waits until a list of the allocator's page says so; gives what they say."""
-    until(lambda: any(words in it for it in BROWSER.texts('.said')), seconds)
+    until(lambda: any(words in it for it in BROWSER.texts('.said')))
     return ' '.join(filter(None, BROWSER.texts('.said')))
 
 
 def listed(name, words):
     """Waits until a list has a line with these words."""
-    return until(lambda: any(words in it for it in BROWSER.texts(f'.{name} .lines li')), 20)
+    return until(lambda: any(words in it for it in BROWSER.texts(f'.{name} .lines li')))
 
 
 def select(vehicle):
     """Goes to a vehicle's line by its callsign."""
     BROWSER.press('/')
     fill(vehicle)
-    until(lambda: not BROWSER.is_shown('.drawer'), 10)
+    until(lambda: not BROWSER.is_shown('.drawer'))
 
 
 def fill(*values):
     """Fills the fields of the form from the first on, and sends it."""
-    until(lambda: BROWSER.is_shown('.drawer'), 10)
+    until(lambda: BROWSER.is_shown('.drawer'))
     for nth, it in enumerate(values):
         BROWSER.press(*(['Tab'] if nth else []), 'Control+a')
         BROWSER.type(it)
@@ -190,7 +190,7 @@ class Shift(TestCase):
         BROWSER.press('Enter')
 
     def answer(self, wanted):
-        until(lambda: BROWSER.text('#answer').startswith(wanted), 20)
+        until(lambda: BROWSER.text('#answer').startswith(wanted))
         return BROWSER.text('#answer').split('\n')[:2]
 
     def send(self):
@@ -198,11 +198,11 @@ class Shift(TestCase):
         BROWSER.turn_to(self.desk)
         self.check('the incident is listed', listed('incidents', 'Incident 1'), True)
         BROWSER.press('3', 'Home', 'Enter')
-        self.check('A3 is proposed first', until(lambda: 'A3' in BROWSER.text('.drawer'), 10), True)
+        self.check('A3 is proposed first', until(lambda: 'A3' in BROWSER.text('.drawer')), True)
         BROWSER.press('Enter')
         self.check('it is sent', 'A3 is sent to incident 1: order 1.' in said('is sent'), True)
         BROWSER.turn_to(self.crew)
-        self.check('the order', until(lambda: 'Order 1' in BROWSER.text('#order'), 20), True)
+        self.check('the order', until(lambda: 'Order 1' in BROWSER.text('#order')), True)
         self.press('mobile', 'TQ300801', 'mobilised')
         self.line.cut(after=1500)
         self.press('scene', 'TQ300800', 'at scene')
@@ -211,12 +211,12 @@ class Shift(TestCase):
         """A button at a place that is typed, once its answer came."""
         BROWSER.click('#hand')
         BROWSER.type(place)
-        BROWSER.click(f'[data-button={button}]')
+        BROWSER.click(f'[data-button={button}]:enabled')
         time.sleep(2)
         self.line.mend()
         words = f'Taken: you are {status}'
         self.check(f'{button} is taken', until(
-            lambda: any(words in it for it in BROWSER.texts('#reports li')[:1]), 20), True)
+            lambda: any(words in it for it in BROWSER.texts('#reports li')[:1])), True)
 
     def lend(self):
         """A1 is offered, and accepted; then only the other desk may say what it does."""
@@ -236,7 +236,7 @@ class Shift(TestCase):
             BROWSER.press('Enter')
         refused = 'The vehicle is lent to another division. (4)'
         self.check('refused in words', until(
-            lambda: refused in BROWSER.text('main'), 20), True)
+            lambda: refused in BROWSER.text('main')), True)
         BROWSER.press('Escape')
 
     def bring_back(self):
@@ -257,7 +257,7 @@ class Shift(TestCase):
         """What the closed incident's own page says: its head, its calls and its turn."""
         BROWSER.press('i')
         fill('1')
-        until(lambda: len(BROWSER.texts('#incident tbody tr')) == 3, 20)
+        until(lambda: len(BROWSER.texts('#incident tbody tr')) == 3)
         found = [BROWSER.text('#incident p'), *BROWSER.texts('#incident tbody tr')]
         BROWSER.press('Escape')
         return found

@@ -53,7 +53,7 @@ def request(sent):
 
 # ---- rooms
 
-UNTIL = int(time.time()) + 3600
+UNTIL = int(time.time()) + 8 * 3600
 A1 = 'A1,1,1,TQ303804,crewofa1'
 B1 = 'B1,2,2,TQ600800,crewofb1'
 DUTY = message('deskone1', 'POST /vehicles/A1/duty', f'{{"place":"TQ303804","until":{UNTIL}}}')
@@ -84,7 +84,7 @@ class Stops(PreloadedTestCase):
             with serving(room, 1) as (port, process):
                 answers = ask(port, *messages)
                 self.check('what goes before', [it for it, _ in answers], [200] * len(messages))
-                process.wait(timeout=60)
+                process.wait(timeout=180)
         return room
 
     def found(self, file):

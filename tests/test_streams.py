@@ -133,7 +133,7 @@ class Pieces(TestCase):
         sender.start()
         with theirs:
             self.assertEqual(dry_run(theirs), (TALK, WELL))
-        sender.join(60)
+        sender.join(180)
 
 
 class Faults(TestCase):
@@ -174,6 +174,6 @@ class Faults(TestCase):
             self.check('another call, and the lost one again',
                        ask(port, call(2, 'TQ310800'), call(1)),
                        [(200, '{"division":1,"incident":2,"linked":false}'), (200, CALLED)])
-            self.check('it ends by itself', process.wait(timeout=10), 0)
+            self.check('it ends by itself', process.wait(timeout=180), 0)
         self.check('the calls of the file',
                    sql(room, 'SELECT serial, incident FROM calls ORDER BY serial'), '1|1\n2|2\n')

@@ -126,7 +126,7 @@ def lend_vehicles(room, at):
 def play(port):
     """Plays the day; gives what was asked, and the moments."""
     at = {}
-    with socket.create_connection(('127.0.0.1', port), timeout=30) as connection:
+    with socket.create_connection(('127.0.0.1', port), timeout=180) as connection:
         room = Room(connection)
         begin_shifts(room)
         take_calls(room, at)
@@ -213,7 +213,7 @@ class Tables(TestCase):
         run('import', cls.room, FLEET)
         with serving(cls.room, 1) as (port, process):
             cls.asked, cls.at = play(port)
-            cls.status = process.wait(timeout=30)
+            cls.status = process.wait(timeout=180)
 
     def test_day(self):
         for line, told, wanted in self.asked:

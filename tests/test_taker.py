@@ -35,6 +35,7 @@ def setUpModule():
 IS_LOADED = """const names = performance.getEntriesByType('resource').map((it) => it.name);
 return ['/room/last', '/data/areas.json', '/data/places.json'].every((path) =>
   names.some((it) => it.endsWith(path)));"""
+DRAWN = '#map .areas *'  # what it draws last as it opens
 
 
 class Keys:
@@ -53,6 +54,7 @@ class Keys:
 
 def send_call(place, level='2', note='', needs=None):
     """Fills the form by keys from the place on and sends it; gives how many keys it took."""
+    until(lambda: BROWSER.run('return document.activeElement.id') == 'place')
     keys = Keys()
     keys.text(place)
     keys.press('Tab', level, 'Tab')
@@ -65,14 +67,25 @@ def send_call(place, level='2', note='', needs=None):
     return keys.count
 
 
-def answer(wanted, seconds=15):
-    """The answer in large letters, waited for; what stands there where it does not come."""
-    until(lambda: BROWSER.text('#answer').startswith(wanted), seconds)
+def answer(wanted, count=1):
+    """The answer in large letters, once so many calls are kept and it is as wanted; what stands
+    there where it does not come."""
+    until(lambda: kept() >= count and BROWSER.text('#answer').startswith(wanted))
     return BROWSER.text('#answer').split('\n')
 
 
-def is_all_answered(seconds=30):
-    return until(lambda: BROWSER.text('#waiting') == '', seconds)
+def kept():
+    """How many calls the page shows, which it has kept by then."""
+    return len(BROWSER.all('#calls li'))
+
+
+def is_all_answered(count):
+    """Whether so many calls come to be kept, and none waits."""
+    return until(lambda: kept() >= count and BROWSER.text('#waiting') == '')
+
+
+def passed_over():
+    return [it for it in BROWSER.texts('#calls .bad') if it]
 
 
 class Served(TestCase):
@@ -91,12 +104,12 @@ class Served(TestCase):
     def sign_in(self, last='0'):
         """Signs the position in; the room has no history, so its last serial is typed."""
         self.check('signed in', sign_in(BROWSER, self.address, 'taker', 'takerone'), True)
-        self.check('the last serial is asked for', until(lambda: BROWSER.is_shown('#start'), 10),
-                   True)
+        self.check('the last serial is asked for', until(lambda: BROWSER.is_shown('#start')), True)
         BROWSER.click('#last')
         BROWSER.type(last)
         BROWSER.press('Enter')
-        until(lambda: not BROWSER.is_shown('#start'), 10)
+        until(lambda: not BROWSER.is_shown('#start'))
+        BROWSER.find(DRAWN)
 
     def calls(self, columns):
         """What the table of calls has, once the room has ended."""
@@ -113,11 +126,11 @@ class Calls(Served):
         self.check('the keys are back at the place',
                    BROWSER.run('return document.activeElement.id'), 'place')
         send_call('tq 306 8151')
-        self.check('a place that is none', BROWSER.text('#place-says'),
-                   'A place has six, eight or ten digits.')
+        self.check_comes('a place that is none', lambda: BROWSER.text('#place-says'),
+                         'A place has six, eight or ten digits.')
         BROWSER.press('Control+a')
         send_call('tq 3060 8151', '2', 'the same')
-        self.check('linked', answer('LINKED')[:1], ['LINKED'])
+        self.check('linked', answer('LINKED', 2)[:1], ['LINKED'])
         large = BROWSER.run("return parseFloat(getComputedStyle("
                             "document.querySelector('#answer .loud')).fontSize)")
         self.check('in large letters', large >= 40, True)
@@ -131,19 +144,18 @@ class Calls(Served):
         self.sign_in()
         BROWSER.type('mill')
         names = ['Mill Lane Bridge · TQ 306 815', 'Hope & Anchor, Mill Lane · TQ 305 812']
-        self.check('names by words', BROWSER.texts('#found li'), names)
+        self.check_comes('names by words', lambda: BROWSER.texts('#found li'), names)
         BROWSER.press('ArrowDown', 'Enter')
-        self.check('the second', BROWSER.run('return document.querySelector("#place").value'),
-                   'Hope & Anchor, Mill Lane')
+        value = 'return document.querySelector("#place").value'
+        self.check_comes('the second', lambda: BROWSER.run(value), 'Hope & Anchor, Mill Lane')
         BROWSER.click_at('#map', 0, 0)  # the middle of two areas of 50 km by 100 km
-        found = re.fullmatch(r'TQ(\d{3})(\d{3})',
-                             BROWSER.run('return document.querySelector("#place").value'))
+        found = until(lambda: re.fullmatch(r'TQ(\d{3})(\d{3})', BROWSER.run(value)))
         self.check('a click on the map', [abs(int(it) - 500) < 20 for it in found.groups()],
                    [True, True])
         BROWSER.press('Control+a')
         BROWSER.type('TL 300 804')
-        self.check('a place outside', BROWSER.text('#place-says'),
-                   'This place lies in no division.')
+        self.check_comes('a place outside', lambda: BROWSER.text('#place-says'),
+                         'This place lies in no division.')
 
     def test_note(self):
         """What a person typed is shown as it is and counted in bytes."""
@@ -154,9 +166,10 @@ class Calls(Served):
                             ('😀', '114 of 120 bytes left'), ('x' * 114, '0 of 120 bytes left'),
                             ('é', '2 bytes too long')]:
             BROWSER.type(text)
-            self.check(f'bytes: {words}', BROWSER.text('#bytes'), words)
+            self.check_comes(f'bytes: {words}', lambda: BROWSER.text('#bytes'), words)
         BROWSER.press('Enter')
-        self.check('too long a note', BROWSER.text('#note-says'), 'The note is too long.')
+        self.check_comes('too long a note', lambda: BROWSER.text('#note-says'),
+                         'The note is too long.')
         self.check('and the other faults',
                    [BROWSER.text(f'#{it}-says') for it in ('place', 'class')],
                    ['A place begins with TQ, TL, SU or SP.', 'Choose a class: 1, 2 or 3.'])
@@ -178,7 +191,7 @@ class Calls(Served):
         BROWSER.click('#calls button')
         BROWSER.press('Control+a')
         send_call('TQ300800', '1')
-        self.check('sent anew', answer('NEW')[:2], ['NEW', 'Division 1, incident 1'])
+        self.check('sent anew', answer('NEW', 2)[:2], ['NEW', 'Division 1, incident 1'])
         self.check('with its note', self.calls('serial, class, note'), ['2|1|caller is <lost>'])
 
     def test_everyone(self):
@@ -201,7 +214,7 @@ class Network(Served):
             send_call(f'TQ{300 + 3 * nth}800', '2', f'call {nth}')
             time.sleep(CUT_FOR)
             self.line.mend()
-        self.check(f'all were answered (seed {seed})', is_all_answered(), True)
+        self.check(f'all were answered (seed {seed})', is_all_answered(CUTS), True)
         self.check(f'each acted once (seed {seed})', self.calls('serial, note'),
                    [f'{it + 1}|call {it}' for it in range(CUTS)])
 
@@ -213,16 +226,17 @@ class Network(Served):
         for nth, after in enumerate([None, 900, 1800]):
             BROWSER.turn_to(first)
             BROWSER.open(f'{self.address}desks/taker.html')
-            until(lambda: BROWSER.run(IS_LOADED), 20)
+            until(lambda: BROWSER.run(IS_LOADED))
             self.line.cut(after)
             send_call(f'TQ{300 + 3 * nth}800', '2', f'call {nth}')
-            said = until(lambda: 'NEW' in answer('NEW', 0) or self.line.is_cut
-                         and 'not yet answered: 1' in BROWSER.text('#waiting'), 20)
+            until(lambda count=nth + 1: kept() == count)
+            said = until(lambda: BROWSER.text('#answer').startswith('NEW') or self.line.is_cut
+                         and 'not yet answered: 1' in BROWSER.text('#waiting'))
             self.check(f'{after}: it waits, or was answered', said, True)
             BROWSER.close(first, then=other)
             self.line.mend()
             first = BROWSER.tab(f'{self.address}desks/taker.html')
-            self.check(f'{after}: the answer came', answer('NEW')[:2],
+            self.check(f'{after}: the answer came', answer('NEW', nth + 1)[:2],
                        ['NEW', f'Division 1, incident {nth + 1}'])
         BROWSER.close(other, then=first)
         self.check('each acted once', self.calls('serial, note'),
@@ -233,17 +247,17 @@ class Network(Served):
         self.sign_in()
         one = BROWSER.send('GET', '/window')
         two = BROWSER.tab(f'{self.address}desks/taker.html')
-        BROWSER.find('#place')
+        BROWSER.find(DRAWN)
         self.line.cut()
         for nth in range(6):
             BROWSER.turn_to((one, two)[nth % 2])
             send_call(f'TQ{300 + 3 * nth}800', '2', f'call {nth}')
-            self.check('it waits', answer('WAITING')[0], 'WAITING')
+            self.check('it waits', answer('WAITING', nth + 1)[0], 'WAITING')
         self.line.mend()
         for it in (one, two):
             BROWSER.turn_to(it)
-            self.check('all were answered', is_all_answered(), True)
-            self.check('all are shown', len(BROWSER.all('#calls li')), 6)
+            self.check('all were answered', is_all_answered(6), True)
+            self.check('all are shown', kept(), 6)
         BROWSER.close(two, then=one)
         self.check('each acted once', self.calls('serial, note'),
                    [f'{it + 1}|call {it}' for it in range(6)])
@@ -255,11 +269,11 @@ class Network(Served):
         self.line.cut()
         for nth in range(2):
             send_call(f'TQ{300 + 3 * nth}800', '2', f'call {nth}')
-            answer('WAITING')
+            answer('WAITING', nth + 1)
         self.line.mend()
-        self.check('all were answered', is_all_answered(), True)
-        self.check('in words', [it for it in BROWSER.texts('#calls .bad') if it],
-                   ['Passed over, for other calls had them: serials 1, 2.'])
+        self.check('all were answered', is_all_answered(2), True)
+        self.check_comes('in words', passed_over,
+                         ['Passed over, for other calls had them: serials 1, 2.'])
         self.check('each acted once', self.calls('serial, note'),
                    ['1|', '2|', '3|call 0', '4|call 1'])
 
@@ -275,16 +289,15 @@ class History(TestCase):
             ask(room_port, *(call(it, 'TQ600800') for it in (1, 2, 3)))
             address = self.enterContext(companion(room_port))
             self.check('signed in', sign_in(BROWSER, address, 'taker', 'takerone'), True)
-            BROWSER.find('#place')
+            BROWSER.find(DRAWN)
             send_call('TQ300800', '2', 'call 4')
             self.check('a first call', answer('NEW')[:1], ['NEW'])
             self.check('nobody is asked', BROWSER.is_shown('#start'), False)
             ask(room_port, *(call(it, 'TQ600800') for it in (5, 6, 7)))
             send_call('TQ400800', '2', 'call 8')
-            until(lambda: 'call 8' in BROWSER.text('#calls li'), 10)
-            self.check('a second call', is_all_answered(), True)
-            self.check('in words', [it for it in BROWSER.texts('#calls .bad') if it],
-                       ['Passed over, for other calls had them: serials 5.'])
+            self.check('a second call', is_all_answered(2), True)
+            self.check_comes('in words', passed_over,
+                             ['Passed over, for other calls had them: serials 5.'])
         self.check('their serials', sql(file, "SELECT serial FROM calls WHERE length(note) > 0"),
                    '4\n8\n')
 

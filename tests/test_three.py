@@ -20,13 +20,14 @@ PAUSE = 0.25  # seconds of a terminal between an answer and its next request
 COPY_EVERY = 3000 if EVERY else 200
 LOST = 20  # answers of each member
 QUOTA = 48 << 20  # bytes: a small one, which the list would fill within ten minutes
+SEEN = ['--history', '10000']  # revisions, until which a witness has seen what is dropped
 
 
 class Disturbed(ThreeTestCase):
     def setUp(self):
         super().setUp()
         self.machines.member_words = [f'--quota-backend-bytes={QUOTA}']
-        self.machines.words = {it: ['--history', '10000'] for it in self.machines.machines}
+        self.machines.words = {it: SEEN for it in self.machines.machines}
         self.machines.copy_every, self.machines.deadline = COPY_EVERY, 10
         self.faults = Faults(self.machines, AWAY)
 
@@ -84,7 +85,7 @@ class Forgotten(ThreeTestCase):
                   for it in self.machines.machines]
         for number, it in enumerate(before, 1):
             it.start()
-            self.machines.words[number] = ['--etcd', it.address]
+            self.machines.words[number] = ['--etcd', it.address, *SEEN]
         self.machines.start_all()
         witness = self.witness()
         asking = asked_while(lambda: self.machines.until(

@@ -5,6 +5,7 @@ slept."""
 import json
 import signal
 import time
+import unittest.mock
 
 from disturbed import TO_2099
 from listed import ThreeTestCase
@@ -71,6 +72,7 @@ class Clocks(ThreeTestCase):
 
     def test_limit(self):
         """A minute is allowed, and no more."""
+        self.enterContext(unittest.mock.patch.object(clocks, 'passed', lambda: 1000.0))
         others, now = clocks.OtherClocks(), int(time.time())
         self.check('none is heard', others.ahead(now), None)
         others.hear(2, 5, now)

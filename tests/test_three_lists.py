@@ -8,7 +8,7 @@ import shutil
 import subprocess
 
 from listed import ThreeTestCase
-from room import message
+from room import PATIENCE, message
 
 import copies
 import entries
@@ -139,8 +139,7 @@ class Lists(ThreeTestCase):
         self.etcdctl(1, 'snapshot', 'save', saved)
         for it in 4, 5, 6:
             self.check(f'call {it}', self.answered(2, call(it))[1], 200)
-        self.machines.until(lambda: all(self.machines.health(it).get('copy', 0) > last
-                                        for it in self.machines.machines), 'copies')
+        self.reported(self.level() // 2 * 2)
         self.restore(saved)
         for it in self.machines.machines:
             status = self.machines.ended(it)
@@ -174,7 +173,8 @@ class Lists(ThreeTestCase):
         self.check('the copy is there', len(copies.copies_in(folder)), 1)
 
     def etcdctl(self, number, *words):
-        command = ['etcdctl', '--endpoints', self.machines.machines[number].etcd, *words]
+        command = ['etcdctl', '--endpoints', self.machines.machines[number].etcd,
+                   *(f'--{it}-timeout={PATIENCE:.0f}s' for it in ('dial', 'command')), *words]
         subprocess.run(command, check=True, capture_output=True, env={'ETCDCTL_API': '3',
                        'PATH': '/usr/bin:/bin'})
 

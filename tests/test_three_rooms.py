@@ -39,11 +39,14 @@ class Rooms(ThreeTestCase):
         self.machines.until(lambda: all(self.machines.health(it).get('copy') == record
                                         for it in self.machines.machines), f'copies of {record}')
 
-    def until_stopped(self, text):
-        """Waits until each machine says so: which two it names depends on who has reported first."""
+    def until_stopped(self, record):
+        """Waits until each machine says so: which two it names depends on who has reported first.
+        Which is the odd one is known once all three have."""
+        text = f'the rooms differ at record {record}: '
         for it in self.machines.machines:
             self.machines.until(lambda: text in self.machines.health(it).get('refuses', ''),
                                 f'machine {it} is stopped')
+        self.reported(record)
         self.check('none takes more',
                    {exchange(it, call(99), PATIENCE)[1:] for it in self.addresses()},
                    {(503, '{"error":"NoAnswer","kept":"no"}')})
@@ -83,7 +86,7 @@ class Rooms(ThreeTestCase):
         self.copied(10)
         self.flip(next((self.machines.machines[2].folder / 'room' / 'work').glob('run.*/room.db')))
         self.check('ten more', self.calls(10), [200] * 10)
-        self.until_stopped('the rooms differ at record 20: ')
+        self.until_stopped(20)
         status, told = self.machines.companion_does(1, 'go-on')
         self.check('they do not go on so', (status, 'the rooms differ at record 20' in told),
                    (1, True))
@@ -108,7 +111,7 @@ class Rooms(ThreeTestCase):
         self.machines.programs[3] = other
         self.machines.start_all()
         self.check('ten calls', self.calls(10), [200] * 10)
-        self.until_stopped('the rooms differ at record 10: ')
+        self.until_stopped(10)
         del self.machines.programs[3]
         self.machines.kill('companion', 3)
         self.machines.start('companion', 3)

@@ -3,6 +3,8 @@ is read."""
 # needs: python3
 import asyncio
 import sys
+import types
+import unittest.mock
 
 from room import TOP, TestCase
 
@@ -17,6 +19,11 @@ CHUNKS = (b'HTTP/1.1 200 OK\r\nTransfer-Encoding: chunked\r\n\r\n'
 
 
 class Turns(TestCase):
+    def setUp(self):
+        super().setUp()
+        stopped = types.SimpleNamespace(monotonic=lambda: 0.0)  # milliseconds are counted here
+        self.enterContext(unittest.mock.patch.object(turns, 'time', stopped))
+
     def waits(self, last, active):
         """Which of three machines waits how many turns, once one has put and some were active."""
         found = []
@@ -80,15 +87,16 @@ class Wires(TestCase):
                 count[0] += 1
                 await reader.readuntil(b'}')
                 if count[0] > 1:
+                    late.set()
                     writer.write(WHOLE)
                 else:
-                    await asyncio.sleep(0.3)
+                    await late.wait()
                     writer.write(WHOLE.replace(b'{}', b'[]'))
                 await writer.drain()
                 writer.close()
-            count = [0]
+            count, late = [0], asyncio.Event()
             server = await asyncio.start_server(serve, '127.0.0.1', 0)
-            by = channel.Channel(etcd.Reach(*server.sockets[0].getsockname()), 0.2)
+            by = channel.Channel(etcd.Reach(*server.sockets[0].getsockname()), 2)
             told = []
             for _ in range(2):
                 try:

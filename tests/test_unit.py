@@ -39,7 +39,7 @@ def settings(unit):
 def analyze(*words):
     """The status of systemd's own judge, and what it said."""
     done = subprocess.run(['systemd-analyze', '--no-pager', *words], stdin=subprocess.DEVNULL,
-                          capture_output=True, timeout=120, env=os.environ | {'LC_ALL': 'C'})
+                          capture_output=True, timeout=180, env=os.environ | {'LC_ALL': 'C'})
     return done.returncode, (done.stdout + done.stderr).decode()
 
 
@@ -119,7 +119,7 @@ class Machine:
         """The status of a line that ends."""
         with self.started(line, **more) as it:
             try:
-                it.communicate(timeout=60)
+                it.communicate(timeout=180)
             finally:
                 it.kill()
             return it.returncode
@@ -162,7 +162,7 @@ class Machine:
         if self.process is None:
             return None
         self.process.terminate()
-        self.process.communicate(timeout=10)
+        self.process.communicate(timeout=180)
         return self.process.returncode
 
     def stop(self):
@@ -290,17 +290,17 @@ class Starts(UnitTestCase):
 
     def test_not_yet(self):
         """While the program opens its room, it waits; here another answers meanwhile."""
-        with another(self.machine.address), subprocess.Popen(['/bin/sleep', '60']) as opens:
+        with another(self.machine.address), subprocess.Popen(['/bin/sleep', '600']) as opens:
             self.machine.prepare()
             line = settings(UNIT)['ExecStartPost'][0]
             with self.machine.started('+' + line, MAINPID=str(opens.pid)) as waits:
-                until = time.monotonic() + 30
+                until = time.monotonic() + 180
                 while len(self.machine.slept.read_text()) < 8 and time.monotonic() < until:
                     time.sleep(0.05)
                 self.check('it waits', waits.poll(), None)
                 opens.kill()
                 opens.wait()
-                self.check('it ends with the program', waits.wait(timeout=30), 1)
+                self.check('it ends with the program', waits.wait(timeout=180), 1)
 
     def test_waits(self):
         """Each start that follows one that did not come to serve waits longer, up to ten
@@ -353,7 +353,11 @@ class Health(UnitTestCase):
             self.check('another', check(), 1)
         self.make()
         self.check('the room is started', self.machine.start(), True)
-        self.check('the room', check(), 0)
+        # (one that is silent for five seconds, as on a busy machine, is asked again)
+        until = time.monotonic() + 180
+        while (status := check()) != 0 and time.monotonic() < until:
+            time.sleep(0.1)
+        self.check('the room', status, 0)
 
     def test_haproxy(self):
         lines = re.search(r'^    option httpchk\n(?:    .*\n)+', self.section(), re.M)[0]
@@ -377,7 +381,7 @@ class Health(UnitTestCase):
 
     def comes(self, control, *wanted):
         """Whether HAProxy comes to say of the room's server that it is as wanted."""
-        until = time.monotonic() + 20
+        until = time.monotonic() + 180
         while time.monotonic() < until:
             with contextlib.suppress(OSError), socket.socket(socket.AF_UNIX) as it:
                 it.connect(str(control))

@@ -387,7 +387,7 @@ class Reads(TestCase):
         with theirs:
             told = answer('200 OK', '{"queue":[]}') * count
             self.assertEqual(dry_run(theirs), (told, CUT))
-        sender.join(60)
+        sender.join(180)
 
 
 # ---- talks
@@ -573,7 +573,7 @@ class Refusals(TestCase):
             grow_to(process, None)
             self.assertEqual(ask(port, call(1)),
                              [(200, '{"division":1,"incident":1,"linked":false}')])
-            self.assertEqual(process.wait(timeout=10), 0)
+            self.assertEqual(process.wait(timeout=180), 0)
 
 
 # ---- vehicles of each kind
@@ -743,7 +743,7 @@ class SmallRoom(TestCase):
                 file = self.copied()
                 with serving(file, 1) as (port, process):
                     (status, content), = ask(port, message('deskone1', line, body))
-                    process.wait(timeout=60)
+                    process.wait(timeout=180)
                 got = status, lines_in(content), changed(before, dump(file))
                 self.assertEqual(got, (200, lines, tables))
 

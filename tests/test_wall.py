@@ -17,7 +17,7 @@ import urllib.request
 import walls
 from browser import OPENER, Browser, until
 from pages import contrast
-from room import PROGRAM, TestCase, ask, call, fleet_of, free_port, message, run
+from room import PATIENCE, PATIENT, PROGRAM, TestCase, ask, call, fleet_of, free_port, message, run
 from walls import NOW, WALL, incident, played, vehicle, wall
 
 TOKENS = ['deskone1', 'desktwo2', 'takerone', 'crewofa1', 'crewofb1']
@@ -124,7 +124,8 @@ class Served(TestCase):
     @contextlib.contextmanager
     def serving(self):
         """The room, served at the same port each time."""
-        command = [PROGRAM, 'serve', self.room, f'127.0.0.1:{self.port}', '--connections', '9999']
+        command = [PROGRAM, 'serve', self.room, f'127.0.0.1:{self.port}', '--connections', '9999',
+                   *PATIENT]
         process = subprocess.Popen(command, stdin=subprocess.DEVNULL, stdout=subprocess.PIPE)
         try:
             assert process.stdout.readline() == b'serving\n', 'not served'
@@ -147,23 +148,23 @@ class Served(TestCase):
             self.check_queues()
             others = self.other_pages()
             BROWSER.turn_to(tab)
-            stopped = time.time()
-        self.check_stopped(stopped)
+        self.check_stopped(time.time())
         with self.serving():
-            self.check('an answer again', until(lambda: not warning()['shown'], 60), True)
-        self.check('not grey any longer', warning()['filter'], 'none')
+            self.check_comes('an answer again, and nothing grey any longer', lambda: [
+                warning()[it] for it in ('shown', 'filter')], [False, 'none'])
         for other, why in others:
             BROWSER.turn_to(other)
-            until(lambda: warning()['shown'], 20)
-            seen = warning()
-            self.check(why, [seen['shown'], seen['why'], seen['marks'] > 0], [True, why, True])
+            self.check_comes(why, lambda: self.told_of(warning()), [True, why, True])
             BROWSER.close(other, then=tab)
+
+    def told_of(self, seen):
+        return [seen['shown'], seen['why'], seen['marks'] > 0]
 
     def other_pages(self):
         """Two more pages that get nothing new from now on, each with what it has to say."""
         with wall(played(self, small_room).port, self.plan, 'deskone1') as address:
             left = BROWSER.tab(address)
-            until(pictures, 20)
+            until(pictures)
         is_broken = []
 
         def told_of(token, what):
@@ -172,7 +173,7 @@ class Served(TestCase):
 
         address = self.enterContext(wall(played(self, told_of).port, self.plan, 'deskone1'))
         broken = BROWSER.tab(address)
-        until(pictures, 20)
+        until(pictures)
         is_broken.append(True)
         return [(left, "The wall's own server does not answer."),
                 (broken, 'The page can not draw what the room tells.')]
@@ -185,7 +186,7 @@ class Served(TestCase):
         address = self.enterContext(wall(self.port, self.plan, 'deskone1', 'desktwo2'))
         tab = BROWSER.open(address)
         self.check('a first picture', bool(until(
-            lambda: BROWSER.run(MARK, 'vehicles A1'), 20)), True)
+            lambda: BROWSER.run(MARK, 'vehicles A1'))), True)
         self.check('an available vehicle', BROWSER.run(MARK, 'vehicles A1')[:3],
                    ['mark vehicle status-1', 'A', 'A1'])
         self.check('a vehicle that is off duty', BROWSER.run(MARK, 'vehicles B1')[:3],
@@ -199,54 +200,60 @@ class Served(TestCase):
     def check_mobilised(self):
         proposed = self.told('deskone1', 'GET /incidents/1/propose')['proposals'][0]['vehicle']
         self.told('deskone1', 'POST /incidents/1/mobilise', f'{{"vehicle":"{proposed}"}}')
-        refresh(2)
-        self.check('a mobilised vehicle', BROWSER.run(MARK, 'vehicles A1')[:3],
-                   ['mark vehicle status-2', 'M', 'A1'])
+        self.check_comes('a mobilised vehicle', lambda: BROWSER.run(MARK, 'vehicles A1')[:3],
+                         ['mark vehicle status-2', 'M', 'A1'])
         self.check('it is sent', BROWSER.run(LINES), [['vehicles A1', 'incidents 1/1']])
         self.check('the incident is served', BROWSER.run(MARK, 'incidents 1/1')[:3],
                    ['mark incident class-2 served', '2', '1'])
 
     def check_reported(self):
+        self.reported = time.time()
         self.told('desktwo2', 'POST /points/7', '{"cover":2,"place":"TQ700500"}')
         self.told('crewofb1', 'POST /report',
                   '{"button":"home","number":4,"order":0,"place":"TQ600800"}')
         for number, button, place in [(1, 'mobile', 'TQ350700'), (2, 'scene', 'TQ401602')]:
             self.told('crewofa1', 'POST /report', f'{{"button":"{button}","number":{number},'
                                                   f'"order":1,"place":"{place}"}}')
-        refresh(2)
+        self.check_comes('a vehicle at the scene', lambda: BROWSER.run(MARK, 'vehicles A1')[:3],
+                         ['mark vehicle status-3', 'S', 'A1'])
         seen = BROWSER.run(MARK, 'vehicles A1')
-        self.check('a vehicle at the scene', seen[:3], ['mark vehicle status-3', 'S', 'A1'])
         self.check('its new place', is_near(BROWSER.run(PLACE, 'vehicles A1'), (540100, 160200)),
                    True)
         wanted = 'A1, ambulance of division 1: at scene at TQ 401 602, sent to incident 1'
         self.check('the words under the pointer', seen[-1].split(', shift')[0], wanted)
 
     def check_queues(self):
-        one, two = BROWSER.run(QUEUES)
-        self.check('a queue where nothing waits', one, ['Division 1nothing waits'])
-        self.check('a queue', [two[0], [it[:4] for it in two[1:]]],
-                   ['Division 22',
-                    [['\u2013', 'B1', 'TQ 600 800', 'report 4 came out of turn'],
-                     ['\u2013', 'Point 7', 'TQ 700 500', 'short of cover']]])
-        self.check('what has no moment has no wait', two[2][4], '')
-        self.check('what has one', re.fullmatch('0:[01][0-9]', two[1][4]) is not None, True)
+        seen = []
+
+        def queues():
+            seen[:] = BROWSER.run(QUEUES)
+            return [[head, *(it[:4] for it in entries)] for head, *entries in seen]
+        self.check_comes('queues, one where nothing waits', queues, [
+            ['Division 1nothing waits'],
+            ['Division 22', ['\u2013', 'B1', 'TQ 600 800', 'report 4 came out of turn'],
+             ['\u2013', 'Point 7', 'TQ 700 500', 'short of cover']]])
+        _, (_, report, point) = seen
+        self.check('what has no moment has no wait', point[4], '')
+        minutes, seconds = re.fullmatch('([0-9]+):([0-5][0-9])', report[4]).groups()
+        self.check('what has one', 60 * int(minutes) + int(seconds)
+                   <= time.time() - self.reported + 1, True)
         self.check('a point', BROWSER.run(MARK, 'points 2/7')[:3], ['mark point short', '7', '0/2'])
-        self.check('nothing is wrong', warning()['shown'], False)
+        self.check_comes('nothing is wrong', lambda: warning()['shown'], False)
 
     def check_stopped(self, stopped):
         before = warning()['marks']
-        until(lambda: warning()['shown'], 60)
+        self.check_comes('a stopped room is told, and why', lambda: self.told_of(warning()),
+                         [True, 'It takes no connection.', True])
         seen = warning()
-        self.check('a stopped room is told', seen['shown'], True)
         found = re.fullmatch('NO ANSWER FROM THE ROOM SINCE ([0-9:]{8})',
                              ' '.join(seen['words'].split()))
         self.check('its words', found is not None, True)
         second = int(stopped + AHEAD) % 86400
         hours, minutes, seconds = map(int, found[1].split(':'))
-        late = (second - (hours * 3600 + minutes * 60 + seconds)) % 86400
-        self.check('since when, by the clock of the plan', 0 <= late <= 60, True)
+        apart = abs(second - (hours * 3600 + minutes * 60 + seconds))
+        self.check('since when, by the clock of the plan', min(apart, 86400 - apart) <= PATIENCE,
+                   True)
         self.check('it is the largest', seen['isLargest'], True)
-        self.check('why', seen['why'], 'It takes no connection.')
         self.check('the rest is grey', ['grayscale(1)' in seen['filter'], seen['opacity']],
                    [True, '0.7'])
         self.check('the last picture stays', [before, seen['marks']], [4, 4])
@@ -287,7 +294,7 @@ class Played(TestCase):
         room, address = self.show(small_room, 'deskone1', 'desktwo2')
         BROWSER.size(1280, 720)
         BROWSER.open(address)
-        until(pictures, 20)
+        until(pictures)
         BROWSER.press('Space', '0')  # no turning, and the first page
         BROWSER.run('window.kept = document.querySelector(".vehicle")')
         refresh(1)
@@ -307,9 +314,9 @@ class Played(TestCase):
         self.check('never two at once', room.overlaps, 0)
 
     def check_queue(self):
-        head, *entries = BROWSER.run(QUEUES)[0]
-        self.check('its head', head, 'Division 19')
-        self.check('the order of the room, with class, place and wait', entries[:5], [
+        # (a warning, as a busy machine may bring, takes room from lines while it is there)
+        self.check_comes('its head, and the order of the room, with class, place and wait',
+                         lambda: BROWSER.run(QUEUES)[0][:6], ['Division 19',
             ['3', 'V2', 'TQ 300 800', 'order not acknowledged, incident 3', '10:00'],
             ['2', 'V1', 'TQ 300 800', 'shift is over', '0:50'],
             ['\u2013', 'Point 4', 'place not known', 'short of cover', ''],
@@ -376,16 +383,19 @@ class Played(TestCase):
                    [])
         self.check('another host', fetch(address, {'Host': 'room.example'})[0], 403)
         self.check('POST', fetch(address + 'picture', {}, b'{}')[0], 501)
-        self.check('one picture of two desks', len(room.heads), 8)
+        self.check_comes('one picture of two desks', lambda: len(room.heads), 8)
         time.sleep(2.3)
         self.check('without a page nothing', len(room.heads), 8)
+        began = time.monotonic()
         pages = [threading.Thread(target=fetch, args=[address + 'picture']) for _ in range(20)]
         for page in pages:
             page.start()
         for page in pages:
             page.join()
-        self.check('twenty pages cost one picture, or two on a busy machine',
-                   len(room.heads) in (16, 24), True)
+        # They come within two seconds, but on a busy machine later.
+        most = 1 + int((time.monotonic() - began) / 2)
+        self.check_comes('twenty pages cost one picture, or one each two seconds',
+                         lambda: len(room.heads) in range(16, 16 + 8 * most, 8), True)
         self.check('never two at once', room.overlaps, 0)
 
     def test_words_of_the_command(self):
@@ -397,7 +407,8 @@ class Played(TestCase):
                 ('a token of no desk', '127.0.0.1:9', plan, 'takerone', '127.0.0.1:0'),
                 ('no plan', '127.0.0.1:9', WALL, 'deskone1', '127.0.0.1:0')]:
             done = subprocess.run([sys.executable, WALL, room, file, token, '--listen', listen],
-                                  stdin=subprocess.DEVNULL, capture_output=True, timeout=20)
+                                  stdin=subprocess.DEVNULL, capture_output=True,
+                                  timeout=PATIENCE)
             said = (done.stdout + done.stderr).decode()
             self.check(f'{what} is refused', [done.returncode, token in said], [2, False])
 
@@ -406,7 +417,7 @@ def fetch(url, fields=None, body=None):
     """The status, the head and the content of an answer of the wall."""
     request = urllib.request.Request(url, body, fields or {})
     try:
-        with OPENER.open(request, timeout=20) as answer:
+        with OPENER.open(request, timeout=PATIENCE) as answer:
             return answer.status, str(answer.headers), answer.read().decode()
     except urllib.error.HTTPError as answer:
         return answer.code, str(answer.headers), answer.read().decode()

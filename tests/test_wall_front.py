@@ -8,13 +8,17 @@ import os
 import socket
 import ssl
 import subprocess
-import time
 
-from room import TOP, TestCase, free_port
+from room import PATIENCE, TOP, TestCase, free_port
 from walls import plan_of, played, wall
 
 HAPROXY = TOP / 'examples' / 'haproxy'
 WALL = TOP / 'examples' / 'wall'
+
+
+def is_heard(port):
+    with socket.socket() as it:
+        return it.connect_ex(('127.0.0.1', port)) == 0
 
 
 class Fronted(TestCase):
@@ -41,11 +45,7 @@ class Fronted(TestCase):
         process = subprocess.Popen(command, stdin=subprocess.DEVNULL, stdout=subprocess.DEVNULL,
                                    stderr=subprocess.PIPE, env=os.environ | settings)
         try:
-            for _ in range(200):
-                with socket.socket() as it:
-                    if it.connect_ex(('127.0.0.1', port)) == 0:
-                        break
-                time.sleep(0.05)
+            self.check_comes('it listens', lambda: is_heard(port), True)
             yield port
         finally:
             process.kill()
@@ -56,7 +56,7 @@ class Fronted(TestCase):
         context = ssl.create_default_context(cafile=self.certificates / 'authority.crt')
         if certificate:
             context.load_cert_chain(certificate)
-        connection = http.client.HTTPSConnection('localhost', self.port, timeout=20,
+        connection = http.client.HTTPSConnection('localhost', self.port, timeout=PATIENCE,
                                                  context=context)
         try:
             connection.request(method, path)
@@ -71,9 +71,8 @@ class Fronted(TestCase):
                         if it.suffix in ('.html', '.css', '.js'))]
         for path in files:
             self.check(path, self.ask('GET', path, own)[0], 200)
-        status, told = self.ask('GET', '/picture', own)
-        self.check('a picture', [status, [it['division'] for it in json.loads(told)['desks']]],
-                   [200, [1]])
+        self.check_comes('a picture', lambda: self.divisions(own), [200, [1]])
+        _, told = self.ask('GET', '/picture', own)
         self.check('only looks', self.ask('POST', '/picture', own)[0], 403)
         self.check('no token', 'desknumber1' in told, False)
         other = self.folder / 'other'
@@ -81,6 +80,11 @@ class Fronted(TestCase):
         for certificate in (None, other / 'screen1.pem'):
             with self.subTest(f'a browser with {certificate}'), self.assertRaises(OSError):
                 self.ask('GET', '/', certificate)
+
+    def divisions(self, own):
+        """The divisions of a picture, none before the room was read."""
+        status, told = self.ask('GET', '/picture', own)
+        return [status, [it['division'] for it in json.loads(told)['desks'] or ()]]
 
     def test_recipe(self):
         """The commands of the README are those that are tried here."""
@@ -91,6 +95,6 @@ class Fronted(TestCase):
         both = self.folder / 'haproxy.cfg'
         both.write_text(''.join(it.read_text() for it in check[3::2]))
         for command in (check, ['haproxy', '-c', '-f', both]):
-            done = subprocess.run(command, capture_output=True, timeout=20,
+            done = subprocess.run(command, capture_output=True, timeout=PATIENCE,
                                   env=os.environ | {'CERTIFICATES': str(self.certificates)})
             self.check(f'{len(command)} words', done.returncode, 0)

@@ -114,6 +114,7 @@ const boxesOf = (node) => {
 };
 const cells = [...document.querySelectorAll('#queues th, #queues td')];
 return {label: document.querySelector('.page').textContent,
+  isStale: !document.querySelector('#stale').hidden,
   rows: [...document.querySelectorAll('.queue tbody tr')].map((it) =>
     [Number(it.closest('.queue').dataset.division), Number(it.dataset.rank),
       it.querySelector('.who').textContent]),
@@ -157,16 +158,16 @@ def page():
 
 class Walls(TestCase):
     def show(self, told_of, divisions, size=SMALL):
-        room = played(self, told_of)
+        room = played(self, told_of, 0)
         tokens = [f'desknumber{it}' for it in range(1, divisions + 1)]
         address = self.enterContext(wall(room.port, plan_of(self.folder, divisions), *tokens))
         BROWSER.size(*size)
         BROWSER.open(address)
-        until(self.is_fresh, 30)
+        until(self.is_fresh)
 
     def is_fresh(self):
         """Whether a picture is shown, and no warning takes room from it."""
-        return pictures(BROWSER) and BROWSER.run("return document.querySelector('#stale').hidden")
+        return pictures(BROWSER) and not page()['isStale']
 
 
 class Pages(Walls):
@@ -174,11 +175,19 @@ class Pages(Walls):
         """The page after a key that turns it."""
         before = page()['label']
         BROWSER.press(key)
-        until(lambda: page()['label'] != before, 20)
+        until(lambda: page()['label'] != before)
         return page()
 
+    def whole_pages(self):
+        """Each page from the first until it comes again, and then one on, one back and one on. None
+        where a warning took room from one of them, as a busy machine may bring."""
+        until(self.is_fresh)
+        BROWSER.press('0')  # the first page
+        found = self.all_pages()
+        turned = [self.turned(it) for it in ('ArrowRight', 'ArrowLeft', 'PageDown')]
+        return None if any(it['isStale'] for it in found + turned) else (found, turned)
+
     def all_pages(self):
-        """Each page from the first until it comes again."""
         found = [page()]
         while len(found) < 60:
             told = self.turned('ArrowRight')
@@ -189,9 +198,9 @@ class Pages(Walls):
 
     def check_pages(self, divisions, size):
         self.show(wide_room(divisions), divisions, size)
-        BROWSER.press('Space', '0')  # no turning, and the first page
+        BROWSER.press('Space')  # no turning
         what = f'{divisions} divisions at {size}'
-        found = self.all_pages()
+        found, (second, first, again) = until(self.whole_pages)
         wanted = [[division, it['rank'], who_of(it)] for division in range(1, divisions + 1)
                   for it in queue_of(division)]
         self.check(f'{what}: each entry once, in the order of the room',
@@ -202,9 +211,8 @@ class Pages(Walls):
         self.check(f'{what}: pages', len(found) > 1, True)
         self.check(f'{what}: which are shown', found[0]['label'],
                    f'stopped:\n1\u2013{len(found[0]["rows"])} of {len(wanted)}')
-        second = self.turned('ArrowRight')
-        self.check(f'{what}: back', self.turned('ArrowLeft')['rows'], found[0]['rows'])
-        self.check(f'{what}: and on', self.turned('PageDown')['rows'], second['rows'])
+        self.check(f'{what}: back', first['rows'], found[0]['rows'])
+        self.check(f'{what}: and on', again['rows'], second['rows'])
 
     def test_pages(self):
         for divisions, size in SCREENS:
@@ -213,15 +221,15 @@ class Pages(Walls):
     def test_by_themselves(self):
         self.show(wide_room(2), 2)
         BROWSER.press('0')
-        first = page()
-        self.check('a page turns', until(lambda: page()['rows'] != first['rows'], 60), True)
+        first = page()['rows'][0]
+        self.check('a page turns', until(lambda: page()['rows'][0] != first), True)
         BROWSER.press('Space')
-        second = page()
+        second = page()['rows'][0]
         time.sleep(9)
-        self.check('not while it is stopped', page()['rows'], second['rows'])
+        self.check('not while it is stopped', page()['rows'][0], second)
         if EVERY:
             BROWSER.press('Space')
-            self.check('and then again', until(lambda: page()['rows'] != second['rows'], 60), True)
+            self.check('and then again', until(lambda: page()['rows'][0] != second), True)
 
     def test_divisions(self):
         """A key or a click shows one division: its queue, its area and its marks."""
@@ -240,8 +248,8 @@ class Pages(Walls):
                 (lambda: BROWSER.press('9', 'Escape'), None,
                  [['all'], 9, 'ABCDEFGHJ', 'Control room'])]:
             act()
-            self.check(f'{wanted[-1]}: what is shown',
-                       [BROWSER.run(it) for it in (chosen, areas, letters, title)], wanted)
+            self.check_comes(f'{wanted[-1]}: what is shown', lambda: [
+                BROWSER.run(it) for it in (chosen, areas, letters, title)], wanted)
             self.check(f'{wanted[-1]}: its queue', page()['heads'] if heads else None, heads)
         refresh(BROWSER, 1)
         BROWSER.press('8')
@@ -264,15 +272,15 @@ class Letters(Walls):
             self.show(wide_room(divisions), divisions, size)
             wanted = [f'{"ABCDEFGHJ"[division]}{100 + it}' for division in range(divisions)
                       for it in range(200 // divisions)]
-            self.check(f'{what}: each callsign whole', BROWSER.run(NAMES), wanted)
-            self.check(f'{what}: high enough', self.too_low(LEAST), [])
-            self.check(f"{what}: areas' names", BROWSER.run(COVERED), [])
+            # (a warning, as a busy machine may bring, takes room from the map while it is there)
+            self.check_comes(f'{what}: each callsign whole', lambda: BROWSER.run(NAMES), wanted)
+            self.check_comes(f'{what}: high enough', lambda: self.too_low(LEAST), [])
+            self.check_comes(f"{what}: areas' names", lambda: BROWSER.run(COVERED), [])
         BROWSER.press('5')
-        self.check('a division of nine: twice as high', self.too_low(2 * LEAST), [])
+        self.check_comes('a division of nine: twice as high', lambda: self.too_low(2 * LEAST), [])
 
     def too_low(self, least):
         """How high capitals are, where they are too low."""
-        until(self.is_fresh, 30)
         height = BROWSER.run(CAPITALS)
         return [height] if height < least else []
 

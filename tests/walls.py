@@ -9,7 +9,7 @@ import sys
 import threading
 
 from browser import until
-from room import TOP
+from room import PATIENCE, TOP
 
 WALL = TOP / 'examples' / 'wall' / 'wall.py'
 
@@ -54,19 +54,20 @@ def pictures(browser):
 def refresh(browser, times):
     """Waits for so many pictures more."""
     wanted = pictures(browser) + times
-    until(lambda: pictures(browser) >= wanted, 4 * times + 4)
+    until(lambda: pictures(browser) >= wanted)
 
 
 # ---- a room that is played
 
 
 class PlayedRoom(threading.Thread):
-    """Answers like a room. Keeps the heads that it was sent, and counts connections that came
-    while another was open, or that were not closed."""
+    """Answers like a room, each connection after a while in which another one could come. Keeps the
+    heads that it was sent, and counts connections that came while another was open, or that were
+    not closed."""
 
-    def __init__(self, told_of):
+    def __init__(self, told_of, waits=0.01):
         super().__init__(daemon=True)
-        self.told_of = told_of
+        self.told_of, self.waits = told_of, waits
         self.listener = socket.create_server(('127.0.0.1', 0))
         self.port = self.listener.getsockname()[1]
         self.heads, self.overlaps = [], 0
@@ -76,32 +77,43 @@ class PlayedRoom(threading.Thread):
         with contextlib.suppress(OSError, ValueError):  # until it is closed
             while True:
                 connection, _ = self.listener.accept()
-                with connection:
+                with connection, contextlib.suppress(ConnectionError):  # it was given up
                     self.serve(connection)
 
     def serve(self, connection):
         head = b''
         while not head.endswith(b'\r\n\r\n'):
-            head += connection.recv(4096) or b'\r\n\r\n'
+            piece = connection.recv(4096)
+            if not piece:
+                return
+            head += piece
         self.heads.append(head.decode())
         line, *fields = head.decode().split('\r\n')
         token = next(it for it in fields if it.startswith('X-Terminal: ')).split(' ')[1]
         what = line.split(' ')[1].removeprefix('/')
         body = json.dumps({what: self.told_of(token, what)}).encode()
-        self.overlaps += self.is_called(0.01)
+        self.overlaps += self.is_called(self.waits) and not has_ended(connection)
         connection.sendall(b'HTTP/1.1 200 OK\r\nDate: Wed, 25 Nov 2026 12:00:00 GMT\r\n'
                            b'Content-Type: application/json\r\nConnection: close\r\n'
                            b'Content-Length: %d\r\n\r\n' % len(body) + body)
-        ready, _, _ = select.select([connection, self.listener], [], [], 10)
+        ready, _, _ = select.select([connection, self.listener], [], [], PATIENCE)
         self.overlaps += connection not in ready or connection.recv(1) != b''
 
     def is_called(self, seconds):
         return bool(select.select([self.listener], [], [], seconds)[0])
 
 
-def played(test, told_of):
+def has_ended(connection):
+    """Whether the other side has closed it, as it does where it waited for too long."""
+    try:
+        return not connection.recv(1, socket.MSG_PEEK | socket.MSG_DONTWAIT)
+    except BlockingIOError:
+        return False
+
+
+def played(test, told_of, *waits):
     """A played room, which ends with the test."""
-    room = PlayedRoom(told_of)
+    room = PlayedRoom(told_of, *waits)
     test.addCleanup(room.listener.close)
     return room
 

@@ -25,7 +25,7 @@ import digest
 import words
 from copies import Copy
 from entries import MOST_FLEET, Place, Record, first_entry
-from etcd import Member, Unreached
+from etcd import Member, PatientMember, Unreached
 from health import Health
 from keeping import ETCD_WITHIN, TRY_EVERY, Keeping
 from kept_list import HEAD, STOPPED, KeptList, Lost, delete, head_of, put, span
@@ -50,6 +50,10 @@ class NoCopy(Exception):
 
 def kept_list(given: argparse.Namespace) -> KeptList:
     return KeptList(Member(words.reach_of(given), ETCD_WITHIN))
+
+
+def patient_list(given: argparse.Namespace) -> KeptList:
+    return KeptList(PatientMember(words.reach_of(given), ETCD_WITHIN, WAITS))
 
 
 def begin(given: argparse.Namespace) -> None:
@@ -84,8 +88,9 @@ def last_place(kept: KeptList) -> Place:
 
 
 def put_record(given: argparse.Namespace, record: Record) -> None:
-    """Puts a record at the list's end, and reports what the machines made of it."""
-    kept, until = kept_list(given), time.monotonic() + WAITS
+    """Puts a record at the list's end, and reports what the machines made of it. Where etcd is
+    silent it is put again at the same place, so it is not there twice."""
+    kept, until = patient_list(given), time.monotonic() + WAITS
     while True:
         place = last_place(kept)
         found = kept.keep(place, place.moment, [record])
@@ -153,7 +158,7 @@ def user(given: argparse.Namespace) -> None:
 
 
 def go_on(given: argparse.Namespace) -> None:
-    kept = kept_list(given)
+    kept = patient_list(given)
     differs = difference(digests_told(kept))
     if differs:
         raise Refused(differs)

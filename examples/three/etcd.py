@@ -7,9 +7,10 @@ import json
 import pathlib
 import re
 import ssl
-
+import time
 
 TOKEN_WITHIN = 10.0  # seconds
+ASKS_AGAIN_AFTER = 0.2  # seconds
 
 
 class Unreached(Exception):
@@ -137,3 +138,24 @@ class Member:
 
     def disarm(self, alarm: dict) -> None:
         self.ask('/v3/maintenance/alarm', {'action': 'DEACTIVATE', **alarm})
+
+
+class PatientMember(Member):
+    """A connection for what may be asked twice: where no answer comes, as while the members choose
+    another leader, it is asked again for so many seconds."""
+
+    def __init__(self, reach: Reach, within: float, patience: float):
+        super().__init__(reach, within)
+        self.patience = patience
+
+    def ask(self, path: str, asked: dict) -> dict:
+        until = time.monotonic() + self.patience
+        while True:
+            try:
+                return super().ask(path, asked)
+            except (NoSpace, NoUser):
+                raise
+            except Unreached:
+                if time.monotonic() > until:
+                    raise
+            time.sleep(ASKS_AGAIN_AFTER)

@@ -3,6 +3,7 @@ copies, and keeps the list short and etcd within its quota."""
 import asyncio
 import collections
 import json
+import threading
 import time
 
 import clocks
@@ -78,6 +79,8 @@ class Upkeep:
         self.sizes = 0, 0, 0  # of etcd's file, what of it is in use, and the quota
         self.measured, self.compacted = float('-inf'), passed()
         self.copied = passed()
+        self.untold: Copy | None = None  # a copy of which the others have not been told
+        self.telling = threading.Lock()
         machine.player.tell, machine.player.note = self.tell_copy, self.tell_outcome
 
     async def run(self) -> None:
@@ -96,6 +99,7 @@ class Upkeep:
         """One round of it, on a connection of its own."""
         try:
             self.tell_word()
+            self.tell_again()
         finally:
             if passed() - self.measured > MEASURES_EVERY:
                 self.measured = passed()
@@ -130,23 +134,46 @@ class Upkeep:
     # ---- copies
 
     def tell_copy(self, copy: Copy) -> None:
-        """Informs the others of a copy. Where two differ at one record, none takes more. Records that
-        all machines have in copies go from the list."""
-        telling = KeptList(Member(self.kept.member.reach, TELLS_WITHIN))
-        self.copied = passed()
-        told = f'room {copy.room} answers {copy.answers}'
+        """Informs the others of a copy, or where etcd is silent with a later round."""
+        self.copied, self.untold = passed(), copy
+        with self.telling:
+            self.tell_untold(KeptList(Member(self.kept.member.reach, TELLS_WITHIN)))
+
+    def tell_again(self) -> None:
+        """Informs the others of a copy of which they have not heard, unless that is under way."""
+        if self.untold and self.telling.acquire(blocking=False):
+            try:
+                self.tell_untold(self.kept)
+            finally:
+                self.telling.release()
+
+    def tell_untold(self, kept: KeptList) -> None:
+        copy = self.untold
         try:
-            telling.change([], [put(f'{COPIES}{self.me}', str(copy.number)),
-                                put(f'{DIGESTS}{copy.number:012}/{self.me}', told),
-                                delete(span(f'{OUT}{self.me}'))])
-            differs = difference(digests_told(telling))
-            if differs:
-                say(differs)
-                telling.change([is_none(span(STOPPED))], [put(STOPPED, differs)])
-            else:
-                self.drop(telling)
+            if copy:
+                self.compare(copy, kept)
         except Unreached as reason:
-            say(reason)  # it is given with the next copy
+            say(reason)
+        else:
+            self.untold = None if self.untold is copy else self.untold
+
+    def compare(self, copy: Copy, kept: KeptList) -> None:
+        """Gives the others a copy's digests, unless the list went back behind it. Where two differ
+        at one record, none takes more. Records that all machines have in copies go from the
+        list."""
+        entry = kept.entry(copy.number)
+        if not entry or entry.place.digest != copy.digest:
+            return
+        told = f'room {copy.room} answers {copy.answers}'
+        kept.change([], [put(f'{COPIES}{self.me}', str(copy.number)),
+                         put(f'{DIGESTS}{copy.number:012}/{self.me}', told),
+                         delete(span(f'{OUT}{self.me}'))])
+        differs = difference(digests_told(kept))
+        if differs:
+            say(differs)
+            kept.change([is_none(span(STOPPED))], [put(STOPPED, differs)])
+        else:
+            self.drop(kept)
 
     def drop(self, kept: KeptList, is_urgent: bool = False) -> None:
         """Lets go of what each machine that counts has in two copies, or where space is short in
