@@ -20,7 +20,7 @@ JOB = re.compile(r'^\S*: line \d+: +\d+ (Killed|Terminated)\b.*\n', re.M)
 # What differs, and the form that it has.
 FORMS = [(r'\w{3}, \d\d \w{3} \d{4} \d\d:\d\d:\d\d GMT', 'DATE'), (r'\b\d{10}\b', 'MOMENT'),
          (r'\b\d+:\d\d:\d\d\b', 'AGE'), (r'(?<= )4(?:80|7\d)\b', 'MINUTES'),
-         (r'^(\d+|(calls|verified|replayed) \d+)$', 'COUNT')]
+         (r'^(calls |verified |replayed |)\d+$', r'\1COUNT')]
 LISTS_OF_A_BOARD = 6  # each a message
 COUNT = re.compile(r'^(?:calls |verified |replayed )?(\d+)$', re.M)
 
@@ -28,8 +28,7 @@ COUNT = re.compile(r'^(?:calls |verified |replayed )?(\d+)$', re.M)
 def formed(text):
     """A text with what differs by its form."""
     for pattern, form in FORMS:
-        text = re.sub(pattern, lambda it: f'{form}{"" if it[0][:1].isdigit() else it[0][:5]}',
-                      text, flags=re.M)
+        text = re.sub(pattern, form, text, flags=re.M)
     return text
 
 
