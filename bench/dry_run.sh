@@ -1,5 +1,5 @@
 #!/usr/bin/env bash
-# Gives the dry run 1000, 2000, .. up to 9000 calls over one connection, and tells what each thousand costs:
+# Gives the dry run 1000, 2000, .. up to 9000 calls over one connection, and prints what each thousand costs:
 # seconds of the processor, milliseconds a call within that thousand, and peak memory; then calls per
 # second of all. With a number, so many thousands at most. It needs Debian's package time.
 set -eu

@@ -220,7 +220,7 @@ class Browser:
         return self.send('POST', '/goog/cdp/execute', cmd=command, params=told)
 
     def stand_at(self, latitude, longitude, accuracy=10):
-        """Gives the page leave to ask where it is, and tells it so."""
+        """Gives the page leave to ask where it is, and the place."""
         self.devtools('Browser.grantPermissions', permissions=['geolocation'])
         self.devtools('Emulation.setGeolocationOverride', latitude=latitude, longitude=longitude,
                       accuracy=accuracy)

@@ -57,7 +57,14 @@ def stop(at, how=BEFORE):
 
 SERVING = {'SERVING': 1}  # what fails is counted once the room is served
 WRITES = {'WRITES': 1}  # a stop may be at what is written to a journal, too
+NAMES = {'NAMES': 1}  # and where a file is moved or removed
 NEVER_STOPPED = stop(0)
+
+
+def dropped(path, left=None):
+    """Where the system's copies of a synced file are dropped it has so many bytes; or they stay,
+    and that is an error."""
+    return {'DROPPED': path} | ({} if left is None else {'LEFT': left})
 
 
 def sampled(total):
@@ -68,36 +75,27 @@ def sampled(total):
 # ---- the program
 
 
-def compiled(library, *sources):
-    words = ['gcc', '-std=c11', '-Wall', '-Wextra', '-Werror', '-O2', '-shared', '-fPIC']
-    done = subprocess.run([*words, '-o', library, *sources, '-ldl'], capture_output=True)
-    assert (done.returncode, done.stderr) == (0, b''), f'gcc: {done.stderr.decode()}'
-    return library
-
-
 @functools.cache
-def library_of_tests():
+def library():
     """The library of preload/, which is compiled once, and kept until the tests end."""
     folder = tempfile.TemporaryDirectory()
     atexit.register(folder.cleanup)
-    return compiled(pathlib.Path(folder.name) / 'preload.so', *SOURCES)
+    file = pathlib.Path(folder.name) / 'preload.so'
+    words = ['gcc', '-std=c11', '-Wall', '-Wextra', '-Werror', '-O2', '-shared', '-fPIC']
+    done = subprocess.run([*words, '-o', file, *SOURCES, '-ldl'], capture_output=True)
+    assert (done.returncode, done.stderr) == (0, b''), f'gcc: {done.stderr.decode()}'
+    return file
 
 
 class Preloaded:
-    """The program with the library of preload/, or one of a text that a caller has of its own."""
+    """The program with the library of preload/."""
 
-    def __init__(self, folder, text=None):
+    def __init__(self, folder):
         self.counted = folder / 'counted'
-        if text is None:
-            self.library = library_of_tests()
-        else:
-            source = folder / 'library.c'
-            source.write_text(text)
-            self.library = compiled(folder / 'library.so', source)
 
     def start(self, switches, *words, stdin=subprocess.DEVNULL):
         """Starts the program, with the library's switches set."""
-        own = {'LD_PRELOAD': self.library, 'COUNTED': self.counted}
+        own = {'LD_PRELOAD': library(), 'COUNTED': self.counted}
         given = {name: str(value) for name, value in (own | switches).items()}
         return subprocess.Popen([PROGRAM, *map(str, words)], stdin=stdin, stdout=subprocess.PIPE,
                                 stderr=subprocess.PIPE, env=os.environ | given)
@@ -111,7 +109,7 @@ class Preloaded:
 
     def serve(self, switches, room, sent, *words, ask=ask):
         """Serves a room to one connection that asks what is sent; the answers, the status, and
-        what was told."""
+        what was reported."""
         port, answers = free_port(), []
         address = f'127.0.0.1:{port}'
         words = *PATIENT, *words

@@ -3,9 +3,11 @@ is served, and what their test cases stand on."""
 import collections
 import contextlib
 import email.utils
+import errno
 import io
 import os
 import pathlib
+import pty
 import random
 import re
 import socket
@@ -59,6 +61,27 @@ def run(*words):
     done = subprocess.run([PROGRAM, *map(str, words)], stdin=subprocess.DEVNULL,
                           capture_output=True, timeout=180)
     return done.returncode, done.stdout.decode(), done.stderr.decode()
+
+
+def on_terminal(*words):
+    """Runs a command whose standard error is a terminal; its status, and what stands there."""
+    master, slave = pty.openpty()
+    try:
+        process = subprocess.Popen([PROGRAM, *map(str, words)], stdin=subprocess.DEVNULL,
+                                   stdout=subprocess.DEVNULL, stderr=slave)
+        status = process.wait(180)
+    finally:
+        os.close(slave)
+    shown = b''
+    try:
+        while more := os.read(master, 4096):
+            shown += more
+    except OSError as error:  # so Linux reports that nobody has the other side any longer
+        if error.errno != errno.EIO:
+            raise
+    finally:
+        os.close(master)
+    return status, shown.decode().replace('\r\n', '\n')
 
 
 def sql(file, *texts):

@@ -1,24 +1,24 @@
 """Copies without a stop, restores and the weekly new room, from outside: the digest of a file is the
 one that Python works out of its tables; the copy of a night has what was answered, however the list
 was cut; what can't be trusted is one line with its status; a restore that is stopped before any of
-its system calls leaves no file, or one of the two rooms whole; a night takes a fleet of the list
-with the head behind it; and the units do as they say."""
+its system calls leaves no file, or one of the two rooms whole; a night takes a fleet and another
+change of the list with the head behind it; and the units do as they say."""
 # needs: python3 sqlite3 systemd gcc libc6-dev
 # builds: dispatch_room
 import hashlib
 import itertools
 import json
 import os
-import pathlib
 import re
 import shutil
 import subprocess
 import sys
 import time
 
-from preloaded import Preloaded
-from room import (PATIENT, PROGRAM, TOP, TestCase, call, dump, fleet_of, free_port, made, message,
-                  run, serving, sql, talk)
+from journals import ends, head_of, records
+from preloaded import NAMES, WRITES, Preloaded, stop
+from room import (PATIENT, PLAN, PROGRAM, TOP, TestCase, call, dump, fleet_of, free_port, made,
+                  message, run, serving, sql, talk)
 
 sys.path.insert(0, str(TOP / 'examples' / 'three'))
 import digest  # noqa: E402
@@ -90,21 +90,6 @@ def replay(room, text, *words):
     return done.returncode, done.stdout.decode(), done.stderr.decode()
 
 
-def ends(text):
-    """Where the records of a list of version 2 end, the first line with them."""
-    found = [7]
-    while found[-1] < len(text):
-        found.append(found[-1] + 71 + int(text[found[-1]:found[-1] + 5]))
-    return found
-
-
-def plain(text):
-    """Its records without their lines, as a list of version 1 has them."""
-    places = ends(text)
-    found = [text[at + 71:end] for at, end in zip(places, places[1:])]
-    return [it for it in found if it != b'end\n']
-
-
 def goes_on(text, bodies):
     """A list of version 2 that goes on with these records, each with the SHA-256 of the check of
     the one before and of itself; at first the check is zeros."""
@@ -116,8 +101,9 @@ def goes_on(text, bodies):
     return text
 
 
-def head_of(room):
-    return f'room 2 {digest.of_file(room)}\n'.encode()
+def all_in(room):
+    """All rows of a room, whatever their order in its file."""
+    return sorted(dump(room).splitlines())
 
 
 class Open(CopiesTestCase):
@@ -168,7 +154,7 @@ class Open(CopiesTestCase):
             self.check(f'{number} records: cut', 'cut off' in err, False)
 
     def test_first_version(self):
-        entries = plain(self.text)
+        entries = records(self.text)
         text = b''.join(entries)
         last = len(text) - len(entries[-1])
         for cut in range(last + 1, len(text)):
@@ -284,36 +270,13 @@ class Restores(CopiesTestCase):
             self.refused('of a served room', [self.room, none], (3, 'storage\n'))
 
 
-# Ends the program at the call of this number that moves, removes, writes or syncs a file.
-STOPS = r"""
-#define _GNU_SOURCE
-#include <dlfcn.h>
-#include <stdlib.h>
-#include <unistd.h>
-#define NEXT(name) ((__typeof__(&name))dlsym(RTLD_NEXT, #name))
-int rename(const char *from, const char *to);
-static void count(void) {
-  static long left = -1;
-  if (left < 0) left = atol(getenv("STOP_AT"));
-  if (left > 0 && --left == 0) _exit(9);
-}
-int rename(const char *from, const char *to) { count(); return NEXT(rename)(from, to); }
-int unlink(const char *path) { count(); return NEXT(unlink)(path); }
-int fsync(int file) { count(); return NEXT(fsync)(file); }
-ssize_t write(int file, const void *bytes, size_t size) {
-  if (file > 2) count();
-  return NEXT(write)(file, bytes, size);
-}
-"""
-
-
 class Stopped(CopiesTestCase):
     """A restore over a crashed room that is stopped before any of its calls leaves no file, or the
     crashed room, or the copy's; and then it is done again."""
 
     def setUp(self):
         super().setUp()
-        self.program = Preloaded(self.folder, STOPS)
+        self.program = Preloaded(self.folder)
         self.place = self.folder / 'place'
         self.copied = self.copy()
         with serving(self.room, 2) as (port, process):
@@ -327,7 +290,8 @@ class Stopped(CopiesTestCase):
         self.place.mkdir()
         for name, held in self.held.items():
             (self.place / name).write_bytes(held)
-        return self.program.run({'STOP_AT': at}, 'restore', self.copied, self.place / 'room.db')[0]
+        switches = stop(at) | WRITES | NAMES
+        return self.program.run(switches, 'restore', self.copied, self.place / 'room.db')[0]
 
     def test_stops(self):
         room = self.place / 'room.db'
@@ -335,12 +299,12 @@ class Stopped(CopiesTestCase):
         seen = []
         for at in itertools.count(1):
             status = self.stopped(at)
-            if status == 0:
+            if status != 9:
                 break
-            self.check(f'stopped at {at}', status, 9)
             seen.append(self.digest_of(room))
             self.check(f'again after {at}', run('restore', self.copied, room)[0], 0)
             self.check(f'the copy after {at}', self.digest_of(room), copied)
+        self.check('with no call left it is done', status, 0)
         self.check('in this order', [it for it, _ in itertools.groupby(seen)],
                    [crashed, 'none', copied])
 
@@ -521,7 +485,7 @@ class Nights(CopiesTestCase):
             self.check(f'{stopped} not enrolled', self.vehicles(), wanted)
             self.check(f'{stopped} not enrolled: the room', dump(path), dump(self.room))
             # What was played: where the copy was, and what the list has had since.
-            since = plain(b'list 2\n' + text[place:])
+            since = records(b'list 2\n' + text[place:])
             self.check(f'{stopped} not enrolled: the list', path.with_suffix('.list').read_bytes(),
                        goes_on(b'list 2\n', [head, *since]))
 
@@ -548,6 +512,26 @@ class Nights(CopiesTestCase):
             self.list.write_bytes(text)
             self.check(f'and then, {cut}', self.night()[0], 0)
             self.check(f'the last copy, {cut}', dump(self.newest()[0]), dump(self.room))
+
+    def test_a_change(self):
+        """A change of terminals or of the plan that a command kept in the list is in the copy, once
+        the head behind it is there; before that the copy has none of it."""
+        plan = self.folder / 'next.csv'
+        plan.write_text(PLAN.read_text().replace('deskone1', 'newone11').replace(
+            'area,1,', 'area,3,400000,100000,449999,199999\narea,1,'))
+        self.begin()
+        self.serve(call_of(1))
+        for words in [('terminals', '--new', 'crew:A1'), ('terminals', '--revoke', 'desk:2'),
+                      ('terminals', '--from', plan), ('replan', plan)]:
+            before = all_in(self.room)
+            status, _, err = run(words[0], self.room, *words[1:], '--journal', self.list)
+            self.assertEqual((status, err), (0, ''))
+            after, text = all_in(self.room), self.list.read_bytes()
+            self.check(f'{words}: it changes', before != after, True)
+            self.list.write_bytes(text[:ends(text)[-2]])
+            self.check(f'{words}: without its head', all_in(self.copied(1)), before)
+            self.list.write_bytes(text)
+            self.check(f'{words}: the copy', all_in(self.copied(1)), after)
 
     def test_kept(self):
         self.begin()

@@ -88,7 +88,7 @@ TOLD = {
     'a view': OTHER_TABLES,
 }
 
-# Agreements that the rooms above don't break alone, or not first.
+# Agreements that the rooms above don't break by themselves, or not first.
 MORE = {
     'a point of a division outside the plan':
         ('INSERT INTO points VALUES (3, 1, 530000, 180000, 1)',

@@ -17,11 +17,10 @@ import first_version
 from boards import typed
 from broken_rooms import WORK
 from documents import blocks, commands
+from journals import chain, entries
+from played_days import DAYS, MONDAY, play
 from room import (FLEET, PLAN, PROGRAM, TOP, TestCase, ask, call, dump, fleet_of, free_port, made,
-                  message, run, sql)
-from test_errors import on_terminal
-from test_journal import chain, entries
-from test_renew import DAYS, MONDAY, play
+                  message, on_terminal, run, sql)
 
 sys.path.append(str(TOP / 'examples' / 'three'))
 import digest  # noqa: E402
@@ -30,6 +29,7 @@ UNIT = TOP / 'examples' / 'dispatch_room.service'
 ADDRESS = '127.0.0.1:8080'
 QUEUE = message('deskone1', 'GET /queue')
 CALLS = 'SELECT count(*) FROM calls'
+CREW_TOKEN = "SELECT token FROM terminals WHERE callsign = 'A1'"
 CALL = {'class': 2, 'needs': [1, 0, 0], 'note': '', 'place': 'TQ300800'}
 
 # Pages of which a test reads every block.
@@ -335,13 +335,20 @@ class Operating(Typing):
 
     def test_terminals(self):
         self.made()
-        who, new, gone = self.commands('dispatch_room terminals room.db')
+        who, new, gone, kept = self.commands('dispatch_room terminals room.db')
         crews = ''.join(f'crew {it}\n' for it in ('A1', 'A2', 'A3', 'B1', 'C1'))
         self.check('who', self.type(who), f'desk 1\ndesk 2\nposition 1\n{crews}')
         self.check('a token', len(self.type(new)), 25)
         self.check('position 3', 'position 3\n' in self.type(who), True)
         self.check('gone', self.type(gone), 'revoked\n')
         self.check('no position 3', 'position 3\n' in self.type(who), False)
+        before = shutil.copy(self.room, self.place / 'before.db')
+        token = self.type(kept).strip()
+        self.check('a token for A1', sql(self.room, CREW_TOKEN), f'{token}\n')
+        self.check('it was another', sql(before, CREW_TOKEN), 'crewofa1\n')
+        self.replayed(before, self.place / 'room.list')
+        rows = [sorted(dump(it).splitlines()) for it in (before, self.room)]
+        self.check('kept', rows[0], rows[1])
 
     def test_board(self):
         with self.served():
@@ -389,6 +396,21 @@ class Operating(Typing):
         self.check('the calls before the copy', sql(self.unit_room, CALLS), '1\n')
         old = self.unit_room.with_name('room.db.old')
         self.check('what was there', [run('check', old)[0], sql(old, CALLS)], [0, '2\n'])
+
+    def replayed(self, copy, file):
+        """Plays a list without messages to a copy."""
+        done = subprocess.run([PROGRAM, 'replay', copy], input=file.read_bytes(),
+                              capture_output=True, timeout=180)
+        self.check('replayed', (done.returncode, done.stdout, done.stderr), (0, b'replayed 0\n', b''))
+
+    def test_kept_import(self):
+        (self.place / 'fleet.csv').write_text(fleet_of('Z1,1,1,TQ303804,crewofz1'))
+        with self.served():
+            before = shutil.copy(self.unit_room, self.folder / 'before.db')
+            self.check('printed', self.typed_of('fleet.csv --journal'), 'Z1 added\n')
+            self.check('Z1', self.asked(message('crewofz1', 'GET /order')), [200])
+        self.replayed(before, self.unit_room.with_name('room.list'))
+        self.check('kept', dump(before) == dump(self.unit_room), True)
 
     def test_another_plan(self):
         with self.served():

@@ -565,7 +565,7 @@ class Descriptors(ServedTestCase):
         port = self.served()
         self.limit(1)
         with connect(port) as peer:
-            self.check('it comes to nothing', given(peer), b'')
+            self.check('it gets no answer', given(peer), b'')
         self.limit(8)
         self.check('the next', answers_in_time(port, LOANS), [NO_LOANS])
 
@@ -662,8 +662,8 @@ class Modes(TestCase):
         for bits in [0o640, 0o620, 0o604, 0o602, 0o666]:
             self.room.chmod(bits)
             status, _, told = run('times', self.room, 1, '2026-03-29')
-            self.check(f'{bits:o}: it is told', (status, told.startswith('warning: ')), (0, True))
+            self.check(f'{bits:o}: it warns', (status, told.startswith('warning: ')), (0, True))
             with self.subTest(f'{bits:o}'):
                 self.assertIn(f'chmod 600 {self.room}', told)
         self.room.chmod(0o600)
-        self.check('its owner alone', run('times', self.room, 1, '2026-03-29')[2], '')
+        self.check('only its owner', run('times', self.room, 1, '2026-03-29')[2], '')

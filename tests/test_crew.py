@@ -235,7 +235,7 @@ class Turn(Served):
                                ('hospital', 'at hospital'), ('return', 'returning'),
                                ('home', 'available')]:
             self.tap(button)
-            self.check(f'{button} is told', self.tell()[1], f'Taken: you are {status}.')
+            self.check(f'{button} is shown', self.tell()[1], f'Taken: you are {status}.')
             self.check_front(status)
         self.ask('deskone1', 'POST /vehicles/A1/lend',
                  f'{{"to":2,"until":{int(time.time()) + 3600}}}')

@@ -14,7 +14,7 @@ import time
 
 import nginx
 from pages import DESKS, PLACES, companion
-from room import PATIENCE, PLAN, TOP, TestCase, free_port, made, run, serving
+from room import PATIENCE, PLAN, TOP, TestCase, free_port, made, serving
 
 CALL = '{"class":2,"needs":[1,0,0],"note":"","place":"TQ300800","serial":1}'
 CALLED = '{"division":1,"incident":1,"linked":false}'

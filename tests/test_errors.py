@@ -1,17 +1,16 @@
 """What failed, where and why, from outside: with --explain and on a terminal a line that says so
-stands before the specification's line, which is alone where standard error is no terminal. The
+stands before the specification's line, the only one where standard error is no terminal. The
 statuses are the same. The words of the system are those of its errno.h."""
 # needs: python3 gcc libc6-dev sqlite3
 # builds: dispatch_room
 import errno
 import os
-import pty
 import socket
 import subprocess
 
 from preloaded import LAST, PreloadedTestCase, faults, sync_fault
 from room import (FLEET, PATIENT, PLAN, PROGRAM, TestCase, ask, drop_indexes, fleet_of, free_port,
-                  made, message, refusal, run, serving, sql)
+                  made, message, on_terminal, refusal, run, serving, sql)
 
 HEADER = 'what,number,a,b,c,d'
 ZONE, AREA = 'zone,0,GMT0,,,', 'area,1,500000,100000,549999,199999'
@@ -83,27 +82,6 @@ ADDRESSES = [
 def os_words(code):
     """What the system says of an error, as the program reports it."""
     return f'{os.strerror(code)} (os error {code})'
-
-
-def on_terminal(*words):
-    """Runs a command whose standard error is a terminal; its status, and what stands there."""
-    master, slave = pty.openpty()
-    try:
-        process = subprocess.Popen([PROGRAM, *map(str, words)], stdin=subprocess.DEVNULL,
-                                   stdout=subprocess.DEVNULL, stderr=slave)
-        status = process.wait(180)
-    finally:
-        os.close(slave)
-    told = b''
-    try:
-        while more := os.read(master, 4096):
-            told += more
-    except OSError as error:  # so Linux reports that nobody has the other side any longer
-        if error.errno != errno.EIO:
-            raise
-    finally:
-        os.close(master)
-    return status, told.decode().replace('\r\n', '\n')
 
 
 class ErrorCase(TestCase):
@@ -357,10 +335,10 @@ class Disks(PreloadedTestCase):
             if status == 3:
                 explained += 1
                 lines = err.decode().splitlines()
-                self.check(f'from {first} on: what is told',
+                self.check(f'from {first} on: what is reported',
                            (len(lines) > 1 and lines[0].startswith(str(file)), lines[-1]),
                            (True, 'storage'))
-        self.check('a fault is told', explained > 0, True)
+        self.check('a fault is explained', explained > 0, True)
 
     def test_journal(self):
         """Each sync of a journal fails in turn: the system's words are given, and of which file."""

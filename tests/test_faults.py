@@ -1,4 +1,4 @@
-"""A disk that fails, from outside: each call in turn that reads or changes a file fails, alone or
+"""A disk that fails, from outside: each call in turn that reads or changes a file fails, singly or
 with all calls after it. A request gets its answer or 42. After 42 either the room is served on and
 nothing has changed, or it ends as `storage` within that connection, and its file holds the room
 before the request or after it. The request, sent again to the room opened again, gets its answer. A
@@ -50,7 +50,7 @@ class Faults(PreloadedTestCase):
             if end[1]:
                 self.check(f'init, from {first} on, then check', run('check', file)[0], 0)
             met.add(end)
-        self.check('a fault is told of a room that stands', ends[1] in met, True)
+        self.check('a fault is reported of a room that stands', ends[1] in met, True)
 
     def test_call(self):
         room = made(self.folder / 'served.db')
@@ -80,7 +80,7 @@ class Faults(PreloadedTestCase):
     def served_on(self, switches, room):
         """Serves a room to whoever comes, without end: to connections that send one and the same
         call, until it answers no more, or has answered a few of them and last none with 42. The
-        answers, the status (none where it is served on), and what was told."""
+        answers, the status (none where it is served on), and what was reported."""
         port, answers = free_port(), []
         words = ['serve', room, f'127.0.0.1:{port}', *PATIENT]
         with self.program.start(switches, *words) as process:

@@ -6,9 +6,9 @@ import json
 import re
 import subprocess
 
-from documents import blocks, commands
+from documents import blocks
 from preloaded import PATIENT, PreloadedTestCase, clock_of
-from room import FLEET, PLAN, TOP, TestCase, ask, free_port, message, run
+from room import FLEET, PLAN, TOP, ask, free_port, message, run
 
 PAGE = TOP / 'docs' / 'HTTP.md'
 DAY = 1774742400  # its first moment

@@ -6,10 +6,11 @@ changed in its rows is found, and a list that ends with a fleet leaves it out.""
 # builds: dispatch_room
 import shutil
 
+from journals import (CREW, QUEUE, JournalTestCase, bodies, chain, head_of, pieces, plain, replay,
+                      verify)
 from preloaded import (BEFORE, HALFWAY, MACHINE, NEVER_STOPPED, WRITES, PreloadedTestCase, sampled,
                        stop, sync_fault)
 from room import PATIENT, call, dump, fleet_of, made, message, run, serving, sql
-from test_journal import CREW, QUEUE, JournalTestCase, chain, pieces, plain, replay, verify
 
 import digest
 
@@ -25,11 +26,6 @@ def duty(callsign):
                    f'{{"place":"TQ303804","until":{UNTIL}}}')
 
 
-def bodies(text):
-    """The records of a list, without their lines."""
-    return [it[71:] for it in pieces(text)]
-
-
 def rows_in(text):
     """The lines of fleets in a list."""
     return [it[4:].decode() for it in bodies(text) if it.startswith(b'row ')]
@@ -41,10 +37,6 @@ def is_cut(text):
     while at + 71 <= len(text) and at + 71 + int(text[at:at + 5]) <= len(text):
         at += 71 + int(text[at:at + 5])
     return text != b'' and at != len(text)
-
-
-def head_of(room):
-    return f'room 2 {digest.of_file(room)}\n'.encode()
 
 
 class ImportsTestCase(JournalTestCase):
@@ -78,7 +70,7 @@ class Kept(ImportsTestCase):
 
     def test_records(self):
         told = self.imports(B1, C1)
-        self.check('as an import tells', told, (0, 'B1 added\nC1 added\n', ''))
+        self.check('as an import reports', told, (0, 'B1 added\nC1 added\n', ''))
         wanted = [head_of(self.before), f'row {HEADER}\n'.encode(), f'row {B1}\n'.encode(),
                   f'row {C1}\n'.encode(), head_of(self.room)]
         self.check('its records', bodies(self.list.read_bytes()), wanted)
@@ -106,9 +98,9 @@ class Kept(ImportsTestCase):
             self.check(f'{words}', (status, err), (0, ''))
             self.check(f'{words}: the room', dump(self.again), dump(self.room))
             if more:
-                self.check(f'{words}: what is told', out.split()[-2].decode(), more)
+                self.check(f'{words}: what is printed', out.split()[-2].decode(), more)
             else:
-                self.check(f'{words}: what is told', out.count(b'HTTP/1.1'), 5)
+                self.check(f'{words}: what is printed', out.count(b'HTTP/1.1'), 5)
 
     def test_what_is_refused(self):
         """Bad rows, and those that are refused, are so again: they change nothing."""
@@ -249,7 +241,7 @@ class Changed(ImportsTestCase):
             if at in ends:
                 left_out = at > begin
                 self.check(f'cut at {at}', (status, out), (0, b'replayed 1\n'))
-                self.check(f'cut at {at}: it is told', 'was left out' in err, left_out)
+                self.check(f'cut at {at}: it is reported', 'was left out' in err, left_out)
             else:
                 self.check(f'cut at {at}', (status, out), (1, b''))
             status, out, err = replay(self.fresh(), text, '--open')
@@ -311,7 +303,7 @@ class Unkept(ImportsTestCase):
         self.check('which stays', self.list.read_text(), 'deskone1 POST /call\n')
 
     def test_first_version(self):
-        """A list of version 1 has no fleets, stays as it is, and is told what it is."""
+        """A list of version 1 has no fleets, stays as it is, and it is reported what it is."""
         self.serve([QUEUE])
         first = plain(self.list.read_bytes())
         self.list.write_bytes(first)

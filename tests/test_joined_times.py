@@ -8,13 +8,13 @@ import os
 import shutil
 import subprocess
 
+import played_days
+from played_days import DAYS, HOURS, Sender, day, days_of, play, tables_of
 from room import FLEET, PLAN, PROGRAM, TOP, TestCase, made, run, serving, sql
-import test_renew
-from test_renew import DAYS, HOURS, Sender, day, days_of, play, tables_of
 
 TIMES = TOP / 'examples' / 'weekly' / 'times.sh'
 # Two weeks earlier, so that all days are of winter time.
-MONDAY = test_renew.MONDAY - 14 * DAYS
+MONDAY = played_days.MONDAY - 14 * DAYS
 HEAD = 'incident,opened,activation\n'
 MERGED = 2
 ROOMS, EVENTS = 6, 400

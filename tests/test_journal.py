@@ -4,7 +4,6 @@ the program or the machine stopped in between; and a list that is none is refuse
 # needs: python3 gcc libc6-dev sqlite3
 # builds: dispatch_room
 import contextlib
-import hashlib
 import io
 import os
 import re
@@ -16,50 +15,23 @@ import subprocess
 import sys
 import time
 
+from journals import CREW, QUEUE, JournalTestCase, chain, entries, pieces, plain, replay, verify
 from preloaded import (BEFORE, HALFWAY, MACHINE, NEVER_STOPPED, WRITES, PreloadedTestCase, sampled,
                        stop, sync_fault)
 from room import (PATIENT, PROGRAM, TOP, TestCase, call, dump, free_port, made, message,
                   read_dated, run, serving, sql, talk)
 
-sys.path += [str(TOP / 'bench' / 'crossings'), str(TOP / 'examples' / 'three')]
+sys.path.insert(0, str(TOP / 'bench' / 'crossings'))
 
 import day  # noqa: E402
 import digest  # noqa: E402
 import terminals  # noqa: E402
 
-CREW = 'A1,1,1,TQ303804,crewofa1'
 UNTIL = int(time.time()) + 8 * 3600
 DUTY = message('deskone1', 'POST /vehicles/A1/duty', f'{{"place":"TQ303804","until":{UNTIL}}}')
 MOBILISE = message('deskone1', 'POST /incidents/1/mobilise', '{"vehicle":"A1"}')
 REPORT = message('crewofa1', 'POST /report',
                  '{"button":"mobile","number":1,"order":1,"place":"TQ302802"}')
-QUEUE = message('deskone1', 'GET /queue')
-
-
-def plain(text):
-    """The entries of a list of version 2, as a list of version 1 has them."""
-    check, bodies = b'0' * 64, []
-    for piece in pieces(text):
-        body = piece[71:]
-        check = hashlib.sha256(check + body).hexdigest().encode()
-        assert piece[:71] == b'%05d %s\n' % (len(body), check), piece
-        bodies.append(body)
-    return b''.join(it for it in bodies if it != b'end\n' and not it.startswith(b'row '))
-
-
-def entries(text):
-    """The entries of a journal: the words of each line, and with a message its bytes."""
-    if text.startswith(b'list 2\n'):
-        text = plain(text)
-    found, at = [], 0
-    while at < len(text):
-        end = text.index(b'\n', at)
-        words, at = text[at:end].decode().split(' '), end + 1
-        if words[0] == 'message':
-            size = int(words[2])
-            words[2:], at = [text[at:at + size]], at + size + 1
-        found.append(tuple(words))
-    return found
 
 
 def written(found):
@@ -76,66 +48,6 @@ def written(found):
 def records(found):
     """The records of a journal of these entries, each as a list of version 2 has it."""
     return [written([it]) for it in found]
-
-
-def chain(bodies, opening=b'list 2\n'):
-    """A list of version 2 of these records: each has its size, and the SHA-256 of the check before
-    it and of its bytes."""
-    text, check = opening, b'0' * 64
-    for body in bodies:
-        check = hashlib.sha256(check + body).hexdigest().encode()
-        text += b'%05d %s\n' % (len(body), check) + body
-    return text
-
-
-def pieces(text):
-    """The records of a list of version 2 with their lines, as they stand in its text."""
-    found, at = [], len(b'list 2\n')
-    while at < len(text):
-        end = at + 71 + int(text[at:at + 5])
-        found.append(text[at:end])
-        at = end
-    return found
-
-
-def verify(path):
-    """Looks through a list; the status, what was printed, and what was told."""
-    done = subprocess.run([PROGRAM, 'verify', path], capture_output=True, timeout=180)
-    return done.returncode, done.stdout.decode(), done.stderr.decode()
-
-
-def replay(room, text, *words):
-    """Replays a list over a room; the status, what was printed, and what was reported."""
-    done = subprocess.run([PROGRAM, 'replay', room, *words], input=text, capture_output=True,
-                          timeout=300)
-    return done.returncode, done.stdout, done.stderr.decode()
-
-
-class JournalTestCase(TestCase):
-    def setUp(self):
-        super().setUp()
-        self.room = made(self.folder / 'room.db', CREW)
-        self.list = self.folder / 'room.list'
-
-    def copy(self):
-        """A copy of the room as it is, under another name each time."""
-        self.copies = getattr(self, 'copies', 0) + 1
-        return shutil.copy(self.room, self.folder / f'copy{self.copies}.db')
-
-    def serve(self, *connections, words=()):
-        """Serves the room with a journal to connections, each of some messages; gives the dated
-        answers, and what was told on standard error."""
-        found = []
-        words = *PATIENT, '--journal', self.list, *words
-        with serving(self.room, len(connections), *map(str, words)) as (port, process):
-            for sent in connections:
-                stream = io.BytesIO(talk(port, *sent))
-                found += iter(lambda: read_dated(stream), None)
-            process.wait(timeout=180)
-            return found, process.stderr.read().decode()
-
-    def entries(self):
-        return entries(self.list.read_bytes())
 
 
 class Kept(JournalTestCase):
@@ -228,7 +140,7 @@ class Cut(JournalTestCase):
             part = pieces(whole)[1][:length]
             self.list.write_bytes(whole + part)
             _, told = self.serve([QUEUE])
-            self.check(f'{length} bytes: it is told', 'cut off' in told, True)
+            self.check(f'{length} bytes: it is reported', 'cut off' in told, True)
             self.check(f'{length} bytes: what stays', self.list.read_bytes()[:len(whole)], whole)
             rest = self.list.read_bytes()[len(whole):]
             self.check(f'{length} bytes: what follows', rest[71:76], b'room ')
@@ -248,7 +160,7 @@ class GoneOnWith(JournalTestCase):
         for part in [b'', whole[:7], whole[:40]]:
             self.list.write_bytes(whole + part)
             _, told = self.serve([QUEUE])
-            self.check(f'{len(part)} bytes: it is told', 'cut off' in told, part != b'')
+            self.check(f'{len(part)} bytes: it is reported', 'cut off' in told, part != b'')
             self.check(f'{len(part)} bytes: what stays', self.list.read_bytes()[:len(whole) + 5],
                        whole + b'room ')
             whole = self.list.read_bytes()
@@ -496,7 +408,7 @@ class Replayed(JournalTestCase):
         before = dump(other)
         status, out, err = replay(other, self.text)
         self.check('a vehicle more', (status, out), (1, b''))
-        self.check('it is told', 'another room' in err, True)
+        self.check('it is reported', 'another room' in err, True)
         self.check('the room', dump(other), before)
 
     def test_bad_lists(self):
@@ -539,7 +451,7 @@ class Replayed(JournalTestCase):
         before = dump(self.again)
         status, out, err = replay(self.again, self.text)
         self.check('it is refused', (status, out), (1, b''))
-        self.check('it is told', 'another room at record 1' in err, True)
+        self.check('it is reported', 'another room at record 1' in err, True)
         self.check('the room', dump(self.again), before)
 
     def of_first_version(self):
@@ -559,7 +471,7 @@ class Replayed(JournalTestCase):
         self.check('in another zone', replay(self.again, written(found))[:2], (0, b'replayed 6\n'))
         status, out, err = replay(self.room, written(found))
         self.check('over another room', (status, out), (1, b''))
-        self.check('it is told', 'another room at record 1' in err, True)
+        self.check('it is reported', 'another room at record 1' in err, True)
         head, sent = found[:2]
         wanted = self.after(1)
         opened = written([head, sent, (*head[:2], digest.of_file(wanted, 1))])
@@ -598,7 +510,7 @@ class Replayed(JournalTestCase):
 
     def test_open_before_a_head(self):
         """A message without a status is done before a head to whose room it leads. Before another
-        head nothing is done, and that is told."""
+        head nothing is done, and that is reported."""
         head, sent = entries(self.text)[:2]
         wanted = self.after(1)
         for said, text in [
@@ -609,7 +521,7 @@ class Replayed(JournalTestCase):
             led = said == 'its room'
             status, out, err = replay(self.fresh(), text)
             self.check(said, (status, out), (0, b'replayed 1\n') if led else (1, b''))
-            self.check(f'{said}: it is told', 'another room at record 1' in err, not led)
+            self.check(f'{said}: it is reported', 'another room at record 1' in err, not led)
             self.check(f'{said}: the room', dump(self.again), dump(wanted if led else self.before))
 
     def test_until(self):
@@ -650,7 +562,7 @@ class Chained(JournalTestCase):
                    (1, b'', True))
         self.list.write_bytes(text)
         status, out, err = verify(self.list)
-        self.check(f'{what}: it is told', (status, out), (1, ''))
+        self.check(f'{what}: it is reported', (status, out), (1, ''))
         self.check(f'{what}: where', re.search(r'record (\d+)\n', err) is not None, True)
 
     def test_whole(self):
@@ -732,7 +644,7 @@ class Chained(JournalTestCase):
             kept = chain([*self.bodies, self.END, *self.ROWS[:rows]])
             now = self.list.read_bytes()
             self.check(f'{what}: what stood', now[:len(kept)] == kept, True)
-            self.check(f'{what}: it is told', 'cut off' in told, what != 'whole')
+            self.check(f'{what}: it is reported', 'cut off' in told, what != 'whole')
             self.check(f'{what}: its records', [it[0] for it in entries(now)][-3:],
                        ['room', 'message', 'answer'])
             self.check(f'{what}: it is whole', verify(self.list)[0], 0)

@@ -97,7 +97,7 @@ class Lines(LogTestCase):
         """Where none is asked for, none is written."""
         answers, log = self.logged()
         self.check('all is answered', len(answers), len(TOLD))
-        self.check('nothing is told', log, '')
+        self.check('nothing is reported', log, '')
 
 
 class Unwritten(LogTestCase):

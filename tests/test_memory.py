@@ -1,4 +1,4 @@
-"""Memory from outside: each allocation of the program is refused in turn, alone or with all that
+"""Memory from outside: each allocation of the program is refused in turn, singly or with all that
 come after it. What was answered stands, what was not has changed nothing, and the same command
 then ends well. Where the program gets along without what was refused, it does as ever. A room that
 is served goes on after a request that was refused for memory, and answers it when it comes
@@ -94,7 +94,7 @@ class MemoryTestCase(PreloadedTestCase):
 
 class Memory(MemoryTestCase):
     def each(self, most):
-        """What is refused in turn, each allocation alone and with all that follow it; beside it,
+        """What is refused in turn, each allocation singly and with all that follow it; beside it,
         its name."""
         for number in self.numbers(most):
             yield refusals(number, number), f'allocation {number}'
@@ -153,7 +153,7 @@ class Memory(MemoryTestCase):
         status, out, err = self.program.run(refused, 'import', file, FLEET)
         count = out.count(b'\n')
         told = ''.join(f'{it} added\n' for it in CALLSIGNS[:count])
-        self.check(f'{name}: what is told', out.decode(), told)
+        self.check(f'{name}: what is reported', out.decode(), told)
         with self.subTest(f'{name}: the end, after {count}'):
             ends = [(5, b'memory\n'), (0, b'')] if count == 5 else [(5, b'memory\n')]
             self.assertIn((status, err), ends)
@@ -196,7 +196,7 @@ class Memory(MemoryTestCase):
 
     def test_migrate(self):
         """What is reported moved is of version 2. Where memory runs out, the file is of version 1,
-        or of version 2 where it was wanting as the file was closed."""
+        or of version 2 where there was none as the file was closed."""
         room = old_room(self.folder / 'old.db')
         file, before, ever = self.fresh(room), all_rows(room), (0, b'migrated\n', b'')
         self.check('migrate', self.program.run(NOTHING, 'migrate', file), ever)
@@ -245,7 +245,7 @@ class Memory(MemoryTestCase):
             self.check(f'a call without {name}, then the call: the room', rows_of(file), after)
 
     def test_log(self):
-        """A log for whose line memory is wanting changes no answer. Its line is made at the end."""
+        """A log for whose line memory fails changes no answer. Its line is made at the end."""
         room = made(self.folder / 'served.db')
 
         def logged(refused):

@@ -1,5 +1,5 @@
 """Files of version 1 from outside, made by Python's sqlite3: they are moved over with all their
-rows, and the room goes on as it was. What is no room of version 1 is told and stays as it is."""
+rows, and the room goes on as it was. What is no room of version 1 is reported and stays."""
 # needs: python3 sqlite3
 # builds: dispatch_room
 import json
@@ -128,7 +128,7 @@ class GoesOn(TestCase):
             say('deskone1', 'POST /vehicles/A1/recall'),
             say('desktwo2', 'POST /vehicles/A3/accept'),
             say('desktwo2', 'GET /loans'))
-        self.check('what they are told', answers[:-1], [
+        self.check('what they are answered', answers[:-1], [
             (200, '{"number":2,"outcome":"skipped","status":3}'),
             (200, '{"number":1,"outcome":"normal","status":1}'), DONE, DONE, DONE])
         found = [(it['vehicle'], it['recalled']) for it in json.loads(answers[-1][1])['loans']]
@@ -142,7 +142,7 @@ class GoesOn(TestCase):
         call = {'class': 3, 'needs': [1, 0, 0], 'note': '', 'place': 'TQ350850', 'serial': 4}
         report = {'button': 'mobile', 'number': 8, 'order': 9, 'place': 'TQ321821'}
         before = dump(self.file)
-        self.check('what they are told', self.ask(
+        self.check('what they are answered', self.ask(
             say('takerone', 'POST /call', **call),
             say('crewofa3', 'POST /report', **report),
             say('takerone', 'POST /call', **call | {'class': 1}),

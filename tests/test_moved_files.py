@@ -82,12 +82,12 @@ class MovedFiles(TestCase):
                 what, file = f'the {which} is {deed}', {'room': self.room, 'log': self.log}[which]
                 with self.served(self.room, '--explain') as (port, process):
                     self.asks(what, port, 1)
-                    self.check(f'{what}: nothing is told before', self.told(), [])
+                    self.check(f'{what}: nothing is reported before', self.told(), [])
                     do(file)
                     time.sleep(LOOKS_AGAIN)
                     self.asks(what, port, 2)
                     self.asks(what, port, 3)
-                    self.check(f'{what}: it is told once',
+                    self.check(f'{what}: it is reported once',
                                [(it.partition(' ')[0], TOLD in it) for it in self.told()],
                                [(str(file), True)])
                     copy = self.copied_out(process)
@@ -121,12 +121,12 @@ class MovedFiles(TestCase):
         link.symlink_to(self.room)
         with self.served(link, '--explain') as (port, _):
             self.asks('a link', port, 1)
-            self.check('nothing is told', self.told(), [])
+            self.check('nothing is reported', self.told(), [])
             self.log.rename(f'{self.log}.away')
             time.sleep(LOOKS_AGAIN)
             for serial in (2, 3):
                 self.asks('its log is away', port, serial)
-            self.check('it is told', [it.partition(' ')[0] for it in self.told()], [str(self.log)])
+            self.check('reported', [it.partition(' ')[0] for it in self.told()], [str(self.log)])
 
     def test_not_explained(self):
         with self.served(self.room) as (port, _):
@@ -134,4 +134,4 @@ class MovedFiles(TestCase):
             time.sleep(LOOKS_AGAIN)
             for serial in (1, 2):
                 self.asks('removed', port, serial)
-            self.check('nothing is told', self.told(), [])
+            self.check('nothing is reported', self.told(), [])

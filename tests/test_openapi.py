@@ -13,7 +13,7 @@ import subprocess
 import sys
 
 import described
-from described_requests import KNOWN, TOKENS, Sender, message, operations, wrong_ones
+from described_requests import KNOWN, Sender, message, operations, wrong_ones
 from room import FLEET, PATIENT, TOP, TestCase, made, run, serving
 
 SEED = 58

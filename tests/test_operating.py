@@ -105,7 +105,7 @@ class Served(OperatingTestCase):
     """Copies of a room while it is served."""
 
     def test_locked(self):
-        """Whatever wants to open it is told that it is locked, and the room is served on."""
+        """Whatever wants to open it learns that it is locked, and the room is served on."""
         with self.called() as (port, _):
             for text in [CALLS, f'.backup {self.copy}', f"VACUUM INTO '{self.copy}'"]:
                 with self.subTest(text):
@@ -119,7 +119,7 @@ class Served(OperatingTestCase):
         with self.called():
             self.check('sqlite3', sql(f'file:{self.room}?immutable=1', CALLS), '0\n')
             shutil.copy(self.room, self.copy)
-        self.check('a copy of the file alone', calls_in(self.copy), '0')
+        self.check('a copy of only the file', calls_in(self.copy), '0')
 
     def test_one_after_the_other(self):
         """A file and a log of two moments are no room."""

@@ -7,7 +7,6 @@ import pathlib
 import re
 import subprocess
 import sys
-import tempfile
 
 from documents import table_of_buttons
 from room import TOP, TestCase

@@ -251,7 +251,7 @@ class Import(TestCase):
             self.check(f'import into {what}', run('import', room, FLEET),
                        (1, '', 'refused: file\n'))
             files = [(it.name, it.read_bytes()) for it in self.folder.glob('none.db*')]
-            self.check(f'{what} stays as it is, and alone', files, [('none.db', held)])
+            self.check(f'{what} stays as it is, and is the only one', files, [('none.db', held)])
 
 
 class Versions(TestCase):
@@ -276,7 +276,7 @@ class Versions(TestCase):
     def test_versions_that_are_told(self):
         room = made(self.folder / 'told.db')
         sql(room, 'UPDATE meta SET version = 1')
-        self.check('a room that is told to be of version 1', run('times', room, 1, '2026-03-29'),
+        self.check('a room that says it is of version 1', run('times', room, 1, '2026-03-29'),
                    (1, '', 'refused: version\n'))
         sql(room, 'UPDATE meta SET version = 3')
         self.check('a room of a version to come', run('times', room, 1, '2026-03-29'),

@@ -1,6 +1,6 @@
 """The tables from outside: a day in a room that is served, and then what the command sqlite3 reads
 of its file. In the day each table has rows put, and those that lose rows have rows dropped. The
-rows wanted are said by the requests; their moments are those that the answers' Date tells."""
+rows wanted are said by the requests; their moments are those that the answers' Date has."""
 # needs: python3 sqlite3
 # builds: dispatch_room
 import json

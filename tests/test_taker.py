@@ -388,5 +388,5 @@ class Modules(Served):
         words = module('refusals.js', 'given[0].map(it.wordsOf)', [0, *numbers])
         self.check('the numbers of the interface', len(numbers), 32)
         self.check('words of their own', len(set(words)), len(numbers) + 1)
-        self.check('and none by its number alone', [it for it in words if 'with number' in it
+        self.check('and none only by its number', [it for it in words if 'with number' in it
                                                     and 'refused' in it], [])

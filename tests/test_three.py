@@ -1,5 +1,5 @@
 """One room on three machines by examples/three: members of etcd, companions and rooms on loopback
-that are killed, held and told wrong in turn, while forty terminals ask. What was answered stands in
+that are killed, held and misled in turn, while forty terminals ask. What was answered stands in
 the list where its answer says, nothing stands there twice, and the three rooms are one: that of a
 replay of the list. Each fault once, or with --all for ten minutes."""
 # needs: etcd-server sqlite3

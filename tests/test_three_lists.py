@@ -120,7 +120,7 @@ class Lists(ThreeTestCase):
             self.check(f'call {serial}', self.answered(it, call(serial))[1], 200)
         for it in self.machines.machines:
             self.machines.until(lambda: self.machines.health(it).get('foreign', 0) >= 2,
-                                f'{it} tells what is foreign')
+                                f'{it} says what is foreign')
         self.machines.kill('companion', 2)
         self.machines.start('companion', 2)
         self.machines.wait_for(2)

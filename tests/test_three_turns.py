@@ -42,7 +42,7 @@ class Turns(TestCase):
         self.check('one puts', self.waits(2, []), [0, 0, 0])
 
     def test_alone(self):
-        """Who is alone waits for nobody, nor does one that puts seldom."""
+        """The only one waits for nobody, nor does one that puts seldom."""
         it = turns.Turns(2, 3)
         self.check('at first', it.wait() <= 0, True)
         it.note(2)

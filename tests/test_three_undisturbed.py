@@ -1,5 +1,5 @@
 """Three machines as terminals, boards and their keepers find them: what is sent again to another
-machine, what is refused, a majority that is wanting, a companion that was held, connections that
+machine, what is refused, a majority that is missing, a companion that was held, connections that
 are kept, the board, and how a machine is."""
 # needs: etcd-server sqlite3 curl
 # builds: dispatch_room

@@ -51,7 +51,7 @@ class Version(TestCase):
         """What the changelog names is there: options in the help's texts, examples by their
         folders."""
         text = (TOP / 'CHANGELOG.md').read_text()
-        forms = (SOURCE.parent / 'command_forms.rt').read_text()
+        forms = (SOURCE.parent / 'command_options.rt').read_text()
         options = set(re.findall(r'`(?:\w+ )?--([a-z-]+)', text)) - {'version'}
         self.check('there are options', {'history', 'explain'} < options, True)
         for option in sorted(options):

@@ -242,7 +242,7 @@ class Served(TestCase):
 
     def check_stopped(self, stopped):
         before = warning()['marks']
-        self.check_comes('a stopped room is told, and why', lambda: self.told_of(warning()),
+        self.check_comes('a stopped room is shown, and why', lambda: self.told_of(warning()),
                          [True, 'It takes no connection.', True])
         seen = warning()
         found = re.fullmatch('NO ANSWER FROM THE ROOM SINCE ([0-9:]{8})',

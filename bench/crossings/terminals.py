@@ -1,8 +1,8 @@
 """The terminals of nine divisions at a room that the built program serves, and what their requests
-hand to each division, told by hand after crates/room_model/specs/Crossing.antt."""
+hand to each division, worked out by hand after crates/room_model/specs/Crossing.antt."""
 import collections
 import json
-import mmap
+import os
 import pathlib
 import socket
 import sys
@@ -10,35 +10,10 @@ import sys
 TOP = pathlib.Path(__file__).resolve().parent.parent.parent
 sys.path.append(str(TOP / 'tests'))
 
-from preloaded import Preloaded
+from preloaded import Preloaded, clock_of
 from room import fleet_of, free_port, message, read_answer, run
 
 DIVISIONS = range(1, 10)
-
-CLOCK = r"""
-// Sets the clock of the day to the moment that stands in the file MOMENT.
-#define _GNU_SOURCE
-#include <dlfcn.h>
-#include <fcntl.h>
-#include <stdlib.h>
-#include <sys/mman.h>
-#include <time.h>
-
-#define NEXT(name) ((__typeof__(&name))dlsym(RTLD_NEXT, #name))
-
-static const volatile long *moment;
-
-__attribute__((constructor)) static void begin(void) {
-  int file = open(getenv("MOMENT"), O_RDONLY);
-  moment = mmap(NULL, sizeof *moment, PROT_READ, MAP_SHARED, file, 0);
-}
-
-int clock_gettime(clockid_t clock, struct timespec *time) {
-  if (clock != CLOCK_REALTIME) return NEXT(clock_gettime)(clock, time);
-  *time = (struct timespec){.tv_sec = *moment};
-  return 0;
-}
-"""
 
 
 class Room:
@@ -46,19 +21,22 @@ class Room:
     Before it is served something may be done with its file."""
 
     def __init__(self, folder, plan, fleet, words=(), before=lambda file: None):
-        for name, text in [('plan', plan), ('fleet', fleet_of(*fleet)), ('moment', '\0' * 8)]:
+        for name, text in [('plan', plan), ('fleet', fleet_of(*fleet)), ('moment', '')]:
             (folder / name).write_text(text)
         run('init', folder / 'room.db', folder / 'plan')
         run('import', folder / 'room.db', folder / 'fleet')
         before(folder / 'room.db')
-        with open(folder / 'moment', 'r+b') as it:
-            self.moment = mmap.mmap(it.fileno(), 8)
+        self.moment = (folder / 'moment').open('r+b', buffering=0)
+        self.set_clock(0)
         self.port, self.asked = free_port(), 0
-        self.process = Preloaded(folder, CLOCK).start(
-            {'MOMENT': folder / 'moment'}, 'serve', folder / 'room.db', f'127.0.0.1:{self.port}',
+        self.process = Preloaded(folder).start(
+            clock_of(folder / 'moment'), 'serve', folder / 'room.db', f'127.0.0.1:{self.port}',
             '--idle', 60_000, '--patience', 3600, *words)
         if self.process.stdout.readline() != b'serving\n':
             sys.exit(f'run: not served: {self.process.stderr.read().decode()}')
+
+    def set_clock(self, moment):
+        os.pwrite(self.moment.fileno(), b'%-15d' % moment, 0)
 
     def connect(self):
         with socket.create_connection(('127.0.0.1', self.port)) as it:
@@ -68,7 +46,7 @@ class Room:
         if self.asked % 50_000 == 0:  # a connection ends after 100,000 reads
             self.connect()
         self.asked += 1
-        self.moment[:] = at.to_bytes(8, sys.byteorder)
+        self.set_clock(at)
         self.connection.write(message(token, line, json.dumps(body) if body else ''))
         self.connection.flush()
         return json.loads(read_answer(self.connection)[1])
@@ -76,6 +54,7 @@ class Room:
     def end(self):
         self.process.kill()
         self.process.communicate()
+        self.moment.close()
 
 
 class Terminals:

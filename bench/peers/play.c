@@ -1,5 +1,5 @@
 /* Plays requests to a room over one connection that stays open, each when the one before is
-   answered, and tells of each how long its answer took and what it was.
+   answered, and prints of each how long its answer took and what it was.
    Usage: play PORT <REQUESTS >ANSWERS
    Before each request in REQUESTS stands its length, and before each answer in ANSWERS the
    nanoseconds that it took and its length: in decimal, with a space between the two and a line

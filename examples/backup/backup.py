@@ -10,9 +10,10 @@ them to a copy of the last copy. A restore of the result is tried on a third fil
 stand in the folder: NAME.db, a room in one file; NAME.list, what was played to the copy before it;
 and NAME.json, its digest and its place in the list.
 
-A list has rows, too, where `import --journal` kept a fleet in it: records `row LINE`, one for
-each line of the fleet's file, and behind the last of them a head, `room 2 DIGEST`. The head says how
-many of the rows are enrolled, so a night takes rows only with the head behind them.
+A list has rows, too, where a change was kept in it by `--journal`: records `row LINE`, one for each
+line of a fleet, of a plan or of a list of terminals, and behind the last of them a head, `room 2
+DIGEST`. The head says how far the change is made, so a night takes rows only with the head behind
+them.
 
 One line says what was done, with status 0; or why there is no copy that can be trusted, with
 status 1."""

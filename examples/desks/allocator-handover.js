@@ -1,5 +1,5 @@
 // What a desk hands over at a shift's end, written when the page is printed: A4, one page at 30
-// incidents. What the queue says of an incident alone stands in the incident's row.
+// incidents. What only the queue says of an incident stands in the incident's row.
 
 import { table } from './allocator-incident.js';
 import { STATUSES, clock, lineWords, reference, since } from './allocator-words.js';

@@ -65,7 +65,7 @@ export class IncidentPage {
     this.told = null;
   }
 
-  /** Asks the room for it, and shows what it tells or what the lists know. */
+  /** Asks the room for it, and shows what it answers or what the lists know. */
   async read(reading) {
     const { number } = this;
     if (number === null) return;

@@ -1,4 +1,4 @@
-// What the room tells the desk: its lists, read one after another and over again, and whatever else
+// What the room gives the desk: its lists, read one after another and over again, and whatever else
 // is asked. Never two requests at once; a round of the lists every two seconds, and once something
 // was done.
 
@@ -102,7 +102,7 @@ export class Reading {
   }
 }
 
-/** The desk's division, which no list tells by itself; null before there is a vehicle. */
+/** The desk's division, which no list has by itself; null before there is a vehicle. */
 function divisionOf({ vehicles, vehicleOf, loans, loanOf, offers }) {
   const own = vehicles.find((it) => !loanOf.has(it.vehicle));
   if (own) return own.home;

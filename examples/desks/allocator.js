@@ -46,7 +46,7 @@ const panel = () => (incidentPage.number === null ? current : incidentPage);
 
 // ---- drawing
 
-/** Draws what the lists tell; keeps of which round it is, and how many milliseconds it took until
+/** Draws what the lists have; keeps of which round it is, and how many milliseconds it took until
     it was shown. */
 function draw() {
   const { round } = reading;

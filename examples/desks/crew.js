@@ -152,7 +152,7 @@ async function press(button) {
 
 // ---- asking
 
-/** What was changed in the outbox: a new answer tells the status before the order does. */
+/** What was changed in the outbox: a new answer has the status before the order does. */
 async function changed() {
   messages = await outbox.messages();
   if (outbox.state === 'unknown') begin(outbox.trouble);

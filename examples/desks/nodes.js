@@ -1,4 +1,4 @@
-// Elements of the pages. Text is set as text alone, so nothing that a person typed becomes markup.
+// Elements of the pages. Text is set only as text, so nothing that a person typed becomes markup.
 //
 //   element('button', { class: 'main', onclick: send }, 'Send ', element('kbd', {}, 'Enter'))
 //   keep(list, things, (it) => it.key, () => element('li'), (node, it) => setText(node, it.what))

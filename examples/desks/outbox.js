@@ -17,7 +17,7 @@
 //
 // Numbers are given inside one transaction of IndexedDB, so two tabs never share one. One tab at a
 // time sends, by a lock of the browser. Only the first that waits can have been sent: so where the
-// room tells that its number was used by another (17, 18), it and those behind it get later ones.
+// room answers that its number was used by another (17, 18), it and those behind it get later ones.
 
 import { ask } from './room.js';
 
@@ -95,7 +95,7 @@ class Outbox {
     return kept ? kept.number : null;
   }
 
-  /** Goes on from what the browser keeps, and from the room's greatest number where it tells it. */
+  /** Goes on from what the browser keeps, and from the room's greatest number where it has it. */
   async open() {
     if (await this.last() !== null) this.begin();
     for (;;) {

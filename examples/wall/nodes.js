@@ -1,5 +1,5 @@
 // Nodes of the page that are kept from one picture to the next, so that nothing flickers. Text is
-// set as text alone, never as markup.
+// set only as text, never as markup.
 
 const SVG = 'http://www.w3.org/2000/svg';
 

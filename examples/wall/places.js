@@ -14,7 +14,7 @@ const DENSE = { across: 1, down: 1, places: 1.3 };
 
 /**
  * How large marks are so that so many find a place, and the cells that they are laid on: a mark
- * covers some across and down, one alone where there are many marks.
+ * covers some across and down, one by itself where there are many marks.
  */
 function cellsFor(view, count) {
   const { across, down, places } = count > FEW ? DENSE : CLOSE;

@@ -71,7 +71,7 @@ function updateQueue(node, { desk, entries }, known, offset) {
     (at, entry) => updateEntry(at, entry, known, offset));
 }
 
-/** The lines of all queues: each entry, and a desk alone where nothing waits. */
+/** The lines of all queues: each entry, and only the desk where nothing waits. */
 export function linesOf(desks) {
   return desks.flatMap((desk) => (desk.queue.length
     ? desk.queue.map((entry) => ({ desk, entry })) : [{ desk, entry: null }]));

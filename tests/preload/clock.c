@@ -1,4 +1,4 @@
-// The clock of the day, at the moments that a test tells.
+// The clock of the day, at the moments that a test sets.
 #define _GNU_SOURCE
 #include "preload.h"
 
@@ -8,7 +8,7 @@
 #include <time.h>
 #include <unistd.h>
 
-// The next of the moments that are told; gives whether there is one.
+// The next of the moments that are set; gives whether there is one.
 static bool next_moment(long *moment) {
   char *end;
   *moment = strtol(switches.moments, &end, 10);
@@ -28,8 +28,8 @@ static bool moment_of_file(long *moment) {
 }
 
 int clock_gettime(clockid_t clock, struct timespec *time) {
-  const bool is_told = switches.moments != NULL || switches.moment != NULL;
-  if (clock != CLOCK_REALTIME || !is_told) return NEXT(clock_gettime)(clock, time);
+  const bool is_set = switches.moments != NULL || switches.moment != NULL;
+  if (clock != CLOCK_REALTIME || !is_set) return NEXT(clock_gettime)(clock, time);
   long moment;
   if (!(switches.moments != NULL ? next_moment : moment_of_file)(&moment)) {
     errno = EINVAL;

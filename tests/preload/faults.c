@@ -24,8 +24,7 @@ static bool fails_if_meant(void) {
 
 bool fails(void) { return switches.fails && switches.synced == NULL && fails_if_meant(); }
 
-// Whether a file or folder is open that has this path.
-static bool is_of_path(int file, const char *wanted) {
+bool is_of_path(int file, const char *wanted) {
   char link[64], path[4096];
   snprintf(link, sizeof link, "/proc/self/fd/%d", file);
   const ssize_t size = readlink(link, path, sizeof path - 1);

@@ -2,6 +2,7 @@
 #define _GNU_SOURCE
 #include "preload.h"
 
+#include <stdio.h>
 #include <sys/stat.h>
 #include <unistd.h>
 
@@ -48,9 +49,20 @@ static bool is_unsynced(int file) {
   if (fails_to_sync(file)) return true;
   if (stops()) _exit(STOPPED);
   forget(file);
+  note_sync(file);
   return false;
 }
 
 int fsync(int file) { return is_unsynced(file) ? -1 : NEXT(fsync)(file); }
 
 int fdatasync(int file) { return is_unsynced(file) ? -1 : NEXT(fdatasync)(file); }
+
+int rename(const char *from, const char *to) {
+  if (switches.counts_names && stops()) _exit(STOPPED);
+  return NEXT(rename)(from, to);
+}
+
+int unlink(const char *path) {
+  if (switches.counts_names && stops()) _exit(STOPPED);
+  return NEXT(unlink)(path);
+}

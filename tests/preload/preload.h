@@ -8,7 +8,7 @@
 //   MOMENT=FILE              The clock of the day is at the moment that stands in this file.
 //
 // One of these three is set at a time. Each counts calls, from 1, and does no more than that where
-// the numbers that it is told are 0.
+// its numbers are 0.
 //
 //   REFUSALS=FIRST LAST      Counts the allocations, and refuses those from number FIRST to LAST.
 //   FAULTS=FIRST LAST ERROR  Counts the calls that read or change a file, and lets those from
@@ -22,7 +22,7 @@
 //                            17, of each block of 4 KiB the first 1 to 7 sectors are new, and where
 //                            it is 100 or more, any of them, by that number.
 //
-// Which calls these count, and how many they were, is told by these.
+// Which calls these count, and how many they were, these say.
 //
 //   SERVING=1                With FAULTS: they are counted from the one after the program has said
 //                            that it serves.
@@ -30,8 +30,16 @@
 //                            path.
 //   WRITES=1                 With STOPS: writes to a file that are no changes of the room, but its
 //                            journal, are counted too.
-//   COUNTED=FILE             A program that comes to its end tells in this file how many calls
+//   NAMES=1                  With STOPS: the calls that move or remove a file are counted too.
+//   COUNTED=FILE             A program that comes to its end writes to this file how many calls
 //                            were counted.
+//
+// And what the disk has of a file may be less than the system shows.
+//
+//   DROPPED=PATH             Where the system's copies of the file of this path are dropped, they
+//                            stay, and that is an error.
+//   LEFT=SIZE                With DROPPED: they are dropped, and where the file was synced before,
+//                            it has so many bytes from then on.
 #ifndef PRELOAD_H
 #define PRELOAD_H
 
@@ -56,14 +64,17 @@ struct switches {
   long first, last;
   int error;
   enum how how;
-  bool waits_for_serving, counts_writes;
-  const char *synced;
+  bool waits_for_serving, counts_writes, counts_names;
+  const char *synced, *dropped, *left;
 };
 
 extern struct switches switches;
 
 // Counts a call; gives whether it is one that the switches mean.
 bool is_meant(void);
+
+// Whether a file or folder is open that has this path.
+bool is_of_path(int file, const char *wanted);
 
 // Whether a call that reads or changes a file fails, or one that syncs it. If so, errno says how.
 bool fails(void);
@@ -79,6 +90,9 @@ bool stops(void);
 void keep(int file, off_t at, size_t size);
 void keep_end(int file, off_t size);
 void forget(int file);
+
+// Notes that a file is synced.
+void note_sync(int file);
 
 #pragma GCC visibility pop
 #endif

@@ -1,4 +1,4 @@
-// The switches: they are read as the program begins, and as it ends their count is told.
+// The switches: they are read as the program begins, and as it ends their count is written.
 #define _GNU_SOURCE
 #include "preload.h"
 
@@ -19,7 +19,7 @@ static long next_number(const char **text) {
 }
 
 // Reads a switch of the three that count, and the calls that it means: the number of the first,
-// and of the last where it tells one, too. Gives what is left of it; NULL where it isn't set.
+// and of the last where it has one, too. Gives what is left of it; NULL where it isn't set.
 static const char *counting(const char *name, bool has_last) {
   const char *text = getenv(name);
   if (text == NULL) return NULL;
@@ -35,6 +35,9 @@ __attribute__((constructor)) static void begin(void) {
   switches.waits_for_serving = getenv("SERVING") != NULL;
   switches.synced = getenv("SYNCED");
   switches.counts_writes = getenv("WRITES") != NULL;
+  switches.counts_names = getenv("NAMES") != NULL;
+  switches.dropped = getenv("DROPPED");
+  switches.left = getenv("LEFT");
   const char *rest = counting("FAULTS", true);
   switches.fails = rest != NULL;
   if (rest != NULL) switches.error = (int)next_number(&rest);

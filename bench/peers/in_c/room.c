@@ -249,7 +249,7 @@ static enum refusal tell_call(struct text *answer, long long division, long long
     return NO_REFUSAL;
 }
 
-/* Whether the serial is kept: then the kept answer is told, or the call is refused. */
+/* Whether the serial is kept: then the kept answer is given, or the call is refused. */
 static bool is_kept_call(long long position, const struct call_form *form, struct text *answer,
                          enum refusal *refused)
 {

@@ -9,7 +9,7 @@
 
 enum role { DESK, POSITION, CREW };
 
-/* The refusals that this server tells, by their numbers in docs/HTTP.md. */
+/* The refusals that this server gives, by their numbers in docs/HTTP.md. */
 enum refusal {
     NO_REFUSAL = 0, NO_SUCH_INCIDENT = 1, INCIDENT_NOT_OPEN = 2, NO_SUCH_VEHICLE = 3,
     VEHICLE_LENT = 4, WRONG_STATUS = 5, SHIFT_OVER = 6, NOT_NEEDED = 7, STILL_ASSIGNED = 9,

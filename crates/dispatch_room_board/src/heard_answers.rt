@@ -12,7 +12,7 @@ use crate::exchange::MOST;
 use httparse::Status;
 use httparse::spans::{EMPTY_HEADER_SPAN, HeaderSpan, Span, parse_response};
 use httpdate::HttpDate;
-use room_http_messages::head_fields::only_field;
+use room_http_messages::head_fields::find_field;
 use room_http_messages::limits::FIELD_LIMIT;
 use room_types::numbers::Moment;
 
@@ -66,7 +66,7 @@ fn length_in(bytes: &[u8], fields: &[HeaderSpan]) -> Option<usize>
     ensures { IsRead (Announces (values_of (codes "content-length")
         (map (header_bytes bytes.now) fields.now))) result }
 {
-    match only_field(bytes, fields, b"content-length") {
+    match find_field(bytes, fields, b"content-length").only() {
         Some(value) => numeral(value.of(bytes)),
         None => None,
     }
@@ -96,7 +96,7 @@ fn moment_in(bytes: &[u8], fields: &[HeaderSpan]) -> Option<Moment>
     ensures { IsRead (IsDated (values_of (codes "date")
         (map (header_bytes bytes.now) fields.now))) result }
 {
-    match only_field(bytes, fields, b"date") {
+    match find_field(bytes, fields, b"date").only() {
         Some(value) => moment_of(value.of(bytes)),
         None => None,
     }

@@ -20,9 +20,9 @@ file_of (Replay file replay) = Some file.now
 file_of (Renew file new since) = Some file.now
 file_of (Times file division day) = Some file.now
 file_of (JoinedTimes file older division day) = Some file.now
-file_of (Terminals file wanted) = Some file.now
-file_of (SetTerminals file csv) = Some file.now
-file_of (Replan file plan) = Some file.now
+file_of (Terminals file wanted list) = Some file.now
+file_of (SetTerminals file csv list) = Some file.now
+file_of (Replan file plan list) = Some file.now
 file_of (Board look) = None
 file_of (Verify list) = None
 

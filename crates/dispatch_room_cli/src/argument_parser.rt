@@ -47,6 +47,8 @@ enum Mistake<'a> {
         one: &'a str,
         other: &'a str,
     },
+    /// A change of terminals would be kept, and there is none.
+    NoChange,
     /// A journal would have the name of a file that the room's database uses.
     OfDatabase {
         list: &'a str,
@@ -58,6 +60,7 @@ impl<'a> Mistake<'a> {
     fn kind(self) -> ErrorKind {
         match self {
             Mistake::NoCommand => ErrorKind::MissingSubcommand,
+            Mistake::NoChange => ErrorKind::MissingRequiredArgument,
             Mistake::NotLoopback { .. } | Mistake::Nobody { .. } | Mistake::OfDatabase { .. } => {
                 ErrorKind::ValueValidation
             }
@@ -85,6 +88,10 @@ impl<'a> fmt::Display for Mistake<'a> {
                 f,
                 "invalid value '{list}' for '--journal <LIST>': the database of {file} uses a file \
                  of this name"
+            ),
+            Mistake::NoChange => f.write_str(
+                "the argument '--journal <LIST>' is used with '--new <WHO>', '--revoke <WHO>' or \
+                 '--from <CSV>'",
             ),
             Mistake::TwoChanges { one, other } => {
                 write!(f, "the argument '{one}' cannot be used with '{other}'")
@@ -169,6 +176,7 @@ fn task_over<'a>(file: &'a str, name: &str, given: &ArgMatches<'a>) -> Result<Ta
         "replan" => Ok(Task::Replan {
             file,
             plan: text(given, "PLAN")?,
+            list: list_of(file, given)?,
         }),
         "migrate" => Ok(Task::Migrate { file }),
         "check" => Ok(Task::Check { file }),
@@ -209,16 +217,18 @@ fn terminals_of<'a>(file: &'a str, given: &ArgMatches<'a>) -> Result<Task<'a>, M
 {
     let new = named(given, "new")?;
     let revoked = named(given, "revoke")?;
+    let list = list_of(file, given)?;
     let wanted = match (new, revoked, given.get_str("from")) {
+        (None, None, None) if list.is_some() => return Err(Mistake::NoChange),
         (None, None, None) => Terminals::List,
         (Some(who), None, None) => Terminals::New(who),
         (None, Some(who), None) => Terminals::Revoke(who),
-        (None, None, Some(csv)) => return Ok(Task::SetTerminals { file, csv }),
+        (None, None, Some(csv)) => return Ok(Task::SetTerminals { file, csv, list }),
         (Some(_), Some(_), _) => return Err(conflict("--new <WHO>", "--revoke <WHO>")),
         (Some(_), None, Some(_)) => return Err(conflict("--new <WHO>", "--from <CSV>")),
         (None, Some(_), Some(_)) => return Err(conflict("--revoke <WHO>", "--from <CSV>")),
     };
-    Ok(Task::Terminals { file, wanted })
+    Ok(Task::Terminals { file, wanted, list })
 }
 
 fn conflict<'a>(one: &'a str, other: &'a str) -> Mistake<'a> {

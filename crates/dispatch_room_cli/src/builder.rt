@@ -1,6 +1,6 @@
 //! The program as a command of clap, put together from the forms of its commands.
 
-use crate::command_forms::{CommandForm, FORMS, Word, WordKind};
+use crate::command_options::{CommandForm, FORMS, Word, WordKind};
 use clap::builder::ValueParser;
 use clap::{Arg, ArgAction, Command};
 use std::alloc::{AllocError, Global};

@@ -4,7 +4,7 @@
 mod addresses;
 pub mod argument_parser;
 mod builder;
-mod command_forms;
+mod command_options;
 mod database_names;
 pub mod tasks;
-mod who;
+pub mod who;

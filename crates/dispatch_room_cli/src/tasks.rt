@@ -41,10 +41,11 @@ pub enum Task<'a> {
     Check {
         file: &'a str,
     },
-    /// A room gets the plan of a file.
+    /// A room gets the plan of a file, which is kept in a list before, where there is one.
     Replan {
         file: &'a str,
         plan: &'a str,
+        list: Option<&'a str>,
     },
     /// The digest of a room is printed.
     Digest {
@@ -79,15 +80,19 @@ pub enum Task<'a> {
         division: DivisionNumber,
         day: &'a str,
     },
-    /// The terminals of a room are listed, or those of one changed.
+    /// The terminals of a room are listed, or those of one changed, which is kept in a list
+    /// before, where there is one.
     Terminals {
         file: &'a str,
         wanted: Terminals,
+        list: Option<&'a str>,
     },
-    /// All that a plan's or a fleet's file names get the tokens that it gives them.
+    /// All that a plan's or a fleet's file names get the tokens that it gives them, which is kept
+    /// in a list before, where there is one.
     SetTerminals {
         file: &'a str,
         csv: &'a str,
+        list: Option<&'a str>,
     },
 }
 

@@ -1,19 +1,59 @@
 -- Rows that are enrolled one after another until the room has a head's digest.
-use Rattle.std.proofs.Common.{Bool, List, [], arith, false, inl, inr, refl, subst, take, true, ℕ, ◌≤◌}
+use Rattle.std.proofs.Common.{Bool, Err, IfOk, IsTrue, List, Ok, Result, [], arith, false, inl, inr, refl, subst, take, true}
+use Rattle.std.proofs.Common.{ℕ, ◌≤◌, ◌↔◌}
 use Rattle.std.proofs.Math.Nat.{eq-or-lt_of_le}
 use Rattle.std.proofs.Common.{◌+◌, ◌++◌, ◌<◌, ◌∙◌, ◌∷◌, ◌≡◌, ◌⊎◌}
+use Rattle.sqlite_trees.specs.declared.store.Store.{Ghosts}
 use Rattle.room_types.specs.declared.fleet.FleetRow.{FleetRow}
 use Rattle.room_types.specs.declared.fleet.RowFate.{RowFate}
 use Rattle.room_types.specs.declared.fleet.RowFate.TheVariants.{Added, Refused, Same}
 use Rattle.room_types.specs.declared.fleet.Terminal.{Terminal}
 use Rattle.room_model.specs.Digests.{DigitsOf, IsHeadOf}
-use Rattle.room_model.specs.Enrol.{room_by, room_enrolled, terminals_by, terminals_enrolled}
+use Rattle.room_model.specs.FleetRows.{room_by, room_enrolled, terminals_by, terminals_enrolled}
 use Rattle.room_model.specs.Fleets.{enrolled}
 use Rattle.room_model.specs.Room.{Room}
 use Rattle.room_model.specs.declared.digests.Head.{Head}
 use Rattle.room_store.proofs.EnrolledLaws.{after_row, enrolled_more}
 use Rattle.room_store.specs.FleetEnrolment.{room_after_rows, terminals_after_rows}
-use Rattle.dispatch_room_commands.specs.ListedRows.{IsMetAfter}
+use Rattle.room_store.specs.StoredRoom.{IsReady, IsRoom}
+use Rattle.room_store.specs.declared.store.Store.{Store}
+use Rattle.dispatch_room_journal.specs.declared.replay_faults.ReplayFault.{ReplayFault}
+use Rattle.dispatch_room_commands.specs.ListedRows.{FindsHead, IsMetAfter}
+use Rattle.dispatch_room_commands.specs.declared.followed_rows.Stage.{Stage}
+use Rattle.dispatch_room_commands.specs.StoodRooms.{GoesOn, StageGoesOn, digits_in}
+use Rattle.dispatch_room_commands.proofs.PartLemmas.{not_both}
+use Rattle.room_tables_schema.specs.FileConnections.{IsClean}
+
+-- a store that went on twice
+pub goes_on : {S : Type 0} (g : Ghosts S) (old mid new : Store S) → GoesOn g old mid → GoesOn g mid new → GoesOn g old new
+goes_on g old mid new first second = record {
+  ready = second.ready;
+  zone = second.zone ∙ first.zone;
+  trusted = λ clean. first.trusted (second.trusted clean);
+}
+
+-- a stage whose store went on, and whose setting is the same
+pub stage_goes : {S : Type 0} (g : Ghosts S) (old new : Stage S) → GoesOn g old.room new.room
+    → new.setting ≡ old.setting → StageGoesOn g old new
+stage_goes g old new goes same =
+    record { ready = goes.ready; set = λ serves is. rw (goes.zone, same) is; trusted = goes.trusted }
+
+-- a stage that was not worked on
+pub stage_stays : {S : Type 0} (g : Ghosts S) (stage : Stage S) → IsReady g stage.room → StageGoesOn g stage stage
+stage_stays g stage ready = record { ready = ready; set = λ serves is. is; trusted = λ clean. clean }
+
+-- a room that was looked at, whether it has the digest of a head
+pub found : {S : Type 0} (g : Ghosts S) (old new : Store S) (head : Head) (is_changed : Bool)
+    (looked : Result Bool ReplayFault)
+    → (IsClean g new.conn → IfOk looked (λ is. (terminals : List Terminal) (room : Room)
+    → IsRoom g old terminals room → (IsTrue is ↔ IsHeadOf (digits_in old) head terminals room)))
+    → IfOk looked (FindsHead g old new head is_changed)
+found g old new head is_changed (Ok is) says = record {
+  met = λ clean yes terminals room stands. (says clean terminals room stands).0 yes;
+  unmet = λ clean no changed terminals room stands met.
+      not_both is ((says clean terminals room stands).1 met) no;
+}
+found g old new head is_changed (Err fault) says = tt
 
 -- the vehicle of a row was added
 abbrev pub is_added : RowFate → Bool

@@ -24,7 +24,7 @@ is_mistake kind.DisplayVersion = false
 is_mistake kind.OutOfMemory = false
 is_mistake other = true
 
--- what comes of help that is asked for: it is written, unless the output fails or memory is wanting
+-- what comes of help that is asked for: it is written, unless the output or memory fails
 abbrev pub IsHelpDone : ErrorKind → Result Done Failure → Type 0
 IsHelpDone kind.OutOfMemory done = done ≡ Err Memory
 IsHelpDone other done = (done ≡ Ok Whole) ⊎ (done ≡ Err Network)

@@ -18,7 +18,7 @@ use Rattle.room_types.specs.Texts.{Token}
 use Rattle.room_types.specs.declared.asks.Who.{Who}
 use Rattle.room_types.specs.declared.asks.Who.TheVariants.{Crew, Desk, Position}
 use Rattle.room_types.specs.declared.fleet.Terminal.{Terminal}
-use Rattle.dispatch_room_tasks.specs.declared.renewal.Successor.{Successor}
+use Rattle.dispatch_room_archive.specs.declared.renewal.Successor.{Successor}
 use Rattle.dispatch_room_serving.specs.Callers.{Opening}
 use Rattle.dispatch_room_serving.specs.declared.served_room.Terms.{Terms}
 use Rattle.dispatch_room_cli.specs.declared.tasks.Look.{Look}
@@ -30,16 +30,20 @@ use Rattle.dispatch_room_cli.specs.declared.tasks.Terminals.TheVariants as wante
 use Rattle.dispatch_room_cli.specs.declared.tasks.Task.TheVariants.{Board, Check, Digest, Import, Init, JoinedTimes}
 use Rattle.dispatch_room_cli.specs.declared.tasks.Task.TheVariants.{Migrate, Renew, Replan, Replay, Restore, Serve}
 use Rattle.dispatch_room_cli.specs.declared.tasks.Task.TheVariants.{SetTerminals, Terminals, Times, Verify}
-use Rattle.dispatch_room_tasks.specs.declared.division_days.DivisionDay.{DivisionDay}
+use Rattle.dispatch_room_archive.specs.declared.division_days.DivisionDay.{DivisionDay}
 use Rattle.dispatch_room_commands.specs.CommandEnds.{IsPrinted, IsWordsStatus}
-use Rattle.dispatch_room_commands.specs.RoomTasks.{Begins, BeginsNone, Creates, CreatesNone, Digests, Enrols}
-use Rattle.dispatch_room_commands.specs.RoomTasks.{EnrolsKept, EnrolsNone, Examines, ExaminesNone, FindsDay, FindsNoDay}
-use Rattle.dispatch_room_commands.specs.RoomTasks.{HoldsNoRoom, LeavesNothing, LeavesRows, Lists, Moves, MovesNone}
-use Rattle.dispatch_room_commands.specs.RoomTasks.{OpensNone, Reissues, Replans, Replays, Reports, ReportsBoth}
-use Rattle.dispatch_room_commands.specs.RoomTasks.{ReportsNone, Serves, ServesNone, Sets, is_endless, terms_of}
+use Rattle.dispatch_room_commands.specs.RoomTasks.{Begins, BeginsNone, Changes, ChangesKept, Creates, CreatesNone}
+use Rattle.dispatch_room_commands.specs.RoomTasks.{Digests, Enrols, EnrolsKept, EnrolsNone, Examines, ExaminesNone}
+use Rattle.dispatch_room_commands.specs.RoomTasks.{FindsDay, FindsNoDay}
+use Rattle.dispatch_room_commands.specs.RoomTasks.{HoldsNoRoom, LeavesNothing, LeavesRows, Lists, LosesKeptRoom}
+use Rattle.dispatch_room_commands.specs.RoomTasks.{Moves, MovesNone, OpensNone, Replays, ReplaysNone, Reports}
+use Rattle.dispatch_room_commands.specs.RoomTasks.{ReportsBoth, ReportsNone, Serves, ServesNone, is_endless, terms_of}
+use Rattle.dispatch_room_commands.specs.RoomChanges.{IsTextOf}
+use Rattle.dispatch_room_commands.specs.declared.room_changes.RoomChange.{RoomChange}
+use Rattle.dispatch_room_commands.specs.declared.room_changes.RoomChange.TheVariants as change
 use Rattle.dispatch_room_journal.specs.ListTallies.{IsVerified}
 use Rattle.dispatch_room_journal.specs.declared.list_tallies.Tally.{Tally}
-use Rattle.dispatch_room_commands.specs.Verified.{IsUnverified, tally_text}
+use Rattle.dispatch_room_commands.specs.VerifiedLists.{IsUnverified, tally_text}
 use Rattle.dispatch_room_commands.specs.declared.listeners.TcpAddress.{TcpAddress}
 use Rattle.dispatch_room_commands.specs.declared.serve.Served.{Served}
 use Rattle.dispatch_room_commands.specs.declared.tcp_doors.TcpDoor.{TcpDoor}
@@ -50,6 +54,25 @@ is_a_crew (Desk d) = false
 is_a_crew (Position p) = false
 is_a_crew (Crew c) = true
 
+-- the change by which one has only this token, or none
+abbrev pub reissue_of : Who → Option Token → RoomChange
+reissue_of who token = change.Token (record { who = who; token = token })
+
+-- A change was made in a room's file, by what the output held before and after. Where there is a
+-- list for it, its text was kept there before.
+abbrev pub IsMade : Option (List ℕ) → Option (List ℕ) → Bool → RoomChange → Type 0
+IsMade before after false change = IsDoneInFile (Changes change) before after tt
+IsMade before after true change =
+    (text : List ℕ) × IsTextOf change text × IsDoneInFile (ChangesKept change text) before after tt
+
+-- this became of the room's file where it was not made; or there is no list, and nothing is said
+abbrev pub IsUnmade : Option (List ℕ) → Option (List ℕ) → Failure → Bool → RoomChange → Type 0
+IsUnmade before after fault false change =
+    IsUndoneInFile (Changes change) HoldsNoRoom before after fault
+IsUnmade before after fault true change = (after ≡ before)
+    ⊎ ((text : List ℕ) × IsTextOf change text
+    × IsUndoneInFile (ChangesKept change text) (LosesKeptRoom change text) before after fault)
+
 -- by what the output held before, what it holds after, and how much is done
 module _ (before after : Option (List ℕ)) (done : Done) where
   -- a room was created by some plan
@@ -57,14 +80,14 @@ module _ (before after : Option (List ℕ)) (done : Done) where
   IsInit = (plan : PlanFile) × IsDoneInFile (Creates plan) before after done
 
   -- a room got some plan, and then that was reported
-  pub record IsReplanned (plan : PlanFile) : Type 0 where
+  pub record IsReplanned (kept : Bool) (plan : PlanFile) : Type 0 where
     pub between : Option (List ℕ)
-    pub is : IsDoneInFile (Replans plan) before between tt
+    pub is : IsMade before between kept (change.Plan plan)
     pub text : Appends between after (codes "replanned\n")
     pub whole : done ≡ Whole
 
-  abbrev pub IsReplan : Type 0
-  IsReplan = (plan : PlanFile) × IsReplanned plan
+  abbrev pub IsReplan : Bool → Type 0
+  IsReplan kept = (plan : PlanFile) × IsReplanned kept plan
 
   -- the rows of some fleet were enrolled
   abbrev pub IsImport : Type 0
@@ -163,39 +186,40 @@ module _ (before after : Option (List ℕ)) (done : Done) where
       × IsPrinted heard (is_some look.incident) colour before after done
 
   -- one was given only this token, or none, and then this was printed
-  pub record IsReissued (who : Who) (token : Option Token) (text : List ℕ) : Type 0 where
+  pub record IsReissued (kept : Bool) (who : Who) (token : Option Token) (text : List ℕ)
+      : Type 0 where
     pub between : Option (List ℕ)
-    pub is : IsDoneInFile (Reissues who token) before between tt
+    pub is : IsMade before between kept (reissue_of who token)
     pub told : Appends between after text
     pub whole : done ≡ Whole
 
   -- all that a list names were given its terminals, and then it was printed how many these are
-  pub record IsSet (listed : List Terminal) : Type 0 where
+  pub record IsSet (kept : Bool) (listed : Vec Terminal Global) : Type 0 where
     pub between : Option (List ℕ)
-    pub is : IsDoneInFile (Sets listed) before between tt
+    pub is : IsMade before between kept (change.Terminals listed)
     pub told : Appends between after
-        (codes "set: terminals " ++ (decimal (length listed) ++ codes "\n"))
+        (codes "set: terminals " ++ (decimal (length listed.items) ++ codes "\n"))
     pub whole : done ≡ Whole
 
   -- all that some list names were given its terminals
-  abbrev pub IsSetting : Type 0
-  IsSetting = (listed : List Terminal) × IsSet listed
+  abbrev pub IsSetting : Bool → Type 0
+  IsSetting kept = (listed : Vec Terminal Global) × IsSet kept listed
 
   -- Terminals were listed; or one got a new token, which was printed; or it has no terminal that
   -- anybody knows: no token, or where a vehicle's crew has to have one, one that is not printed.
-  abbrev pub IsTerminals : Wanted → Type 0
-  IsTerminals wanted.List = IsDoneInFile Lists before after done
-  IsTerminals (wanted.New who) =
-      (token : Token) × IsReissued who (Some token) (token ++ codes "\n")
-  IsTerminals (wanted.Revoke who) = (token : Option Token) × (is_some token ≡ is_a_crew who)
-      × IsReissued who token (codes "revoked\n")
+  abbrev pub IsTerminals : Bool → Wanted → Type 0
+  IsTerminals kept wanted.List = IsDoneInFile Lists before after done
+  IsTerminals kept (wanted.New who) =
+      (token : Token) × IsReissued kept who (Some token) (token ++ codes "\n")
+  IsTerminals kept (wanted.Revoke who) = (token : Option Token) × (is_some token ≡ is_a_crew who)
+      × IsReissued kept who token (codes "revoked\n")
 
   -- what was asked for was done
   abbrev pub IsTask : Task → Type 0
   IsTask (Init file plan) = IsInit
   IsTask (Import file fleet None) = IsImport
   IsTask (Import file fleet (Some list)) = IsKeptImport
-  IsTask (Replan file plan) = IsReplan
+  IsTask (Replan file plan list) = IsReplan (is_some list)
   IsTask (Migrate file) = IsMigrate
   IsTask (Check file) = IsCheck
   IsTask (Digest file) = IsDigest
@@ -207,11 +231,17 @@ module _ (before after : Option (List ℕ)) (done : Done) where
   IsTask (Renew file new since) = IsRenew since.now
   IsTask (Times file division day) = IsTimes division day.now
   IsTask (JoinedTimes file older division day) = IsJoinedTimes division day.now
-  IsTask (Terminals file wanted) = IsTerminals wanted
-  IsTask (SetTerminals file csv) = IsSetting
+  IsTask (Terminals file wanted list) = IsTerminals (is_some list) wanted
+  IsTask (SetTerminals file csv list) = IsSetting (is_some list)
 
 -- by what the output held before, what it holds after, and why the task fails
 module _ (before after : Option (List ℕ)) (fault : Failure) where
+  -- a change was not made; or it was, and the output failed
+  abbrev pub FailsChange : Bool → RoomChange → Type 0
+  FailsChange kept change = IsUnmade before after fault kept change
+      ⊎ ((fault ≡ failure.Network)
+      × ((between : Option (List ℕ)) × IsMade before between kept change))
+
   -- no room was created: there is no plan, and nothing is said; or this became of the file, by some
   -- plan
   abbrev pub FailsInit : Type 0
@@ -219,14 +249,12 @@ module _ (before after : Option (List ℕ)) (fault : Failure) where
       ⊎ ((plan : PlanFile) × IsUndoneInFile (Creates plan) (CreatesNone plan) before after fault)
 
   -- this became of a room's file that did not get a plan; or it got it, and the output failed
-  abbrev pub FailsReplanBy : PlanFile → Type 0
-  FailsReplanBy plan = IsUndoneInFile (Replans plan) HoldsNoRoom before after fault
-      ⊎ ((fault ≡ failure.Network)
-      × ((between : Option (List ℕ)) × IsDoneInFile (Replans plan) before between tt))
+  abbrev pub FailsReplanBy : Bool → PlanFile → Type 0
+  FailsReplanBy kept plan = FailsChange kept (change.Plan plan)
 
   -- no room got a plan: there is none, and nothing is said; or by some plan it failed
-  abbrev pub FailsReplan : Type 0
-  FailsReplan = (after ≡ before) ⊎ ((plan : PlanFile) × FailsReplanBy plan)
+  abbrev pub FailsReplan : Bool → Type 0
+  FailsReplan kept = (after ≡ before) ⊎ ((plan : PlanFile) × FailsReplanBy kept plan)
 
   -- no fleet was enrolled whole: there is none, and nothing is said; or this became of the file, by
   -- some rows
@@ -298,7 +326,7 @@ module _ (before after : Option (List ℕ)) (fault : Failure) where
 
   -- a list was not replayed whole, and this became of the room's file
   abbrev pub FailsReplay : How → Type 0
-  FailsReplay how = IsUndoneInFile (Replays how) OpensNone before after fault
+  FailsReplay how = IsUndoneInFile (Replays how) (ReplaysNone how) before after fault
 
   -- no room was made of another one: that left nothing since a day; or this became of the new file
   abbrev pub FailsRenew : List ℕ → Type 0
@@ -317,38 +345,35 @@ module _ (before after : Option (List ℕ)) (fault : Failure) where
   FailsBoard = ((after ≡ before) × ((fault ≡ failure.Input) ⊎ (fault ≡ failure.Memory)))
       ⊎ (fault ≡ failure.Network)
 
-  -- the system gives no random token, and nothing is said; or with some token this became of the
-  -- file; or the change was made, and the output failed
-  abbrev pub FailsReissue : Who → Type 0
-  FailsReissue who =
+  -- the system gives no random token, or there is no memory for the text of a change, and nothing
+  -- is said; or with some token it failed
+  abbrev pub FailsReissue : Bool → Who → Type 0
+  FailsReissue kept who =
       ((after ≡ before) × ((fault ≡ failure.Memory) ⊎ (fault ≡ failure.Storage)))
-      ⊎ ((token : Option Token)
-      × (IsUndoneInFile (Reissues who token) HoldsNoRoom before after fault
-      ⊎ ((fault ≡ failure.Network)
-      × ((between : Option (List ℕ)) × IsDoneInFile (Reissues who token) before between tt))))
+      ⊎ ((token : Option Token) × FailsChange kept (reissue_of who token))
 
-  -- this became of the room's file where a list was not set; or it was, and the output failed
-  abbrev pub FailsSettingBy : List Terminal → Type 0
-  FailsSettingBy listed = IsUndoneInFile (Sets listed) HoldsNoRoom before after fault
-      ⊎ ((fault ≡ failure.Network)
-      × ((between : Option (List ℕ)) × IsDoneInFile (Sets listed) before between tt))
+  -- the terminals of a list were not set: there is no memory for its text, and nothing is said; or
+  -- it failed
+  abbrev pub FailsSettingBy : Bool → Vec Terminal Global → Type 0
+  FailsSettingBy kept listed = ((after ≡ before) × (fault ≡ failure.Memory))
+      ⊎ FailsChange kept (change.Terminals listed)
 
   -- no terminals were set: no file gives any, and nothing is said; or by some list it failed
-  abbrev pub FailsSetting : Type 0
-  FailsSetting = (after ≡ before) ⊎ ((listed : List Terminal) × FailsSettingBy listed)
+  abbrev pub FailsSetting : Bool → Type 0
+  FailsSetting kept = (after ≡ before) ⊎ ((listed : Vec Terminal Global) × FailsSettingBy kept listed)
 
   -- terminals were not listed, or not changed
-  abbrev pub FailsTerminals : Wanted → Type 0
-  FailsTerminals wanted.List = IsUndoneInFile Lists HoldsNoRoom before after fault
-  FailsTerminals (wanted.New who) = FailsReissue who
-  FailsTerminals (wanted.Revoke who) = FailsReissue who
+  abbrev pub FailsTerminals : Bool → Wanted → Type 0
+  FailsTerminals kept wanted.List = IsUndoneInFile Lists HoldsNoRoom before after fault
+  FailsTerminals kept (wanted.New who) = FailsReissue kept who
+  FailsTerminals kept (wanted.Revoke who) = FailsReissue kept who
 
   -- what was asked for was not done
   abbrev pub FailsTask : Task → Type 0
   FailsTask (Init file plan) = FailsInit
   FailsTask (Import file fleet None) = FailsImport
   FailsTask (Import file fleet (Some list)) = FailsKeptImport
-  FailsTask (Replan file plan) = FailsReplan
+  FailsTask (Replan file plan list) = FailsReplan (is_some list)
   FailsTask (Migrate file) = FailsMigrate
   FailsTask (Check file) = FailsCheck
   FailsTask (Digest file) = FailsDigest
@@ -360,8 +385,8 @@ module _ (before after : Option (List ℕ)) (fault : Failure) where
   FailsTask (Renew file new since) = FailsRenew since.now
   FailsTask (Times file division day) = FailsTimes division day.now
   FailsTask (JoinedTimes file older division day) = FailsJoinedTimes division day.now
-  FailsTask (Terminals file wanted) = FailsTerminals wanted
-  FailsTask (SetTerminals file csv) = FailsSetting
+  FailsTask (Terminals file wanted list) = FailsTerminals (is_some list) wanted
+  FailsTask (SetTerminals file csv list) = FailsSetting (is_some list)
 
 -- The exit status of what the words of a command line ask for. Of a task it is by how much was
 -- done, or by why it was not, and what the output holds is by that; of other words it is by what

@@ -1,9 +1,8 @@
--- An import that is kept in a list: where the room is, and the fleet, before it is enrolled, and then
--- where the room is after it.
+-- An import that is kept in a list: where the room is, and the fleet, before it is enrolled, and
+-- then where the room is after it.
 use Rattle.std.specs.List.{flat_map}
 use Rattle.std.specs.Prelude.{All, Err, IfErr, IfOk, List, [], Ok, OnOk, Option, Result, ℕ, ◌++◌, ◌∷◌, ◌≡◌, ◌⊎◌}
-use Rattle.sqlite.specs.Held.{Held, state}
-use Rattle.sqlite.specs.State.{HasCleanDisk}
+use Rattle.sqlite.specs.Held.{Held}
 use Rattle.sqlite_trees.specs.declared.store.Store.{Ghosts}
 use Rattle.room_types.specs.declared.fleet.Terminal.{Terminal}
 use Rattle.room_model.specs.Digests.{IsHeadOf}
@@ -24,7 +23,8 @@ use Rattle.dispatch_room_journal.specs.declared.list_ends.ListEnd.{ListEnd}
 use Rattle.dispatch_room_commands.specs.declared.kept_fleets.FleetList.{FleetList}
 use Rattle.dispatch_room_tasks.specs.Enrolment.{HasImported, IsTold}
 use Rattle.dispatch_room_tasks.specs.OpenedRoom.{OpensRoom}
-use Rattle.dispatch_room_commands.specs.ListedRows.{digits_in}
+use Rattle.dispatch_room_commands.specs.StoodRooms.{Stays, digits_in}
+use Rattle.room_tables_schema.specs.FileConnections.{IsClean}
 
 -- a text is these lines, one after another; the last one may have no line end
 pub record AreLinesOf (text : List ℕ) (lines : List (List ℕ)) : Type 0 where
@@ -65,43 +65,37 @@ module _ {F : Type 0} (contents lasting : F → Option (List ℕ)) where
     pub lasts : IsLasting new
 
 module _ {S : Type 0} (g : Ghosts S) where
-  -- a store that is looked at stands for what it stood for
-  pub record Stays (old new : Store S) : Type 0 where
-    pub clean : HasCleanDisk (state g new.conn) → HasCleanDisk (state g old.conn)
-    pub same : HasCleanDisk (state g new.conn) → (terminals : List Terminal) (room : Room)
-        → IsRoom g old terminals room → IsRoom g new terminals room
-
   -- The head is that of the room, which stays as it is and is kept as it was.
   pub record ShowsHead (old new : Store S) (head : Head) : Type 0 where
-    pub stays : Stays old new
-    pub kept : HasCleanDisk (state g new.conn) → IsKept g old → IsKept g new
-    pub is : HasCleanDisk (state g new.conn) → (terminals : List Terminal) (room : Room)
+    pub stays : Stays g old new
+    pub kept : IsClean g new.conn → IsKept g old → IsKept g new
+    pub is : IsClean g new.conn → (terminals : List Terminal) (room : Room)
         → IsRoom g old terminals room → IsHeadOf (digits_in old) head terminals room
 
   -- the lines were imported in a store
   pub record Imports (old new : Store S) (lines : List FleetLine) (before after : Option (List ℕ))
       (came : Result Done Failure) : Type 0 where
-    pub clean : HasCleanDisk (state g new.conn) → HasCleanDisk (state g old.conn)
-    pub imported : HasCleanDisk (state g new.conn) → (terminals : List Terminal) (room : Room)
+    pub clean : IsClean g new.conn → IsClean g old.conn
+    pub imported : IsClean g new.conn → (terminals : List Terminal) (room : Room)
         → IsRoom g old terminals room
         → HasImported g old new lines before after came terminals room
     pub told : IfOk came (IsTold lines before after)
 
-  -- nothing was enrolled: memory, storage or the list is wanting
+  -- nothing was enrolled: memory, storage or the list fails
   pub record EnrolsNothing (old new : Store S) (before after : Option (List ℕ))
       (done : Result Done Failure) : Type 0 where
-    pub stays : Stays old new
+    pub stays : Stays g old new
     pub untold : after ≡ before
     pub fault : Failure
     pub done_is : done ≡ Err fault
     pub why : (fault ≡ Journal) ⊎ (fault ≡ Memory) ⊎ (fault ≡ Storage)
 
   module _ {F : Type 0} (contents lasting : F → Option (List ℕ)) where
-    -- It is kept where the room is after an import that came to this. Where that is not so, an
-    -- import that was done fails by it.
-    pub record EndsKept (old new : Store S) (from to : FleetList F) (came done : Result Done Failure)
-        : Type 0 where
-      pub stays : Stays old new
+    -- It is kept where the room is after a change that came to this. Where that is not so, a
+    -- change that was made fails by it.
+    pub record EndsKept {T : Type 0} (old new : Store S) (from to : FleetList F)
+        (came done : Result T Failure) : Type 0 where
+      pub stays : Stays g old new
       pub kept : OnOk done ((head : Head) × ShowsHead old new head
           × KeepsHead contents lasting from to head)
       pub failed : IfErr came (λ fault. done ≡ Err fault)
@@ -133,6 +127,6 @@ module _ {S : Type 0} (g : Ghosts S) where
         (text : List ℕ) (before after : Option (List ℕ)) (done : Result Done Failure) : Type 0 where
       pub opened : Store S
       pub closed : Store S
-      pub opens : HasCleanDisk (state g opened.conn) → OpensRoom g old opened
+      pub opens : IsClean g opened.conn → OpensRoom g old opened
       pub is : ImportsKept opened closed from to lines text before after done
       pub conn : closed.conn ≡ new

@@ -1,8 +1,7 @@
 -- The digest of a room that is printed, and a copy of a room that is put in a file's place.
 use Rattle.std.specs.Prelude.{Err, IfOk, List, Ok, OnOk, Option, Result, Bool, false, true, codes, ℕ, ◌++◌, ◌≡◌, ◌⊎◌}
 use Rattle.std.specs.Io.KnownBytes.{Appends}
-use Rattle.sqlite.specs.Held.{Held, state}
-use Rattle.sqlite.specs.State.{HasCleanDisk}
+use Rattle.sqlite.specs.Held.{Held}
 use Rattle.sqlite_trees.specs.declared.store.Store.{Ghosts}
 use Rattle.room_types.specs.declared.fleet.Terminal.{Terminal}
 use Rattle.room_model.specs.Digests.{digits_of}
@@ -15,6 +14,7 @@ use Rattle.dispatch_room_exit.specs.declared.exit_status.Done.{Done}
 use Rattle.dispatch_room_exit.specs.declared.exit_status.Done.TheVariants.{Whole}
 use Rattle.dispatch_room_exit.specs.declared.exit_status.Failure.{Failure}
 use Rattle.dispatch_room_tasks.specs.OpenedRoom.{OpensRoom}
+use Rattle.room_tables_schema.specs.FileConnections.{IsClean}
 
 -- the line of a digest
 abbrev pub digest_line : List ℕ → List ℕ
@@ -27,11 +27,11 @@ room_digits zone terminals room = digits_of digest_of zone Second terminals room
 -- The digest of a store's room is printed, unless something fails. The room stays as it was.
 pub record TellsDigest {S : Type 0} (g : Ghosts S) (old new : Store S)
     (before after : Option (List ℕ)) (done : Result Done Failure) : Type 0 where
-  pub clean : HasCleanDisk (state g new.conn) → HasCleanDisk (state g old.conn)
-  pub same : HasCleanDisk (state g new.conn) → (terminals : List Terminal) (room : Room)
+  pub clean : IsClean g new.conn → IsClean g old.conn
+  pub same : IsClean g new.conn → (terminals : List Terminal) (room : Room)
       → IsRoom g old terminals room → IsRoom g new terminals room
   pub whole : IfOk done (λ it. it ≡ Whole)
-  pub told : HasCleanDisk (state g new.conn) → OnOk done ((terminals : List Terminal) (room : Room)
+  pub told : IsClean g new.conn → OnOk done ((terminals : List Terminal) (room : Room)
       → IsRoom g old terminals room
       → Appends before after (digest_line (room_digits old.plan.zone terminals room)))
 
@@ -40,6 +40,6 @@ pub record HasDigest {S : Type 0} (g : Ghosts S) (old new : Held S)
     (before after : Option (List ℕ)) (done : Result Done Failure) : Type 0 where
   pub opened : Store S
   pub last : Store S
-  pub opens : HasCleanDisk (state g opened.conn) → OpensRoom g old opened
+  pub opens : IsClean g opened.conn → OpensRoom g old opened
   pub tells : TellsDigest g opened last before after done
   pub closed : new ≡ last.conn

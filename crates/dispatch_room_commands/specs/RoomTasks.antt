@@ -4,7 +4,6 @@ use Rattle.std.specs.Io.KnownBytes.{Appends}
 use Rattle.std.specs.Prelude.{Bool, Err, IfOk, List, None, Ok, OnOk, Option, Result, Some, Vec, codes, decimal, false}
 use Rattle.std.specs.Prelude.{is_some, true, ℕ, ◌&&◌, ◌++◌, ◌==◌, ◌≡◌, ◌⊎◌}
 use Rattle.sqlite.specs.Held.{Held, state}
-use Rattle.sqlite.specs.State.{HasCleanDisk}
 use Rattle.sqlite_trees.specs.declared.store.Store.{Ghosts}
 use Rattle.room_types.specs.Texts.{Token}
 use Rattle.room_types.specs.declared.asks.Who.{Who}
@@ -27,30 +26,31 @@ use Rattle.dispatch_room_cli.specs.declared.tasks.Journal.{Journal}
 use Rattle.dispatch_room_cli.specs.declared.tasks.Replay.{Replay as How}
 use Rattle.dispatch_room_cli.specs.declared.tasks.Service.{Service}
 use Rattle.dispatch_room_commands.specs.CommandEnds.{failure_of}
+use Rattle.dispatch_room_commands.specs.MadeChanges.{MakesKeptIn, OpensNoneKept}
 use Rattle.dispatch_room_commands.specs.KeptImports.{ImportsKeptIn}
 use Rattle.dispatch_room_commands.specs.declared.kept_fleets.FleetList.{FleetList}
 use Rattle.dispatch_room_commands.specs.ReplayEnds.{Concludes}
-use Rattle.dispatch_room_commands.specs.ReplayedLegs.{ReplaysLegs, count_in}
+use Rattle.dispatch_room_commands.specs.ReplayedLegs.{LosesLeg, ReplaysLegs, Waypoint, count_in}
 use Rattle.dispatch_room_commands.specs.RoomDigests.{HasDigest}
+use Rattle.dispatch_room_commands.specs.RoomChanges.{Makes}
+use Rattle.dispatch_room_commands.specs.declared.room_changes.RoomChange.{RoomChange}
 use Rattle.dispatch_room_commands.specs.ServedParts.{Interval, OpensNoPart, ServesParts}
 use Rattle.dispatch_room_commands.specs.declared.serve.Served.{Served}
 use Rattle.dispatch_room_serving.specs.Callers.{Opening}
 use Rattle.dispatch_room_serving.specs.declared.journal_files.SystemFile.{SystemFile}
 use Rattle.dispatch_room_serving.specs.declared.served_room.Terms.{Terms}
-use Rattle.dispatch_room_tasks.specs.Examination as checked
+use Rattle.dispatch_room_archive.specs.Examination as checked
 use Rattle.dispatch_room_tasks.specs.Creation as created
-use Rattle.dispatch_room_tasks.specs.TimesReport.{HasReported}
-use Rattle.dispatch_room_tasks.specs.JoinedReports.{IsDayIn, JoinsDay, JoinsNone, LacksDay}
-use Rattle.dispatch_room_tasks.specs.declared.division_days.DivisionDay.{DivisionDay}
+use Rattle.dispatch_room_archive.specs.TimesReport.{HasReported}
+use Rattle.dispatch_room_archive.specs.JoinedReports.{IsDayIn, JoinsDay, JoinsNone, LacksDay}
+use Rattle.dispatch_room_archive.specs.declared.division_days.DivisionDay.{DivisionDay}
 use Rattle.dispatch_room_tasks.specs.ListedTerminals.{HasListed}
-use Rattle.dispatch_room_tasks.specs.ChangedTerminals.{HasChanged}
-use Rattle.dispatch_room_tasks.specs.ReplacedTerminals.{HasReplaced}
-use Rattle.dispatch_room_tasks.specs.ReplannedRoom.{HasReplanned}
 use Rattle.dispatch_room_tasks.specs.Enrolment as imported
 use Rattle.dispatch_room_tasks.specs.Migration.{IsMigrated, IsUnmoved}
-use Rattle.dispatch_room_tasks.specs.Renewal.{ExplainsUnmade, IsBegun, IsLeftBy, LeavesNone}
-use Rattle.dispatch_room_tasks.specs.Renewal as renewed
-use Rattle.dispatch_room_tasks.specs.declared.renewal.Successor.{Successor}
+use Rattle.dispatch_room_archive.specs.Renewal.{ExplainsUnmade, IsBegun, IsLeftBy, LeavesNone}
+use Rattle.dispatch_room_archive.specs.Renewal as renewed
+use Rattle.dispatch_room_archive.specs.declared.renewal.Successor.{Successor}
+use Rattle.room_tables_schema.specs.FileConnections.{IsClean}
 
 -- the room of a plan is created, and reported
 abbrev pub Creates : PlanFile → Saying Done
@@ -68,17 +68,17 @@ OpensNone = λ S g conn. IsUnopened g conn
 -- the good rows of a fleet are enrolled, and what became of each line is reported
 abbrev pub Enrols : List FleetLine → Saying Done
 Enrols lines = λ S g old new before after done.
-    (HasCleanDisk (state g new) → imported.HasImportedIn g old new lines before after done)
+    (IsClean g new → imported.HasImportedIn g old new lines before after done)
     × IfOk done (imported.IsTold lines before after)
 
--- The same once the fleet lasts in a list, and then it is kept where the room is. What the file of a
--- list holds no contract can say.
+-- The same once the fleet lasts in a list, and then it is kept where the room is. What the file of
+-- a list holds no contract can say.
 abbrev pub EnrolsKept : List FleetLine → List ℕ → Saying Done
 EnrolsKept lines text = λ S g old new before after done.
     (from to : FleetList SystemFile)
     × ImportsKeptIn g (λ _. None) (λ _. None) old new from to lines text before after done
 
--- or memory is wanting, or no room is opened
+-- or memory fails, or no room is opened
 abbrev pub EnrolsNone : Refusing
 EnrolsNone = λ S g conn fault. (fault ≡ Memory) ⊎ IsUnopened g conn fault
 
@@ -93,7 +93,7 @@ MovesNone = λ S g conn. IsUnmoved g conn
 -- what the room leaves to one that is made of it since a day is read, and nothing is written yet
 abbrev pub LeavesRows : List ℕ → Saying Successor
 LeavesRows day = λ S g old new before after done.
-    (HasCleanDisk (state g new) → IfOk done (IsLeftBy (state g old).now.trees day))
+    (IsClean g new → IfOk done (IsLeftBy (state g old).now.trees day))
     × WritesNothing (state g old) (state g new) × (after ≡ before)
 
 -- or it leaves nothing, for this
@@ -126,12 +126,12 @@ Digests = λ S g old new before after done. HasDigest g old new before after don
 -- a division's day is reported, and nothing is written yet; the room stays as it is
 abbrev pub Reports : ℕ → List ℕ → Saying (Vec ℕ Global)
 Reports division day = λ S g old new before after done.
-    (HasCleanDisk (state g new) → HasReported g old new division day done) × (after ≡ before)
+    (IsClean g new → HasReported g old new division day done) × (after ≡ before)
 
 -- a division's day is found in a room, and nothing is written
 abbrev pub FindsDay : ℕ → List ℕ → Saying DivisionDay
 FindsDay division day = λ S g old new before after done.
-    (HasCleanDisk (state g new) → IfOk done (IsDayIn (state g old).now.trees division day))
+    (IsClean g new → IfOk done (IsDayIn (state g old).now.trees division day))
     × WritesNothing (state g old) (state g new) × (after ≡ before)
 
 -- or there is none, for this
@@ -141,7 +141,7 @@ FindsNoDay division day = λ S g conn. LacksDay g conn division day
 -- that day is reported with an older room's incidents, and nothing is written yet
 abbrev pub ReportsBoth : DivisionDay → Saying (Vec ℕ Global)
 ReportsBoth newer = λ S g old new before after done.
-    (HasCleanDisk (state g new)
+    (IsClean g new
     → IfOk done (λ report. JoinsDay (state g old).now.trees newer report.items))
     × WritesNothing (state g old) (state g new) × (after ≡ before)
 
@@ -153,21 +153,21 @@ ReportsNone = λ S g conn. JoinsNone g conn
 abbrev pub Lists : Saying Done
 Lists = λ S g old new before after done. HasListed g old new before after done
 
--- one has only this token, or none, and nothing is written yet
-abbrev pub Reissues : Who → Option Token → Saying (Unit {0})
-Reissues who token = λ S g old new before after done.
-    HasChanged g old new who token done × (after ≡ before)
+-- a change of its terminals or its plan is made, and nothing is written yet
+abbrev pub Changes : RoomChange → Saying (Unit {0})
+Changes change = λ S g old new before after done. Makes g old new change done × (after ≡ before)
 
--- all that a list names have the terminals that it gives them, and no others, and nothing is
--- written yet
-abbrev pub Sets : List Terminal → Saying (Unit {0})
-Sets listed = λ S g old new before after done.
-    HasReplaced g old new listed done × (after ≡ before)
+-- The same once its text lasts in a list, and then it is kept where the room is. What the file of a
+-- list holds no contract can say.
+abbrev pub ChangesKept : RoomChange → List ℕ → Saying (Unit {0})
+ChangesKept change text = λ S g old new before after done.
+    ((from to : FleetList SystemFile)
+    × MakesKeptIn g (λ _. None) (λ _. None) old new from to change text done) × (after ≡ before)
 
--- the room has the plan of a file, and its terminals, and nothing is written yet
-abbrev pub Replans : PlanFile → Saying (Unit {0})
-Replans plan = λ S g old new before after done.
-    HasReplanned g old new plan done × (after ≡ before)
+-- or no room is opened for it, or none is again once the text was kept
+abbrev pub LosesKeptRoom : RoomChange → List ℕ → Refusing
+LosesKeptRoom change text = λ S g conn.
+    OpensNoneKept g {F = SystemFile} (λ _. None) (λ _. None) conn change text
 
 -- or the file holds no room, for this
 abbrev pub HoldsNoRoom : Refusing
@@ -254,21 +254,26 @@ abbrev pub EndsAs : Result ℕ Stopped → Result Done Failure → Type 0
 EndsAs (Ok records) done = done ≡ Ok Whole
 EndsAs (Err stopped) done = done ≡ Err (failure_of stopped)
 
--- What is done with a list in a store that is first this and then that, in this setting and so.
-module _ {S : Type 0} (g : Ghosts S) (setting : Setting) (how : How) (first last : Store S)
-    (list before after : Option (List ℕ)) (done : Result Done Failure) where
+-- where the first leg of a list begins
+abbrev pub begins_leg : {S : Type 0} → Store S → Setting → Option (List ℕ) → Option (List ℕ)
+    → Waypoint S
+begins_leg store setting list held =
+    record { store = store; setting = setting; left = list; held = held; records = 0 }
+
+-- What is done with a list in a store that is first this and then that, first in this setting, and
+-- so.
+module _ {S : Type 0} (g : Ghosts S) (how : How) (first : Store S) (setting : Setting)
+    (last : Store S) (list before after : Option (List ℕ)) (done : Result Done Failure) where
   -- it is replayed leg by leg, and how much it was is reported
   pub record IsReplayed : Type 0 where
     pub result : Result Replayed Stopped
-    pub is : ReplaysLegs g setting how
-        (record { store = first; left = list; held = None; records = 0 }) last None result
+    pub is : ReplaysLegs g how (begins_leg first setting list None) last None result
     pub told : IsTold result before after done
 
   -- each of its messages is answered, leg by leg, and the answers are written
   pub record AreAnswered : Type 0 where
     pub result : Result Replayed Stopped
-    pub is : ReplaysLegs g setting how
-        (record { store = first; left = list; held = before; records = 0 }) last after result
+    pub is : ReplaysLegs g how (begins_leg first setting list before) last after result
     pub ends : EndsAs (count_in result) done
 
 -- A list was replayed to the room, or its messages answered, as it was asked. What is written of
@@ -279,15 +284,15 @@ pub record HasReplayed {S : Type 0} (g : Ghosts S) (old new : Held S) (how : How
   pub first : Store S
   pub last : Store S
   pub setting : Setting
-  pub opens : HasCleanDisk (state g first.conn) → OpensRoom g old first
+  pub opens : IsClean g first.conn → OpensRoom g old first
   pub is_set : IsSetting first.plan.zone how.history setting
   pub list : Option (List ℕ)
   pub came : Result Done Failure
   pub between : Option (List ℕ)
   pub replayed : how.answers ≡ false
-      → IsReplayed g setting how first last list before between came
+      → IsReplayed g how first setting last list before between came
   pub answered : how.answers ≡ true
-      → (holds : Option (List ℕ)) × AreAnswered g setting how first last list before holds came
+      → (holds : Option (List ℕ)) × AreAnswered g how first setting last list before holds came
   pub ended : Store S
   pub has_ended : Bool
   pub ends : Concludes g last ended how came has_ended between after done
@@ -295,3 +300,17 @@ pub record HasReplayed {S : Type 0} (g : Ghosts S) (old new : Held S) (how : How
 
 abbrev pub Replays : How → Saying Done
 Replays how = λ S g old new before after done. HasReplayed g old new how before after done
+
+-- no room was opened, or, behind a leg of a list, none was opened again
+pub record LosesReplayed {S : Type 0} (g : Ghosts S) (old : Held S) (how : How) (fault : Failure)
+    : Type 0 where
+  pub first : Store S
+  pub setting : Setting
+  pub opens : IsClean g first.conn → OpensRoom g old first
+  pub is_set : IsSetting first.plan.zone how.history setting
+  pub list : Option (List ℕ)
+  pub held : Option (List ℕ)
+  pub loses : LosesLeg g how (begins_leg first setting list held) fault
+
+abbrev pub ReplaysNone : How → Refusing
+ReplaysNone how = λ S g conn fault. IsUnopened g conn fault ⊎ LosesReplayed g conn how fault

@@ -1,5 +1,5 @@
--- A room that is served in parts, one after another: each begins in a new list, at the room that the
--- one before left in the same database.
+-- A room that is served in parts, one after another: each begins in a new list, at the room that
+-- the one before left in the same database.
 use Rattle.std.specs.Prelude.{◌≡◌, ◌⊎◌, ℕ, List, [], ◌∷◌, Bool, true, false, Option, Result, Ok, Err}
 use Rattle.sqlite.specs.Held.{Held}
 use Rattle.sqlite_trees.specs.declared.store.Store.{Ghosts}

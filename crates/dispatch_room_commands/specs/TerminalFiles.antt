@@ -1,7 +1,7 @@
 -- The terminals that a fleet's file gives.
 use Rattle.std.specs.Prelude.{None, Option, Some}
 use Rattle.room_types.specs.declared.fleet.Terminal.{Terminal}
-use Rattle.room_model.specs.Enrol.{new_terminal}
+use Rattle.room_model.specs.FleetRows.{new_terminal}
 use Rattle.dispatch_room_csv.specs.declared.fleet_file.FleetLine.{FleetLine}
 use Rattle.dispatch_room_csv.specs.declared.fleet_file.FleetLine.TheVariants.{Bad, Row}
 

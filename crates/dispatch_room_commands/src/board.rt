@@ -3,12 +3,12 @@ ghost use Rattle.std.specs.Prelude.{◌≡◌, IfErr, IfOk};
 ghost use Rattle.dispatch_room_commands.specs.CommandEnds.{IsPrinted, end_of_board};
 ghost use Rattle.dispatch_room_commands.specs.DoneTasks.{FailsBoard, IsBoardOf};
 
+use crate::hosts::Host;
 use dispatch_room_board::boards::{Reached, board_of};
 use dispatch_room_board::exchange::{hear, tell};
 use dispatch_room_board::requests::Asker;
 use dispatch_room_cli::tasks::{Color, Look};
 use dispatch_room_exit::exit_status::{Done, Failure};
-use dispatch_room_exit::explainer::Explainer;
 use dispatch_room_sockets::client::call;
 use room_types::token::Token;
 use std::alloc::{AllocError, Global};
@@ -17,13 +17,7 @@ use std::time::Duration;
 
 /// Shows the board of a desk: what could not be reached is shown in it, and by the end. A text that
 /// is no token is refused, and nothing is asked.
-pub fn board<O: Write>(
-    rt: &HostRuntime,
-    explainer: Explainer<'_>,
-    alloc: Global,
-    look: &Look<'_>,
-    out: &mut O,
-) -> Result<Done, Failure>
+pub fn board<O: Write>(host: Host<'_>, look: &Look<'_>, out: &mut O) -> Result<Done, Failure>
     ensures done { IfOk result (λ done.
         IsBoardOf (O.contents out.old) (O.contents out.new) done look.now) }
     ensures undone { IfErr result (FailsBoard (O.contents out.old) (O.contents out.new)) }
@@ -32,11 +26,17 @@ pub fn board<O: Write>(
         return Err(Failure::Input);
     };
     let incident = look.incident;
-    let Ok(heard) = heard(rt, explainer, alloc, look, &Asker { token, incident }) else {
+    let Ok(heard) = heard(host, look, &Asker { token, incident }) else {
         return Err(Failure::Memory);
     };
-    let colour = has_colour(rt, look.color);
-    print(alloc, heard.as_slice(), incident.is_some(), colour, out)
+    let colour = has_colour(host.rt, look.color);
+    print(
+        host.alloc,
+        heard.as_slice(),
+        incident.is_some(),
+        colour,
+        out,
+    )
 }
 
 // Prints the board of what was heard.
@@ -81,17 +81,12 @@ fn has_colour(rt: &HostRuntime, color: Color) -> bool {
 
 // What is heard of a room within the time that was granted: nothing where it takes no connection,
 // and what still comes where it doesn't take all that is asked.
-fn heard(
-    rt: &HostRuntime,
-    explainer: Explainer<'_>,
-    alloc: Global,
-    look: &Look<'_>,
-    asker: &Asker,
-) -> Result<Vec<u8>, AllocError> {
+fn heard(host: Host<'_>, look: &Look<'_>, asker: &Asker) -> Result<Vec<u8>, AllocError> {
     let patience = Duration::from_secs(u64::from(look.patience));
-    let Some((mut reader, mut writer)) = call(rt, explainer, look.address, patience) else {
-        return Ok(Vec::new(alloc));
+    let Some((mut reader, mut writer)) = call(host.rt, host.explainer, look.address, patience)
+    else {
+        return Ok(Vec::new(host.alloc));
     };
-    let _told = tell(alloc, asker, &mut writer)?;
-    hear(alloc, &mut reader)
+    let _told = tell(host.alloc, asker, &mut writer)?;
+    hear(host.alloc, &mut reader)
 }

@@ -3,27 +3,21 @@ ghost use Rattle.std.specs.Prelude.{IfErr, IfOk};
 ghost use Rattle.dispatch_room_commands.specs.DoneTasks.{FailsCheck, IsCheck};
 ghost use Rattle.dispatch_room_commands.specs.RoomTasks.{Examines, ExaminesNone};
 
-use dispatch_room_disk::room_files::{RoomFile, RoomTask, in_file};
+use crate::hosts::Host;
+use dispatch_room_archive::examination::check_in;
+use dispatch_room_disk::room_files::{RoomFile, RoomTask};
 use dispatch_room_exit::exit_status::{Done, Failure};
-use dispatch_room_exit::explainer::Explainer;
-use dispatch_room_tasks::examination::check_in;
 use dispatch_room_tasks::opened_room::TaskResult;
 use sqlite::{Alter, Connection};
 use std::alloc::Global;
 use std::io::Write;
 
 /// Says how much the room of a file has, or what is wrong with the file first. No row is written.
-pub fn check<O: Write>(
-    rt: &HostRuntime,
-    explainer: Explainer<'_>,
-    alloc: Global,
-    file: &str,
-    out: &mut O,
-) -> Result<Done, Failure>
+pub fn check<O: Write>(host: Host<'_>, file: &str, out: &mut O) -> Result<Done, Failure>
     ensures done { IfOk result (IsCheck (O.contents out.old) (O.contents out.new)) }
     ensures undone { IfErr result (FailsCheck (O.contents out.old) (O.contents out.new)) }
 {
-    in_file(rt, explainer, alloc, RoomFile::Kept(file), Examination, out)
+    host.in_file(RoomFile::Kept(file), Examination, out)
 }
 
 // The room is looked at.

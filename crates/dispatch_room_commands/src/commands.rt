@@ -1,5 +1,5 @@
 //! The commands over a room's file: what they write, and the exit status.
-ghost use Rattle.std.specs.Prelude.{◌≡◌, IfErr, IfOk, Result};
+ghost use Rattle.std.specs.Prelude.{◌≡◌, IfOk, MatchResult, Result};
 ghost use Rattle.clap.specs.Words.{kind_of};
 ghost use Rattle.clap.specs.declared.error.Error.{Error as Mistake};
 ghost use Rattle.dispatch_room_commands.specs.CommandEnds.{IsHelpDone, IsWordsStatus, is_mistake};
@@ -11,9 +11,11 @@ use crate::board::board;
 use crate::check::check;
 use crate::digest::digest;
 use crate::files::is_open_to_others;
+use crate::hosts::Host;
 use crate::import::import;
 use crate::init::init;
 use crate::joined_times::joined_times;
+use crate::kept_changes::ChangedFile;
 use crate::kept_import::import_kept;
 use crate::migrate::migrate;
 use crate::renew::renew;
@@ -78,8 +80,12 @@ pub fn command<'a, W: Asks<'a>, O: Write, E: Write>(
     ensures { (asked : Result Asked Mistake) × W.reads words asked
         × IsExit asked (O.contents out.old) (O.contents out.new) result }
 {
-    let explainer = explainer_of(rt, words.explains());
-    exit(rt, explainer, alloc, words.read(alloc), out, err)
+    let host = Host {
+        rt,
+        explainer: explainer_of(rt, words.explains()),
+        alloc,
+    };
+    exit(host, words.read(alloc), out, err)
 }
 
 // Who explains failures: on a terminal they are explained, and where that is asked for.
@@ -89,9 +95,7 @@ fn explainer_of(rt: &HostRuntime, is_asked_for: bool) -> Explainer<'_> {
 
 // Does a task, or reports what the words are in its place, and returns the exit status.
 fn exit<O: Write, E: Write>(
-    rt: &HostRuntime,
-    explainer: Explainer<'_>,
-    alloc: Global,
+    host: Host<'_>,
     asked: Result<Task<'_>, Error>,
     out: &mut O,
     err: &mut E,
@@ -101,10 +105,10 @@ fn exit<O: Write, E: Write>(
     match asked {
         Ok(task) => {
             if let Some(file) = task.file() {
-                warn(rt, file, err);
+                warn(host.rt, file, err);
             }
-            let done = perform(rt, explainer, alloc, &task, out, err);
-            explain(explainer, &task, &done);
+            let done = perform(host, &task, out, err);
+            explain(host.explainer, &task, &done);
             end(done, err)
         }
         Err(error) => refuse(&error, out, err),
@@ -123,56 +127,59 @@ fn warn<E: Write>(rt: &HostRuntime, file: &str, err: &mut E) {
 }
 
 fn perform<O: Write, E: Write>(
-    rt: &HostRuntime,
-    explainer: Explainer<'_>,
-    alloc: Global,
+    host: Host<'_>,
     task: &Task<'_>,
     out: &mut O,
     err: &mut E,
 ) -> Result<Done, Failure>
-    ensures done { IfOk result (λ done.
-        IsTask (O.contents out.old) (O.contents out.new) done task.now) }
-    ensures undone { IfErr result (λ fault.
-        FailsTask (O.contents out.old) (O.contents out.new) fault task.now) }
+    ensures { MatchResult result
+        (λ done. IsTask (O.contents out.old) (O.contents out.new) done task.now)
+        (λ fault. FailsTask (O.contents out.old) (O.contents out.new) fault task.now) }
 {
     match *task {
-        Task::Init { file, plan } => init(rt, explainer, alloc, file, plan, out),
+        Task::Init { file, plan } => init(host, file, plan, out),
         Task::Import {
             file,
             fleet,
             list: None,
-        } => import(rt, explainer, alloc, file, fleet, out),
+        } => import(host, file, fleet, out),
         Task::Import {
             file,
             fleet,
             list: Some(list),
-        } => import_kept(rt, explainer, alloc, (file, fleet), list, out, err),
-        Task::Replan { file, plan } => replan(rt, explainer, alloc, file, plan, out),
-        Task::Migrate { file } => migrate(rt, explainer, alloc, file, out),
-        Task::Check { file } => check(rt, explainer, alloc, file, out),
-        Task::Digest { file } => digest(rt, explainer, alloc, file, out),
-        Task::Restore { copy, file } => restore(rt, explainer, alloc, copy, file, out),
-        Task::Serve { file, service } => serve_file(rt, explainer, alloc, file, service, out, err),
+        } => import_kept(host, file, fleet, list, out, err),
+        Task::Replan { file, plan, list } => {
+            replan(host, ChangedFile { file, list }, plan, out, err)
+        }
+        Task::Migrate { file } => migrate(host, file, out),
+        Task::Check { file } => check(host, file, out),
+        Task::Digest { file } => digest(host, file, out),
+        Task::Restore { copy, file } => restore(host, copy, file, out),
+        Task::Serve { file, service } => serve_file(host, file, service, out, err),
         Task::Replay {
             file,
             replay: ref how,
-        } => replay(rt, explainer, alloc, file, how, out, err),
-        Task::Renew { file, new, since } => renew(rt, explainer, alloc, file, new, since, out),
-        Task::Verify { list } => verify_list(rt, explainer, alloc, list, out),
-        Task::Board { ref look } => board(rt, explainer, alloc, look, out),
+        } => replay(host, file, how, out, err),
+        Task::Renew { file, new, since } => renew(host, file, new, since, out),
+        Task::Verify { list } => verify_list(host, list, out),
+        Task::Board { ref look } => board(host, look, out),
         Task::Times {
             file,
             division,
             day,
-        } => times(rt, explainer, alloc, file, division, day, out),
+        } => times(host, file, division, day, out),
         Task::JoinedTimes {
             file,
             older,
             division,
             day,
-        } => joined_times(rt, explainer, alloc, (file, older), division, day, out),
-        Task::Terminals { file, wanted } => terminals(rt, explainer, alloc, file, wanted, out),
-        Task::SetTerminals { file, csv } => set_terminals(rt, explainer, alloc, file, csv, out),
+        } => joined_times(host, file, older, division, day, out),
+        Task::Terminals { file, wanted, list } => {
+            terminals(host, ChangedFile { file, list }, wanted, out, err)
+        }
+        Task::SetTerminals { file, csv, list } => {
+            set_terminals(host, ChangedFile { file, list }, csv, out, err)
+        }
     }
 }
 

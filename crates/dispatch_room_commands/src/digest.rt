@@ -7,9 +7,9 @@ ghost use Rattle.dispatch_room_commands.specs.DoneTasks.{FailsDigest, IsDigest};
 ghost use Rattle.dispatch_room_commands.specs.RoomDigests.{TellsDigest, digest_line};
 ghost use Rattle.dispatch_room_commands.specs.RoomTasks.{Digests, OpensNone};
 
-use dispatch_room_disk::room_files::{RoomFile, RoomTask, in_file};
+use crate::hosts::Host;
+use dispatch_room_disk::room_files::{RoomFile, RoomTask};
 use dispatch_room_exit::exit_status::{Done, Failure, refused};
-use dispatch_room_exit::explainer::Explainer;
 use dispatch_room_journal::journal_digests::digest_of;
 use dispatch_room_tasks::opened_room::{TaskResult, open_room};
 use room_model::digests::Version;
@@ -20,17 +20,11 @@ use std::alloc::Global;
 use std::io::{self, Write};
 
 /// Prints the digest of the room of a file, which stays as it is.
-pub fn digest<O: Write>(
-    rt: &HostRuntime,
-    explainer: Explainer<'_>,
-    alloc: Global,
-    file: &str,
-    out: &mut O,
-) -> Result<Done, Failure>
+pub fn digest<O: Write>(host: Host<'_>, file: &str, out: &mut O) -> Result<Done, Failure>
     ensures done { IfOk result (IsDigest (O.contents out.old) (O.contents out.new)) }
     ensures undone { IfErr result (FailsDigest (O.contents out.old) (O.contents out.new)) }
 {
-    in_file(rt, explainer, alloc, RoomFile::Kept(file), Digesting, out)
+    host.in_file(RoomFile::Kept(file), Digesting, out)
 }
 
 // The digest is printed.

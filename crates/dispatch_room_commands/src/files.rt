@@ -2,21 +2,21 @@
 ghost use Rattle.std.specs.Prelude.{◌≡◌, ◌⊎◌, IfErr};
 ghost use Rattle.dispatch_room_exit.specs.declared.exit_status.Failure.TheVariants as failure;
 
+use crate::hosts::Host;
 use dispatch_room_exit::exit_status::Failure;
-use dispatch_room_exit::explainer::Explainer;
 use std::fs;
 use std::io::ErrorKind;
 use std::os::unix::fs::PermissionsExt;
 
 /// The bytes of a text file. Where it can't be read, it is explained why.
-pub fn read_text(rt: &HostRuntime, explainer: Explainer<'_>, path: &str) -> Result<Vec<u8>, Failure>
+pub fn read_text(host: Host<'_>, path: &str) -> Result<Vec<u8>, Failure>
     ensures { IfErr result (λ fault. (fault ≡ failure.Memory) ⊎ (fault ≡ failure.Input)) }
 {
-    match fs::read(rt, path) {
+    match fs::read(host.rt, path) {
         Ok(text) => Ok(text),
         Err(error) if error.kind() == ErrorKind::OutOfMemory => Err(Failure::Memory),
         Err(error) => {
-            explainer.explain(format_args!("{path}: {error}"));
+            host.explainer.explain(format_args!("{path}: {error}"));
             Err(Failure::Input)
         }
     }

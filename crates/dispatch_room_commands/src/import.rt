@@ -4,12 +4,12 @@ ghost use Rattle.dispatch_room_commands.specs.DoneTasks.{FailsImport, IsImport};
 ghost use Rattle.dispatch_room_commands.specs.RoomTasks.{Enrols, EnrolsNone};
 
 use crate::files::read_text;
+use crate::hosts::Host;
 use dispatch_room_csv::fleet_file::{FleetLine, read_fleet};
 use dispatch_room_csv::fleet_file_faults::explain_fleet;
 use dispatch_room_csv::sheets::Sheet;
-use dispatch_room_disk::room_files::{RoomFile, RoomTask, in_file};
+use dispatch_room_disk::room_files::{RoomFile, RoomTask};
 use dispatch_room_exit::exit_status::{Done, Failure};
-use dispatch_room_exit::explainer::Explainer;
 use dispatch_room_tasks::enrolment::enrol_in;
 use dispatch_room_tasks::opened_room::TaskResult;
 use sqlite::{Alter, Connection};
@@ -19,9 +19,7 @@ use std::io::Write;
 /// Enrols the good rows of a fleet in order, and reports what became of each row. Where a row is
 /// bad or refused, the other rows are enrolled all the same.
 pub fn import<O: Write>(
-    rt: &HostRuntime,
-    explainer: Explainer<'_>,
-    alloc: Global,
+    host: Host<'_>,
     file: &str,
     fleet: &str,
     out: &mut O,
@@ -29,14 +27,14 @@ pub fn import<O: Write>(
     ensures done { IfOk result (IsImport (O.contents out.old) (O.contents out.new)) }
     ensures undone { IfErr result (FailsImport (O.contents out.old) (O.contents out.new)) }
 {
-    let text = read_text(rt, explainer, fleet)?;
-    let sheet = Sheet::new(alloc, explainer, fleet, text.as_slice());
+    let text = read_text(host, fleet)?;
+    let sheet = Sheet::new(host.alloc, host.explainer, fleet, text.as_slice());
     let lines = lines_in(sheet)?;
     let enrolment = Enrolment {
         sheet,
         lines: lines.as_slice(),
     };
-    in_file(rt, explainer, alloc, RoomFile::Kept(file), enrolment, out)
+    host.in_file(RoomFile::Kept(file), enrolment, out)
 }
 
 /// The rows that a file of a fleet has, or it is explained why it has none.

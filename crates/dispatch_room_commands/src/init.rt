@@ -1,15 +1,16 @@
 //! `init`: a room is created in a file, by a plan.
 ghost use Rattle.std.specs.Prelude.{IfErr, IfOk};
+ghost use Rattle.dispatch_room_csv.specs.PlanFile.{IsPlanText};
 ghost use Rattle.dispatch_room_commands.specs.DoneTasks.{FailsInit, IsInit};
 ghost use Rattle.dispatch_room_commands.specs.RoomTasks.{Creates, CreatesNone};
 
 use crate::files::read_text;
+use crate::hosts::Host;
 use dispatch_room_csv::plan_file::{PlanFile, read_plan};
 use dispatch_room_csv::plan_file_faults::explain_plan;
 use dispatch_room_csv::sheets::Sheet;
-use dispatch_room_disk::room_files::{RoomFile, RoomTask, in_file};
+use dispatch_room_disk::room_files::{RoomFile, RoomTask};
 use dispatch_room_exit::exit_status::{Done, Failure};
-use dispatch_room_exit::explainer::Explainer;
 use dispatch_room_tasks::creation::create_in;
 use dispatch_room_tasks::opened_room::TaskResult;
 use sqlite::{Alter, Connection};
@@ -18,26 +19,21 @@ use std::io::Write;
 
 /// Creates the room of a plan in a file that has nothing, and says how much it has, also where the
 /// file can't be closed afterwards. A file that it makes is private to its owner.
-pub fn init<O: Write>(
-    rt: &HostRuntime,
-    explainer: Explainer<'_>,
-    alloc: Global,
-    file: &str,
-    plan: &str,
-    out: &mut O,
-) -> Result<Done, Failure>
+pub fn init<O: Write>(host: Host<'_>, file: &str, plan: &str, out: &mut O) -> Result<Done, Failure>
     ensures done { IfOk result (IsInit (O.contents out.old) (O.contents out.new)) }
     ensures undone { IfErr result (FailsInit (O.contents out.old) (O.contents out.new)) }
 {
-    let text = read_text(rt, explainer, plan)?;
-    let sheet = Sheet::new(alloc, explainer, plan, text.as_slice());
+    let text = read_text(host, plan)?;
+    let sheet = Sheet::new(host.alloc, host.explainer, plan, text.as_slice());
     let plan = plan_in(sheet)?;
     let creation = Creation { plan: &plan };
-    in_file(rt, explainer, alloc, RoomFile::New(file), creation, out)
+    host.in_file(RoomFile::New(file), creation, out)
 }
 
 /// The plan that a file gives, or it is explained why it gives none.
-pub fn plan_in(sheet: Sheet<'_>) -> Result<PlanFile, Failure> {
+pub fn plan_in(sheet: Sheet<'_>) -> Result<PlanFile, Failure>
+    ensures { IfOk result (IsPlanText sheet.entry.text.now) }
+{
     match read_plan(sheet.alloc, sheet.text) {
         Ok(plan) => Ok(plan),
         Err(fault) => {

@@ -3,11 +3,11 @@ ghost use Rattle.std.specs.Prelude.{IfErr, IfOk};
 ghost use Rattle.dispatch_room_commands.specs.DoneTasks.{FailsJoinedTimes, IsJoinedTimes};
 ghost use Rattle.dispatch_room_commands.specs.RoomTasks.{FindsDay, FindsNoDay, ReportsBoth, ReportsNone};
 
-use dispatch_room_disk::room_files::{RoomFile, RoomTask, in_file};
+use crate::hosts::Host;
+use dispatch_room_archive::division_days::DivisionDay;
+use dispatch_room_archive::joined_reports::{day_in, joined_report_in};
+use dispatch_room_disk::room_files::{RoomFile, RoomTask};
 use dispatch_room_exit::exit_status::{Done, Failure};
-use dispatch_room_exit::explainer::Explainer;
-use dispatch_room_tasks::division_days::DivisionDay;
-use dispatch_room_tasks::joined_reports::{day_in, joined_report_in};
 use dispatch_room_tasks::opened_room::TaskResult;
 use room_place::plans::DivisionNumber;
 use sqlite::{Alter, Connection};
@@ -17,10 +17,9 @@ use std::io::Write;
 /// Writes the activation times of a division's day as CSV, by the room of a file and by the older
 /// one that it was made of. No row of either is written.
 pub fn joined_times<O: Write>(
-    rt: &HostRuntime,
-    explainer: Explainer<'_>,
-    alloc: Global,
-    files: (&str, &str),
+    host: Host<'_>,
+    file: &str,
+    older: &str,
     division: DivisionNumber,
     day: &str,
     out: &mut O,
@@ -30,11 +29,10 @@ pub fn joined_times<O: Write>(
     ensures undone { IfErr result (λ fault.
         FailsJoinedTimes (O.contents out.old) (O.contents out.new) fault division day.now) }
 {
-    let (file, older) = files;
     let finding = Finding { division, day };
-    let newer = in_file(rt, explainer, alloc, RoomFile::Kept(file), finding, out)?;
+    let newer = host.in_file(RoomFile::Kept(file), finding, out)?;
     let joining = Joining { newer: &newer };
-    let report = in_file(rt, explainer, alloc, RoomFile::Kept(older), joining, out)?;
+    let report = host.in_file(RoomFile::Kept(older), joining, out)?;
     match out.write_all(report.as_slice()) {
         Ok(()) => Ok(Done::Whole),
         Err(_) => Err(Failure::Network),

@@ -4,17 +4,22 @@
 #![tactic(auto)]
 
 mod board;
+mod change_texts;
 mod check;
 pub mod commands;
 mod digest;
 mod files;
+mod followed_rows;
+mod hosts;
 mod import;
 mod init;
 mod joined_times;
+mod kept_changes;
 mod kept_fleets;
 mod kept_import;
 mod leg_readers;
 mod leg_writers;
+mod listed_changes;
 mod listed_rows;
 mod listeners;
 mod migrate;
@@ -25,6 +30,7 @@ mod replay;
 mod replay_ends;
 mod replayed_legs;
 mod restore;
+mod room_changes;
 mod serve;
 mod task_causes;
 mod tcp_callers;

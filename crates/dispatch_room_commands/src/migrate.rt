@@ -3,9 +3,9 @@ ghost use Rattle.std.specs.Prelude.{IfErr, IfOk};
 ghost use Rattle.dispatch_room_commands.specs.DoneTasks.{FailsMigrate, IsMigrate};
 ghost use Rattle.dispatch_room_commands.specs.RoomTasks.{Moves, MovesNone};
 
-use dispatch_room_disk::room_files::{RoomFile, RoomTask, in_file};
+use crate::hosts::Host;
+use dispatch_room_disk::room_files::{RoomFile, RoomTask};
 use dispatch_room_exit::exit_status::{Done, Failure};
-use dispatch_room_exit::explainer::Explainer;
 use dispatch_room_tasks::migration::migrate_in;
 use dispatch_room_tasks::opened_room::TaskResult;
 use sqlite::{Alter, Connection};
@@ -13,17 +13,11 @@ use std::alloc::Global;
 use std::io::Write;
 
 /// Moves the room of a file from the first version to this one, and reports that it did.
-pub fn migrate<O: Write>(
-    rt: &HostRuntime,
-    explainer: Explainer<'_>,
-    alloc: Global,
-    file: &str,
-    out: &mut O,
-) -> Result<Done, Failure>
+pub fn migrate<O: Write>(host: Host<'_>, file: &str, out: &mut O) -> Result<Done, Failure>
     ensures done { IfOk result (IsMigrate (O.contents out.old) (O.contents out.new)) }
     ensures undone { IfErr result (FailsMigrate (O.contents out.old) (O.contents out.new)) }
 {
-    in_file(rt, explainer, alloc, RoomFile::Old(file), Move, out)?;
+    host.in_file(RoomFile::Old(file), Move, out)?;
     match writeln!(out, "migrated") {
         Ok(()) => Ok(Done::Whole),
         Err(_) => Err(Failure::Network),

@@ -1,6 +1,6 @@
-//! The names at which the files of a served room were opened, and whether the files still lie there.
-//! The room is served from the files that were opened, wherever these went; but a start would find
-//! what lies at the names then.
+//! The names at which the files of a served room were opened, and whether the files still lie
+//! there. The room is served from the files that were opened, wherever these went; but a start
+//! would find what lies at the names then.
 
 use dispatch_room_exit::explainer::Explainer;
 use std::alloc::Global;
@@ -8,8 +8,8 @@ use std::fs;
 use std::os::unix::fs::MetadataExt;
 use std::time::{Clock, Duration};
 
-// How many milliseconds pass at least between two looks. A look asks the system twice, and that after
-// each answer would cost a tenth of it.
+// How many milliseconds pass at least between two looks. A look asks the system twice, and that
+// after each answer would cost a tenth of it.
 const BETWEEN_LOOKS: u64 = 1000;
 
 /// The names of a room's file and of its log, with what lay there once the room was opened: none
@@ -42,8 +42,8 @@ impl OpenedNames {
         }
     }
 
-    /// Looks at both, where the last look is a second old, by a question to the system for each. Of a
-    /// file that lies there no more it is explained once what became of it.
+    /// Looks at both, where the last look is a second old, by a question to the system for each. Of
+    /// a file that lies there no more it is explained once what became of it.
     pub fn look(&mut self, rt: &HostRuntime, explainer: Explainer<'_>) {
         let Ok(now) = rt.monotonic() else {
             return;

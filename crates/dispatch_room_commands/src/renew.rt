@@ -3,11 +3,11 @@ ghost use Rattle.std.specs.Prelude.{IfErr, IfOk};
 ghost use Rattle.dispatch_room_commands.specs.DoneTasks.{FailsRenew, IsRenew};
 ghost use Rattle.dispatch_room_commands.specs.RoomTasks.{Begins, BeginsNone, LeavesNothing, LeavesRows};
 
-use dispatch_room_disk::room_files::{RoomFile, RoomTask, in_file};
+use crate::hosts::Host;
+use dispatch_room_archive::renewal::{Successor, begin_in, left_in};
+use dispatch_room_disk::room_files::{RoomFile, RoomTask};
 use dispatch_room_exit::exit_status::{Done, Failure};
-use dispatch_room_exit::explainer::Explainer;
 use dispatch_room_tasks::opened_room::TaskResult;
-use dispatch_room_tasks::renewal::{Successor, begin_in, left_in};
 use sqlite::{Alter, Connection};
 use std::alloc::Global;
 use std::io::Write;
@@ -15,9 +15,7 @@ use std::io::Write;
 /// Makes a room in a file that has nothing, of what the room of another file leaves since a day,
 /// and reports how much it has. No row of the other file is written.
 pub fn renew<O: Write>(
-    rt: &HostRuntime,
-    explainer: Explainer<'_>,
-    alloc: Global,
+    host: Host<'_>,
     old: &str,
     new: &str,
     since: &str,
@@ -29,9 +27,9 @@ pub fn renew<O: Write>(
         FailsRenew (O.contents out.old) (O.contents out.new) fault since.now) }
 {
     let leaving = Leaving { since };
-    let left = in_file(rt, explainer, alloc, RoomFile::Kept(old), leaving, out)?;
+    let left = host.in_file(RoomFile::Kept(old), leaving, out)?;
     let beginning = Beginning { left: &left };
-    in_file(rt, explainer, alloc, RoomFile::New(new), beginning, out)
+    host.in_file(RoomFile::New(new), beginning, out)
 }
 
 // What a room leaves is read.

@@ -1,22 +1,23 @@
 //! `replay`: what a list says is done to the room of a file.
 ghost use Rattle.std.specs.Prelude.{◌≡◌, ◌==◌, ◌||◌, List, Ok, Option, true, false, IfErr, IfOk, ℕ};
-ghost use Rattle.sqlite.specs.Held.{state};
-ghost use Rattle.sqlite.specs.State.{HasCleanDisk};
+ghost use Rattle.room_http.specs.Settings.{IsSetting};
 ghost use Rattle.room_store.specs.StoredRoom.{IsReady};
 ghost use Rattle.dispatch_room_commands.specs.CommandEnds.{failure_of};
 ghost use Rattle.dispatch_room_commands.specs.DoneTasks.{FailsReplay, IsReplay};
-ghost use Rattle.dispatch_room_commands.specs.ReplayedLegs.{count_in};
-ghost use Rattle.dispatch_room_commands.specs.RoomTasks.{AreAnswered, EndsAs, IsReplayed, IsTold, OpensNone, Replays};
+ghost use Rattle.dispatch_room_commands.specs.ReplayedLegs.{LosesLeg, count_in};
+ghost use Rattle.dispatch_room_commands.specs.RoomTasks.{AreAnswered, EndsAs, IsReplayed, IsTold, Replays, ReplaysNone, begins_leg};
 ghost use Rattle.dispatch_room_journal.specs.ReadSteps.{left_in, most_rows};
+ghost use Rattle.room_tables_schema.specs.FileConnections.{IsClean};
 
+use crate::followed_rows::Stage;
+use crate::hosts::Host;
 use crate::leg_readers::LegReader;
 use crate::leg_writers::LegWriter;
 use crate::replay_ends::{Noted, conclude};
-use crate::replayed_legs::{Course, replay_legs};
+use crate::replayed_legs::{Course, Played, replay_legs};
 use dispatch_room_cli::tasks::Replay;
-use dispatch_room_disk::room_files::{RoomFile, RoomTask, in_file};
+use dispatch_room_disk::room_files::{RoomFile, RoomTask};
 use dispatch_room_exit::exit_status::{Done, Failure, refused};
-use dispatch_room_exit::explainer::Explainer;
 use dispatch_room_journal::replay_faults::{ReplayFault, Stopped};
 use dispatch_room_journal::replayed_journal::Replayed;
 use dispatch_room_tasks::opened_room::{TaskResult, open_room};
@@ -32,9 +33,7 @@ use std::io::{self, Write};
 /// that were, and the room's digest where it is wanted; or writes the answer to each message, as
 /// soon as it is given.
 pub fn replay<O: Write, E: Write>(
-    rt: &HostRuntime,
-    explainer: Explainer<'_>,
-    alloc: Global,
+    host: Host<'_>,
     file: &str,
     replay: &Replay,
     out: &mut O,
@@ -45,14 +44,14 @@ pub fn replay<O: Write, E: Write>(
     ensures undone { IfErr result (λ fault.
         FailsReplay (O.contents out.old) (O.contents out.new) fault replay.now) }
 {
-    let replaying = Replaying { rt, replay, err };
-    in_file(rt, explainer, alloc, RoomFile::Kept(file), replaying, out)
+    let replaying = Replaying { host, replay, err };
+    host.in_file(RoomFile::Kept(file), replaying, out)
 }
 
 // A list is replayed.
 #[derive(Drop)]
 struct Replaying<'a, E> {
-    rt: &'a HostRuntime,
+    host: Host<'a>,
     replay: &'a Replay,
     err: &'a mut E,
 }
@@ -62,7 +61,7 @@ impl<'a, E: Write> RoomTask for Replaying<'a, E> {
 
     ghost says = { λ work. Replays work.replay.now };
 
-    ghost refuses = { λ _. OpensNone };
+    ghost refuses = { λ work. ReplaysNone work.replay.now };
 
     fn run<S: Alter + Drop, O: Write>(
         self,
@@ -70,55 +69,66 @@ impl<'a, E: Write> RoomTask for Replaying<'a, E> {
         conn: Connection<S>,
         out: &mut O,
     ) -> TaskResult<Done, S> {
-        let (mut room, zone) = open_room(alloc, conn)?;
-        let Replaying { rt, replay, err } = self;
-        let setting = Setting {
-            zone,
-            history: replay.history,
+        let (room, zone) = open_room(alloc, conn)?;
+        let Replaying { host, replay, err } = self;
+        let history = replay.history;
+        let stage = Stage {
+            room,
+            setting: Setting { zone, history },
         };
         let course = Course {
             alloc,
-            setting: &setting,
+            explainer: host.explainer,
             replay,
         };
         let mut has_ended = false;
-        let mut list = LegReader::new(Noted::new(Wire::new(rt.stdin()), &mut has_ended));
-        let came = replay_in(&course, &mut list, &mut room, out, err);
+        let mut list = LegReader::new(Noted::new(Wire::new(host.rt.stdin()), &mut has_ended));
+        let (came, mut room) = replay_in(&course, &mut list, stage, out, err)?;
         drop(list);
         let done = conclude(&mut room, replay, came, has_ended, out, err);
         Ok((done, room.close()))
     }
 }
 
-// Replays a list in a room, and reports how much that was, or answers each record.
-fn replay_in<R: Source, S: Alter, O: Write, E: Write>(
+// Replays a list in a room, and reports how much that was, or answers each record. The room is
+// given back.
+fn replay_in<R: Source, S: Alter + Drop, O: Write, E: Write>(
     course: &Course<'_>,
     list: &mut LegReader<R>,
-    room: &mut Store<S>,
+    stage: Stage<S>,
     out: &mut O,
     err: &mut E,
-) -> Result<Done, Failure>
+) -> Played<Result<Done, Failure>, S>
     requires list { (R.has_failed list.old.reader || list.old.passed == most_rows) ≡ false }
-    requires ready { IsReady S.Store room.old }
-    ensures ready { IsReady S.Store room.new }
-    ensures trusted { HasCleanDisk (state S.Store room.new.conn)
-        → HasCleanDisk (state S.Store room.old.conn) }
-    ensures replayed { course.now.replay.now.answers ≡ false → IsReplayed S.Store
-        course.now.setting.now course.now.replay.now room.old room.new
+    requires ready { IsReady S.Store stage.room }
+    requires set { IsSetting stage.room.plan.zone course.now.replay.now.history stage.setting }
+    ensures ready { IfOk result (λ it. IsReady S.Store it.1) }
+    ensures trusted { IfOk result (λ it. IsClean S.Store it.1.conn
+        → IsClean S.Store stage.room.conn) }
+    ensures replayed { course.now.replay.now.answers ≡ false → IfOk result (λ it.
+        IsReplayed S.Store course.now.replay.now stage.room stage.setting it.1
         (left_in list.old.reel.mode list.old.reel.vouched list.old.reel.inbox
-        (R.left list.old.reader)) (O.contents out.old) (O.contents out.new) result }
-    ensures answered { course.now.replay.now.answers ≡ true → (holds : Option (List ℕ))
-        × AreAnswered S.Store course.now.setting.now course.now.replay.now room.old room.new
+        (R.left list.old.reader)) (O.contents out.old) (O.contents out.new) it.0) }
+    ensures answered { course.now.replay.now.answers ≡ true → IfOk result (λ it.
+        (holds : Option (List ℕ))
+        × AreAnswered S.Store course.now.replay.now stage.room stage.setting it.1
         (left_in list.old.reel.mode list.old.reel.vouched list.old.reel.inbox
-        (R.left list.old.reader)) (O.contents out.old) holds result }
+        (R.left list.old.reader)) (O.contents out.old) holds it.0) }
+    ensures lost { IfErr result (λ fault. (held : Option (List ℕ)) × LosesLeg S.Store
+        course.now.replay.now (begins_leg stage.room stage.setting
+        (left_in list.old.reel.mode list.old.reel.vouched list.old.reel.inbox
+        (R.left list.old.reader)) held) fault) }
 {
     if course.replay.answers {
         let mut writer = LegWriter::new(out);
-        return answered(&replay_legs(course, list, room, &mut writer, err));
+        let (came, room) = replay_legs(course, list, stage, &mut writer, err)?;
+        return Ok((answered(&came), room));
     }
-    match replay_legs(course, list, room, &mut LegWriter::new(io::sink()), err) {
-        Ok(replayed) => tell(&replayed, out, err),
-        Err(stopped) => Err(failure_of(&stopped)),
+    let mut sink = LegWriter::new(io::sink());
+    let (came, room) = replay_legs(course, list, stage, &mut sink, err)?;
+    match came {
+        Ok(replayed) => Ok((tell(&replayed, out, err), room)),
+        Err(stopped) => Ok((Err(failure_of(&stopped)), room)),
     }
 }
 

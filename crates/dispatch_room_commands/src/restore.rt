@@ -3,18 +3,15 @@ ghost use Rattle.std.specs.Prelude.{IfErr, IfOk};
 ghost use Rattle.dispatch_room_commands.specs.DoneTasks.{FailsRestore, IsRestore};
 
 use crate::check::check;
+use crate::hosts::Host;
 use dispatch_room_disk::restored_files::put_in_place;
 use dispatch_room_exit::exit_status::{Done, Failure};
-use dispatch_room_exit::explainer::Explainer;
-use std::alloc::Global;
 use std::io::Write;
 
 /// Puts a copy in the place of a file, where the copy is a well-formed room, of which it reports
 /// how much it has. Else the file stays as it is.
 pub fn restore<O: Write>(
-    rt: &HostRuntime,
-    explainer: Explainer<'_>,
-    alloc: Global,
+    host: Host<'_>,
     copy: &str,
     file: &str,
     out: &mut O,
@@ -22,8 +19,8 @@ pub fn restore<O: Write>(
     ensures done { IfOk result (IsRestore (O.contents out.old) (O.contents out.new)) }
     ensures undone { IfErr result (FailsRestore (O.contents out.old) (O.contents out.new)) }
 {
-    match check(rt, explainer, alloc, copy, out) {
-        Ok(done) => match put_in_place(rt, explainer, copy, file) {
+    match check(host, copy, out) {
+        Ok(done) => match put_in_place(host.rt, host.explainer, copy, file) {
             Ok(()) => Ok(done),
             Err(fault) => Err(fault),
         },

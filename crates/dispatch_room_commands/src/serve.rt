@@ -9,23 +9,24 @@ ghost use Rattle.dispatch_room_commands.specs.DoneTasks.{FailsAt, FailsBy, Fails
 ghost use Rattle.dispatch_room_commands.specs.RoomTasks.{Serves, ServesNone, begins_at, ended, is_endless, is_synced_by, keeps_questions_by, terms_of};
 ghost use Rattle.dispatch_room_commands.specs.ServedParts.{IsPart, OpensNoPart, ServesParts};
 
+use crate::hosts::Host;
 use crate::listeners::{Listener, TcpAddress};
 use crate::tcp_callers::Heard;
 use crate::tcp_doors::TcpDoor;
 use dispatch_room_cli::tasks::{self, Service};
-use dispatch_room_disk::room_files::{RoomFile, RoomTask, in_file};
+use dispatch_room_disk::room_files::{RoomFile, RoomTask};
 use dispatch_room_exit::exit_status::{Done, Failure};
 use dispatch_room_exit::explainer::Explainer;
 use dispatch_room_serving::callers::Callers;
-use dispatch_room_serving::journal_files::{JournalFile, OpenedList, SystemFile, open_journal};
+use dispatch_room_serving::journal_files::{JournalFile, OpenedList, SystemFile};
 use dispatch_room_serving::journals::Journal;
 use dispatch_room_serving::list_places::{Finding, ListPlace, standing};
 use dispatch_room_serving::log_observers::LogAndJournal;
 use dispatch_room_serving::logs::Log;
-use dispatch_room_serving::served_room::{Terms, serve_in};
+use dispatch_room_serving::served_room::{ServedPart, Terms, serve_in};
 use dispatch_room_sockets::timeouts::Waits;
 use dispatch_room_tasks::opened_room::TaskResult;
-use room_http_time::clocks::{Clock, MachineClock};
+use room_http::clocks::{Clock, MachineClock};
 use sqlite::{Alter, Connection};
 use std::alloc::Global;
 use std::io::Write;
@@ -37,9 +38,7 @@ use std::time::Duration;
 /// it, but for lack of memory, where the journal can't be kept, and where the room's file failed so
 /// that it has to be opened again.
 pub fn serve_file<O: Write, E: Write>(
-    rt: &HostRuntime,
-    explainer: Explainer<'_>,
-    alloc: Global,
+    host: Host<'_>,
     file: &str,
     service: Service<'_>,
     out: &mut O,
@@ -50,24 +49,22 @@ pub fn serve_file<O: Write, E: Write>(
     ensures undone { IfErr result (λ fault.
         FailsServe (O.contents out.old) (O.contents out.new) fault service.entry) }
 {
-    let journal = journal_file(rt, explainer, alloc, &service.journal, err)?;
+    let journal = journal_file(host, &service.journal, err)?;
     let run = ServiceRun {
-        rt,
-        explainer,
+        host,
         service: &service,
     };
     if is_endless(&service) {
-        serve_at_door(alloc, file, &run, journal, out, err)
+        serve_at_door(file, &run, journal, out, err)
     } else {
-        serve_at_address(alloc, file, &run, journal, out, err)
+        serve_at_address(file, &run, journal, out, err)
     }
 }
 
-// How a room is served: the service, and where failures are explained.
+// How a room is served: the service, and what it runs on.
 #[derive(Clone, Copy)]
 struct ServiceRun<'a> {
-    rt: &'a HostRuntime,
-    explainer: Explainer<'a>,
+    host: Host<'a>,
     service: &'a Service<'a>,
 }
 
@@ -81,7 +78,6 @@ fn is_endless(service: &Service<'_>) -> bool
 
 // Serves the room of a file at a door, until it is stopped.
 fn serve_at_door<O: Write, E: Write>(
-    alloc: Global,
     file: &str,
     run: &ServiceRun<'_>,
     journal: Option<OpenedList>,
@@ -96,13 +92,12 @@ fn serve_at_door<O: Write, E: Write>(
     let keep = Duration::from_secs(u64::from(run.service.keep));
     let patience = waits_of(run.service).patience;
     let address = run.service.address;
-    let listener = TcpDoor::new(run.rt, run.explainer, alloc, file, address, keep, patience);
-    serve_at(alloc, file, run, journal, listener, out, err)
+    let listener = TcpDoor::new(run.host, file, address, keep, patience);
+    serve_at(file, run, journal, listener, out, err)
 }
 
 // Serves the room of a file to as many connections as its service says, one after another.
 fn serve_at_address<O: Write, E: Write>(
-    alloc: Global,
     file: &str,
     run: &ServiceRun<'_>,
     journal: Option<OpenedList>,
@@ -115,13 +110,17 @@ fn serve_at_address<O: Write, E: Write>(
         false (is_some journal) (terms_of run.now.service.now)) }
 {
     let address = run.service.address;
-    let listener = TcpAddress::new(run.rt, run.explainer, address, waits_of(run.service));
-    serve_at(alloc, file, run, journal, listener, out, err)
+    let listener = TcpAddress::new(
+        run.host.rt,
+        run.host.explainer,
+        address,
+        waits_of(run.service),
+    );
+    serve_at(file, run, journal, listener, out, err)
 }
 
 // Serves the room of a file to those who call where something listens.
 fn serve_at<L: Listener, O: Write, E: Write>(
-    alloc: Global,
     file: &str,
     run: &ServiceRun<'_>,
     journal: Option<OpenedList>,
@@ -140,14 +139,7 @@ fn serve_at<L: Listener, O: Write, E: Write>(
         listener,
         err,
     };
-    match in_file(
-        run.rt,
-        run.explainer,
-        alloc,
-        RoomFile::Kept(file),
-        serving,
-        out,
-    ) {
+    match run.host.in_file(RoomFile::Kept(file), serving, out) {
         Ok(served) => Ok(served.done),
         Err(fault) => Err(fault),
     }
@@ -155,9 +147,7 @@ fn serve_at<L: Listener, O: Write, E: Write>(
 
 // The file of a journal, where one is wanted.
 fn journal_file<E: Write>(
-    rt: &HostRuntime,
-    explainer: Explainer<'_>,
-    alloc: Global,
+    host: Host<'_>,
     journal: &Option<tasks::Journal<'_>>,
     err: &mut E,
 ) -> Result<Option<OpenedList>, Failure>
@@ -165,7 +155,7 @@ fn journal_file<E: Write>(
     ensures fault { IfErr result (λ fault. (fault ≡ failure.Memory) ⊎ (fault ≡ failure.Journal)) }
 {
     match journal {
-        Some(journal) => Ok(Some(open_journal(rt, explainer, alloc, journal.list, err)?)),
+        Some(journal) => Ok(Some(host.open_journal(journal.list, err)?)),
         None => Ok(None),
     }
 }
@@ -197,7 +187,7 @@ impl<'a, L: Listener, E: Write> RoomTask for Serving<'a, L, E> {
 
     fn run<S: Alter + Drop, O: Write>(
         self,
-        alloc: Global,
+        _alloc: Global,
         conn: Connection<S>,
         out: &mut O,
     ) -> TaskResult<Served<L>, S> {
@@ -207,13 +197,12 @@ impl<'a, L: Listener, E: Write> RoomTask for Serving<'a, L, E> {
             listener,
             err,
         } = self;
-        serve_listened(alloc, conn, run, list, listener, out, err)
+        serve_listened(conn, run, list, listener, out, err)
     }
 }
 
 // Serves the room of a database to those who call where something listens, which is given back.
 fn serve_listened<S: Alter + Drop, L: Listener, O: Write, E: Write>(
-    alloc: Global,
     conn: Connection<S>,
     run: &ServiceRun<'_>,
     list: Option<OpenedList>,
@@ -230,8 +219,8 @@ fn serve_listened<S: Alter + Drop, L: Listener, O: Write, E: Write>(
         (terms_of run.now.service.now) listener S S.Store conn) }
 {
     let mut callers = Heard::new(listener, out);
-    let mut clock = MachineClock::new(run.rt);
-    let (done, conn) = serve_parts(alloc, conn, run, list, &mut callers, &mut clock, err)?;
+    let mut clock = MachineClock::new(run.host.rt);
+    let (done, conn) = serve_parts(conn, run, list, &mut callers, &mut clock, err)?;
     Ok((given_back(done, callers.into_listener()), conn))
 }
 
@@ -249,7 +238,6 @@ fn given_back<L: Drop>(done: Result<Done, Failure>, listener: L) -> Result<Serve
 // Serves the room of a database to those who call, in parts where the service says so: as often as
 // one ends well, the next begins in a new list.
 fn serve_parts<S: Alter + Drop, P: Callers, C: Clock, E: Write>(
-    alloc: Global,
     conn: Connection<S>,
     run: &ServiceRun<'_>,
     list: Option<OpenedList>,
@@ -282,7 +270,7 @@ fn serve_parts<S: Alter + Drop, P: Callers, C: Clock, E: Write>(
           given = C.given clock.old;
         })) }
 {
-    let (first, left) = serve_part(alloc, conn, run, &list, callers, clock, err)?;
+    let (first, left) = serve_part(conn, run, &list, callers, clock, err)?;
     if !terms_of(run.service).renews {
         return Ok((first, left));
     }
@@ -293,11 +281,11 @@ fn serve_parts<S: Alter + Drop, P: Callers, C: Clock, E: Write>(
         if done.is_err() {
             return Ok((done, conn));
         }
-        list = match next_list(alloc, run, list, err) {
+        list = match next_list(run, list, err) {
             Ok(next) => next,
             Err(fault) => return Ok((Err(fault), conn)),
         };
-        let (next, left) = serve_part(alloc, conn, run, &list, callers, clock, err)?;
+        let (next, left) = serve_part(conn, run, &list, callers, clock, err)?;
         done = next;
         conn = left;
     }
@@ -306,7 +294,6 @@ fn serve_parts<S: Alter + Drop, P: Callers, C: Clock, E: Write>(
 
 // Lets the list of a part go, and opens that of the next, where there was one.
 fn next_list<E: Write>(
-    alloc: Global,
     run: &ServiceRun<'_>,
     list: Option<OpenedList>,
     err: &mut E,
@@ -320,7 +307,7 @@ fn next_list<E: Write>(
     drop(last);
     match &run.service.journal {
         Some(journal) => {
-            let next = open_journal(run.rt, run.explainer, alloc, journal.list, err)?;
+            let next = run.host.open_journal(journal.list, err)?;
             Ok(Some(next))
         }
         None => Err(Failure::Journal),
@@ -328,10 +315,9 @@ fn next_list<E: Write>(
 }
 
 // Serves the room of a database to those who call, so many as the service says, or until its list
-// stands there no more, and keeps a journal where there is a list for it. Where that ended well, the
-// list says so.
+// stands there no more, and keeps a journal where there is a list for it. Where that ended well,
+// the list says so.
 fn serve_part<S: Alter + Drop, P: Callers, C: Clock, E: Write>(
-    alloc: Global,
     conn: Connection<S>,
     run: &ServiceRun<'_>,
     list: &Option<OpenedList>,
@@ -358,34 +344,37 @@ fn serve_part<S: Alter + Drop, P: Callers, C: Clock, E: Write>(
         worked.0) }
     ensures fault { IfErr result (IsUnopened S.Store conn) }
 {
+    let host = run.host;
     let service = run.service;
     let terms = terms_of(service);
-    let mut place = place_of(run, list, terms.renews);
+    let mut part = ServedPart {
+        terms,
+        place: place_of(run, list, terms.renews),
+    };
     let log = Log::new(
-        alloc,
-        run.rt,
-        Explainer::new(run.rt, service.log),
+        host.alloc,
+        host.rt,
+        Explainer::new(host.rt, service.log),
         err,
         service.log,
     );
-    let journal = journal_of(service, run.explainer, list);
+    let journal = journal_of(service, host.explainer, list);
     let mut log_and_journal = LogAndJournal::new(log, journal);
     let (done, conn) = serve_in(
-        alloc,
+        host.alloc,
         conn,
         callers,
         clock,
         &mut log_and_journal,
-        terms,
-        &mut place,
+        &mut part,
     )?;
-    let left = standing(&mut place);
+    let left = standing(&mut part.place);
     if done.is_ok() && left != Finding::Truncated {
         let _ = log_and_journal.end();
     }
     drop(log_and_journal);
     if done.is_ok() {
-        leave(alloc, place, left, err);
+        leave(host.alloc, part.place, left, err);
     }
     Ok((done, conn))
 }
@@ -399,7 +388,7 @@ fn place_of<'a>(
 ) -> Option<ListPlace<'a>> {
     match (list, run.service.journal) {
         (Some(list), Some(journal)) if renews => {
-            ListPlace::new(run.rt, journal.list, &list.file).ok()
+            ListPlace::new(run.host.rt, journal.list, &list.file).ok()
         }
         _ => None,
     }

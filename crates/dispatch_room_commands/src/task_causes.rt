@@ -32,7 +32,11 @@ pub fn explain(explainer: Explainer<'_>, task: &Task<'_>, done: &Result<Done, Fa
             _ => {}
         },
         Task::Replay { file, .. } => explain_replay(explainer, file, fault),
-        Task::Terminals { file, ref wanted } => {
+        Task::Terminals {
+            file,
+            ref wanted,
+            ..
+        } => {
             explain_unchanged(explainer, file, wanted, fault);
         }
         Task::Renew { file, since, .. } if fault == Failure::Day => {

@@ -3,24 +3,21 @@
 ghost use Rattle.std.specs.Prelude.{◌≡◌, IfErr, None, false, is_some};
 ghost use Rattle.dispatch_room_exit.specs.declared.exit_status.Failure.TheVariants.{Network};
 
+use crate::hosts::Host;
 use crate::listeners::{Listener, bound};
 use crate::opened_names::OpenedNames;
 use dispatch_room_exit::exit_status::Failure;
-use dispatch_room_exit::explainer::Explainer;
 use dispatch_room_sockets::doors::Door;
 use dispatch_room_sockets::lingering_close::Parting;
 use dispatch_room_sockets::pieces::{PieceReader, PieceWriter, next_piece, take_back};
 use dispatch_room_sockets::waiting_callers::Waiting;
-use std::alloc::Global;
 use std::net::{SocketAddr, TcpListener};
 use std::time::Duration;
 
 /// A door at an address of TCP.
 #[derive(Drop)]
 pub struct TcpDoor<'a> {
-    rt: &'a HostRuntime,
-    explainer: Explainer<'a>,
-    alloc: Global,
+    host: Host<'a>,
     address: SocketAddr,
     // The file of the room that is served here, and what lay at its names as this began to listen.
     file: &'a str,
@@ -36,9 +33,7 @@ impl<'a> TcpDoor<'a> {
     /// A door at which nobody waits yet, for the room of a file. Where nobody can listen there, it
     /// is explained why, and where the file lies no more at its name, that it does not.
     pub fn new(
-        rt: &'a HostRuntime,
-        explainer: Explainer<'a>,
-        alloc: Global,
+        host: Host<'a>,
         file: &'a str,
         address: SocketAddr,
         keep: Duration,
@@ -48,9 +43,7 @@ impl<'a> TcpDoor<'a> {
             × (result.patience ≡ patience) }
     {
         TcpDoor {
-            rt,
-            explainer,
-            alloc,
+            host,
             address,
             file,
             names: OpenedNames::none(),
@@ -64,15 +57,16 @@ impl<'a> TcpDoor<'a> {
     fn opened(&self, listener: TcpListener) -> Result<Waiting<Door<'a>>, Failure>
         ensures fault { IfErr result (λ fault. fault ≡ Network) }
     {
-        let door = match Door::new(self.rt, self.alloc, listener) {
+        let host = self.host;
+        let door = match Door::new(host.rt, host.alloc, listener) {
             Ok(door) => door,
             Err(error) => {
                 let address = self.address;
-                self.explainer.explain(format_args!("{address}: {error}"));
+                host.explainer.explain(format_args!("{address}: {error}"));
                 return Err(Failure::Network);
             }
         };
-        match Waiting::new(self.alloc, door, self.keep, self.patience) {
+        match Waiting::new(host.alloc, door, self.keep, self.patience) {
             Ok(waiting) => Ok(waiting),
             Err(_) => Err(Failure::Network),
         }
@@ -132,11 +126,11 @@ impl<'a> Listener for TcpDoor<'a> {
     ghost peer_of = { λ reader writer. record { reader = reader; writer = writer } };
 
     fn listen(&mut self) -> Result<(), Failure> {
-        match bound(self.rt, self.explainer, self.address) {
+        match bound(self.host.rt, self.host.explainer, self.address) {
             Ok(listener) => match self.opened(listener) {
                 Ok(waiting) => {
                     self.waiting = Some(waiting);
-                    self.names = OpenedNames::of(self.rt, self.alloc, self.file);
+                    self.names = OpenedNames::of(self.host.rt, self.host.alloc, self.file);
                     Ok(())
                 }
                 Err(fault) => Err(fault),
@@ -150,8 +144,8 @@ impl<'a> Listener for TcpDoor<'a> {
     }
 
     fn accept(&mut self) -> Option<(Self::Reader, Self::Writer)> {
-        self.names.look(self.rt, self.explainer);
-        next_piece(self.rt, self.waiting.as_mut()?, self.patience)
+        self.names.look(self.host.rt, self.host.explainer);
+        next_piece(self.host.rt, self.waiting.as_mut()?, self.patience)
     }
 
     fn peer(&mut self, reader: Self::Reader, writer: Self::Writer) -> Self::Peer {

@@ -3,11 +3,11 @@ ghost use Rattle.std.specs.Prelude.{IfErr, IfOk};
 ghost use Rattle.dispatch_room_commands.specs.DoneTasks.{FailsTimes, IsTimes};
 ghost use Rattle.dispatch_room_commands.specs.RoomTasks.{OpensNone, Reports};
 
-use dispatch_room_disk::room_files::{RoomFile, RoomTask, in_file};
+use crate::hosts::Host;
+use dispatch_room_archive::times_report::report_in;
+use dispatch_room_disk::room_files::{RoomFile, RoomTask};
 use dispatch_room_exit::exit_status::{Done, Failure};
-use dispatch_room_exit::explainer::Explainer;
 use dispatch_room_tasks::opened_room::TaskResult;
-use dispatch_room_tasks::times_report::report_in;
 use room_place::plans::DivisionNumber;
 use sqlite::{Alter, Connection};
 use std::alloc::Global;
@@ -15,9 +15,7 @@ use std::io::Write;
 
 /// Writes the activation times of a division's day as CSV.
 pub fn times<O: Write>(
-    rt: &HostRuntime,
-    explainer: Explainer<'_>,
-    alloc: Global,
+    host: Host<'_>,
     file: &str,
     division: DivisionNumber,
     day: &str,
@@ -28,14 +26,7 @@ pub fn times<O: Write>(
     ensures undone { IfErr result (λ fault.
         FailsTimes (O.contents out.old) (O.contents out.new) fault division day.now) }
 {
-    let report = in_file(
-        rt,
-        explainer,
-        alloc,
-        RoomFile::Kept(file),
-        Report { division, day },
-        out,
-    )?;
+    let report = host.in_file(RoomFile::Kept(file), Report { division, day }, out)?;
     match out.write_all(report.as_slice()) {
         Ok(()) => Ok(Done::Whole),
         Err(_) => Err(Failure::Network),

@@ -6,10 +6,10 @@ ghost use Rattle.dispatch_room_journal.specs.ReadSteps.{left_in};
 ghost use Rattle.dispatch_room_exit.specs.declared.exit_status.Done.TheVariants.{Whole};
 ghost use Rattle.dispatch_room_exit.specs.declared.exit_status.Failure.TheVariants.{Network};
 ghost use Rattle.dispatch_room_commands.specs.DoneTasks.{FailsVerify, IsVerify, IsVerifyOf};
-ghost use Rattle.dispatch_room_commands.specs.Verified.{IsUnverified, span_text, tally_text};
+ghost use Rattle.dispatch_room_commands.specs.VerifiedLists.{IsUnverified, span_text, tally_text};
 
+use crate::hosts::Host;
 use dispatch_room_exit::exit_status::{Done, Failure};
-use dispatch_room_exit::explainer::Explainer;
 use dispatch_room_journal::chain_source::Unchained;
 use dispatch_room_journal::entry_reader::EntryFault;
 use dispatch_room_journal::journal_inbox::JournalInbox;
@@ -23,29 +23,23 @@ use std::io::{ErrorKind, Write};
 
 /// Prints how many messages a list has, when the first came and the last, and whether the list
 /// ended well; or fails at the record at which it is none.
-pub fn verify_list<O: Write>(
-    rt: &HostRuntime,
-    explainer: Explainer<'_>,
-    alloc: Global,
-    path: &str,
-    out: &mut O,
-) -> Result<Done, Failure>
+pub fn verify_list<O: Write>(host: Host<'_>, path: &str, out: &mut O) -> Result<Done, Failure>
     ensures done { IfOk result (IsVerify (O.contents out.old) (O.contents out.new)) }
     ensures undone { IfErr result (FailsVerify (O.contents out.old) (O.contents out.new)) }
 {
-    let file = opened(rt, explainer, path)?;
-    verify_in(alloc, Unchained::new(Wire::new(&file)), out)
+    let file = opened(host, path)?;
+    verify_in(host.alloc, Unchained::new(Wire::new(&file)), out)
 }
 
 // The file of a list.
-fn opened(rt: &HostRuntime, explainer: Explainer<'_>, path: &str) -> Result<File, Failure>
+fn opened(host: Host<'_>, path: &str) -> Result<File, Failure>
     ensures { IfErr result IsUnverified }
 {
-    match File::open(rt, path) {
+    match File::open(host.rt, path) {
         Ok(file) => Ok(file),
         Err(error) if error.kind() == ErrorKind::OutOfMemory => Err(Failure::Memory),
         Err(error) => {
-            explainer.explain(format_args!("{path}: {error}"));
+            host.explainer.explain(format_args!("{path}: {error}"));
             Err(Failure::Input)
         }
     }

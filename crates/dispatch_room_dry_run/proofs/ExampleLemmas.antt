@@ -6,7 +6,7 @@ use Rattle.jiff.specs.Words.{read_whole}
 use Rattle.room_place.specs.Plans.{Layout}
 use Rattle.room_place.specs.References.{parse}
 use Rattle.room_place.specs.declared.plans.Area.{Area}
-use Rattle.room_tables.specs.Stands.{empty_room}
+use Rattle.room_tables.specs.RoomsInTables.{empty_room}
 use Rattle.room_store_writes.specs.NewRoom.{new_divisions, new_room}
 use Rattle.dispatch_room_dry_run.specs.Example.{example_plan}
 

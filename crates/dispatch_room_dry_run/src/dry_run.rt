@@ -6,10 +6,10 @@ ghost use Rattle.dispatch_room_dry_run.specs.Example.{IsExampleTalk};
 ghost use Rattle.dispatch_room_dry_run.specs.DryRun.{example_moment, most_reads};
 
 use crate::example_session::serve_example;
-use room_http::session::ServeEnd;
+use room_http::clocks::FixedClock;
+use room_http::session::{Connection, ServeEnd};
 use room_http_messages::sinks::Sink;
 use room_http_messages::sources::Source;
-use room_http_time::clocks::FixedClock;
 use room_types::refusal_statuses::Refusal;
 use std::alloc::Global;
 
@@ -19,41 +19,41 @@ const MOMENT: u64 = 1000;
 /// How many reads it makes at most.
 const MOST_READS: u32 = 10_000;
 
-/// Serves the example room, made anew in memory, to a reader and a writer. A refusal is lack of
-/// memory or of storage, and then nothing was read or written.
+/// Serves the example room, made anew in memory, on a connection. A refusal is lack of memory or of
+/// storage, and then nothing was read or written.
 pub fn dry_run<R: Source, W: Sink>(
     alloc: Global,
-    reader: &mut R,
-    writer: &mut W,
+    connection: &mut Connection<R, W>,
 ) -> Result<ServeEnd, Refusal>
-    requires reader { R.has_failed reader.old ≡ false }
-    requires writer { W.has_failed writer.old ≡ false }
-    ensures reads { OnOk result (ReadsAtMost most_reads (R.reads reader.old) (R.reads reader.new)) }
+    requires reader { R.has_failed connection.old.reader ≡ false }
+    requires writer { W.has_failed connection.old.writer ≡ false }
+    ensures reads { OnOk result (ReadsAtMost most_reads (R.reads connection.old.reader)
+        (R.reads connection.new.reader)) }
     // What is written is the talk of the example room with the messages that are read, all at one
     // moment.
     ensures talk { IfOk result (λ end. (count : ℕ) × (was_none : Bool) × IsExampleTalk
         (record {
-          left = R.left reader.old;
-          reads = R.reads reader.old;
-          held = W.held writer.old;
+          left = R.left connection.old.reader;
+          reads = R.reads connection.old.reader;
+          held = W.held connection.old.writer;
           given = Some [];
         })
         (record {
-          reads = R.reads reader.new;
-          held = W.held writer.new;
+          reads = R.reads connection.new.reader;
+          held = W.held connection.new.writer;
           given = Some
               (replicate count example_moment);
-          read_failed = R.has_failed reader.new;
-          read_ended = R.has_ended reader.new;
-          write_failed = W.has_failed writer.new;
+          read_failed = R.has_failed connection.new.reader;
+          read_ended = R.has_ended connection.new.reader;
+          write_failed = W.has_failed connection.new.writer;
           was_none = was_none;
           observer_failed = false;
         })
         most_reads end) }
     ensures wants { IfErr result IsWant }
-    ensures unused { OnErr result ((reader.new ≡ reader.old) × (writer.new ≡ writer.old)) }
+    ensures unused { OnErr result (connection.new ≡ connection.old) }
 {
     let mut clock = FixedClock::<MOMENT>::new();
-    let end = serve_example(alloc, reader, writer, &mut clock, MOST_READS)?;
+    let end = serve_example(alloc, connection, &mut clock, MOST_READS)?;
     Ok(end)
 }

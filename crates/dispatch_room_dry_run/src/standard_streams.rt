@@ -8,7 +8,7 @@ ghost use Rattle.dispatch_room_dry_run.specs.Example.{IsDryRun};
 
 use crate::dry_run::dry_run;
 use dispatch_room_exit::exit_status::{Done, Failure, end, refused};
-use room_http::session::ServeEnd;
+use room_http::session::{Connection, ServeEnd};
 use room_http_messages::sinks::Sink;
 use room_http_messages::sources::Source;
 use room_http_messages::standard_wires::Wire;
@@ -18,39 +18,40 @@ use std::alloc::Global;
 pub fn run(rt: &HostRuntime) -> u8
     ensures { IsStatus result }
 {
-    let mut reader = Wire::new(rt.stdin());
-    let mut writer = Wire::new(rt.stdout());
-    let done = over_streams(rt.alloc(), &mut reader, &mut writer);
+    let mut connection = Connection {
+        reader: Wire::new(rt.stdin()),
+        writer: Wire::new(rt.stdout()),
+    };
+    let done = over_streams(rt.alloc(), &mut connection);
     end(done, &mut rt.stderr())
 }
 
 // The dry run over any streams, and why it fails.
 fn over_streams<R: Source, W: Sink>(
     alloc: Global,
-    reader: &mut R,
-    writer: &mut W,
+    connection: &mut Connection<R, W>,
 ) -> Result<Done, Failure>
-    requires reader { R.has_failed reader.old ≡ false }
-    requires writer { W.has_failed writer.old ≡ false }
+    requires reader { R.has_failed connection.old.reader ≡ false }
+    requires writer { W.has_failed connection.old.writer ≡ false }
     ensures { (served : Result End Want) × (result ≡ end_of served) × IfOk served (IsDryRun
         (record {
-          left = R.left reader.old;
-          reads = R.reads reader.old;
-          held = W.held writer.old;
+          left = R.left connection.old.reader;
+          reads = R.reads connection.old.reader;
+          held = W.held connection.old.writer;
           given = Some [];
         })
         (λ count was_none. record {
-          reads = R.reads reader.new;
-          held = W.held writer.new;
+          reads = R.reads connection.new.reader;
+          held = W.held connection.new.writer;
           given = Some (replicate count example_moment);
-          read_failed = R.has_failed reader.new;
-          read_ended = R.has_ended reader.new;
-          write_failed = W.has_failed writer.new;
+          read_failed = R.has_failed connection.new.reader;
+          read_ended = R.has_ended connection.new.reader;
+          write_failed = W.has_failed connection.new.writer;
           was_none = was_none;
           observer_failed = false;
         })) }
 {
-    match dry_run(alloc, reader, writer) {
+    match dry_run(alloc, connection) {
         Ok(end) => ended(end),
         Err(want) => Err(refused(want)),
     }

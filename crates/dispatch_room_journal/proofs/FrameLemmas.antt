@@ -135,7 +135,7 @@ each_follows step setting digest_of trusted stood stands before mid at sent slic
 module _ (step : Step) (setting : Setting) (digest_of : DigitsOf) (early late : Type 0)
     (earlier : late → early) (stood middle stands : List Terminal → Room → Type 0)
     (before mid after held holds : Option (List ℕ)) (kept : List ℕ) (looked read_failed write_failed : Bool) (at : ℕ)
-    (layout : EntryLayout) (next : Next) (is : next ≡ Message at layout)
+    (layout : EntryLayout) (next : Next) (is : next ≡ Message (record { at = at; layout = layout }))
     (old new : Progress)
     (noted : new ≡ record old { records = min (old.records + 1) (2 ^ 64 - 1); is_open = false }) where
   pub each_turn : NextIs digest_of early stood middle before mid looked None old.is_begun kept
@@ -149,7 +149,7 @@ module _ (step : Step) (setting : Setting) (digest_of : DigitsOf) (early late : 
       found)
     where
       go : NextIs digest_of early stood middle before mid looked None old.is_begun kept
-          (Ok (Message at layout))
+          (Ok (Message (record { at = at; layout = layout })))
           → AnswersTurn step setting digest_of late stood stands before after held holds old new
           read_failed write_failed (Ok true)
       go y = (

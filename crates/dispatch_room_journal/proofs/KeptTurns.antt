@@ -18,7 +18,7 @@ use Rattle.room_http.specs.declared.settings.Setting.{Setting}
 use Rattle.room_model.specs.Rooms.{Step}
 use Rattle.room_model.specs.declared.digests.Head.{Head}
 use Rattle.room_http.specs.Arrivals.{message as arrived, refused, is_closing, is_head_only}
-use Rattle.room_http.specs.Kept.{AreKept, AreReplies, IsCutShort, IsRecord, IsUnwritten, IsWanting}
+use Rattle.room_http.specs.KeptMessages.{AreKept, AreReplies, IsCutShort, IsRecord, IsUnwritten, IsWanting}
 use Rattle.room_http.specs.Talk.{IsFront, IsReplyTo, Timed, replied}
 use Rattle.dispatch_room_journal.specs.declared.entry_lines.TheConstants.{LEAST_STATUS, GREATEST_STATUS}
 use Rattle.dispatch_room_journal.specs.WholeEntries.{Follows}

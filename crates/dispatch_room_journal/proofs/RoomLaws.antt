@@ -11,7 +11,7 @@ use Rattle.room_http.specs.declared.settings.Setting.{Setting}
 use Rattle.room_http_messages.specs.Messages.{WholeMessage, HasMessage}
 use Rattle.room_model.specs.Rooms.{Step}
 use Rattle.room_http.specs.Arrivals.{message as arrived, refused}
-use Rattle.room_http.specs.Kept.{AreKept, AreReplies}
+use Rattle.room_http.specs.KeptMessages.{AreKept, AreReplies}
 use Rattle.room_http.specs.Talk.{Timed, replied}
 use Rattle.room_model.specs.declared.digests.Version.{Version}
 use Rattle.room_model.specs.declared.digests.Version.TheVariants.{First, Second}

@@ -381,10 +381,10 @@ left_replay step setting digest_of terminals held (left_out at sent) left = (hel
 module _ (step : Step) (setting : Setting) (digest_of : DigitsOf) (early late : Type 0)
     (earlier : late → early) (stood mid stands : List Terminal → Room → Type 0)
     (a b : Option (List ℕ)) (until : Option ℕ) (kept : List ℕ) (looked : Bool) (at : ℕ) (layout : EntryLayout)
-    (next : Next) (is : next ≡ Message at layout) (old : Progress)
+    (next : Next) (is : next ≡ Message (record { at = at; layout = layout })) (old : Progress)
     (x : NextIs digest_of early stood mid a b looked until old.is_begun kept (Ok next)) where
   front : NextIs digest_of early stood mid a b looked until old.is_begun kept
-      (Ok (Message at layout))
+      (Ok (Message (record { at = at; layout = layout })))
   front = subst (λ (n : Next). NextIs digest_of early stood mid a b looked until old.is_begun kept (Ok n)) is x
 
   pub stops_message : (waits : Bool) (fault : ReplayFault) (read_failed write_failed : Bool)

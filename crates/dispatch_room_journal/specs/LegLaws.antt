@@ -11,8 +11,8 @@ use Rattle.dispatch_room_journal.specs.RowRuns.{IsRow}
 abbrev pub IsNoRow : List ℕ → Type 0
 IsNoRow body = is_row body ≡ false
 
--- Where rows stand behind some records, and more behind the rows: the leg is what those records say,
--- and all that is said is the leg, and then what is said behind the rows.
+-- Where rows stand behind some records, and more behind the rows: the leg is what those records
+-- say, and all that is said is the leg, and then what is said behind the rows.
 abbrev pub IsLegByLeg : Type 0
 IsLegByLeg =
     (hash : List ℕ → List ℕ) → ((text : List ℕ) → length (hash text) ≡ 64)

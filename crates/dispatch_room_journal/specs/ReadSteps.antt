@@ -130,7 +130,8 @@ Nearer mode kept new_mode new_vouched new_len =
     Nears mode (length kept) new_mode new_vouched new_len ⊎ (rows_next mode kept ≡ 1)
 
 -- One step, with nothing that may be given: it leaves what is left as it is, and it is nearer, or a
--- row was passed over; or more has to be read, for which there is room; or it was found what is left.
+-- row was passed over; or more has to be read, for which there is room; or it was found what is
+-- left.
 module _ (mode : Mode) (kept : List ℕ) (new_mode : Mode) (new_vouched : ℕ) (new_kept : List ℕ) where
   abbrev pub StepIs : Step → Type 0
   StepIs More = (new_mode ≡ mode) × (new_vouched ≡ 0) × (new_kept ≡ kept)

@@ -45,16 +45,16 @@ module _ (hash : List ℕ → List ℕ) where
       else (if nat_lt (length text) (HEADER + size) then Short
       else whole_front has_ended text size (next_check hash check (body_in size text))))
 
-  -- what is at the front of a text, after a record with this check: nothing, or what is too short to
-  -- say, or no record that comes next, or one
+  -- what is at the front of a text, after a record with this check: nothing, or what is too short
+  -- to say, or no record that comes next, or one
   abbrev pub front_of : List ℕ → Bool → List ℕ → Front
   front_of check has_ended text =
       if nat_lt (length text) 1 then Empty
       else (if nat_lt (length text) HEADER then Short
       else sized_front check has_ended text (number_in text))
 
--- What a look at the first bytes of a text gives stays so, whatever follows them. Where they are too
--- few to say, there is room for more of them.
+-- What a look at the first bytes of a text gives stays so, whatever follows them. Where they are
+-- too few to say, there is room for more of them.
 abbrev pub Stays : (List ℕ → Front) → Bool → List ℕ → Front → Type 0
 Stays look has_ended text Empty = length text < 1
 Stays look has_ended text Short =

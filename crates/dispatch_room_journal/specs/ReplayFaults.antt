@@ -30,7 +30,7 @@ IsBroken text = ((0 < length text) × IsPart text) ⊎ IsForeign text
 abbrev pub IsNoMessage : List ℕ → Type 0
 IsNoMessage sent = (m : WholeMessage) → ¬ (HasMessage sent m [])
 
--- memory or storage is wanting
+-- memory or storage fails
 abbrev pub IsWanting : ReplayFault → Type 0
 IsWanting fault = (r : Refusal) × (fault ≡ Want r) × IsWant r
 
@@ -102,6 +102,6 @@ abbrev pub miss_fault : Miss → ReplayFault
 miss_fault miss.Another = Another
 miss_fault (miss.Want r) = Want r
 
--- why a message is not played: its bytes are none, or memory or storage is wanting
+-- why a message is not played: its bytes are none, or memory or storage fails
 abbrev pub Refuses : List ℕ → ReplayFault → Type 0
 Refuses sent fault = ((fault ≡ Bad) × IsNoMessage sent) ⊎ IsWanting fault

@@ -2,15 +2,15 @@
 use Rattle.std.specs.Prelude.{◌≡◌, ◌≤◌, ◌⊎◌, ℕ, ◌-◌, ◌^◌, min, List, [], ◌∷◌, ◌++◌, length, count_by, All, Bool, true}
 use Rattle.std.specs.Prelude.{Option, Some, None, Result, MatchResult}
 use Rattle.room_types.specs.declared.fleet.Terminal.{Terminal}
-use Rattle.room_model.specs.Enrol.{AreTerminals}
+use Rattle.room_model.specs.FleetRows.{AreTerminals}
 use Rattle.room_model.specs.Room.{Room}
-use Rattle.room_model.specs.WellFormed.{IsWellFormed}
+use Rattle.room_model.specs.RoomAgreements.{IsWellFormed}
 use Rattle.room_http.specs.declared.settings.Setting.{Setting}
 use Rattle.room_model.specs.Rooms.{Step, IsWant, machine}
 use Rattle.dispatch_room_journal.specs.Entries.{IsEntry, texts_of}
 use Rattle.dispatch_room_journal.specs.JournalRecords.{answer_text, message_text}
 use Rattle.room_http.specs.Arrivals.{message, refused}
-use Rattle.room_http.specs.Kept.{AreKept, AreReplies}
+use Rattle.room_http.specs.KeptMessages.{AreKept, AreReplies}
 use Rattle.room_http.specs.Promises.{Promises}
 use Rattle.room_http.specs.Runs.{Exchange, IsRunOf}
 use Rattle.room_http.specs.Talk.{Timed}
@@ -80,7 +80,7 @@ IsTheRoom =
     → (other ≡ after) × (answers_of ts ≡ answers_to_messages outs answers)
 
 -- why a list that can be replayed is not replayed to its end, by the reported fault: a read
--- failed; memory or storage is wanting; or its turns are more than are counted
+-- failed; memory or storage fails; or its turns are more than are counted
 abbrev pub IsExcused : Bool → List Turn → ReplayFault → Type 0
 IsExcused read_failed ts Bad = 2 ^ 64 - 1 ≤ length ts
 IsExcused read_failed ts Differs = ⊥

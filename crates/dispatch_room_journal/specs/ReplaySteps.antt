@@ -91,7 +91,7 @@ module _ (step : Step) (setting : Setting) (digest_of : DigitsOf) (trusted : Typ
       ⊎ ((head : Head) × (line ≡ line_of (room head))
       × LeadsElsewhere step setting digest_of trusted stood stands [] None head)
 
-  -- why a message before this line is not played: memory or storage is wanting, or its bytes are no
+  -- why a message before this line is not played: memory or storage fails, or its bytes are no
   -- message, and it was to be played
   abbrev pub RefusesAt : List ℕ → EntryLine → ReplayFault → Type 0
   RefusesAt sent line fault =
@@ -185,8 +185,9 @@ module _ (digest_of : DigitsOf) (trusted : Type 0) (stood stands : List Terminal
       × Consumes before after (texts_of (room head ∷ [])) × (failed ≡ false)
       × (trusted → (terminals : List Terminal) (held : Room) → stood terminals held
       → (IsHeadOf digest_of head terminals held) × stands terminals held)
-  NextIs until begun kept (Ok (next.Message at layout)) =
-      (sent : List ℕ) × IsLayout kept layout (message at sent) × IsBy until (message at sent)
+  NextIs until begun kept (Ok (next.Message entry)) =
+      (sent : List ℕ) × IsLayout kept entry.layout (message entry.at sent)
+      × IsBy until (message entry.at sent)
       × Keeps before after
       × (begun ≡ true) × (failed ≡ false) × Stays trusted stood stands
   NextIs until begun kept (Ok next.End) =

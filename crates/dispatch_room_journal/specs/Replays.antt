@@ -119,7 +119,7 @@ module _ (step : Step) (setting : Setting) (digest_of : DigitsOf) (trusted : Typ
   Replays read_failed (Err stopped) =
       (ts last : List Turn) × StopsAfter true IsReplayed read_failed false stopped ts last
 
--- unless memory or storage was wanting
+-- unless memory or storage failed
 abbrev pub Unless : ReplayFault → Type 0 → Type 0
 Unless Bad P = P
 Unless Differs P = P

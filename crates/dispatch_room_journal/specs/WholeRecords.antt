@@ -20,8 +20,8 @@ use Rattle.dispatch_room_journal.specs.RecordRuns.{Runs, first_link}
 abbrev pub SaysEntry : List ℕ → Type 0
 SaysEntry body = (is_silent body ≡ true) ⊎ ((e : Entry) × IsEntry e × (body ≡ text_of e))
 
--- the text after a chain's first line begins with these records, and this rest follows them; and how
--- far the chain has come after them
+-- the text after a chain's first line begins with these records, and this rest follows them; and
+-- how far the chain has come after them
 abbrev pub GoesOnTo : List ℕ → List (List ℕ) → List ℕ → Link → Type 0
 GoesOnTo text bodies rest link = Runs SaysEntry first_link text bodies rest link
 

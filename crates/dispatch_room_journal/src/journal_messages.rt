@@ -6,19 +6,15 @@ ghost use Rattle.dispatch_room_journal.specs.EntryPrefixes.{IsLayout};
 ghost use Rattle.dispatch_room_journal.specs.Replays.{UnlessOutOfMemory, digits_of};
 ghost use Rattle.dispatch_room_journal.specs.ReplaySteps.{MessageIs};
 
-use crate::entry_prefixes::EntryLayout;
 use crate::entry_reader::read_entry;
 use crate::journal_inbox::JournalInbox;
-use crate::next_entry::read_fault;
+use crate::next_entry::{MessageEntry, read_fault};
 use crate::replay_faults::ReplayFault;
 use crate::replay_outcomes::settle;
-use room_http::settings::Setting;
+use room_http::handlers::Handler;
 use room_http_messages::sources::Source;
-use room_http_requests::routes::Routes;
 use room_model::digests::Digested;
-use room_types::numbers::Moment;
 use room_types::refusal_statuses::Refusal;
-use std::alloc::Global;
 
 /// What became of a message.
 #[derive(Clone, Copy)]
@@ -34,44 +30,35 @@ pub enum Turned {
 /// Plays the message at the front of the journal, or leaves it out, by what follows it. It is
 /// copied, since what follows it takes its place.
 pub fn replay_message<R: Source, M: Digested>(
-    alloc: Global,
-    routes: &Routes,
-    setting: &Setting,
+    handler: &Handler,
     inbox: &mut JournalInbox,
     reader: &mut R,
     room: &mut M,
-    at: Moment,
-    layout: &EntryLayout,
+    entry: &MessageEntry,
 ) -> Result<Turned, ReplayFault>
     requires ready { M.is_ready room.old }
     requires sound { R.has_failed reader.old ≡ false }
-    requires front { (sent : List ℕ) × IsLayout inbox.old.kept layout.now (message at sent) }
+    requires front { (sent : List ℕ) × IsLayout inbox.old.kept entry.now.layout
+        (message entry.now.at sent) }
     ensures ready { M.is_ready room.new }
     ensures zone { M.zone room.new ≡ M.zone room.old }
     ensures trusted { M.is_trusted room.new → M.is_trusted room.old }
-    ensures turn { MessageIs M.step setting.now (digits_of M.digest_of (M.zone room.old))
+    ensures turn { MessageIs M.step handler.now.setting (digits_of M.digest_of (M.zone room.old))
         (M.is_trusted room.new) (M.stands room.old) (M.stands room.new)
         (prepend_known inbox.old.kept (R.left reader.old))
-        (prepend_known inbox.new.kept (R.left reader.new)) (R.has_failed reader.new) at result }
+        (prepend_known inbox.new.kept (R.left reader.new)) (R.has_failed reader.new)
+        entry.now.at result }
     ensures kept { M.is_trusted room.new → UnlessOutOfMemory result (M.is_kept room.old
         → M.is_kept room.new) }
 {
-    let Ok(sent) = inbox.message(layout).to_vec(alloc) else {
+    let Ok(sent) = inbox.message(&entry.layout).to_vec(handler.alloc) else {
         return Err(ReplayFault::Want(Refusal::Memory));
     };
-    inbox.remove(layout);
+    inbox.remove(&entry.layout);
     match read_entry(inbox, reader) {
         Err(fault) => Err(read_fault(fault)),
         Ok(None) => Ok(Turned::Last),
-        Ok(Some(next)) => match settle(
-            alloc,
-            routes,
-            setting,
-            room,
-            sent.as_slice(),
-            at,
-            &next.line,
-        ) {
+        Ok(Some(next)) => match settle(handler, room, sent.as_slice(), entry.at, &next.line) {
             Ok(true) => {
                 inbox.remove(&next);
                 Ok(Turned::Played)

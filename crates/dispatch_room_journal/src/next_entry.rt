@@ -22,9 +22,16 @@ pub enum Next {
     /// A head, which was taken: the room has its digest.
     Head,
     /// A message, which is at the front of the inbox.
-    Message { at: Moment, layout: EntryLayout },
+    Message(MessageEntry),
     /// Nothing, or a message that is later than the last to be played.
     End,
+}
+
+/// The entry of a message: its moment, and where it is in the inbox.
+#[derive(Clone, Copy)]
+pub struct MessageEntry {
+    pub at: Moment,
+    pub layout: EntryLayout,
 }
 
 /// The fault of a read.
@@ -85,7 +92,7 @@ pub fn next_entry<R: Source, M: Digested>(
                 } else if is_after(until, *at) {
                     Ok(Next::End)
                 } else {
-                    Ok(Next::Message { at: *at, layout })
+                    Ok(Next::Message(MessageEntry { at: *at, layout }))
                 }
             }
             EntryLine::Answer(_) => Err(ReplayFault::Bad),

@@ -17,15 +17,13 @@ use crate::replay_faults::ReplayFault;
 use itoa::Buffer;
 use room_http::arrivals::Arrived;
 use room_http::digest_replies::reply_towards;
+use room_http::handlers::Handler;
 use room_http::replies::reply;
-use room_http::settings::Setting;
 use room_http_messages::message_prefixes::{MessagePrefix, look_at};
 use room_http_messages::messages::Message;
-use room_http_requests::routes::Routes;
 use room_model::digests::{Digested, Head, Miss};
 use room_model::rooms::Room;
 use room_types::numbers::Moment;
-use std::alloc::Global;
 
 /// The message that the bytes are, one and nothing after it.
 fn message_in(bytes: &[u8]) -> Option<Message<'_>>
@@ -52,9 +50,7 @@ fn message_in(bytes: &[u8]) -> Option<Message<'_>>
 
 /// Plays a message: the bytes of its answer. Where the bytes are no message, nothing is done.
 pub fn play<M: Room>(
-    alloc: Global,
-    routes: &Routes,
-    setting: &Setting,
+    handler: &Handler,
     room: &mut M,
     sent: &[u8],
     at: Moment,
@@ -64,7 +60,7 @@ pub fn play<M: Room>(
     ensures ready { M.is_ready room.new }
     ensures zone { M.zone room.new ≡ M.zone room.old }
     ensures trusted { M.is_trusted room.new → M.is_trusted room.old }
-    ensures plays { Plays M.step setting.now (M.is_trusted room.new) (M.stands room.old)
+    ensures plays { Plays M.step handler.now.setting (M.is_trusted room.new) (M.stands room.old)
         (M.stands room.new) at sent.now result }
     ensures kept { M.is_trusted room.new → UnlessOutOfMemory result (M.is_kept room.old
         → M.is_kept room.new) }
@@ -74,9 +70,7 @@ pub fn play<M: Room>(
     };
     let mut asker = None;
     match reply(
-        alloc,
-        routes,
-        setting,
+        handler,
         room,
         &Arrived::Message {
             message,
@@ -93,9 +87,7 @@ pub fn play<M: Room>(
 /// Plays a message where the room comes by it to the digest of this head. Where not, nothing is
 /// done.
 pub fn play_towards<M: Digested>(
-    alloc: Global,
-    routes: &Routes,
-    setting: &Setting,
+    handler: &Handler,
     room: &mut M,
     sent: &[u8],
     at: Moment,
@@ -106,8 +98,8 @@ pub fn play_towards<M: Digested>(
     ensures ready { M.is_ready room.new }
     ensures zone { M.zone room.new ≡ M.zone room.old }
     ensures trusted { M.is_trusted room.new → M.is_trusted room.old }
-    ensures plays { PlaysTowards M.step setting.now (digits_of M.digest_of (M.zone room.old))
-        (M.is_trusted room.new)
+    ensures plays { PlaysTowards M.step handler.now.setting
+        (digits_of M.digest_of (M.zone room.old)) (M.is_trusted room.new)
         (M.stands room.old) (M.stands room.new) at sent.now head.now result }
     ensures kept { M.is_trusted room.new → UnlessOutOfMemory result (M.is_kept room.old
         → M.is_kept room.new) }
@@ -116,9 +108,7 @@ pub fn play_towards<M: Digested>(
         return Err(ReplayFault::Bad);
     };
     match reply_towards(
-        alloc,
-        routes,
-        setting,
+        handler,
         room,
         &Arrived::Message {
             message,

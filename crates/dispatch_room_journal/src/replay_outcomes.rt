@@ -9,17 +9,13 @@ ghost use Rattle.dispatch_room_journal.specs.ReplaySteps.{Settles};
 use crate::entry_lines::EntryLine;
 use crate::played_message::{has_status, is_at, play, play_towards};
 use crate::replay_faults::ReplayFault;
-use room_http::settings::Setting;
-use room_http_requests::routes::Routes;
+use room_http::handlers::Handler;
 use room_model::digests::{Digested, Head};
 use room_types::numbers::Moment;
-use std::alloc::Global;
 
 /// Plays a message that has this status, whose entry is taken with it.
 fn play_answered<M: Digested>(
-    alloc: Global,
-    routes: &Routes,
-    setting: &Setting,
+    handler: &Handler,
     room: &mut M,
     sent: &[u8],
     at: Moment,
@@ -30,13 +26,13 @@ fn play_answered<M: Digested>(
     ensures ready { M.is_ready room.new }
     ensures zone { M.zone room.new ≡ M.zone room.old }
     ensures trusted { M.is_trusted room.new → M.is_trusted room.old }
-    ensures turn { Settles M.step setting.now (digits_of M.digest_of (M.zone room.old))
+    ensures turn { Settles M.step handler.now.setting (digits_of M.digest_of (M.zone room.old))
         (M.is_trusted room.new)
         (M.stands room.old) (M.stands room.new) at sent.now (Answer status) result }
     ensures kept { M.is_trusted room.new → UnlessOutOfMemory result (M.is_kept room.old
         → M.is_kept room.new) }
 {
-    match play(alloc, routes, setting, room, sent, at) {
+    match play(handler, room, sent, at) {
         Ok(told) => {
             if has_status(told.as_slice(), status) {
                 Ok(true)
@@ -52,9 +48,7 @@ fn play_answered<M: Digested>(
 /// the head's digest yet and comes to it by the message. Whether it was played. Where the room
 /// would come to another digest, nothing is done.
 fn replay_unanswered<M: Digested>(
-    alloc: Global,
-    routes: &Routes,
-    setting: &Setting,
+    handler: &Handler,
     room: &mut M,
     sent: &[u8],
     at: Moment,
@@ -65,7 +59,7 @@ fn replay_unanswered<M: Digested>(
     ensures ready { M.is_ready room.new }
     ensures zone { M.zone room.new ≡ M.zone room.old }
     ensures trusted { M.is_trusted room.new → M.is_trusted room.old }
-    ensures turn { Settles M.step setting.now (digits_of M.digest_of (M.zone room.old))
+    ensures turn { Settles M.step handler.now.setting (digits_of M.digest_of (M.zone room.old))
         (M.is_trusted room.new)
         (M.stands room.old) (M.stands room.new) at sent.now (Room head.now) result }
     ensures kept { M.is_trusted room.new → UnlessOutOfMemory result (M.is_kept room.old
@@ -73,7 +67,7 @@ fn replay_unanswered<M: Digested>(
 {
     match is_at(room, head) {
         Ok(true) => Ok(false),
-        Ok(false) => match play_towards(alloc, routes, setting, room, sent, at, head) {
+        Ok(false) => match play_towards(handler, room, sent, at, head) {
             Ok(()) => Ok(true),
             Err(fault) => Err(fault),
         },
@@ -84,9 +78,7 @@ fn replay_unanswered<M: Digested>(
 /// Plays a message or leaves it out, by the line that follows it. Whether that line's entry is
 /// taken with it.
 pub fn settle<M: Digested>(
-    alloc: Global,
-    routes: &Routes,
-    setting: &Setting,
+    handler: &Handler,
     room: &mut M,
     sent: &[u8],
     at: Moment,
@@ -97,15 +89,15 @@ pub fn settle<M: Digested>(
     ensures ready { M.is_ready room.new }
     ensures zone { M.zone room.new ≡ M.zone room.old }
     ensures trusted { M.is_trusted room.new → M.is_trusted room.old }
-    ensures turn { Settles M.step setting.now (digits_of M.digest_of (M.zone room.old))
+    ensures turn { Settles M.step handler.now.setting (digits_of M.digest_of (M.zone room.old))
         (M.is_trusted room.new)
         (M.stands room.old) (M.stands room.new) at sent.now line.now result }
     ensures kept { M.is_trusted room.new → UnlessOutOfMemory result (M.is_kept room.old
         → M.is_kept room.new) }
 {
     match line {
-        EntryLine::Answer(status) => play_answered(alloc, routes, setting, room, sent, at, *status),
-        EntryLine::Room(head) => replay_unanswered(alloc, routes, setting, room, sent, at, head),
+        EntryLine::Answer(status) => play_answered(handler, room, sent, at, *status),
+        EntryLine::Room(head) => replay_unanswered(handler, room, sent, at, head),
         EntryLine::Message { .. } => Ok(false),
     }
 }

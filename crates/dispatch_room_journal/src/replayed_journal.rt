@@ -12,9 +12,9 @@ use crate::journal_messages::{Turned, replay_message};
 use crate::next_entry::{Next, next_entry};
 use crate::replay_faults::{ReplayFault, Stopped};
 use crate::replay_progress::Progress;
+use room_http::handlers::Handler;
 use room_http::settings::Setting;
 use room_http_messages::sources::Source;
-use room_http_requests::routes::Routes;
 use room_model::digests::Digested;
 use room_types::numbers::Moment;
 use room_types::refusal_statuses::Refusal;
@@ -55,17 +55,15 @@ pub fn replay<R: Source, M: Digested>(
     let Ok(mut inbox) = JournalInbox::new(alloc) else {
         return Err(memory());
     };
-    match Routes::new(alloc) {
-        Ok(routes) => replay_turns(alloc, &routes, setting, &mut inbox, reader, room, until),
+    match Handler::new(alloc, *setting) {
+        Ok(handler) => replay_turns(&handler, &mut inbox, reader, room, until),
         Err(_) => Err(memory()),
     }
 }
 
 /// Replays a journal of which nothing was read yet.
 fn replay_turns<R: Source, M: Digested>(
-    alloc: Global,
-    routes: &Routes,
-    setting: &Setting,
+    handler: &Handler,
     inbox: &mut JournalInbox,
     reader: &mut R,
     room: &mut M,
@@ -77,7 +75,7 @@ fn replay_turns<R: Source, M: Digested>(
     ensures ready { M.is_ready room.new }
     ensures zone { M.zone room.new ≡ M.zone room.old }
     ensures trusted { M.is_trusted room.new → M.is_trusted room.old }
-    ensures replay { Replays M.step setting.now (digits_of M.digest_of (M.zone room.old))
+    ensures replay { Replays M.step handler.now.setting (digits_of M.digest_of (M.zone room.old))
         (M.is_trusted room.new)
         (M.stands room.old) (M.stands room.new) (R.left reader.old) until.now
         (R.has_failed reader.new) result }
@@ -86,16 +84,7 @@ fn replay_turns<R: Source, M: Digested>(
 {
     let mut progress = Progress::new();
     'turns: for _turn in 0..u64::MAX {
-        match replay_turn(
-            alloc,
-            routes,
-            setting,
-            inbox,
-            reader,
-            room,
-            until,
-            &mut progress,
-        ) {
+        match replay_turn(handler, inbox, reader, room, until, &mut progress) {
             Ok(true) => {}
             Ok(false) => return Ok(done(&progress)),
             Err(fault) => return Err(stopped(fault, &progress)),
@@ -106,9 +95,7 @@ fn replay_turns<R: Source, M: Digested>(
 
 /// Takes the next turn of a journal. Whether it goes on.
 fn replay_turn<R: Source, M: Digested>(
-    alloc: Global,
-    routes: &Routes,
-    setting: &Setting,
+    handler: &Handler,
     inbox: &mut JournalInbox,
     reader: &mut R,
     room: &mut M,
@@ -120,7 +107,7 @@ fn replay_turn<R: Source, M: Digested>(
     ensures ready { M.is_ready room.new }
     ensures zone { M.zone room.new ≡ M.zone room.old }
     ensures trusted { M.is_trusted room.new → M.is_trusted room.old }
-    ensures turn { TakesTurn M.step setting.now (digits_of M.digest_of (M.zone room.old))
+    ensures turn { TakesTurn M.step handler.now.setting (digits_of M.digest_of (M.zone room.old))
         (M.is_trusted room.new) (M.stands room.old) (M.stands room.new)
         (prepend_known inbox.old.kept (R.left reader.old))
         (prepend_known inbox.new.kept (R.left reader.new)) until.now IsReplayed progress.old
@@ -136,8 +123,8 @@ fn replay_turn<R: Source, M: Digested>(
                 progress.note_head();
                 Ok(true)
             }
-            Next::Message { at, layout } => {
-                match replay_message(alloc, routes, setting, inbox, reader, room, *at, layout) {
+            Next::Message(entry) => {
+                match replay_message(handler, inbox, reader, room, entry) {
                     Err(fault) => Err(fault),
                     Ok(Turned::Played) => {
                         progress.note_message(false);

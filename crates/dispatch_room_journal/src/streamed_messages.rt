@@ -8,20 +8,18 @@ ghost use Rattle.dispatch_room_journal.specs.Replays.{UnlessStopped, UnlessOutOf
 
 use crate::answer_frames::put_frame;
 use crate::entry_lines::EntryLine;
-use crate::entry_prefixes::EntryLayout;
 use crate::entry_reader::read_entry;
 use crate::journal_inbox::JournalInbox;
-use crate::next_entry::{Next, next_entry, read_fault};
+use crate::next_entry::{MessageEntry, Next, next_entry, read_fault};
 use crate::played_message::{has_status, play};
 use crate::replay_faults::{ReplayFault, Stopped};
 use crate::replay_progress::Progress;
 use crate::replayed_journal::{memory, stopped};
+use room_http::handlers::Handler;
 use room_http::settings::Setting;
 use room_http_messages::sinks::Sink;
 use room_http_messages::sources::Source;
-use room_http_requests::routes::Routes;
 use room_model::digests::Digested;
-use room_types::numbers::Moment;
 use std::alloc::Global;
 
 /// Compares the status that follows an answer, if one does. Whether it was taken.
@@ -55,35 +53,33 @@ fn follow<R: Source>(
 /// Plays the message at the front of the journal, writes its answer in its frame, and compares the
 /// status that follows, if one does.
 fn answer_message<R: Source, W: Sink, M: Digested>(
-    alloc: Global,
-    routes: &Routes,
-    setting: &Setting,
+    handler: &Handler,
     inbox: &mut JournalInbox,
     reader: &mut R,
     writer: &mut W,
     room: &mut M,
-    at: Moment,
-    layout: &EntryLayout,
+    entry: &MessageEntry,
 ) -> Result<(), ReplayFault>
     requires ready { M.is_ready room.old }
     requires reader { R.has_failed reader.old ≡ false }
     requires writer { W.has_failed writer.old ≡ false }
-    requires front { (sent : List ℕ) × IsLayout inbox.old.kept layout.now (message at sent) }
+    requires front { (sent : List ℕ) × IsLayout inbox.old.kept entry.now.layout
+        (message entry.now.at sent) }
     ensures ready { M.is_ready room.new }
     ensures zone { M.zone room.new ≡ M.zone room.old }
     ensures trusted { M.is_trusted room.new → M.is_trusted room.old }
-    ensures turn { EachIs M.step setting.now (digits_of M.digest_of (M.zone room.old))
+    ensures turn { EachIs M.step handler.now.setting (digits_of M.digest_of (M.zone room.old))
         (M.is_trusted room.new) (M.stands room.old) (M.stands room.new)
         (prepend_known inbox.old.kept (R.left reader.old))
         (prepend_known inbox.new.kept (R.left reader.new)) (W.held writer.old) (W.held writer.new)
-        at (R.has_failed reader.new) (W.has_failed writer.new) result }
+        entry.now.at (R.has_failed reader.new) (W.has_failed writer.new) result }
     ensures kept { M.is_trusted room.new → UnlessOutOfMemory result (M.is_kept room.old
         → M.is_kept room.new) }
 {
-    match play(alloc, routes, setting, room, inbox.message(layout), at) {
+    match play(handler, room, inbox.message(&entry.layout), entry.at) {
         Err(fault) => Err(fault),
         Ok(told) => {
-            inbox.remove(layout);
+            inbox.remove(&entry.layout);
             match put_frame(writer, told.as_slice()) {
                 Err(_) => Err(ReplayFault::WriteFailed),
                 Ok(()) => match follow(inbox, reader, told.as_slice()) {
@@ -97,9 +93,7 @@ fn answer_message<R: Source, W: Sink, M: Digested>(
 
 /// Takes the next turn of a journal. Whether it goes on.
 fn answer_turn<R: Source, W: Sink, M: Digested>(
-    alloc: Global,
-    routes: &Routes,
-    setting: &Setting,
+    handler: &Handler,
     inbox: &mut JournalInbox,
     reader: &mut R,
     writer: &mut W,
@@ -112,7 +106,7 @@ fn answer_turn<R: Source, W: Sink, M: Digested>(
     ensures ready { M.is_ready room.new }
     ensures zone { M.zone room.new ≡ M.zone room.old }
     ensures trusted { M.is_trusted room.new → M.is_trusted room.old }
-    ensures turn { AnswersTurn M.step setting.now (digits_of M.digest_of (M.zone room.old))
+    ensures turn { AnswersTurn M.step handler.now.setting (digits_of M.digest_of (M.zone room.old))
         (M.is_trusted room.new) (M.stands room.old) (M.stands room.new)
         (prepend_known inbox.old.kept (R.left reader.old))
         (prepend_known inbox.new.kept (R.left reader.new)) (W.held writer.old) (W.held writer.new)
@@ -128,10 +122,8 @@ fn answer_turn<R: Source, W: Sink, M: Digested>(
                 progress.note_head();
                 Ok(true)
             }
-            Next::Message { at, layout } => {
-                match answer_message(
-                    alloc, routes, setting, inbox, reader, writer, room, *at, layout,
-                ) {
+            Next::Message(entry) => {
+                match answer_message(handler, inbox, reader, writer, room, entry) {
                     Err(fault) => Err(fault),
                     Ok(()) => {
                         progress.note_message(false);
@@ -145,9 +137,7 @@ fn answer_turn<R: Source, W: Sink, M: Digested>(
 
 /// Plays the messages of a journal of which nothing was read yet.
 fn answer_turns<R: Source, W: Sink, M: Digested>(
-    alloc: Global,
-    routes: &Routes,
-    setting: &Setting,
+    handler: &Handler,
     inbox: &mut JournalInbox,
     reader: &mut R,
     writer: &mut W,
@@ -160,8 +150,8 @@ fn answer_turns<R: Source, W: Sink, M: Digested>(
     ensures ready { M.is_ready room.new }
     ensures zone { M.zone room.new ≡ M.zone room.old }
     ensures trusted { M.is_trusted room.new → M.is_trusted room.old }
-    ensures answers { AnswersEach M.step setting.now (digits_of M.digest_of (M.zone room.old))
-        (M.is_trusted room.new)
+    ensures answers { AnswersEach M.step handler.now.setting
+        (digits_of M.digest_of (M.zone room.old)) (M.is_trusted room.new)
         (M.stands room.old) (M.stands room.new) (R.left reader.old) (W.held writer.old)
         (W.held writer.new) (R.has_failed reader.new) (W.has_failed writer.new) result }
     ensures kept { M.is_trusted room.new → UnlessStopped result (M.is_kept room.old
@@ -169,16 +159,7 @@ fn answer_turns<R: Source, W: Sink, M: Digested>(
 {
     let mut progress = Progress::new();
     'turns: for _turn in 0..u64::MAX {
-        match answer_turn(
-            alloc,
-            routes,
-            setting,
-            inbox,
-            reader,
-            writer,
-            room,
-            &mut progress,
-        ) {
+        match answer_turn(handler, inbox, reader, writer, room, &mut progress) {
             Ok(true) => {}
             Ok(false) => return Ok(progress.records),
             Err(fault) => return Err(stopped(fault, &progress)),
@@ -213,8 +194,8 @@ pub fn answer_each<R: Source, W: Sink, M: Digested>(
     let Ok(mut inbox) = JournalInbox::new(alloc) else {
         return Err(memory());
     };
-    match Routes::new(alloc) {
-        Ok(routes) => answer_turns(alloc, &routes, setting, &mut inbox, reader, writer, room),
+    match Handler::new(alloc, *setting) {
+        Ok(handler) => answer_turns(&handler, &mut inbox, reader, writer, room),
         Err(_) => Err(memory()),
     }
 }

@@ -26,7 +26,7 @@ use Rattle.room_http_requests.specs.declared.request_asks.Request.TheVariants as
 use Rattle.room_http_requests.specs.declared.targets.Target.{Target}
 use Rattle.room_http_requests.specs.declared.targets.Target.TheVariants as target
 use Rattle.room_http.specs.Arrivals.{message, refused}
-use Rattle.room_http.specs.Kept.{AreReplies}
+use Rattle.room_http.specs.KeptMessages.{AreReplies}
 use Rattle.room_http.specs.MessageEvents.{AsksAs, AsksAt, AsksBy, AsksFor, IsAskFor, named}
 use Rattle.room_http.specs.Talk.{Finds, IsReplyTo, Timed}
 use Rattle.room_http.specs.declared.settings.Setting.{Setting}

@@ -5,20 +5,18 @@ use Rattle.std.proofs.Common.{List, [], ◌∷◌, ◌++◌, ◌<◌, Bool, Opti
 use Rattle.std.proofs.Common.{inr, ◌+◌}
 use Rattle.std.proofs.lemmas.List.{map-append}
 use Rattle.std.proofs.lemmas.List.Elements.{All-append, All-cons, All-head, All-nil, All-tail}
-use Rattle.std.specs.Prelude.{All, option_and_then}
-use Rattle.sqlite.specs.Held.{state}
-use Rattle.sqlite.specs.State.{HasCleanDisk}
+use Rattle.std.specs.Prelude.{All, option_and_then, ◌≤◌}
 use Rattle.sqlite_trees.specs.Tree.{Trees}
 use Rattle.sqlite_trees.specs.declared.store.Store.{Ghosts}
 use Rattle.room_types.specs.declared.fleet.Terminal.{Terminal}
-use Rattle.room_model.specs.Enrol.{AreTerminals}
+use Rattle.room_model.specs.FleetRows.{AreTerminals}
 use Rattle.room_model.specs.Room.{Room}
-use Rattle.room_model.specs.WellFormed.{IsWellFormed}
+use Rattle.room_model.specs.RoomAgreements.{IsWellFormed}
 use Rattle.room_http.specs.declared.settings.Setting.{Setting}
 use Rattle.room_store.specs.StoredRoom.{IsKept, IsRoom, LeavesOneOf}
 use Rattle.room_store.specs.declared.store.Store.{Store}
 use Rattle.room_store_writes.specs.Houses.{config_of}
-use Rattle.room_tables.specs.Stands.{Stands}
+use Rattle.room_tables.specs.RoomsInTables.{Stands}
 use Rattle.room_http.specs.Runs.{Exchange, IsRun, room_by}
 use Rattle.room_http.specs.Course.{AreFirstIn}
 use Rattle.room_http.specs.ServedRuns.{KeepsPromises, Served}
@@ -32,6 +30,8 @@ use Rattle.dispatch_room_serving.specs.Connections.{AreAttended, AreJoined, AreK
 use Rattle.dispatch_room_serving.specs.Connections.{Conversation, EndsAs, GoOn, GoesOn, HasServed, IsNext, Service}
 use Rattle.dispatch_room_serving.specs.Connections.{Stage, connected, done_or, fault_after, fault_by, opening_of}
 use Rattle.dispatch_room_serving.specs.Connections.{stage_after, stage_before, together}
+use Rattle.dispatch_room_serving.specs.ServedRoom.{Looks}
+use Rattle.room_tables_schema.specs.FileConnections.{IsClean}
 
 -- ---- what is known grows
 pub grows_none : {A : Type 0} (known : Option (List A)) → Grows known known []
@@ -152,9 +152,9 @@ module _ {S : Type 0} (g : Ghosts S) (setting : Setting) (came_text : ℕ → Li
       → Grows old.heard new.heard (Some (opening_of c) ∷ [])
       → Grows old.told new.told (c.after.held ∷ [])
       → new.stage ≡ stage_after c → IsNext g setting came_text told_text old.stage c
-      → (HasCleanDisk (state g c.store.conn) → HasCleanDisk (state g old.stage.store.conn))
+      → (IsClean g c.store.conn → IsClean g old.stage.store.conn)
       → KeepsPromises setting (AreFirstIn c.course c.before.left c.before.given c.after.given) c.before.held
-      c.after.held (HasCleanDisk (state g c.store.conn)) (IsKept g c.from)
+      c.after.held (IsClean g c.store.conn) (IsKept g c.from)
       (IsRoom g old.stage.store) (IsRoom g c.store) (LeavesOneOf g c.store)
       → AreAttended g setting came_text told_text (Some c ∷ []) old new
   attended_one c old new heard back stage next trusted promised = record {
@@ -198,6 +198,15 @@ has_some : (fault : Failure) (found : Option Failure) → Err fault ≡ done_or 
 has_some fault None is = cc
 has_some fault (Some other) is = cc
 
+-- without a connection there is no fault
+no_end : (fault : Failure) → Err fault ≡ done_or None → ⊥
+no_end fault is = cc
+
+-- one more is within a number, where fewer than that were before
+one_more : {A : Type 0} (xs : List A) (x : A) (most : ℕ) → length xs < most
+    → length (xs ++ x ∷ []) ≤ most
+one_more xs x most within = rw length-append (omega (arith, within))
+
 module _ {S : Type 0} where
   go_on_one : (call : Option (Conversation S)) → Ok tt ≡ done_or (option_and_then fault_after call)
       → GoOn (call ∷ [])
@@ -218,13 +227,20 @@ module _ {S : Type 0} where
       → GoOn calls → Ok tt ≡ done_or (option_and_then fault_after call) → GoOn (calls ++ call ∷ [])
   go_on_more calls call go is = each_more GoesOn calls call go (go_on_one call is)
 
+  -- it is the last, with its fault
+  ends_with : (calls : List (Option (Conversation S))) (last : Conversation S)
+      (renews : Bool) (most : ℕ) (fault : Failure) → GoOn calls → length calls < most
+      → Err fault ≡ done_or (fault_after last)
+      → EndsAs renews (calls ++ Some last ∷ []) most (Err fault)
+  ends_with calls last renews most fault go within is =
+      (calls, last, refl, one_more calls (Some last) most within, go, has_some fault (fault_after last) is)
+
   pub ends_after : (calls : List (Option (Conversation S))) (call : Option (Conversation S))
       (renews : Bool) (most : ℕ) (fault : Failure) → GoOn calls → length calls < most
       → Err fault ≡ done_or (option_and_then fault_after call)
       → EndsAs renews (calls ++ call ∷ []) most (Err fault)
-  ends_after calls None renews most fault go within is = cc
-  ends_after calls (Some c) renews most fault go within is =
-      (calls, c, refl, rw length-append (omega (arith, within)), go, has_some fault (fault_after c) is)
+  ends_after calls None renews most fault go within is = absurd (no_end fault is)
+  ends_after calls (Some last) renews most fault go within is = ends_with calls last renews most fault go within is
 
 -- ---- what is kept
 -- a stop leaves only what is kept
@@ -234,6 +250,15 @@ pub leaves_kept : {S : Type 0} (g : Ghosts S) (store : Store S) (terminals : Lis
 leaves_kept g store terminals room is kept db left =
     inl (subst (λ (trees : Trees). Stands trees (config_of store.plan terminals) room) (sym (kept.alone db left))
     (is.tables kept.is_open))
+
+-- where nothing was done, the store was looked at
+pub looks_same : {S : Type 0} (g : Ghosts S) (store : Store S) → Looks g store store
+looks_same g store = record {
+  zone = refl;
+  trusted = λ clean. clean;
+  same = λ clean terminals room is. is;
+  left = λ clean kept terminals room is. leaves_kept g store terminals room is kept;
+}
 
 -- more is served only with a store that is sound
 sound_of_none : (end : ServeEnd) (is_sound : Bool) → fault_by end is_sound ≡ None
@@ -257,18 +282,18 @@ module _ {S : Type 0} (g : Ghosts S) (setting : Setting) (came_text : ℕ → Li
     (told_text : List ℕ → List ℕ) where
   -- where more is served after a connection, what the store holds is kept
   pub kept_after : (stage : Stage S) (c : Conversation S) → IsNext g setting came_text told_text stage c
-      → GoesOn c → HasCleanDisk (state g c.store.conn) → IsKept g c.store
+      → GoesOn c → IsClean g c.store.conn → IsKept g c.store
   kept_after stage c next goes_on clean = elim (next.kept clean) [
     | inl kept ↦ kept
     | inr unsound ↦ absurd (sound_of_none c.end c.store.is_sound goes_on unsound)
   ]
 
   pub clean_before : (cs : List (Conversation S)) (stage last : Stage S)
-      → AreNext g setting came_text told_text cs stage last → HasCleanDisk (state g last.store.conn)
-      → HasCleanDisk (state g stage.store.conn)
+      → AreNext g setting came_text told_text cs stage last → IsClean g last.store.conn
+      → IsClean g stage.store.conn
   clean_before [] stage last same clean = rw (← same) clean
   clean_before (c ∷ cs) stage last in_turn clean =
-      subst (λ (s : Stage S). HasCleanDisk (state g s.store.conn)) in_turn.0.begins
+      subst (λ (s : Stage S). IsClean g s.store.conn) in_turn.0.begins
       (in_turn.0.trusted (clean_before cs (stage_after c) last in_turn.1 clean))
 
   kept_from : (stage : Stage S) (c : Conversation S) → stage_before c ≡ stage
@@ -279,11 +304,11 @@ module _ {S : Type 0} (g : Ghosts S) (setting : Setting) (came_text : ℕ → Li
   -- last.
   kept_each : (cs : List (Conversation S)) (stage last : Stage S)
       → AreNext g setting came_text told_text cs stage last → All GoesOn cs
-      → HasCleanDisk (state g last.store.conn) → IsKept g stage.store
+      → IsClean g last.store.conn → IsKept g stage.store
       → All (λ c. IsKept g c.from) cs × IsKept g last.store
   kept_each [] stage last same go_on clean kept = (All-nil (λ c. IsKept g c.from), rw same kept)
   kept_each (c ∷ cs) stage last in_turn go_on clean kept =
-      let here : HasCleanDisk (state g c.store.conn) = clean_before cs (stage_after c) last in_turn.1 clean in
+      let here : IsClean g c.store.conn = clean_before cs (stage_after c) last in_turn.1 clean in
       let after : IsKept g c.store = kept_after stage c in_turn.0 (All-head GoesOn c cs go_on) here in
       let rest = kept_each cs (stage_after c) last in_turn.1 (All-tail GoesOn c cs go_on) clean after in
       (All-cons (λ c. IsKept g c.from) c cs (kept_from stage c in_turn.0.begins kept) rest.0, rest.1)
@@ -321,7 +346,7 @@ module _ {S : Type 0} (g : Ghosts S) (setting : Setting) (came_text : ℕ → Li
     ends = ends;
     longer = λ goes_on first count before.
         let on : Ok tt ≡ done_or (option_and_then fault_after call) = sym goes_on ∙ ends in
-        let one = λ (clean : HasCleanDisk (state g new.stage.store.conn)) (kept : IsKept g first.stage.store).
+        let one = λ (clean : IsClean g new.stage.store.conn) (kept : IsKept g first.stage.store).
         kept_each g setting came_text told_text (connected (call ∷ [])) old.stage new.stage next.in_turn
         (go_on_one call on) clean (before.is_kept (next.trusted clean) kept) in
         record {
@@ -343,7 +368,7 @@ module _ {S : Type 0} (g : Ghosts S) (setting : Setting) (came_text : ℕ → Li
       → (before : HasServed g setting came_text told_text first old count)
       → AreAttended g setting came_text told_text (call ∷ []) old new
       → AreKept g setting came_text told_text (connected (before.calls ++ call ∷ [])) first
-      (HasCleanDisk (state g new.stage.store.conn))
+      (IsClean g new.stage.store.conn)
   kept_ending call first old new count before next clean kept =
       let here = next.trusted clean in
       let last = kept_at g setting came_text told_text call old.stage new.stage next.in_turn

@@ -26,12 +26,12 @@ use Rattle.room_model.specs.declared.digests.Head.{Head}
 use Rattle.room_model.specs.declared.digests.Version.{Version}
 use Rattle.room_model.specs.declared.digests.Version.TheVariants.{Second}
 use Rattle.room_http_time.specs.Days.{zone_of}
-use Rattle.room_http_time.specs.declared.moments.TheConstants.{LAST_MOMENT}
+use Rattle.room_http.specs.declared.moments.TheConstants.{LAST_MOMENT}
 use Rattle.room_http.specs.Settings.{IsSetting}
 use Rattle.room_http.specs.declared.settings.Setting.{Setting}
 use Rattle.room_http.specs.Arrivals.{message as arrived, refused}
 use Rattle.room_http.specs.Course.{AreFirstIn}
-use Rattle.room_http.specs.Kept.{AreKept as AreRecords, AreReplies, IsCome}
+use Rattle.room_http.specs.KeptMessages.{AreKept as AreRecords, AreReplies, IsCome}
 use Rattle.room_http.specs.Runs.{AreAnswered, Exchange, arrivals_of, events_of, room_by}
 use Rattle.room_http.specs.ServedRuns.{Served}
 use Rattle.room_http.specs.Talk.{Finds, IsFront, IsReplyTo, LeavesNext, Timed, replied}
@@ -45,7 +45,7 @@ use Rattle.room_store.specs.StoredRoom.{IsKept, IsRoom, LeavesOneOf}
 use Rattle.room_store.specs.declared.store.Store.{Store}
 use Rattle.room_store_file.specs.DigestTexts.{digest_of}
 use Rattle.room_store_writes.specs.Houses.{config_of}
-use Rattle.room_tables.specs.Stands.{Stands}
+use Rattle.room_tables.specs.RoomsInTables.{Stands}
 use Rattle.room_tables_rows.proofs.OneRoom.{one_room}
 use Rattle.dispatch_room_journal.specs.WholeEntries.{Follows, IsCutTo}
 use Rattle.dispatch_room_journal.specs.Entries.{Entry, room as head_entry, IsDigest, IsEntry, IsPart, texts_of}
@@ -68,6 +68,7 @@ use Rattle.dispatch_room_serving.specs.Starts.{AreStarts, IsStart, IsTrusted, Of
 use Rattle.dispatch_room_serving.proofs.ConnectionLaws.{clean_before, kept_after, leaves_kept}
 use Rattle.dispatch_room_serving.proofs.StartLaws.{all_kept, clean_first, joined, leaves_first, one_zone, opens}
 use Rattle.dispatch_room_serving.proofs.StartLaws.{opens_it, served_start, stands_on}
+use Rattle.room_tables_schema.specs.FileConnections.{IsClean}
 
 -- ---- what is known of a tape
 appended : (old new : Option (List ℕ)) (list bytes : List ℕ) → old ≡ Some list
@@ -405,7 +406,7 @@ module _ {S : Type 0} (g : Ghosts S) (setting : Setting) (text : List ℕ)
 
     module _ (cs : List (Conversation S)) (c : Conversation S) (stage : Stage S) (list : List ℕ)
         (now : Room) (next : IsNext g served_in message_text answer_text stage c)
-        (clean : HasCleanDisk (state g c.store.conn)) (s : Settles cs list now)
+        (clean : IsClean g c.store.conn) (s : Settles cs list now)
         (is : IsRoom g stage.store terminals now) (known : stage.kept ≡ Some list) where
       abbrev All_of : List (Conversation S)
       All_of = cs ++ c ∷ []
@@ -583,7 +584,7 @@ module _ {S : Type 0} (g : Ghosts S) (setting : Setting) (text : List ℕ)
         (stage last : Stage S) (list after : List ℕ) (now : Room) (talks : List (List Exchange))
         → AreNext g served_in message_text answer_text (c ∷ more) stage last
         → AreServed g served_in terminals (c ∷ more) talks now → All (λ d. IsKept g d.from) (c ∷ more)
-        → GoOnBefore (c ∷ more) → HasCleanDisk (state g last.store.conn) → Settles cs list now
+        → GoOnBefore (c ∷ more) → IsClean g last.store.conn → Settles cs list now
         → IsRoom g stage.store terminals now → stage.kept ≡ Some list → last.kept ≡ Some after
         → (entries : List Entry) (rest : List ℕ) → Follows after entries rest
         → (rest ≡ []) ⊎ IsPart rest → EndsAt (cs ++ c ∷ more) (texts_of entries) last.store
@@ -592,7 +593,7 @@ module _ {S : Type 0} (g : Ghosts S) (setting : Setting) (text : List ℕ)
     all_calls cs c [] stage last list after now (xs ∷ talks) next served kept go clean s is known after_is entries rest
         follows end_is =
         subst (λ (t : Stage S). EndsAt (cs ++ c ∷ []) (texts_of entries) t.store) (sym next.1)
-        (last_one cs c stage list now next.0 (subst (λ (t : Stage S). HasCleanDisk (state g t.store.conn)) next.1 clean)
+        (last_one cs c stage list now next.0 (subst (λ (t : Stage S). IsClean g t.store.conn) next.1 clean)
         s is known
         xs served.0 (All-head (λ d. IsKept g d.from) c [] kept) after
         (sym (ap (λ (t : Stage S). t.kept) next.1) ∙ after_is) entries rest follows end_is)
@@ -620,7 +621,7 @@ module _ {S : Type 0} (g : Ghosts S) (setting : Setting) (text : List ℕ)
     calls_end : (cs ds : List (Conversation S)) (stage last : Stage S) (list after : List ℕ) (now : Room)
         (talks : List (List Exchange)) → AreNext g served_in message_text answer_text ds stage last
         → AreServed g served_in terminals ds talks now → All (λ d. IsKept g d.from) ds → GoOnBefore ds
-        → HasCleanDisk (state g last.store.conn) → Settles cs list now
+        → IsClean g last.store.conn → Settles cs list now
         → IsRoom g stage.store terminals now → LeavesOneOf g stage.store terminals (now ∷ [])
         → stage.kept ≡ Some list → last.kept ≡ Some after
         → (entries : List Entry) (rest : List ℕ) → Follows after entries rest

@@ -3,8 +3,6 @@ use Rattle.std.proofs.Common.{◌≡◌, subst, sym, ℕ, List, [], ◌∷◌, B
 use Rattle.std.specs.Prelude.{MatchResult}
 use Rattle.std.proofs.lemmas.Result.{MatchResult-weaker}
 use Rattle.jiff.specs.Placed.{IsPosixZone}
-use Rattle.sqlite.specs.Held.{state}
-use Rattle.sqlite.specs.State.{HasCleanDisk}
 use Rattle.sqlite_trees.specs.declared.store.Store.{Ghosts}
 use Rattle.room_types.specs.declared.fleet.Terminal.{Terminal}
 use Rattle.room_model.specs.Room.{Room}
@@ -21,6 +19,7 @@ use Rattle.dispatch_room_journal.specs.ReplayedTurns.{Play, Turn, answered, caug
 use Rattle.dispatch_room_journal.proofs.WholeLaws.{whole_law}
 use Rattle.dispatch_room_serving.specs.Lists.{ListIsReplayed}
 use Rattle.dispatch_room_serving.proofs.ListLaws.{reply_in}
+use Rattle.room_tables_schema.specs.FileConnections.{IsClean}
 
 -- ---- a replay in another setting of the same zone and history
 module _ (text : List ℕ) (a b : Setting) (in_a : IsSetting text b.history a)
@@ -47,12 +46,12 @@ pub list_is_replayed_law : {S T : Type 0} (g : Ghosts S) (h : Ghosts T) → List
 list_is_replayed_law g h terminals here there text starts room list in_here in_there of old new read_failed result same
     clean is replays =
     let digits : DigitsOf = digits_of digest_of text in
-    let clean_new = HasCleanDisk (state h new.conn) in
+    let clean_new = IsClean h new.conn in
     let of_text = subst
     (λ (z : List ℕ).
     Replays machine there (digits_of digest_of z) clean_new (IsRoom h old) (IsRoom h new) (Some list) None read_failed
     result) same replays in
-    let given = whole_law machine digits (λ (s : Store _). HasCleanDisk (state h s.conn)) (λ (s : Store _). IsRoom h s)
+    let given = whole_law machine digits (λ (s : Store _). IsClean h s.conn) (λ (s : Store _). IsRoom h s)
     there terminals room of.after of.turns of.are_turns of.replayed
     of.entries of.begun
     (replay_in text here there in_here in_there digits terminals room of.turns of.after of.replay) old new read_failed

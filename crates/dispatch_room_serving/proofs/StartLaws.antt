@@ -13,7 +13,7 @@ use Rattle.room_model.specs.Room.{Room}
 use Rattle.room_model.specs.Rooms.{machine}
 use Rattle.room_model.specs.declared.digests.Head.{Head}
 use Rattle.room_http_time.specs.Days.{zone_of}
-use Rattle.room_http_time.specs.declared.moments.TheConstants.{LAST_MOMENT}
+use Rattle.room_http.specs.declared.moments.TheConstants.{LAST_MOMENT}
 use Rattle.room_http.specs.declared.settings.Setting.{Setting}
 use Rattle.room_http.specs.Course.{AreFirstIn, AreOf, Course}
 use Rattle.room_http.specs.Runs.{AreAnswered, Exchange, IsRun, arrivals_of, room_by}
@@ -29,7 +29,7 @@ use Rattle.room_http.proofs.RunLemmas.{answered_join, room_split, run_first, run
 use Rattle.room_store.specs.StoredRoom.{IsKept, IsRoom, LeavesOneOf}
 use Rattle.room_store.specs.declared.store.Store.{Store}
 use Rattle.room_store_writes.specs.Houses.{config_of}
-use Rattle.room_tables.specs.Stands.{Stands}
+use Rattle.room_tables.specs.RoomsInTables.{Stands}
 use Rattle.dispatch_room_exit.specs.declared.exit_status.Done.{Done}
 use Rattle.dispatch_room_exit.specs.declared.exit_status.Failure.{Failure}
 use Rattle.dispatch_room_tasks.specs.OpenedRoom.{IsOpened, OpensRoom}
@@ -41,6 +41,7 @@ use Rattle.dispatch_room_serving.specs.Starts.{AreDone, AreOneRun, AreStarts, Ex
 use Rattle.dispatch_room_serving.specs.Starts.{IsTrusted, IsUntold, OfLast, ServedIsAStart, ServingIsAStart, Start}
 use Rattle.dispatch_room_serving.specs.Starts.{StartsAreOneRun, all_of, connections, left_by, whole_of}
 use Rattle.dispatch_room_serving.proofs.ConnectionLaws.{attended_none, connected_more}
+use Rattle.room_tables_schema.specs.FileConnections.{IsClean}
 
 -- ---- the moments of a course
 abbrev InTime : Timed → Type 0
@@ -203,7 +204,7 @@ module _ {S : Type 0} (g : Ghosts S) (came_text : ℕ → List ℕ → List ℕ)
     (told_text : List ℕ → List ℕ) where
   module _ (s : Start S) (start : IsStart g came_text told_text s)
       (clean : HasCleanDisk (state g (left_by s).conn)) where
-    pub clean_first : HasCleanDisk (state g s.first.stage.store.conn)
+    pub clean_first : IsClean g s.first.stage.store.conn
     clean_first = start.attended.trusted clean
 
     pub opens : OpensRoom g s.found s.opened

@@ -1,8 +1,6 @@
 -- What is served on connections, one after another.
 use Rattle.std.specs.Prelude.{◌≡◌, ◌≢◌, ◌⊎◌, ◌≤◌, ◌+◌, ⊤, ℕ, List, [], ◌∷◌, ◌++◌, Bool, true, false, All, filter_map}
 use Rattle.std.specs.Prelude.{flat_map, length, map, option_and_then, option_map, Option, None, Some, Result, Ok, Err}
-use Rattle.sqlite.specs.Held.{state}
-use Rattle.sqlite.specs.State.{HasCleanDisk}
 use Rattle.sqlite_trees.specs.declared.store.Store.{Ghosts}
 use Rattle.room_types.specs.declared.fleet.Terminal.{Terminal}
 use Rattle.room_model.specs.Room.{Room}
@@ -12,7 +10,7 @@ use Rattle.room_store.specs.StoredRoom.{IsKept, IsRoom, LeavesOneOf}
 use Rattle.room_store.specs.declared.store.Store.{Store}
 use Rattle.room_store_cache.specs.Cache.{KnowsNothing}
 use Rattle.room_http.specs.Course.{AreFirstIn, Course}
-use Rattle.room_http.specs.Kept.{ActsOnEach, KeepsEach, Tapes}
+use Rattle.room_http.specs.KeptMessages.{ActsOnEach, KeepsEach, Tapes}
 use Rattle.room_http.specs.Promises.{Promises}
 use Rattle.room_http.specs.Runs.{Exchange, IsRun, room_by}
 use Rattle.room_http.specs.ServedRuns.{Served}
@@ -25,6 +23,7 @@ use Rattle.dispatch_room_exit.specs.declared.exit_status.Done.TheVariants.{Whole
 use Rattle.dispatch_room_exit.specs.declared.exit_status.Failure.{Failure}
 use Rattle.dispatch_room_exit.specs.declared.exit_status.Failure.TheVariants.{Journal, Memory, Storage}
 use Rattle.dispatch_room_serving.specs.Callers.{Grows, Opening}
+use Rattle.room_tables_schema.specs.FileConnections.{IsClean}
 
 -- how many reads a connection has at most
 abbrev pub most_reads : ℕ
@@ -177,21 +176,21 @@ module _ {S : Type 0} (g : Ghosts S) (setting : Setting) (came_text : ℕ → Li
   pub record IsNext (stage : Stage S) (c : Conversation S) : Type 0 where
     pub begins : stage_before c ≡ stage
     pub reads : ReadsAtMost most_reads c.before.reads c.after.reads
-    pub talk : ServeIs machine setting c.before c.after (HasCleanDisk (state g c.store.conn))
+    pub talk : ServeIs machine setting c.before c.after (IsClean g c.store.conn)
         (IsRoom g c.from)
         (Stays (IsKept g c.from) (IsRoom g c.store) (LeavesOneOf g c.store))
         (Wants machine setting (IsKept g c.from) (IsRoom g c.store) (LeavesOneOf g c.store))
         (KnowsNothing c.store.cache) c.course most_reads c.end
     pub none_missed : MissesNone c.before.left c.unread c.before.given c.after.given c.end
     pub observed : KeepsEach came_text told_text
-        (HasCleanDisk (state g c.store.conn) → IsKept g c.from → IsKept g c.store)
-        (ActsOnEach machine setting (HasCleanDisk (state g c.store.conn)) (IsRoom g c.from)
+        (IsClean g c.store.conn → IsKept g c.from → IsKept g c.store)
+        (ActsOnEach machine setting (IsClean g c.store.conn) (IsRoom g c.from)
         (IsRoom g c.store)) c.before.left
         (tapes_before c) (tapes_after c) c.end c.course
     pub failed : c.end ≢ end.Unkept → c.after.observer_failed ≡ c.had_failed
     pub same_zone : c.store.plan.zone ≡ c.from.plan.zone
-    pub trusted : HasCleanDisk (state g c.store.conn) → HasCleanDisk (state g c.from.conn)
-    pub kept : HasCleanDisk (state g c.store.conn)
+    pub trusted : IsClean g c.store.conn → IsClean g c.from.conn
+    pub kept : IsClean g c.store.conn
         → IsKept g c.store ⊎ (c.store.is_sound ≡ false)
 
   -- each was served from where the one before left serving; there it stands at the end
@@ -206,9 +205,9 @@ module _ {S : Type 0} (g : Ghosts S) (setting : Setting) (came_text : ℕ → Li
     pub heard : Grows old.heard new.heard (map (option_map opening_of) calls)
     pub told : Grows old.told new.told (map (λ c. c.after.held) (connected calls))
     pub in_turn : AreNext (connected calls) old.stage new.stage
-    pub trusted : HasCleanDisk (state g new.stage.store.conn)
-        → HasCleanDisk (state g old.stage.store.conn)
-    pub joined : HasCleanDisk (state g new.stage.store.conn)
+    pub trusted : IsClean g new.stage.store.conn
+        → IsClean g old.stage.store.conn
+    pub joined : IsClean g new.stage.store.conn
         → (terminals : List Terminal) (room : Room) → IsRoom g old.stage.store terminals room
         → AreJoined g setting terminals (connected calls) new.stage.store room
 
@@ -225,8 +224,8 @@ module _ {S : Type 0} (g : Ghosts S) (setting : Setting) (came_text : ℕ → Li
     pub counted : length calls ≡ count
     pub go_on : GoOn calls
     pub attended : AreAttended calls first now
-    pub kept : AreKept (connected calls) first (HasCleanDisk (state g now.stage.store.conn))
-    pub is_kept : HasCleanDisk (state g now.stage.store.conn) → IsKept g first.stage.store
+    pub kept : AreKept (connected calls) first (IsClean g now.stage.store.conn)
+    pub is_kept : IsClean g now.stage.store.conn → IsKept g first.stage.store
         → IsKept g now.stage.store
 
   -- so many calls were served, or those up to one after which no more is served
@@ -235,7 +234,7 @@ module _ {S : Type 0} (g : Ghosts S) (setting : Setting) (came_text : ℕ → Li
     pub calls : List (Option (Conversation S))
     pub attended : AreAttended calls old new
     pub ends : EndsAs renews calls most result
-    pub kept : AreKept (connected calls) old (HasCleanDisk (state g new.stage.store.conn))
+    pub kept : AreKept (connected calls) old (IsClean g new.stage.store.conn)
 
 -- no fault, or this one
 abbrev pub done_or : Option Failure → Result (Unit {0}) Failure

@@ -35,7 +35,7 @@ pub record FailsForGood {W E : Type 0} (old new : Journal W)
   pub is_synced : new.is_synced ≡ old.is_synced
   pub keeps_questions : new.keeps_questions ≡ old.keeps_questions
 
--- Why it is not known how much of a text is whole records: memory is wanting, or the text is no
+-- Why it is not known how much of a text is whole records: memory fails, or the text is no
 -- list of such, or a read failed.
 abbrev pub IsUnread : Bool → List ℕ → Failure → Type 0
 IsUnread read_failed text fault = (fault ≡ failure.Memory)

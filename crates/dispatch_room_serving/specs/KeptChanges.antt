@@ -8,7 +8,7 @@ use Rattle.room_model.specs.Rooms.{machine}
 use Rattle.room_http.specs.declared.arrivals.Arrived.{Arrived}
 use Rattle.room_http.specs.declared.arrivals.Arrived.TheVariants.{Message, Refused}
 use Rattle.room_http.specs.Arrivals.{message, refused}
-use Rattle.room_http.specs.Kept.{AreKept, AreReplies}
+use Rattle.room_http.specs.KeptMessages.{AreKept, AreReplies}
 use Rattle.room_http.specs.Talk.{Timed}
 use Rattle.room_http.specs.declared.settings.Setting.{Setting}
 use Rattle.dispatch_room_journal.specs.Entries.{IsEntry, texts_of}

@@ -4,7 +4,6 @@ use Rattle.std.specs.Prelude.{Result, true, Some}
 use Rattle.std.specs.List.{flat_map}
 use Rattle.jiff.specs.Placed.{IsPosixZone}
 use Rattle.sqlite.specs.Held.{Held, state}
-use Rattle.sqlite.specs.State.{HasCleanDisk}
 use Rattle.sqlite_trees.specs.declared.store.Store.{Ghosts}
 use Rattle.room_types.specs.declared.fleet.Terminal.{Terminal}
 use Rattle.room_model.specs.Room.{Room}
@@ -18,7 +17,7 @@ use Rattle.room_http.specs.declared.settings.Setting.{Setting}
 use Rattle.room_store.specs.StoredRoom.{IsRoom}
 use Rattle.room_store.specs.declared.store.Store.{Store}
 use Rattle.room_store_file.specs.DigestTexts.{digest_of}
-use Rattle.room_tables.specs.Stands.{Configuration, Stands}
+use Rattle.room_tables.specs.RoomsInTables.{Configuration, Stands}
 use Rattle.dispatch_room_exit.specs.declared.exit_status.Done.{Done}
 use Rattle.dispatch_room_exit.specs.declared.exit_status.Failure.{Failure}
 use Rattle.dispatch_room_journal.specs.WholeEntries.{IsCutTo}
@@ -33,6 +32,7 @@ use Rattle.dispatch_room_journal.specs.ReplayedTurns.{entries_of}
 use Rattle.dispatch_room_serving.specs.Connections.{Conversation, Service}
 use Rattle.dispatch_room_serving.specs.ServedRoom.{IsHead, ServesRoom}
 use Rattle.dispatch_room_serving.specs.Starts.{AreStarts, IsStart, IsTrusted, OfLast, Start, connections, left_by}
+use Rattle.room_tables_schema.specs.FileConnections.{IsClean}
 
 -- what stands in the list as a start opens it, which are whole records, and at the end of the start
 pub record Part : Type 0 where
@@ -127,8 +127,8 @@ module _ {S : Type 0} (g : Ghosts S) where
       → IsListOf config.terminals first.setting (digits_at first) (first ∷ more) room list
 
 -- Whoever replays such a list to a room that is equal to the first, in whatever storage, in the
--- same setting: it comes to the room to which the list leads, and is told so. It stops only where a
--- read failed, memory or storage was wanting, or the list has more turns than are counted.
+-- same setting: it comes to the room to which the list leads, and reports it. It stops only where a
+-- read failed, memory or storage failed, or the list has more turns than are counted.
 abbrev pub ListIsReplayed : {S T : Type 0} → Ghosts S → Ghosts T → Type 0
 ListIsReplayed {S} {T} g h =
     (terminals : List Terminal) (here there : Setting) (text : List ℕ) (starts : List (Start S))
@@ -136,8 +136,8 @@ ListIsReplayed {S} {T} g h =
     → IsSetting text there.history here → IsPosixZone text (zone_of there.zone)
     → (of : IsListOf g terminals here (digits_of digest_of text) starts room list)
     → (old new : Store T) (read_failed : Bool) (result : Result Replayed Stopped)
-    → old.plan.zone ≡ text → HasCleanDisk (state h new.conn) → IsRoom h old terminals room
-    → Replays machine there (digits_of digest_of old.plan.zone) (HasCleanDisk (state h new.conn))
+    → old.plan.zone ≡ text → IsClean h new.conn → IsRoom h old terminals room
+    → Replays machine there (digits_of digest_of old.plan.zone) (IsClean h new.conn)
     (IsRoom h old) (IsRoom h new) (Some list) None read_failed result
     → MatchResult result
     (λ done. IsRoom h new terminals of.after × (done.is_open ≡ ends_open of.turns))

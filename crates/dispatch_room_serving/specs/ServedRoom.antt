@@ -1,8 +1,7 @@
 -- The room of a database, opened and served.
 use Rattle.std.specs.Prelude.{◌≡◌, ◌⊎◌, ℕ, List, [], ◌∷◌, if◌then◌else◌, Bool, true, Option, Result, Ok, Err}
 use Rattle.std.specs.Io.KnownBytes.{Appends}
-use Rattle.sqlite.specs.Held.{Held, state}
-use Rattle.sqlite.specs.State.{HasCleanDisk}
+use Rattle.sqlite.specs.Held.{Held}
 use Rattle.sqlite_trees.specs.declared.store.Store.{Ghosts}
 use Rattle.room_types.specs.declared.fleet.Terminal.{Terminal}
 use Rattle.room_model.specs.Room.{Room}
@@ -20,6 +19,7 @@ use Rattle.dispatch_room_exit.specs.declared.exit_status.Failure.{Failure}
 use Rattle.dispatch_room_exit.specs.declared.exit_status.Failure.TheVariants.{Journal, Memory, Network, Storage}
 use Rattle.dispatch_room_tasks.specs.OpenedRoom.{OpensRoom}
 use Rattle.dispatch_room_serving.specs.Connections.{Serves, Service}
+use Rattle.room_tables_schema.specs.FileConnections.{IsClean}
 
 -- why serving does not begin
 abbrev pub IsUnbegun : Failure → Type 0
@@ -30,22 +30,22 @@ module _ {S : Type 0} (g : Ghosts S) where
   -- it.
   pub record Looks (old new : Store S) : Type 0 where
     pub zone : new.plan.zone ≡ old.plan.zone
-    pub trusted : HasCleanDisk (state g new.conn) → HasCleanDisk (state g old.conn)
-    pub same : HasCleanDisk (state g new.conn) → (terminals : List Terminal) (room : Room)
+    pub trusted : IsClean g new.conn → IsClean g old.conn
+    pub same : IsClean g new.conn → (terminals : List Terminal) (room : Room)
         → IsRoom g old terminals room → IsRoom g new terminals room
-    pub left : HasCleanDisk (state g new.conn) → IsKept g old
+    pub left : IsClean g new.conn → IsKept g old
         → (terminals : List Terminal) (room : Room) → IsRoom g old terminals room
         → LeavesOneOf g new terminals (room ∷ [])
 
   -- and what was kept is kept
   pub record LooksOnly (old new : Store S) : Type 0 where
     pub looks : Looks old new
-    pub kept : HasCleanDisk (state g new.conn) → IsKept g old → IsKept g new
+    pub kept : IsClean g new.conn → IsKept g old → IsKept g new
 
   -- the head gives the digest of all rows of the room that a store stood for
   abbrev pub IsDigestOf : Store S → Store S → Head → Type 0
   IsDigestOf old new head = (head.version ≡ Second)
-      × (HasCleanDisk (state g new.conn) → (terminals : List Terminal) (room : Room)
+      × (IsClean g new.conn → (terminals : List Terminal) (room : Room)
       → IsRoom g old terminals room
       → IsHeadOf (digits_of digest_of old.plan.zone) head terminals room)
 
@@ -66,7 +66,7 @@ module _ {S : Type 0} (g : Ghosts S) where
         ⊎ ((text front : List ℕ) × IsHead old new text × IsFront front text
         × Appends kept keeps front)
 
-    -- the watcher was told where the room begins, or serving does not begin
+    -- the watcher was given where the room begins, or serving does not begin
     abbrev pub Announces : Store S → Store S → Option (List ℕ) → Option (List ℕ)
         → Result (Unit {0}) Failure → Type 0
     Announces old new kept keeps (Ok told) =
@@ -121,7 +121,7 @@ module _ {S : Type 0} (g : Ghosts S) where
         pub first : Store S
         pub last : Store S
         pub setting : Setting
-        pub opens : HasCleanDisk (state g first.conn) → OpensRoom g conn first
+        pub opens : IsClean g first.conn → OpensRoom g conn first
         pub is_set : IsSetting first.plan.zone history setting
         pub attended : Attends setting (old first) (new last) renews most worked.0
         pub closed : worked.1 ≡ last.conn

@@ -15,13 +15,14 @@ use Rattle.room_http_time.specs.Days.{zone_of}
 use Rattle.room_http.specs.declared.settings.Setting.{Setting}
 use Rattle.room_store.specs.StoredRoom.{IsKept, IsRoom}
 use Rattle.room_store.specs.declared.store.Store.{Store}
-use Rattle.room_tables.specs.Stands.{Configuration, Stands}
+use Rattle.room_tables.specs.RoomsInTables.{Configuration, Stands}
 use Rattle.dispatch_room_exit.specs.declared.exit_status.Done.{Done}
 use Rattle.dispatch_room_exit.specs.declared.exit_status.Failure.{Failure}
 use Rattle.dispatch_room_tasks.specs.OpenedRoom.{OpensRoom}
 use Rattle.dispatch_room_serving.specs.Connections.{AreAttended, AreJoined, AreKept, Conversation, GoOnBefore}
 use Rattle.dispatch_room_serving.specs.Connections.{HasServed, Service, connected, together}
 use Rattle.dispatch_room_serving.specs.ServedRoom.{Looks, LooksOnly, ServesRoom}
+use Rattle.room_tables_schema.specs.FileConnections.{IsClean}
 
 -- A start: the database that was found, the store that was opened in it, what the service was set
 -- to, the calls that came, and where serving stood before the first of them, and where it ended or
@@ -62,7 +63,7 @@ OfLast Holds (x ∷ []) = Holds x
 OfLast Holds (x ∷ y ∷ more) = OfLast Holds (y ∷ more)
 
 -- One exchange, with what arrived next on the last connection: the room has acted on it, and its
--- answer was not written, since memory or storage was wanting or the program was stopped.
+-- answer was not written, since memory or storage failed or the program was stopped.
 pub record IsUntold {S : Type 0} (cs : List (Conversation S)) (talks : List (List Exchange))
     (x : Exchange) : Type 0 where
   pub c : Conversation S
@@ -78,7 +79,7 @@ module _ {S : Type 0} (g : Ghosts S) where
   -- The room that the tables stood for was opened, looked at, and served to these calls.
   pub record IsStart (came_text : ℕ → List ℕ → List ℕ) (told_text : List ℕ → List ℕ)
       (s : Start S) : Type 0 where
-    pub opens : HasCleanDisk (state g s.opened.conn) → OpensRoom g s.found s.opened
+    pub opens : IsClean g s.opened.conn → OpensRoom g s.found s.opened
     pub in_zone : IsPosixZone s.opened.plan.zone (zone_of s.setting.zone)
     pub looks : Looks g s.opened s.first.stage.store
     pub attended : AreAttended g s.setting came_text told_text s.calls s.first s.last
@@ -88,7 +89,7 @@ module _ {S : Type 0} (g : Ghosts S) where
     pub go_on : GoOnBefore (connections s)
     -- what was opened is kept as the first call comes, if one does
     pub begins_kept : (s.calls ≡ [])
-        ⊎ (HasCleanDisk (state g s.first.stage.store.conn) → IsKept g s.opened
+        ⊎ (IsClean g s.first.stage.store.conn → IsKept g s.opened
         → IsKept g s.first.stage.store)
 
   -- A start follows another: it finds what a stop of that may leave, or as a part that begins while
@@ -163,7 +164,7 @@ module _ {S : Type 0} (g : Ghosts S) where
   ServingIsAStart =
       (came_text : ℕ → List ℕ → List ℕ) (told_text : List ℕ → List ℕ) (found : Held S)
       (opened : Store S) (setting : Setting) (first now : Service S) (count : ℕ)
-      → (HasCleanDisk (state g opened.conn) → OpensRoom g found opened)
+      → (IsClean g opened.conn → OpensRoom g found opened)
       → IsPosixZone opened.plan.zone (zone_of setting.zone) → LooksOnly g opened first.stage.store
       → (served : HasServed g setting came_text told_text first now count)
       → IsStart came_text told_text (record {

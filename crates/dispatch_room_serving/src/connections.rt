@@ -4,17 +4,15 @@ ghost use Rattle.room_store.specs.StoredRoom.{IsReady};
 ghost use Rattle.dispatch_room_serving.specs.Connections.{AttendsNext, Serves, done_or, fault_by};
 
 use crate::callers::Callers;
-use crate::list_places::{Finding, ListPlace, standing};
-use crate::served_room::Terms;
+use crate::list_places::{Finding, standing};
+use crate::served_room::ServedPart;
 use dispatch_room_exit::exit_status::{Done, Failure};
+use room_http::clocks::Clock;
+use room_http::handlers::Handler;
 use room_http::observers::Observer;
-use room_http::session::{ServeEnd, serve};
-use room_http::settings::Setting;
-use room_http_requests::routes::Routes;
-use room_http_time::clocks::Clock;
+use room_http::session::{Connection, ServeEnd, serve};
 use room_store::store::Store;
 use sqlite::Alter;
-use std::alloc::Global;
 
 /// How many reads a connection has at most.
 pub const MOST_READS: u32 = 100_000;
@@ -22,18 +20,16 @@ pub const MOST_READS: u32 = 100_000;
 /// Serves a room to so many calls, one after another, each as `serve_next` does. Where it may end
 /// before, it does as soon as a look before a call finds the list no more as it was.
 pub fn serve_each<S: Alter, P: Callers, C: Clock, N: Observer>(
-    alloc: Global,
+    handler: &Handler,
     callers: &mut P,
     room: &mut Store<S>,
-    setting: &Setting,
     clock: &mut C,
     observer: &mut N,
-    terms: Terms,
-    place: &mut Option<ListPlace<'_>>,
+    part: &mut ServedPart<'_>,
 ) -> Result<Done, Failure>
     requires ready { IsReady S.Store room.old }
     ensures ready { IsReady S.Store room.new }
-    ensures served { Serves S.Store setting.now N.came N.told
+    ensures served { Serves S.Store handler.now.setting N.came N.told
         (record {
           heard = P.heard callers.old;
           told = P.told callers.old;
@@ -54,22 +50,14 @@ pub fn serve_each<S: Alter, P: Callers, C: Clock, N: Observer>(
             store = room.new;
           };
         })
-        terms.renews terms.connections result }
+        part.old.terms.renews part.old.terms.connections result }
 {
-    let mut routes = None;
+    let terms = part.terms;
     for _connection in 0..terms.connections {
-        if terms.renews && standing(place) != Finding::There {
+        if terms.renews && standing(&mut part.place) != Finding::There {
             return Ok(Done::Whole);
         }
-        if let Err(fault) = serve_next(
-            alloc,
-            &mut routes,
-            callers,
-            room,
-            setting,
-            clock,
-            observer,
-        ) {
+        if let Err(fault) = serve_next(handler, callers, room, clock, observer) {
             return Err(fault);
         }
     }
@@ -79,20 +67,17 @@ pub fn serve_each<S: Alter, P: Callers, C: Clock, N: Observer>(
 /// Serves the next call. Where more is served after it, what held after the calls before holds
 /// after one more: so it does after every number of them, however long the room is served. A
 /// connection that ends badly doesn't end the service, but for lack of memory, where the observer
-/// could not keep what was reported to it, and where the store is not sound any longer. The routes
-/// are kept from one to the next.
+/// could not keep what was reported to it, and where the store is not sound any longer.
 pub fn serve_next<S: Alter, P: Callers, C: Clock, N: Observer>(
-    alloc: Global,
-    routes: &mut Option<Routes>,
+    handler: &Handler,
     callers: &mut P,
     room: &mut Store<S>,
-    setting: &Setting,
     clock: &mut C,
     observer: &mut N,
 ) -> Result<(), Failure>
     requires ready { IsReady S.Store room.old }
     ensures ready { IsReady S.Store room.new }
-    ensures attended { AttendsNext S.Store setting.now N.came N.told
+    ensures attended { AttendsNext S.Store handler.now.setting N.came N.told
         (record {
           heard = P.heard callers.old;
           told = P.told callers.old;
@@ -115,21 +100,12 @@ pub fn serve_next<S: Alter, P: Callers, C: Clock, N: Observer>(
         })
         result }
 {
-    let Some((mut reader, mut writer)) = callers.next() else {
+    let Some((reader, writer)) = callers.next() else {
         return Ok(());
     };
-    let end = serve(
-        alloc,
-        routes,
-        &mut reader,
-        &mut writer,
-        room,
-        setting,
-        clock,
-        observer,
-        MOST_READS,
-    );
-    callers.done(reader, writer);
+    let mut connection = Connection { reader, writer };
+    let end = serve(handler, &mut connection, room, clock, observer, MOST_READS);
+    callers.done(connection.reader, connection.writer);
     goes_on(end, room.is_sound())
 }
 

@@ -1,6 +1,6 @@
 //! Who watches over a room that is served.
 ghost use Rattle.std.specs.Prelude.{◌≡◌, ◌||◌, ℕ, List, Bool, is_err};
-ghost use Rattle.room_http.specs.Kept.{KeepsAll};
+ghost use Rattle.room_http.specs.KeptMessages.{KeepsAll};
 ghost use Rattle.dispatch_room_journal.specs.Entries.{IsDigest};
 ghost use Rattle.room_model.specs.declared.digests.Head.{Head as Heading};
 

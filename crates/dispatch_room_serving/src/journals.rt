@@ -2,7 +2,7 @@
 //! before the answer is written.
 ghost use Rattle.std.specs.Prelude.{◌≡◌, ◌&&◌, ◌||◌, ℕ, List, [], false, is_err, Option, IsTrue, OnOk, ⊤};
 ghost use Rattle.room_http.specs.Arrivals.{IsBounded};
-ghost use Rattle.room_http.specs.Kept.{KeepsAll, came_of, told_of};
+ghost use Rattle.room_http.specs.KeptMessages.{KeepsAll, came_of, told_of};
 ghost use Rattle.dispatch_room_journal.specs.Entries.{Entry, IsDigest, IsEntry, message, text_of};
 ghost use Rattle.dispatch_room_journal.specs.JournalRecords.{answer_text, message_text, room_text};
 ghost use Rattle.dispatch_room_serving.specs.Journals.{FailsForGood, Lasts, known_by};

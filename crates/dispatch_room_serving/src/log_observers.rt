@@ -1,6 +1,6 @@
 //! Who watches over what is served: a log, and perhaps a journal.
 ghost use Rattle.std.specs.Prelude.{◌≡◌, [], is_some};
-ghost use Rattle.room_http.specs.Kept.{KeepsAll};
+ghost use Rattle.room_http.specs.KeptMessages.{KeepsAll};
 ghost use Rattle.dispatch_room_journal.specs.JournalRecords.{answer_text, message_text, room_text};
 ghost use Rattle.dispatch_room_serving.specs.Journals.{failed_by, held_by};
 ghost use Rattle.dispatch_room_serving.specs.LoggedLines.{Logs};

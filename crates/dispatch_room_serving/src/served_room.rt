@@ -12,8 +12,9 @@ use crate::list_places::ListPlace;
 use dispatch_room_exit::exit_status::{Done, Failure, refused};
 use dispatch_room_journal::journal_digests::digest_of;
 use dispatch_room_tasks::opened_room::{TaskResult, open_room};
+use room_http::clocks::Clock;
+use room_http::handlers::Handler;
 use room_http::settings::Setting;
-use room_http_time::clocks::Clock;
 use room_model::digests::{Head, Version};
 use room_store::store::Store;
 use room_store::store_digest::digest_of_room;
@@ -31,6 +32,13 @@ pub struct Terms {
     pub renews: bool,
 }
 
+/// A part of what is served: on which terms, and the place of its list, if that may end it.
+#[derive(Clone, Copy)]
+pub struct ServedPart<'a> {
+    pub terms: Terms,
+    pub place: Option<ListPlace<'a>>,
+}
+
 /// Serves the room of a database to so many calls: it is opened, where it begins is reported to the
 /// observer, the callers begin, and each is served from the room that the one before left, in the
 /// zone of the room's plan, with the paths of history or without. Where no room is opened, none of
@@ -42,13 +50,12 @@ pub fn serve_in<S: Alter + Drop, P: Callers, C: Clock, N: JournalObserver>(
     callers: &mut P,
     clock: &mut C,
     journal_observer: &mut N,
-    terms: Terms,
-    place: &mut Option<ListPlace<'_>>,
+    part: &mut ServedPart<'_>,
 ) -> TaskResult<Done, S>
     requires outside { conn.in_transaction ≡ false }
     ensures outside { IfOk result (λ worked. worked.1.in_transaction ≡ false) }
     ensures served { IfOk result (ServesRoom S.Store (N.wants journal_observer.old) N.begun N.came
-        N.told terms.history conn
+        N.told part.old.terms.history conn
         (λ store. record {
           heard = P.heard callers.old;
           told = P.told callers.old;
@@ -69,43 +76,44 @@ pub fn serve_in<S: Alter + Drop, P: Callers, C: Clock, N: JournalObserver>(
             store = store;
           };
         })
-        terms.renews terms.connections) }
+        part.old.terms.renews part.old.terms.connections) }
     ensures unheard { OnErr result ((callers.new ≡ callers.old) × (clock.new ≡ clock.old)) }
     ensures fault { IfErr result (IsUnopened S.Store conn) }
 {
     let (mut room, zone) = open_room(alloc, conn)?;
     let setting = Setting {
         zone,
-        history: terms.history,
+        history: part.terms.history,
     };
-    let served = begin_and_serve(
-        alloc,
-        callers,
-        &mut room,
-        &setting,
-        clock,
-        journal_observer,
-        terms,
-        place,
-    );
-    Ok((served, room.close()))
+    match Handler::new(alloc, setting) {
+        Ok(handler) => {
+            let served = begin_and_serve(
+                &handler,
+                callers,
+                &mut room,
+                clock,
+                journal_observer,
+                part,
+            );
+            Ok((served, room.close()))
+        }
+        Err(_) => Ok((Err(Failure::Memory), room.close())),
+    }
 }
 
 // Hands the watcher the room where it begins, lets the callers begin, and serves so many calls.
 fn begin_and_serve<S: Alter, P: Callers, C: Clock, N: JournalObserver>(
-    alloc: Global,
+    handler: &Handler,
     callers: &mut P,
     room: &mut Store<S>,
-    setting: &Setting,
     clock: &mut C,
     journal_observer: &mut N,
-    terms: Terms,
-    place: &mut Option<ListPlace<'_>>,
+    part: &mut ServedPart<'_>,
 ) -> Result<Done, Failure>
     requires ready { IsReady S.Store room.old }
     ensures ready { IsReady S.Store room.new }
     ensures attends { Attends S.Store
-        (N.wants journal_observer.old) N.begun N.came N.told setting.now
+        (N.wants journal_observer.old) N.begun N.came N.told handler.now.setting
         (record {
           heard = P.heard callers.old;
           told = P.told callers.old;
@@ -126,22 +134,13 @@ fn begin_and_serve<S: Alter, P: Callers, C: Clock, N: JournalObserver>(
             store = room.new;
           };
         })
-        terms.renews terms.connections result }
+        part.old.terms.renews part.old.terms.connections result }
 {
     if let Err(fault) = announce(room, journal_observer) {
         return Err(fault);
     }
     match callers.begin() {
-        Ok(()) => serve_each(
-            alloc,
-            callers,
-            room,
-            setting,
-            clock,
-            journal_observer,
-            terms,
-            place,
-        ),
+        Ok(()) => serve_each(handler, callers, room, clock, journal_observer, part),
         Err(fault) => Err(fault),
     }
 }

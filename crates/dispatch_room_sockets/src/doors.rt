@@ -124,15 +124,21 @@ fn set_nodelay(listener: &TcpListener) -> io::Result<()> {
     TcpStream::from(OwnedFd::from(listener.try_clone()?)).set_nodelay(true)
 }
 
+// The system's set, in which the one that listens is watched.
+fn poll_of(rt: &HostRuntime, listener: &TcpListener) -> io::Result<Poll> {
+    let poll = Poll::new(rt)?;
+    let fd = listener.as_raw_fd();
+    poll.registry()
+        .register(&mut SourceFd(&fd), Token(SLOTS), Interest::READABLE)?;
+    Ok(poll)
+}
+
 impl<'a> Door<'a> {
     /// The door where this listens.
     pub fn new(rt: &'a HostRuntime, alloc: Global, listener: TcpListener) -> io::Result<Door<'a>> {
         listener.set_nonblocking(true)?;
         set_nodelay(&listener)?;
-        let poll = Poll::new(rt)?;
-        let fd = listener.as_raw_fd();
-        poll.registry()
-            .register(&mut SourceFd(&fd), Token(SLOTS), Interest::READABLE)?;
+        let poll = poll_of(rt, &listener)?;
         Ok(Door {
             rt,
             alloc,

@@ -19,7 +19,7 @@ pub enum Heard {
 }
 
 /// What becomes of one that was looked at.
-#[derive(Clone, Copy, PartialEq, Eq)]
+#[derive(Clone, Copy)]
 pub enum Verdict {
     /// It waits on.
     Waits,

@@ -12,7 +12,7 @@ use room_http_messages::message_prefixes::{MessagePrefix, look_at};
 use std::io::Read;
 
 /// What stands ahead in a stream.
-#[derive(Clone, Copy, PartialEq, Eq)]
+#[derive(Clone, Copy)]
 pub enum Lookahead {
     /// Nothing yet.
     Nothing,

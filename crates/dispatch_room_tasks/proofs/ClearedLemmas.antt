@@ -12,7 +12,7 @@ use Rattle.room_tables_schema.specs.Schema.{areas_table, room_schema, terminals_
 use Rattle.room_tables_rows.proofs.Kept.{with_areas, with_terminals}
 use Rattle.room_tables_rows.proofs.AreasTable.{areas_alone}
 use Rattle.room_tables_rows.proofs.TerminalsTable.{terminals_alone}
-use Rattle.room_tables_rows.specs.Stands.{numbered, places}
+use Rattle.room_tables_rows.specs.RoomsInTables.{numbered, places}
 use Rattle.room_tables_rows.specs.AreaSql.{area_row}
 use Rattle.room_tables_rows.specs.TerminalSql.{terminal_row}
 use Rattle.room_tables_rows.specs.Writes.{Changes}

@@ -6,14 +6,15 @@ use Rattle.room_store.specs.StoreCreation.{MayBegin}
 use Rattle.room_store.specs.StoredRoom.{IsRoom}
 use Rattle.room_store.specs.declared.store.Store.{Store}
 use Rattle.room_store_writes.specs.NewRoom.{StandsNew, in_order, new_room}
-use Rattle.room_store_writes.specs.Transactions.{IsSettled}
-use Rattle.room_tables.specs.Stands.{Stands}
+use Rattle.room_store_writes.specs.Transactions.{StandsSettled}
+use Rattle.room_tables.specs.RoomsInTables.{Stands}
 use Rattle.room_types.specs.declared.fleet.Terminal.{Terminal}
 use Rattle.sqlite.specs.Held.{Held, state}
-use Rattle.sqlite.specs.State.{HasCleanDisk, Survives}
+use Rattle.sqlite.specs.State.{Survives}
 use Rattle.sqlite_trees.specs.declared.store.Store.{Ghosts}
 use Rattle.std.proofs.Common.{Bool, List, [], ap, cond, filter, length, refl, subst, suc, true, false, vec_len, zero, ℕ}
 use Rattle.std.proofs.Common.{◌+◌, ◌++◌, ◌∙◌, ◌≡◌, ◌∷◌}
+use Rattle.room_tables_schema.specs.FileConnections.{IsClean}
 
 -- the numbers from 1 to this one
 abbrev pub numbers_to : ℕ → List ℕ
@@ -59,8 +60,8 @@ amounts_told file divisions terminals areas d a t = rw (d, a, t)
 pub created_in : {S : Type 0} (g : Ghosts S) (old : Held S) (store : Store S) (file : PlanFile)
     (terminals : List Terminal)
     → terminals ≡ file.terminals.items → store.plan.zone ≡ file.plan.zone
-    → (HasCleanDisk (state g store.conn) → IsRoom g store (in_order terminals) (new_room file.plan))
-    → (HasCleanDisk (state g store.conn) → IsSettled (state g store.conn))
+    → (IsClean g store.conn → IsRoom g store (in_order terminals) (new_room file.plan))
+    → (StandsSettled g store.conn)
     → MayBegin (state g old).now.schema file.plan terminals
     → Survives (state g old) (state g store.conn) (StandsNew file.plan terminals)
     → IsCreated g old store.conn file

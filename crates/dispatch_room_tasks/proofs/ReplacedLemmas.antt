@@ -11,7 +11,7 @@ use Rattle.sqlite_trees.specs.Tree.{Trees}
 use Rattle.room_place.specs.Plans.{Layout, has_division}
 use Rattle.room_tables_schema.proofs.Comparisons.{is_Equal}
 use Rattle.room_types_keyed.proofs.KeyedLaws.{keyed_filter, keyed_put, row_filter}
-use Rattle.room_types_keyed.specs.Keyed.{IsKeyed, keep, put_row, row_at}
+use Rattle.room_types_keyed.specs.KeyedRows.{IsKeyed, keep, put_row, row_at}
 use Rattle.room_types.specs.Keys.{callsign_cmp, vehicle_key}
 use Rattle.room_types.specs.Orders.{exact_callsigns}
 use Rattle.room_types.specs.Texts.{Callsign, Token}
@@ -21,7 +21,7 @@ use Rattle.room_types.specs.declared.fleet.Terminal.{Terminal}
 use Rattle.room_model.proofs.EnrolLaws.{exact_tokens, terminals_put, tokens_total}
 use Rattle.room_model.proofs.KeptCalls.{row_stays}
 use Rattle.room_model.proofs.VehicleRows.{put_here, put_other}
-use Rattle.room_model.specs.Enrol.{AreTerminals, terminal_at, terminal_key, token_cmp}
+use Rattle.room_model.specs.FleetRows.{AreTerminals, terminal_at, terminal_key, token_cmp}
 use Rattle.room_model.specs.Room.{Room}
 use Rattle.room_store_check_tables.specs.HeldRooms.{IsPlanOf}
 use Rattle.room_store_writes.specs.Houses.{config_of}

@@ -12,7 +12,7 @@ use Rattle.room_place.specs.Plans.{is_zone}
 use Rattle.room_place.specs.declared.plans.Area.{Area}
 use Rattle.room_place.specs.declared.plans.PlanFault.TheVariants.{Count, Number, Rectangle, Zone}
 use Rattle.room_types_keyed.proofs.KeyedLaws.{keyed_put}
-use Rattle.room_types_keyed.specs.Keyed.{IsKeyed, put_row, row_at}
+use Rattle.room_types_keyed.specs.KeyedRows.{IsKeyed, put_row, row_at}
 use Rattle.room_types.specs.Keys.{callsign_cmp, division_key, incident_key, numbered_cmp, pair_cmp, point_key}
 use Rattle.room_types.specs.Keys.{report_key, turn_key, vehicle_key}
 use Rattle.room_types.specs.declared.changes.Change.TheVariants.{PutDivision}
@@ -25,10 +25,10 @@ use Rattle.room_types.specs.declared.tables.Turn.{Turn}
 use Rattle.room_types.specs.declared.tables.Vehicle.{Vehicle}
 use Rattle.room_model.proofs.IncidentChanges.{divisions_put}
 use Rattle.room_model.proofs.VehicleRows.{put_here}
-use Rattle.room_model.specs.Enrol.{AreTerminals}
+use Rattle.room_model.specs.FleetRows.{AreTerminals}
 use Rattle.room_model.specs.Room.{Room, apply}
-use Rattle.room_model.specs.WellFormed.{CallAgrees, IsGiven, IsPost, IsWellFormed, LastAgrees, NumberAgrees}
-use Rattle.room_model.specs.WellFormed.{OfferAgrees, OpenedAgrees, PostAgrees, TurnIsActive}
+use Rattle.room_model.specs.RoomAgreements.{CallAgrees, IsGiven, IsPost, IsWellFormed, LastAgrees, NumberAgrees}
+use Rattle.room_model.specs.RoomAgreements.{OfferAgrees, OpenedAgrees, PostAgrees, TurnIsActive}
 use Rattle.room_store_check_tables.specs.HeldRooms.{IsPlanOf}
 use Rattle.room_store_writes.specs.Houses.{config_of}
 use Rattle.room_store_writes.specs.NewRoom.{new_division}

@@ -1,17 +1,17 @@
 -- The terminals of one desk, position or crew that were changed.
 use Rattle.std.specs.Prelude.{IfErr, List, None, OnOk, Option, Result, ◌≡◌}
 use Rattle.sqlite.specs.Held.{Held, state}
-use Rattle.sqlite.specs.State.{HasCleanDisk, Survives}
+use Rattle.sqlite.specs.State.{Survives}
 use Rattle.sqlite_trees.specs.Tree.{Trees}
 use Rattle.sqlite_trees.specs.declared.store.Store.{Ghosts}
 use Rattle.room_place.specs.Plans.{Layout}
 use Rattle.room_types.specs.Texts.{Token}
 use Rattle.room_types.specs.declared.asks.Who.{Who}
 use Rattle.room_types.specs.declared.fleet.Terminal.{Terminal}
-use Rattle.room_model.specs.Enrol.{AreTerminals}
+use Rattle.room_model.specs.FleetRows.{AreTerminals}
 use Rattle.room_model.specs.Room.{Room}
-use Rattle.room_model.specs.WellFormed.{IsWellFormed}
-use Rattle.room_tables.specs.Stands.{Stands}
+use Rattle.room_model.specs.RoomAgreements.{IsWellFormed}
+use Rattle.room_tables.specs.RoomsInTables.{Stands}
 use Rattle.room_store_writes.specs.Houses.{config_of}
 use Rattle.room_store_writes.specs.Transactions.{IsSettled, Leaves}
 use Rattle.room_store_file.specs.OpenedFile.{KeepsFile, MayBeIndexed}
@@ -21,6 +21,7 @@ use Rattle.room_store_writes.specs.declared.change_faults.ChangeFault.{ChangeFau
 use Rattle.room_store_writes.specs.declared.change_faults.ChangeFault.TheVariants as why
 use Rattle.dispatch_room_exit.specs.declared.exit_status.Failure.{Failure}
 use Rattle.dispatch_room_exit.specs.declared.exit_status.Failure.TheVariants.{Division, Input, Memory, Storage}
+use Rattle.room_tables_schema.specs.FileConnections.{IsClean}
 
 -- how the program reports why terminals were not changed
 abbrev pub failure_of : ChangeFault → Failure
@@ -48,12 +49,12 @@ pub record HasChanged {S : Type 0} (g : Ghosts S) (old new : Held S) (who : Who)
     (token : Option Token) (done : Result (Unit {0}) Failure) : Type 0 where
   pub plan : Layout
   pub opened : Held S
-  pub rows : HasCleanDisk (state g opened) → KeepsFile (state g old) (state g opened)
-  pub changed : HasCleanDisk (state g new)
+  pub rows : IsClean g opened → KeepsFile (state g old) (state g opened)
+  pub changed : IsClean g new
       → OnOk done ((terminals : List Terminal) × (room : Room)
       × IsSameRoom (state g opened).now.trees (state g new).now.trees plan who token terminals room
       × IsSettled (state g new))
-  pub unchanged : HasCleanDisk (state g new)
+  pub unchanged : IsClean g new
       → IfErr done (λ failure. (fault : ChangeFault) × (failure ≡ failure_of fault)
       × Explains plan.areas who token (state g opened).now.trees fault
       × Leaves (state g opened) (state g new))

@@ -2,7 +2,7 @@
 use Rattle.std.specs.Io.KnownBytes.{Appends}
 use Rattle.std.specs.Prelude.{Err, List, Ok, Option, Result, codes, decimal, filter, length, vec_len, ℕ, ◌++◌, ◌≡◌}
 use Rattle.sqlite.specs.Held.{Held, state}
-use Rattle.sqlite.specs.State.{HasCleanDisk, Survives}
+use Rattle.sqlite.specs.State.{Survives}
 use Rattle.sqlite_schema.specs.declared.schema.Schema.{Schema}
 use Rattle.sqlite_trees.specs.declared.store.Store.{Ghosts}
 use Rattle.room_place.specs.Plans.{has_division}
@@ -10,20 +10,21 @@ use Rattle.room_place.specs.declared.plans.Area.{Area}
 use Rattle.room_store.specs.StoreCreation.{Explains, MayBegin}
 use Rattle.room_store.specs.declared.store_creation.CreateFault.{CreateFault}
 use Rattle.room_store_writes.specs.NewRoom.{StandsNew, division_numbers}
-use Rattle.room_store_writes.specs.Transactions.{IsSettled}
+use Rattle.room_store_writes.specs.Transactions.{StandsSettled}
 use Rattle.dispatch_room_tasks.specs.OpeningFaults.{create_fault}
 use Rattle.dispatch_room_exit.specs.declared.exit_status.Done.{Done}
 use Rattle.dispatch_room_exit.specs.declared.exit_status.Done.TheVariants.{Whole}
 use Rattle.dispatch_room_exit.specs.declared.exit_status.Failure.{Failure}
 use Rattle.dispatch_room_exit.specs.declared.exit_status.Failure.TheVariants.{Network}
 use Rattle.dispatch_room_csv.specs.declared.plan_file.PlanFile.{PlanFile}
+use Rattle.room_tables_schema.specs.FileConnections.{IsClean}
 
 -- In a database that had nothing, the new room of the plan with its terminals is committed. What a
 -- stop may leave is what it could leave before, or that room.
 pub record IsCreated {S : Type 0} (g : Ghosts S) (old new : Held S) (file : PlanFile) : Type 0 where
   pub begun : MayBegin (state g old).now.schema file.plan file.terminals.items
-  pub settled : HasCleanDisk (state g new) → IsSettled (state g new)
-  pub stands : HasCleanDisk (state g new)
+  pub settled : StandsSettled g new
+  pub stands : IsClean g new
       → StandsNew file.plan file.terminals.items (state g new).now.trees
   pub survives : Survives (state g old) (state g new) (StandsNew file.plan file.terminals.items)
 

@@ -10,12 +10,6 @@ pub mod Migration
 pub mod RowOutcomes
 -- what came of the lines of a fleet in a room
 pub mod Enrolment
--- the report of a division's day over two rooms
-pub mod JoinedReports
--- the report of a division's day
-pub mod TimesReport
--- what is reported of a file that is checked
-pub mod Examination
 -- who has a terminal in a room
 pub mod ListedTerminals
 -- the terminals of one that were changed
@@ -26,5 +20,3 @@ pub mod ReplacedTerminals
 pub mod ReplannedRoom
 -- the letters of random bytes
 pub mod RandomTokens
--- what a room leaves to a new one, and the new one
-pub mod Renewal

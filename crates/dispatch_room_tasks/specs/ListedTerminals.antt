@@ -3,15 +3,15 @@ use Rattle.std.specs.Io.KnownBytes.{Appends}
 use Rattle.std.specs.List.{flat_map}
 use Rattle.std.specs.Prelude.{IfOk, IsPermutation, List, OnOk, Option, Result, codes, decimal, map, ℕ, ◌++◌, ◌≡◌}
 use Rattle.sqlite.specs.Held.{Held, state}
-use Rattle.sqlite.specs.State.{HasCleanDisk, Survives}
+use Rattle.sqlite.specs.State.{Survives}
 use Rattle.sqlite_trees.specs.declared.store.Store.{Ghosts}
 use Rattle.room_place.specs.Plans.{Layout}
 use Rattle.room_types.specs.declared.asks.Who.{Who}
 use Rattle.room_types.specs.declared.asks.Who.TheVariants as who
 use Rattle.room_types.specs.declared.fleet.Terminal.{Terminal}
-use Rattle.room_model.specs.Enrol.{AreTerminals}
+use Rattle.room_model.specs.FleetRows.{AreTerminals}
 use Rattle.room_model.specs.Room.{Room}
-use Rattle.room_tables.specs.Stands.{Stands}
+use Rattle.room_tables.specs.RoomsInTables.{Stands}
 use Rattle.room_store_writes.specs.Houses.{config_of}
 use Rattle.room_store_writes.specs.Transactions.{Leaves}
 use Rattle.room_store_file.specs.OpenedFile.{KeepsFile, MayBeIndexed}
@@ -20,6 +20,7 @@ use Rattle.dispatch_room_exit.specs.declared.exit_status.Done.TheVariants.{Whole
 use Rattle.dispatch_room_exit.specs.declared.exit_status.Failure.{Failure}
 use Rattle.dispatch_room_tasks.specs.declared.listed_terminals.Listed.{Listed}
 use Rattle.dispatch_room_tasks.specs.declared.listed_terminals.Listed.TheVariants.{Crew, Desk, Position}
+use Rattle.room_tables_schema.specs.FileConnections.{IsClean}
 
 abbrev pub listed_of : Who → Listed
 listed_of (who.Desk d) = Desk d
@@ -49,12 +50,12 @@ pub record HasListed {S : Type 0} (g : Ghosts S) (old new : Held S)
     (before after : Option (List ℕ)) (done : Result Done Failure) : Type 0 where
   pub plan : Layout
   pub opened : Held S
-  pub rows : HasCleanDisk (state g opened) → KeepsFile (state g old) (state g opened)
+  pub rows : IsClean g opened → KeepsFile (state g old) (state g opened)
   pub whole : IfOk done (λ it. it ≡ Whole)
-  pub told : HasCleanDisk (state g new)
+  pub told : IsClean g new
       → OnOk done ((terminals : List Terminal) × (room : Room) × AreTerminals room terminals
       × Stands (state g opened).now.trees (config_of plan terminals) room
       × Tells terminals before after)
-  pub left : HasCleanDisk (state g new) → Leaves (state g opened) (state g new)
+  pub left : IsClean g new → Leaves (state g opened) (state g new)
   pub opening : Survives (state g old) (state g opened) (MayBeIndexed (state g old).now)
   pub survives : Survives (state g opened) (state g new) (λ _. ⊥)

@@ -1,15 +1,15 @@
 -- A room of the first version that was moved to this one.
 use Rattle.std.specs.Prelude.{Ok, Result, ◌≡◌, ◌⊎◌}
 use Rattle.sqlite.specs.Held.{Held, state}
-use Rattle.sqlite.specs.State.{HasCleanDisk, Survives}
+use Rattle.sqlite.specs.State.{Survives}
 use Rattle.sqlite_trees.specs.Tree.{Trees}
 use Rattle.sqlite_trees.specs.declared.store.Store.{Ghosts}
-use Rattle.room_model.specs.Enrol.{AreTerminals}
-use Rattle.room_model.specs.Moving.{IsUnoffered}
+use Rattle.room_model.specs.FleetRows.{AreTerminals}
+use Rattle.room_model.specs.UnofferedRooms.{IsUnoffered}
 use Rattle.room_model.specs.Room.{Room}
-use Rattle.room_model.specs.WellFormed.{IsWellFormed}
+use Rattle.room_model.specs.RoomAgreements.{IsWellFormed}
 use Rattle.room_tables_schema.specs.Versions.{HasFirstTables}
-use Rattle.room_tables.specs.Stands.{Configuration, Stands, StandsInFirst}
+use Rattle.room_tables.specs.RoomsInTables.{Configuration, Stands, StandsInFirst}
 use Rattle.room_store_file.specs.OpenedFile.{HoldsFirstRoom, IsNewRoom, IsOldRoom, MayBeMoved}
 use Rattle.room_store_check_tables.specs.HeldRooms.{WritesNothing}
 use Rattle.room_store_file.specs.declared.migrated_file.MigrateFault.{MigrateFault}
@@ -17,6 +17,7 @@ use Rattle.room_store_file.specs.declared.migrated_file.MigrateFault.TheVariants
 use Rattle.room_store_writes.specs.Transactions.{Leaves}
 use Rattle.dispatch_room_tasks.specs.OpeningFaults.{migrate_fault}
 use Rattle.dispatch_room_exit.specs.declared.exit_status.Failure.{Failure}
+use Rattle.room_tables_schema.specs.FileConnections.{IsClean}
 
 -- The tables of the first version stood for this well-formed room, in which nothing is offered, and
 -- the tables of this one stand for it.
@@ -32,12 +33,12 @@ pub record IsSameRoom (before after : Trees) (config : Configuration) (room : Ro
 pub record IsMigrated {S : Type 0} (g : Ghosts S) (old new : Held S)
     (done : Result (Unit {0}) Failure) : Type 0 where
   pub whole : done ≡ Ok tt
-  pub was_old : HasCleanDisk (state g new) → IsOldRoom (state g old).now
-  pub same : HasCleanDisk (state g new)
+  pub was_old : IsClean g new → IsOldRoom (state g old).now
+  pub same : IsClean g new
       → (config : Configuration) × (room : Room)
       × IsSameRoom (state g old).now.trees (state g new).now.trees config room
-  pub moved : HasCleanDisk (state g new) → MayBeMoved (state g old).now (state g new).now.trees
-  pub kept : HasCleanDisk (state g new) → (db : Trees) → (state g new).may_leave db
+  pub moved : IsClean g new → MayBeMoved (state g old).now (state g new).now.trees
+  pub kept : IsClean g new → (db : Trees) → (state g new).may_leave db
       → db ≡ (state g new).now.trees
   pub survives : Survives (state g old) (state g new) (MayBeMoved (state g old).now)
 
@@ -47,12 +48,12 @@ pub record IsUnmoved {S : Type 0} (g : Ghosts S) (old : Held S) (failure : Failu
   pub fault : MigrateFault
   pub told : failure ≡ migrate_fault fault
   pub let_go : Held S
-  pub left : HasCleanDisk (state g let_go) → Leaves (state g old) (state g let_go)
+  pub left : IsClean g let_go → Leaves (state g old) (state g let_go)
   pub untouched : (fault ≡ NotOld) ⊎ (fault ≡ NotARoom)
       → WritesNothing (state g old) (state g let_go)
-  pub version : HasCleanDisk (state g let_go)
+  pub version : IsClean g let_go
       → (fault ≡ NotOld → IsNewRoom (state g old).now)
       × (fault ≡ NotARoom → ¬ IsNewRoom (state g old).now)
-  pub no_room : HasCleanDisk (state g let_go) → fault ≡ NotARoom
+  pub no_room : IsClean g let_go → fault ≡ NotARoom
       → HasFirstTables (state g old).now.schema → ¬ HoldsFirstRoom (state g old).now.trees
   pub survives : Survives (state g old) (state g let_go) (MayBeMoved (state g old).now)

@@ -2,11 +2,11 @@
 use Rattle.std.specs.Prelude.{IsSome, List, ◌≡◌, ◌⊎◌}
 use Rattle.jiff.specs.Words.{read_whole}
 use Rattle.sqlite.specs.Held.{Held, state}
-use Rattle.sqlite.specs.State.{HasCleanDisk, Survives}
+use Rattle.sqlite.specs.State.{Survives}
 use Rattle.sqlite_trees.specs.declared.store.Store.{Ghosts}
 use Rattle.room_types.specs.declared.fleet.Terminal.{Terminal}
 use Rattle.room_model.specs.Room.{Room}
-use Rattle.room_tables.specs.Stands.{Configuration, Stands}
+use Rattle.room_tables.specs.RoomsInTables.{Configuration, Stands}
 use Rattle.room_tables_schema.specs.Versions.{HasTables}
 use Rattle.room_store.specs.StoredRoom.{IsKept, IsRoom}
 use Rattle.room_store.specs.declared.store.Store.{Store}
@@ -18,6 +18,7 @@ use Rattle.room_store_writes.specs.Transactions.{Leaves}
 use Rattle.dispatch_room_exit.specs.declared.exit_status.Failure.{Failure}
 use Rattle.dispatch_room_exit.specs.declared.exit_status.Failure.TheVariants.{File}
 use Rattle.dispatch_room_tasks.specs.OpeningFaults.{open_fault}
+use Rattle.room_tables_schema.specs.FileConnections.{IsClean}
 
 -- The store stands for this room, which is the one for which the tables stood, and it is kept. All
 -- rows of the file are as they were.
@@ -39,13 +40,13 @@ pub record HoldsNone {S : Type 0} (g : Ghosts S) (old : Held S) (failure : Failu
   pub fault : OpenFault
   pub told : failure ≡ open_fault fault
   pub let_go : Held S
-  pub left : HasCleanDisk (state g let_go) → Leaves (state g old) (state g let_go)
+  pub left : IsClean g let_go → Leaves (state g old) (state g let_go)
   pub untouched : (fault ≡ OldRoom) ⊎ (fault ≡ NotARoom)
       → WritesNothing (state g old) (state g let_go)
-  pub version : HasCleanDisk (state g let_go)
+  pub version : IsClean g let_go
       → (fault ≡ OldRoom → IsOldRoom (state g old).now)
       × (fault ≡ NotARoom → ¬ IsOldRoom (state g old).now)
-  pub no_room : HasCleanDisk (state g let_go) → fault ≡ NotARoom
+  pub no_room : IsClean g let_go → fault ≡ NotARoom
       → HasTables (state g old).now.schema → ¬ HoldsRoom (state g old).now.trees
   pub survives : Survives (state g old) (state g let_go) (MayBeIndexed (state g old).now)
 
@@ -54,7 +55,7 @@ pub record HoldsNone {S : Type 0} (g : Ghosts S) (old : Held S) (failure : Failu
 pub record HasNoZone {S : Type 0} (g : Ghosts S) (old : Held S) (failure : Failure) : Type 0 where
   pub told : failure ≡ File
   pub opened : Store S
-  pub opens : HasCleanDisk (state g opened.conn) → OpensRoom g old opened
+  pub opens : IsClean g opened.conn → OpensRoom g old opened
   pub no_rule : ¬ IsSome (read_whole opened.plan.zone)
 
 -- why no room is opened, as the program reports it

@@ -3,7 +3,7 @@ use Rattle.std.specs.List.{list_any}
 use Rattle.std.specs.Prelude.{Bool, IfErr, List, None, OnOk, Option, Result, Some, [], cond, false, filter, length, not}
 use Rattle.std.specs.Prelude.{slice_index_or, take, ℕ, ◌&&◌, ◌<◌, ◌||◌, ◌≡◌}
 use Rattle.sqlite.specs.Held.{Held, state}
-use Rattle.sqlite.specs.State.{HasCleanDisk, Survives}
+use Rattle.sqlite.specs.State.{Survives}
 use Rattle.sqlite_trees.specs.Tree.{Trees}
 use Rattle.sqlite_trees.specs.declared.store.Store.{Ghosts}
 use Rattle.room_place.specs.Plans.{Layout}
@@ -12,10 +12,10 @@ use Rattle.room_types.specs.Texts.{Token}
 use Rattle.room_types.specs.declared.asks.Who.{Who}
 use Rattle.room_types.specs.declared.asks.Who.TheVariants.{Crew, Desk, Position}
 use Rattle.room_types.specs.declared.fleet.Terminal.{Terminal}
-use Rattle.room_model.specs.Enrol.{AreTerminals}
+use Rattle.room_model.specs.FleetRows.{AreTerminals}
 use Rattle.room_model.specs.Room.{Room}
-use Rattle.room_model.specs.WellFormed.{IsWellFormed}
-use Rattle.room_tables_rows.specs.Stands.{Configuration, Stands}
+use Rattle.room_model.specs.RoomAgreements.{IsWellFormed}
+use Rattle.room_tables_rows.specs.RoomsInTables.{Configuration, Stands}
 use Rattle.room_tables_schema.specs.declared.database_faults.Fault.{Fault}
 use Rattle.room_tables_schema.specs.declared.database_faults.Fault.TheVariants as fault
 use Rattle.room_store_file.specs.OpenedFile.{KeepsFile, MayBeIndexed}
@@ -30,6 +30,7 @@ use Rattle.dispatch_room_tasks.specs.declared.replacement_faults.ReplaceFault.Th
 use Rattle.dispatch_room_tasks.specs.declared.replacement_faults.RowFault.{RowFault}
 use Rattle.dispatch_room_tasks.specs.declared.replacement_faults.RowFault.TheVariants.{NoDivision, NoVehicle}
 use Rattle.dispatch_room_tasks.specs.declared.replacement_faults.RowFault.TheVariants.{SecondToken, TokenTaken}
+use Rattle.room_tables_schema.specs.FileConnections.{IsClean}
 
 -- how a failing machine is reported
 abbrev pub lack_of : Fault → ReplaceFault
@@ -140,12 +141,12 @@ pub record HasReplaced {S : Type 0} (g : Ghosts S) (old new : Held S) (listed : 
     (done : Result (Unit {0}) Failure) : Type 0 where
   pub plan : Layout
   pub opened : Held S
-  pub rows : HasCleanDisk (state g opened) → KeepsFile (state g old) (state g opened)
-  pub replaced : HasCleanDisk (state g new)
+  pub rows : IsClean g opened → KeepsFile (state g old) (state g opened)
+  pub replaced : IsClean g new
       → OnOk done ((terminals : List Terminal) × (room : Room)
       × KeepsRoom (state g opened).now.trees (state g new).now.trees plan listed terminals room
       × IsSettled (state g new))
-  pub unchanged : HasCleanDisk (state g new)
+  pub unchanged : IsClean g new
       → IfErr done (λ failure. (fault : ReplaceFault) × (failure ≡ failure_of fault)
       × ExplainsRow plan.areas listed (state g opened).now.trees fault
       × Leaves (state g opened) (state g new))

@@ -2,7 +2,7 @@
 use Rattle.std.specs.Prelude.{IfErr, List, None, OnOk, Option, Result, Some, cond, filter_map, find, length, not}
 use Rattle.std.specs.Prelude.{option_map, ℕ, ◌&&◌, ◌≡◌}
 use Rattle.sqlite.specs.Held.{Held, state}
-use Rattle.sqlite.specs.State.{HasCleanDisk, Survives}
+use Rattle.sqlite.specs.State.{Survives}
 use Rattle.sqlite_trees.specs.Tree.{Trees}
 use Rattle.sqlite_trees.specs.declared.store.Store.{Ghosts}
 use Rattle.room_place.specs.Plans.{Layout, has_division, is_division}
@@ -10,10 +10,10 @@ use Rattle.room_place.specs.declared.plans.Area.{Area}
 use Rattle.room_types.specs.declared.changes.Change.{Change}
 use Rattle.room_types.specs.declared.changes.Change.TheVariants.{PutDivision}
 use Rattle.room_types.specs.declared.fleet.Terminal.{Terminal}
-use Rattle.room_model.specs.Enrol.{AreTerminals}
+use Rattle.room_model.specs.FleetRows.{AreTerminals}
 use Rattle.room_model.specs.Room.{Room, apply}
-use Rattle.room_model.specs.WellFormed.{IsWellFormed}
-use Rattle.room_tables_rows.specs.Stands.{Configuration, Stands}
+use Rattle.room_model.specs.RoomAgreements.{IsWellFormed}
+use Rattle.room_tables_rows.specs.RoomsInTables.{Configuration, Stands}
 use Rattle.room_store_file.specs.OpenedFile.{KeepsFile, MayBeIndexed}
 use Rattle.room_store_writes.specs.Houses.{config_of}
 use Rattle.room_store_writes.specs.NewRoom.{new_division}
@@ -26,6 +26,7 @@ use Rattle.dispatch_room_tasks.specs.ReplacedTerminals.{AreFree, ExplainsRow, re
 use Rattle.dispatch_room_tasks.specs.declared.replacement_faults.ReplaceFault.{ReplaceFault}
 use Rattle.dispatch_room_tasks.specs.declared.replanning_faults.ReplanFault.{ReplanFault}
 use Rattle.dispatch_room_tasks.specs.declared.replanning_faults.ReplanFault.TheVariants.{Division, Terminals}
+use Rattle.room_tables_schema.specs.FileConnections.{IsClean}
 
 -- ---- of which plans it may
 -- The division of the first area of the old plan that the new plan has no area of. Each division of
@@ -96,12 +97,12 @@ pub record HasReplanned {S : Type 0} (g : Ghosts S) (old new : Held S) (file : P
     (done : Result (Unit {0}) Failure) : Type 0 where
   pub plan : Layout
   pub opened : Held S
-  pub rows : HasCleanDisk (state g opened) → KeepsFile (state g old) (state g opened)
-  pub replanned : HasCleanDisk (state g new)
+  pub rows : IsClean g opened → KeepsFile (state g old) (state g opened)
+  pub replanned : IsClean g new
       → OnOk done ((terminals : List Terminal) × (room : Room)
       × HasNewPlan (state g opened).now.trees (state g new).now.trees plan file terminals room
       × IsSettled (state g new))
-  pub unchanged : HasCleanDisk (state g new)
+  pub unchanged : IsClean g new
       → IfErr done (λ failure. (fault : ReplanFault) × (failure ≡ failure_of fault)
       × ExplainsPlan plan.areas file (state g opened).now.trees fault
       × Leaves (state g opened) (state g new))

@@ -1,11 +1,11 @@
 //! The terminals of one desk, position or crew in the room of a database, changed.
 ghost use Rattle.std.specs.Prelude.{◌≡◌, false, IfErr, IfOk, OnOk};
 ghost use Rattle.sqlite.specs.Held.{state};
-ghost use Rattle.sqlite.specs.State.{HasCleanDisk, Survives};
-ghost use Rattle.room_tables_schema.specs.FileConnections.{HasRoomSchema};
+ghost use Rattle.sqlite.specs.State.{Survives};
+ghost use Rattle.room_tables_schema.specs.FileConnections.{HasRoomSchema, IsClean};
 ghost use Rattle.room_store_writes.specs.TerminalChanges.{Explains, Gives};
 ghost use Rattle.room_store_writes.specs.declared.change_faults.ChangeFault.{ChangeFault as Why};
-ghost use Rattle.room_store_writes.specs.Transactions.{IsSettled, Leaves};
+ghost use Rattle.room_store_writes.specs.Transactions.{IsSettled, Leaves, StandsSettled};
 ghost use Rattle.dispatch_room_tasks.specs.OpenedRoom.{HoldsNone};
 ghost use Rattle.dispatch_room_tasks.specs.ChangedTerminals.{HasChanged, failure_of};
 
@@ -28,6 +28,7 @@ pub fn change_in<S: Alter + Drop>(
     requires outside { conn.in_transaction ≡ false }
     ensures changed { IfOk result (λ worked.
         HasChanged S.Store conn worked.1 wanted.now.who wanted.now.token worked.0) }
+    ensures ended { IfOk result (λ worked. worked.1.in_transaction ≡ false) }
     ensures fault { IfErr result (HoldsNone S.Store conn) }
 {
     match open_in(alloc, &mut conn) {
@@ -48,16 +49,17 @@ fn change_opened<S: Alter>(
 ) -> Result<(), Failure>
     requires room { HasRoomSchema S.Store conn.old }
     requires outside { conn.old.in_transaction ≡ false }
-    requires settled { HasCleanDisk (state S.Store conn.old) → IsSettled (state S.Store conn.old) }
-    ensures changed { HasCleanDisk (state S.Store conn.new)
+    requires settled { StandsSettled S.Store conn.old }
+    ensures changed { IsClean S.Store conn.new
         → OnOk result (Gives plan.now.areas wanted.now.who wanted.now.token
         (state S.Store conn.old).now.trees (state S.Store conn.new).now.trees
         × IsSettled (state S.Store conn.new)) }
-    ensures unchanged { HasCleanDisk (state S.Store conn.new)
+    ensures unchanged { IsClean S.Store conn.new
         → IfErr result (λ failure. (fault : Why) × (failure ≡ failure_of fault)
         × Explains plan.now.areas wanted.now.who wanted.now.token
         (state S.Store conn.old).now.trees fault
         × Leaves (state S.Store conn.old) (state S.Store conn.new)) }
+    ensures ended { conn.new.in_transaction ≡ false }
     ensures survives { Survives (state S.Store conn.old) (state S.Store conn.new)
         (Gives plan.now.areas wanted.now.who wanted.now.token
         (state S.Store conn.old).now.trees) }

@@ -1,7 +1,7 @@
 //! `import`: the rows of a fleet are enrolled in the room of a database.
 ghost use Rattle.std.specs.Prelude.{◌≡◌, ◌⊎◌, List, false, IfErr, IfOk};
 ghost use Rattle.sqlite.specs.Held.{state};
-ghost use Rattle.sqlite.specs.State.{HasCleanDisk, Survives};
+ghost use Rattle.sqlite.specs.State.{Survives};
 ghost use Rattle.room_types.specs.declared.fleet.Terminal.{Terminal};
 ghost use Rattle.room_model.specs.Room.{Room};
 ghost use Rattle.room_store.specs.FleetEnrolment.{MayBeEnrolled};
@@ -10,6 +10,7 @@ ghost use Rattle.dispatch_room_exit.specs.declared.exit_status.Failure.TheVarian
 ghost use Rattle.dispatch_room_tasks.specs.RowOutcomes.{good_rows};
 ghost use Rattle.dispatch_room_tasks.specs.Enrolment.{HasImported, HasImportedIn, IsTold};
 ghost use Rattle.dispatch_room_tasks.specs.OpenedRoom.{IsUnopened};
+ghost use Rattle.room_tables_schema.specs.FileConnections.{IsClean};
 
 use crate::fleet_causes::explain;
 use crate::opened_room::{TaskResult, open_room};
@@ -35,7 +36,7 @@ pub fn enrol_in<S: Alter + Drop, O: Write>(
     requires outside { conn.in_transaction ≡ false }
     ensures told { IfOk result (λ worked.
         IfOk worked.0 (IsTold lines.now (O.contents out.old) (O.contents out.new))) }
-    ensures imported { IfOk result (λ worked. HasCleanDisk (state S.Store worked.1)
+    ensures imported { IfOk result (λ worked. IsClean S.Store worked.1
         → HasImportedIn S.Store conn worked.1 lines.now (O.contents out.old) (O.contents out.new)
         worked.0) }
     ensures fault { IfErr result (λ fault. (fault ≡ Memory) ⊎ IsUnopened S.Store conn fault) }
@@ -62,7 +63,7 @@ pub fn enrol<S: Alter, O: Write>(
     ensures ready { IsReady S.Store room.new }
     ensures plan { room.new.plan ≡ room.old.plan }
     ensures told { IfOk result (IsTold lines.now (O.contents out.old) (O.contents out.new)) }
-    ensures imported { HasCleanDisk (state S.Store room.new.conn)
+    ensures imported { IsClean S.Store room.new.conn
         → (terminals : List Terminal) (held : Room) → IsRoom S.Store room.old terminals held
         → HasImported S.Store room.old room.new lines.now (O.contents out.old) (O.contents out.new)
         result terminals held }

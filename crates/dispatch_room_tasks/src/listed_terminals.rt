@@ -2,10 +2,10 @@
 ghost use Rattle.std.specs.Prelude.{◌≡◌, false, map, IfErr, IfOk, OnOk};
 ghost use Rattle.std.specs.Io.KnownBytes.{Appends};
 ghost use Rattle.sqlite.specs.Held.{state};
-ghost use Rattle.sqlite.specs.State.{HasCleanDisk, Survives};
+ghost use Rattle.sqlite.specs.State.{Survives};
 ghost use Rattle.room_model.specs.Room.{Room};
-ghost use Rattle.room_tables.specs.Stands.{Configuration, Stands};
-ghost use Rattle.room_tables_schema.specs.FileConnections.{HasRoomSchema};
+ghost use Rattle.room_tables.specs.RoomsInTables.{Configuration, Stands};
+ghost use Rattle.room_tables_schema.specs.FileConnections.{HasRoomSchema, IsClean};
 ghost use Rattle.room_store_writes.specs.Transactions.{Leaves};
 ghost use Rattle.dispatch_room_exit.specs.declared.exit_status.Done.TheVariants.{Whole};
 ghost use Rattle.dispatch_room_tasks.specs.OpenedRoom.{HoldsNone};
@@ -64,11 +64,11 @@ fn list_opened<S: Alter, O: Write>(
     requires room { HasRoomSchema S.Store conn.old }
     requires outside { conn.old.in_transaction ≡ false }
     ensures whole { IfOk result (λ done. done ≡ Whole) }
-    ensures told { HasCleanDisk (state S.Store conn.new)
+    ensures told { IsClean S.Store conn.new
         → OnOk result ((config : Configuration) (room : Room)
         → Stands (state S.Store conn.old).now.trees config room
         → Tells config.terminals (O.contents out.old) (O.contents out.new)) }
-    ensures leaves { HasCleanDisk (state S.Store conn.new)
+    ensures leaves { IsClean S.Store conn.new
         → Leaves (state S.Store conn.old) (state S.Store conn.new) }
     ensures survives { Survives (state S.Store conn.old) (state S.Store conn.new) (λ _. ⊥) }
 {

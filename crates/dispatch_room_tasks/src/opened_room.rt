@@ -1,11 +1,10 @@
 //! The room of a database, opened for a command.
 ghost use Rattle.std.specs.Prelude.{◌≡◌, false, IfErr, IfOk};
 ghost use Rattle.jiff.specs.Placed.{IsPosixZone};
-ghost use Rattle.sqlite.specs.Held.{state};
-ghost use Rattle.sqlite.specs.State.{HasCleanDisk};
 ghost use Rattle.room_http_time.specs.Days.{zone_of};
 ghost use Rattle.room_store.specs.StoredRoom.{IsReady};
 ghost use Rattle.dispatch_room_tasks.specs.OpenedRoom.{IsUnopened, OpensRoom};
+ghost use Rattle.room_tables_schema.specs.FileConnections.{IsClean};
 
 use crate::opening_faults::of_opening;
 use dispatch_room_exit::exit_status::Failure;
@@ -22,8 +21,10 @@ pub fn open_room<S: Alter + Drop>(
 ) -> Result<(Store<S>, Zone), Failure>
     requires outside { conn.in_transaction ≡ false }
     ensures ready { IfOk result (λ opened. IsReady S.Store opened.0) }
-    ensures room { IfOk result (λ opened. HasCleanDisk (state S.Store opened.0.conn)
+    ensures room { IfOk result (λ opened. IsClean S.Store opened.0.conn
         → OpensRoom S.Store conn opened.0) }
+    ensures trusted { IfOk result (λ opened. IsClean S.Store opened.0.conn
+        → IsClean S.Store conn) }
     ensures zone { IfOk result (λ opened. IsPosixZone opened.0.plan.zone (zone_of opened.1)) }
     ensures fault { IfErr result (IsUnopened S.Store conn) }
 {

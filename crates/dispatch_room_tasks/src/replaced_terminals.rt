@@ -1,16 +1,16 @@
 //! The terminals of all that a list names, replaced in the room of a database.
-ghost use Rattle.std.specs.Prelude.{◌≡◌, false, length, IfErr, IfOk, OnErr, OnOk};
+ghost use Rattle.std.specs.Prelude.{◌≡◌, false, length, IfErr, IfOk, OnOk};
 ghost use Rattle.sqlite.specs.Held.{state};
-ghost use Rattle.sqlite.specs.State.{HasCleanDisk, Survives};
-ghost use Rattle.room_types_keyed.specs.Keyed.{IsKeyed};
-ghost use Rattle.room_model.specs.Enrol.{terminal_key, token_cmp};
+ghost use Rattle.sqlite.specs.State.{Survives};
+ghost use Rattle.room_types_keyed.specs.KeyedRows.{IsKeyed};
+ghost use Rattle.room_model.specs.FleetRows.{terminal_key, token_cmp};
 ghost use Rattle.room_model.specs.Room.{Room};
-ghost use Rattle.room_tables_rows.specs.Stands.{Configuration, Stands};
-ghost use Rattle.room_tables_schema.specs.FileConnections.{HasRoomSchema, MayWrite};
+ghost use Rattle.room_tables_rows.specs.RoomsInTables.{Configuration, Stands};
+ghost use Rattle.room_tables_schema.specs.FileConnections.{HasRoomSchema, MayWrite, IsClean};
 ghost use Rattle.room_tables_schema.specs.Schema.{room_schema};
 ghost use Rattle.room_tables_schema.specs.Outcomes.{CommitsNothing, ReadsInside};
 ghost use Rattle.room_store_writes.specs.NewRoom.{in_order, put_all};
-ghost use Rattle.room_store_writes.specs.Transactions.{IsSettled, Leaves};
+ghost use Rattle.room_store_writes.specs.Transactions.{IsSettled, Leaves, LeavesOnErr, StandsSettled};
 ghost use Rattle.dispatch_room_tasks.specs.OpenedRoom.{HoldsNone};
 ghost use Rattle.dispatch_room_tasks.specs.ReplacedTerminals.{AreFree, ExplainsRow, HasReplaced, Replaces, failure_of, kept_beside};
 ghost use Rattle.dispatch_room_tasks.specs.declared.replacement_faults.ReplaceFault.{ReplaceFault as Why};
@@ -42,6 +42,7 @@ pub fn replace_in<S: Alter + Drop>(
     requires outside { conn.in_transaction ≡ false }
     ensures replaced { IfOk result (λ worked.
         HasReplaced S.Store conn worked.1 listed.now worked.0) }
+    ensures ended { IfOk result (λ worked. worked.1.in_transaction ≡ false) }
     ensures fault { IfErr result (HoldsNone S.Store conn) }
 {
     match open_in(alloc, &mut conn) {
@@ -63,14 +64,15 @@ fn replace_opened<S: Alter>(
 ) -> Result<(), Failure>
     requires room { HasRoomSchema S.Store conn.old }
     requires outside { conn.old.in_transaction ≡ false }
-    requires settled { HasCleanDisk (state S.Store conn.old) → IsSettled (state S.Store conn.old) }
-    ensures replaced { HasCleanDisk (state S.Store conn.new)
+    requires settled { StandsSettled S.Store conn.old }
+    ensures replaced { IsClean S.Store conn.new
         → OnOk result (Replaces plan.now.areas listed.now (state S.Store conn.old).now.trees
         (state S.Store conn.new).now.trees × IsSettled (state S.Store conn.new)) }
-    ensures unchanged { HasCleanDisk (state S.Store conn.new)
+    ensures unchanged { IsClean S.Store conn.new
         → IfErr result (λ failure. (fault : Why) × (failure ≡ failure_of fault)
         × ExplainsRow plan.now.areas listed.now (state S.Store conn.old).now.trees fault
         × Leaves (state S.Store conn.old) (state S.Store conn.new)) }
+    ensures ended { conn.new.in_transaction ≡ false }
     ensures survives { Survives (state S.Store conn.old) (state S.Store conn.new)
         (Replaces plan.now.areas listed.now (state S.Store conn.old).now.trees) }
 {
@@ -93,18 +95,17 @@ fn replace_all<S: Alter>(
 ) -> Result<(), ReplaceFault>
     requires room { HasRoomSchema S.Store conn.old }
     requires outside { conn.old.in_transaction ≡ false }
-    requires settled { HasCleanDisk (state S.Store conn.old) → IsSettled (state S.Store conn.old) }
-    ensures ok { HasCleanDisk (state S.Store conn.new)
+    requires settled { StandsSettled S.Store conn.old }
+    ensures ok { IsClean S.Store conn.new
         → OnOk result (Replaces plan.now.areas listed.now (state S.Store conn.old).now.trees
         (state S.Store conn.new).now.trees) }
-    ensures settled { HasCleanDisk (state S.Store conn.new)
+    ensures settled { IsClean S.Store conn.new
         → OnOk result (IsSettled (state S.Store conn.new)
         × ((state S.Store conn.new).now.schema ≡ room_schema)) }
-    ensures why { HasCleanDisk (state S.Store conn.new)
+    ensures why { IsClean S.Store conn.new
         → IfErr result (ExplainsRow plan.now.areas listed.now
         (state S.Store conn.old).now.trees) }
-    ensures err { HasCleanDisk (state S.Store conn.new)
-        → OnErr result (Leaves (state S.Store conn.old) (state S.Store conn.new)) }
+    ensures err { LeavesOnErr S.Store conn.old conn.new result }
     ensures ended { conn.new.in_transaction ≡ false }
     ensures survives { Survives (state S.Store conn.old) (state S.Store conn.new)
         (Replaces plan.now.areas listed.now (state S.Store conn.old).now.trees) }
@@ -123,11 +124,11 @@ fn replace_inside<S: Alter>(
 ) -> Result<(), ReplaceFault>
     requires inside { MayWrite S.Store tx.old.conn.now }
     ensures same_reference { tx.new.conn.ghost_name ≡ tx.old.conn.ghost_name }
-    ensures ok { HasCleanDisk (state S.Store tx.new.conn.now)
+    ensures ok { IsClean S.Store tx.new.conn.now
         → OnOk result (MayWrite S.Store tx.new.conn.now
         × Replaces plan.now.areas listed.now (state S.Store tx.old.conn.now).now.trees
         (state S.Store tx.new.conn.now).now.trees) }
-    ensures why { HasCleanDisk (state S.Store tx.new.conn.now)
+    ensures why { IsClean S.Store tx.new.conn.now
         → IfErr result (ExplainsRow plan.now.areas listed.now
         (state S.Store tx.old.conn.now).now.trees) }
     ensures commits { CommitsNothing S.Store tx.old.conn.now tx.new.conn.now }
@@ -146,13 +147,13 @@ pub(crate) fn find_others<S: Alter>(
 ) -> Result<Vec<Terminal>, ReplaceFault>
     requires room { HasRoomSchema S.Store tx.old.conn.now }
     ensures same_reference { tx.new.conn.ghost_name ≡ tx.old.conn.ghost_name }
-    ensures ok { HasCleanDisk (state S.Store tx.new.conn.now)
+    ensures ok { IsClean S.Store tx.new.conn.now
         → IfOk result (λ others. (config : Configuration) (room : Room)
         → Stands (state S.Store tx.old.conn.now).now.trees config room
         → AreFree plan.now.areas config.terminals listed.now (length listed.now)
         × (others.items ≡ kept_beside listed.now config.terminals)) }
     ensures keyed { IfOk result (λ others. IsKeyed token_cmp terminal_key others.items) }
-    ensures why { HasCleanDisk (state S.Store tx.new.conn.now)
+    ensures why { IsClean S.Store tx.new.conn.now
         → IfErr result (ExplainsRow plan.now.areas listed.now
         (state S.Store tx.old.conn.now).now.trees) }
     ensures reads { ReadsInside S.Store tx.old.conn.now tx.new.conn.now result }
@@ -190,7 +191,7 @@ pub(crate) fn set_terminals<S: Alter>(
     requires inside { MayWrite S.Store tx.old.conn.now }
     ensures same_reference { tx.new.conn.ghost_name ≡ tx.old.conn.ghost_name }
     ensures inside { OnOk result (MayWrite S.Store tx.new.conn.now) }
-    ensures stands { HasCleanDisk (state S.Store tx.new.conn.now)
+    ensures stands { IsClean S.Store tx.new.conn.now
         → OnOk result ((config : Configuration) (room : Room)
         → Stands (state S.Store tx.old.conn.now).now.trees config room
         → Stands (state S.Store tx.new.conn.now).now.trees
@@ -207,7 +208,7 @@ fn put_listed<S: Alter>(tx: &mut Transaction<'_, S>, listed: &[Terminal]) -> Res
     requires inside { MayWrite S.Store tx.old.conn.now }
     ensures same_reference { tx.new.conn.ghost_name ≡ tx.old.conn.ghost_name }
     ensures inside { OnOk result (MayWrite S.Store tx.new.conn.now) }
-    ensures stands { HasCleanDisk (state S.Store tx.new.conn.now)
+    ensures stands { IsClean S.Store tx.new.conn.now
         → OnOk result ((config : Configuration) (room : Room)
         → Stands (state S.Store tx.old.conn.now).now.trees config room
         → Stands (state S.Store tx.new.conn.now).now.trees

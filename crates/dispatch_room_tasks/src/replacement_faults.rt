@@ -17,7 +17,7 @@ use sqlite::Error;
 use std::alloc::AllocFailed;
 
 /// Why a row of a list of terminals is refused.
-#[derive(Clone, Copy, Debug, PartialEq, Eq)]
+#[derive(Clone, Copy)]
 pub enum RowFault {
     /// The desk's division is not in the plan.
     NoDivision,
@@ -30,7 +30,7 @@ pub enum RowFault {
 }
 
 /// Why terminals are not replaced.
-#[derive(Clone, Copy, Debug, PartialEq, Eq)]
+#[derive(Clone, Copy)]
 pub enum ReplaceFault {
     /// The first row that is refused, counted from 0, and why.
     Row(usize, RowFault),

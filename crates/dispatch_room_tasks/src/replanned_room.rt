@@ -1,14 +1,14 @@
 //! `replan`: the room of a database gets another plan, and the terminals of its file.
-ghost use Rattle.std.specs.Prelude.{◌≡◌, ◌≤◌, [], false, filter_map, length, IfErr, IfOk, None, OnErr, OnOk};
+ghost use Rattle.std.specs.Prelude.{◌≡◌, ◌≤◌, [], false, filter_map, length, IfErr, IfOk, None, OnOk};
 ghost use Rattle.sqlite.specs.Held.{state};
-ghost use Rattle.sqlite.specs.State.{HasCleanDisk, Survives};
+ghost use Rattle.sqlite.specs.State.{Survives};
 ghost use Rattle.room_place.specs.Plans.{most_areas};
 ghost use Rattle.room_model.specs.Room.{Room, apply};
-ghost use Rattle.room_tables_rows.specs.Stands.{Configuration, Stands};
-ghost use Rattle.room_tables_schema.specs.FileConnections.{HasRoomSchema, MayWrite};
+ghost use Rattle.room_tables_rows.specs.RoomsInTables.{Configuration, Stands};
+ghost use Rattle.room_tables_schema.specs.FileConnections.{HasRoomSchema, MayWrite, IsClean};
 ghost use Rattle.room_tables_schema.specs.Schema.{room_schema};
 ghost use Rattle.room_tables_schema.specs.Outcomes.{CommitsNothing};
-ghost use Rattle.room_store_writes.specs.Transactions.{IsSettled, Leaves};
+ghost use Rattle.room_store_writes.specs.Transactions.{IsSettled, Leaves, LeavesOnErr, StandsSettled};
 ghost use Rattle.dispatch_room_tasks.specs.OpenedRoom.{HoldsNone};
 ghost use Rattle.dispatch_room_tasks.specs.ReplannedRoom.{ExplainsPlan, HasReplanned, Replans, addition, additions, failure_of, first_lacking};
 ghost use Rattle.dispatch_room_tasks.specs.declared.replanning_faults.ReplanFault.{ReplanFault as Why};
@@ -46,6 +46,7 @@ pub fn replan_in<S: Alter + Drop>(
     requires outside { conn.in_transaction ≡ false }
     ensures replanned { IfOk result (λ worked.
         HasReplanned S.Store conn worked.1 file.now worked.0) }
+    ensures ended { IfOk result (λ worked. worked.1.in_transaction ≡ false) }
     ensures fault { IfErr result (HoldsNone S.Store conn) }
 {
     match open_in(alloc, &mut conn) {
@@ -67,14 +68,15 @@ fn replan_opened<S: Alter>(
 ) -> Result<(), Failure>
     requires room { HasRoomSchema S.Store conn.old }
     requires outside { conn.old.in_transaction ≡ false }
-    requires settled { HasCleanDisk (state S.Store conn.old) → IsSettled (state S.Store conn.old) }
-    ensures replanned { HasCleanDisk (state S.Store conn.new)
+    requires settled { StandsSettled S.Store conn.old }
+    ensures replanned { IsClean S.Store conn.new
         → OnOk result (Replans plan.now.areas file.now (state S.Store conn.old).now.trees
         (state S.Store conn.new).now.trees × IsSettled (state S.Store conn.new)) }
-    ensures unchanged { HasCleanDisk (state S.Store conn.new)
+    ensures unchanged { IsClean S.Store conn.new
         → IfErr result (λ failure. (fault : Why) × (failure ≡ failure_of fault)
         × ExplainsPlan plan.now.areas file.now (state S.Store conn.old).now.trees fault
         × Leaves (state S.Store conn.old) (state S.Store conn.new)) }
+    ensures ended { conn.new.in_transaction ≡ false }
     ensures survives { Survives (state S.Store conn.old) (state S.Store conn.new)
         (Replans plan.now.areas file.now (state S.Store conn.old).now.trees) }
 {
@@ -106,18 +108,17 @@ fn replan_all<S: Alter>(
 ) -> Result<(), ReplanFault>
     requires room { HasRoomSchema S.Store conn.old }
     requires outside { conn.old.in_transaction ≡ false }
-    requires settled { HasCleanDisk (state S.Store conn.old) → IsSettled (state S.Store conn.old) }
-    ensures ok { HasCleanDisk (state S.Store conn.new)
+    requires settled { StandsSettled S.Store conn.old }
+    ensures ok { IsClean S.Store conn.new
         → OnOk result (Replans plan.now.areas file.now (state S.Store conn.old).now.trees
         (state S.Store conn.new).now.trees) }
-    ensures settled { HasCleanDisk (state S.Store conn.new)
+    ensures settled { IsClean S.Store conn.new
         → OnOk result (IsSettled (state S.Store conn.new)
         × ((state S.Store conn.new).now.schema ≡ room_schema)) }
-    ensures why { HasCleanDisk (state S.Store conn.new)
+    ensures why { IsClean S.Store conn.new
         → IfErr result (ExplainsPlan plan.now.areas file.now
         (state S.Store conn.old).now.trees) }
-    ensures err { HasCleanDisk (state S.Store conn.new)
-        → OnErr result (Leaves (state S.Store conn.old) (state S.Store conn.new)) }
+    ensures err { LeavesOnErr S.Store conn.old conn.new result }
     ensures ended { conn.new.in_transaction ≡ false }
     ensures survives { Survives (state S.Store conn.old) (state S.Store conn.new)
         (Replans plan.now.areas file.now (state S.Store conn.old).now.trees) }
@@ -136,11 +137,11 @@ fn replan_inside<S: Alter>(
 ) -> Result<(), ReplanFault>
     requires inside { MayWrite S.Store tx.old.conn.now }
     ensures same_reference { tx.new.conn.ghost_name ≡ tx.old.conn.ghost_name }
-    ensures ok { HasCleanDisk (state S.Store tx.new.conn.now)
+    ensures ok { IsClean S.Store tx.new.conn.now
         → OnOk result (MayWrite S.Store tx.new.conn.now
         × Replans plan.now.areas file.now (state S.Store tx.old.conn.now).now.trees
         (state S.Store tx.new.conn.now).now.trees) }
-    ensures why { HasCleanDisk (state S.Store tx.new.conn.now)
+    ensures why { IsClean S.Store tx.new.conn.now
         → IfErr result (ExplainsPlan plan.now.areas file.now
         (state S.Store tx.old.conn.now).now.trees) }
     ensures commits { CommitsNothing S.Store tx.old.conn.now tx.new.conn.now }
@@ -166,7 +167,7 @@ fn set_plan<S: Alter>(
     requires inside { MayWrite S.Store tx.old.conn.now }
     ensures same_reference { tx.new.conn.ghost_name ≡ tx.old.conn.ghost_name }
     ensures inside { OnOk result (MayWrite S.Store tx.new.conn.now) }
-    ensures stands { HasCleanDisk (state S.Store tx.new.conn.now)
+    ensures stands { IsClean S.Store tx.new.conn.now
         → OnOk result ((config : Configuration) (room : Room)
         → Stands (state S.Store tx.old.conn.now).now.trees config room
         → Stands (state S.Store tx.new.conn.now).now.trees
@@ -211,7 +212,7 @@ fn put_areas<S: Alter>(tx: &mut Transaction<'_, S>, areas: &[Area]) -> Result<()
     requires few { length areas.now ≤ most_areas }
     ensures same_reference { tx.new.conn.ghost_name ≡ tx.old.conn.ghost_name }
     ensures inside { OnOk result (MayWrite S.Store tx.new.conn.now) }
-    ensures stands { HasCleanDisk (state S.Store tx.new.conn.now)
+    ensures stands { IsClean S.Store tx.new.conn.now
         → OnOk result ((config : Configuration) (room : Room)
         → Stands (state S.Store tx.old.conn.now).now.trees config room
         → room.plan ≡ [] → Stands (state S.Store tx.new.conn.now).now.trees config

@@ -16,7 +16,7 @@ use sqlite::Error;
 use std::alloc::AllocFailed;
 
 /// Why a room doesn't get another plan.
-#[derive(Clone, Copy, Debug, PartialEq, Eq)]
+#[derive(Clone, Copy)]
 pub enum ReplanFault {
     /// The new plan has no area of this division, of which there is a row.
     Division(u32),

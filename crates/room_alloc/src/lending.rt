@@ -19,10 +19,17 @@ use room_types::slices::Slice;
 use room_types::tables::{Loan, Offer, Vehicle};
 use std::alloc::Global;
 
+/// What a vehicle is offered on: to which division, and until when.
+#[derive(Clone, Copy)]
+pub struct LoanTerms {
+    pub borrower: DivisionNumber,
+    pub until: Moment,
+}
+
 /// Offers a vehicle to another division of the plan: it is reserved and without its post.
 ///
-/// Refused as `held` refuses, then as `NoSuchDivision` where `to` is the desk's own or not in the
-/// plan, `NotHome` where the vehicle is borrowed, `StillAssigned` where it has an order,
+/// Refused as `held` refuses, then as `NoSuchDivision` where the borrower is the desk's own or not
+/// in the plan, `NotHome` where the vehicle is borrowed, `StillAssigned` where it has an order,
 /// `WrongStatus` where it is off duty or offered, `ShiftOver` where its shift is over.
 #[tactic(auto, unfolding(room_model::specs::Loans::lend, room_model::specs::Decisions::refuse_if))]
 pub fn lend(
@@ -30,15 +37,14 @@ pub fn lend(
     plan: &Plan,
     slice: &Slice,
     callsign: &Callsign,
-    to: DivisionNumber,
-    until: Moment,
+    terms: LoanTerms,
     at: Moment,
 ) -> Result<Decision, Refusal>
-    ensures { Decides (lend slice.now.division callsign.now to until at
+    ensures { Decides (lend slice.now.division callsign.now terms.borrower terms.until at
         (room_of plan.now.areas slice.now.rows)) result }
 {
     let vehicle = held(slice, callsign)?;
-    if to == slice.division || !plan.has(to) {
+    if terms.borrower == slice.division || !plan.has(terms.borrower) {
         return Err(Refusal::NoSuchDivision);
     }
     if vehicle.home != slice.division {
@@ -61,9 +67,9 @@ pub fn lend(
     let offer = Offer {
         callsign: vehicle.callsign,
         lender: slice.division,
-        borrower: to,
+        borrower: terms.borrower,
         since: at,
-        until,
+        until: terms.until,
     };
     Decision::done(alloc)
         .with(Change::PutVehicle(reserved))?

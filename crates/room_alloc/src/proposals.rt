@@ -5,7 +5,6 @@ ghost use Rattle.room_place.specs.declared.plans.Area.{Area};
 ghost use Rattle.room_types.specs.declared.refusal_statuses.Refusal.TheVariants.{Memory};
 ghost use Rattle.room_types.specs.declared.tables.Incident.{Incident};
 ghost use Rattle.room_model.specs.Decisions.{Decides};
-ghost use Rattle.room_model.specs.Incidents.{lacking};
 ghost use Rattle.room_model.specs.Proposals.{all_proposed, is_before, propose, proposed};
 ghost use Rattle.room_model.specs.Queries.{incident_of};
 ghost use Rattle.room_model.specs.Room.{IsInOrder};
@@ -86,27 +85,8 @@ fn of_kind(
         few ≡ proposed slice.now.division incident.now at (unplanned slice.now.rows) kind) }
     ensures memory { IfErr result (λ e. e ≡ Memory) }
 {
-    let count = lack(incident, &slice.rows.turns, kind).get();
-    by_rings(alloc, slice, incident, short, kind, at, count)
-}
-
-fn by_rings(
-    alloc: Global,
-    slice: &Slice,
-    incident: &Incident,
-    short: &Rows<Point>,
-    kind: Kind,
-    at: Moment,
-    count: u32,
-) -> Result<Listed<Proposal>, Refusal>
-    requires short { AreShort slice.now.division at (unplanned slice.now.rows) short.now }
-    requires count { count ≡ lacking slice.now.division incident.now
-        (unplanned slice.now.rows) kind }
-    ensures ok { IfOk result (λ few.
-        few ≡ proposed slice.now.division incident.now at (unplanned slice.now.rows) kind) }
-    ensures memory { IfErr result (λ e. e ≡ Memory) }
-{
     lemma_in_order(&slice.rows);
+    let count = lack(incident, &slice.rows.turns, kind).get();
     let all = candidates_round(alloc, slice, incident, short, kind, at)?;
     let few = first_of_both(alloc, all.as_slice(), incident, kind, count as usize)?;
     Ok(few)

@@ -2,7 +2,7 @@
 use Rattle.std.proofs.Common.{Bool, None, Some, ap, inl, inr, sym, ℕ, ◌∙◌, ◌≡◌}
 use Rattle.room_place.specs.Plans.{division_of}
 use Rattle.room_types_keyed.proofs.KeyedLaws.{row_filter}
-use Rattle.room_types_keyed.specs.Keyed.{keep, row_at}
+use Rattle.room_types_keyed.specs.KeyedRows.{keep, row_at}
 use Rattle.room_types.specs.Keys.{call_key, pair_cmp}
 use Rattle.room_types.specs.Orders.{pairs_total}
 use Rattle.room_types.specs.declared.asks.Ask.TheVariants as ask
@@ -15,8 +15,8 @@ use Rattle.room_model.specs.Calls.{call_in, new_call, take_call}
 use Rattle.room_model.specs.Queries.{kept_call}
 use Rattle.room_model.specs.Room.{Room}
 use Rattle.room_model.specs.Shares.{own}
-use Rattle.room_model.specs.WellFormed.{IsWellFormed}
-use Rattle.room_model.specs.Working.{working}
+use Rattle.room_model.specs.RoomAgreements.{IsWellFormed}
+use Rattle.room_model.specs.WorkingRows.{working}
 use Rattle.room_core.specs.DecisionRows.{AreRead}
 
 module _ (d p : ℕ) (f : CallForm) (at : ℕ) (r : Room) (formed : IsWellFormed r)

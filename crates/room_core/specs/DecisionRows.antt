@@ -7,7 +7,7 @@ use Rattle.room_model.specs.Decisions.{Verdict, refuse_if, show}
 use Rattle.room_model.specs.Reports.{same_press}
 use Rattle.room_model.specs.Room.{Room}
 use Rattle.room_model.specs.Shares.{own}
-use Rattle.room_model.specs.Working.{working}
+use Rattle.room_model.specs.WorkingRows.{working}
 use Rattle.room_types.specs.declared.answers.Answer.TheVariants as answer
 use Rattle.room_types.specs.declared.refusal_statuses.Refusal.TheVariants as refusal
 

@@ -10,7 +10,7 @@ ghost use Rattle.room_model.specs.Queries.{kept_call};
 ghost use Rattle.room_model.specs.Room.{Room};
 ghost use Rattle.room_model.specs.Shares.{own};
 ghost use Rattle.room_model.specs.RoomSlices.{room_of};
-ghost use Rattle.room_model.specs.WellFormed.{IsWellFormed};
+ghost use Rattle.room_model.specs.RoomAgreements.{IsWellFormed};
 ghost use Rattle.room_core.specs.DecisionRows.{AreRead};
 
 use room_incident::calls::take_call;

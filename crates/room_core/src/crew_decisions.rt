@@ -5,7 +5,7 @@ ghost use Rattle.room_model.specs.Queries.{kept_report};
 ghost use Rattle.room_model.specs.Room.{IsInOrder, Room};
 ghost use Rattle.room_model.specs.Shares.{mine};
 ghost use Rattle.room_model.specs.RoomSlices.{AreCrewRows};
-ghost use Rattle.room_model.specs.WellFormed.{IsWellFormed};
+ghost use Rattle.room_model.specs.RoomAgreements.{IsWellFormed};
 ghost use Rattle.room_model.specs.Reports.{last_of, order_of, take_report};
 
 use room_fleet::reports::take_report;

@@ -5,12 +5,12 @@ ghost use Rattle.room_model.specs.Room.{IsInOrder, Room};
 ghost use Rattle.room_model.specs.Shares.{own};
 ghost use Rattle.room_model.specs.RoomSlices.{room_of};
 ghost use Rattle.room_model.specs.Step.{desk_asks};
-ghost use Rattle.room_model.specs.WellFormed.{IsWellFormed};
+ghost use Rattle.room_model.specs.RoomAgreements.{IsWellFormed};
 ghost use Rattle.room_core.specs.DecisionRows.{AreRead};
 
 use room_alloc::desk_views::{loans, offers, points, vehicles};
 use room_alloc::held_shifts::{off_duty, on_duty};
-use room_alloc::lending::{accept, decline, give_back, lend, recall, withdraw};
+use room_alloc::lending::{LoanTerms, accept, decline, give_back, lend, recall, withdraw};
 use room_alloc::orders::{mobilise, stand_down};
 use room_alloc::posts::{set_point, standby};
 use room_alloc::proposals::propose;
@@ -73,7 +73,13 @@ fn decide(
         Ask::Standby(callsign, point) => standby(alloc, slice, callsign, *point, at),
         Ask::Duty(callsign, place, until) => on_duty(alloc, slice, callsign, place, *until, at),
         Ask::Off(callsign) => off_duty(alloc, slice, callsign),
-        Ask::Lend(callsign, to, until) => lend(alloc, plan, slice, callsign, *to, *until, at),
+        Ask::Lend(callsign, to, until) => {
+            let terms = LoanTerms {
+                borrower: *to,
+                until: *until,
+            };
+            lend(alloc, plan, slice, callsign, terms, at)
+        }
         Ask::Withdraw(callsign) => withdraw(alloc, slice, callsign),
         Ask::Decline(callsign) => decline(alloc, slice, callsign),
         Ask::Accept(callsign) => accept(alloc, slice, callsign, at),

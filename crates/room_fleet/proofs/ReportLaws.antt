@@ -4,7 +4,7 @@ use Rattle.std.proofs.lemmas.Bool.{false≢true}
 use Rattle.std.specs.List.{cons_option}
 use Rattle.std.specs.Prelude.{List, [], is_none, is_some, IfSome, option_map, ◌&&◌, ◌++◌, ◌==◌, ◌∷◌}
 use Rattle.room_types_keyed.proofs.EachRow.{row_key}
-use Rattle.room_types_keyed.specs.Keyed.{keep, row_at}
+use Rattle.room_types_keyed.specs.KeyedRows.{keep, row_at}
 use Rattle.room_types.specs.Keys.{callsign_cmp, loan_key, numbered_cmp, turn_key, vehicle_key}
 use Rattle.room_types.specs.Orders.{callsigns_total, exact_callsigns}
 use Rattle.room_types.specs.Texts.{Callsign}
@@ -30,7 +30,7 @@ use Rattle.room_model.specs.Reports.{report_held, report_in, report_kept, report
 use Rattle.room_model.specs.Reports.{turn_after, turn_changes}
 use Rattle.room_model.specs.Room.{Room}
 use Rattle.room_model.specs.RoomSlices.{AreCrewRows}
-use Rattle.room_model.specs.WellFormed.{IsWellFormed, LoanAgrees, OpenAgrees, TurnAgrees}
+use Rattle.room_model.specs.RoomAgreements.{IsWellFormed, LoanAgrees, OpenAgrees, TurnAgrees}
 use Rattle.room_fleet.specs.ReportedRows.{AreHolders, acted, goes_back, reported, reported_as}
 use Rattle.room_fleet.specs.declared.reports.Reported.{Reported as Rows}
 

@@ -13,7 +13,7 @@ ghost use Rattle.room_model.specs.Queries.{kept_report};
 ghost use Rattle.room_model.specs.Reports.{back_changes, drop_changes, ends_turn, is_due, outcome_of, report_held, report_in, report_row, take_report, turn_after, with_report};
 ghost use Rattle.room_model.specs.Room.{Room};
 ghost use Rattle.room_model.specs.RoomSlices.{AreCrewRows};
-ghost use Rattle.room_model.specs.WellFormed.{IsWellFormed};
+ghost use Rattle.room_model.specs.RoomAgreements.{IsWellFormed};
 ghost use Rattle.room_fleet.specs.ReportedRows.{AreHolders, IsKeptAlone, TurnKeepsMoments, acted, kept_alone, reported};
 
 use crate::buttons::{acts, ends_turn, is_home, names_order, press as outcome_at, status_after};

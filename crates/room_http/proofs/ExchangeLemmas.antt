@@ -22,7 +22,7 @@ use Rattle.room_http_requests.specs.declared.request_asks.Request.TheVariants as
 use Rattle.room_http_requests.specs.declared.targets.Target.{Target}
 use Rattle.room_http_answers.proofs.Moments.{always_there_law}
 use Rattle.room_http_time.specs.Days.{zone_of}
-use Rattle.room_http_time.specs.declared.moments.TheConstants.{LAST_MOMENT}
+use Rattle.room_http.specs.declared.moments.TheConstants.{LAST_MOMENT}
 use Rattle.room_http.specs.declared.settings.Setting.{Setting}
 use Rattle.room_http_time.proofs.ZoneLaws.{one_zone_law}
 use Rattle.room_http.specs.Arrivals.{is_closing, is_head_only, message, refused}

@@ -11,9 +11,9 @@ use Rattle.room_types.specs.declared.refusal_statuses.Refusal.{Refusal}
 use Rattle.room_model.specs.Room.{Room}
 use Rattle.room_http_answers.specs.ReplyMessages.{fixed_bytes}
 use Rattle.room_http_messages.proofs.StreamLemmas.{Appends-more, Appends-none}
-use Rattle.room_http_time.specs.declared.moments.TheConstants.{LAST_MOMENT}
+use Rattle.room_http.specs.declared.moments.TheConstants.{LAST_MOMENT}
 use Rattle.room_http.specs.declared.settings.Setting.{Setting}
-use Rattle.room_http_time.specs.ClockMoments.{HasNoMoment}
+use Rattle.room_http.specs.ClockMoments.{HasNoMoment}
 use Rattle.room_model.specs.Rooms.{IsWant, Step}
 use Rattle.room_http.specs.declared.arrivals.Arrived.{Arrived}
 use Rattle.room_http.specs.declared.arrivals.Arrived.TheVariants.{Message, Refused}
@@ -21,8 +21,8 @@ use Rattle.room_http.specs.declared.session.ServeEnd.{ServeEnd}
 use Rattle.room_http.specs.declared.session.ServeEnd.TheVariants.{Closed, Cut, ReadFault, WriteFault, ClockFault}
 use Rattle.room_http.specs.declared.session.ServeEnd.TheVariants.{Unkept, ReadsSpent, Memory}
 use Rattle.room_http.specs.Arrivals.{Arrival, message, refused, is_closing, is_head_only, Begins, HasNext, IsShown}
-use Rattle.room_http.specs.Kept.{Acts, ActsOnEach, AreKept, AreReplies, DoesNothing, Grow, IsBegun, IsCome, IsRecord}
-use Rattle.room_http.specs.Kept.{KeepsEach, KeepsOne, Tapes, Unmoved, answer_kept, came_of, told_of}
+use Rattle.room_http.specs.KeptMessages.{Acts, ActsOnEach, AreKept, AreReplies, DoesNothing, Grow, IsBegun, IsCome, IsRecord}
+use Rattle.room_http.specs.KeptMessages.{KeepsEach, KeepsOne, Tapes, Unmoved, answer_kept, came_of, told_of}
 use Rattle.room_http.specs.Talk.{Timed, IsFront, IsReplyTo}
 use Rattle.room_http.specs.Course.{Course}
 use Rattle.room_http.proofs.ServeLemmas.{last_of, still_begins}

@@ -29,7 +29,7 @@ use Rattle.room_http.specs.MessageEvents.{AsksAs, AsksAt, AsksBy, IsAskFor, name
 use Rattle.room_http.specs.Laws.{AreFirstOf, IsOneStream, IsOneTalk}
 use Rattle.room_http.specs.Arrivals.{Arrival, message, refused, is_head_only, is_closing, Begins}
 use Rattle.room_model.specs.Rooms.{Step, machine}
-use Rattle.room_http.specs.Kept.{AreReplies}
+use Rattle.room_http.specs.KeptMessages.{AreReplies}
 use Rattle.room_http.specs.Runs.{AreAnswered, Exchange, answers_of, arrivals_of}
 use Rattle.room_http.specs.Talk.{Timed, Finds, replied, IsReplyTo, IsTalk}
 

@@ -9,7 +9,7 @@ use Rattle.room_types.specs.declared.asks.Who.{Who}
 use Rattle.room_types.specs.declared.fleet.Terminal.{Terminal}
 use Rattle.room_types.specs.declared.refusal_statuses.Refusal.{Refusal}
 use Rattle.room_types.specs.declared.refusal_statuses.Refusal.TheVariants.{BadBody, NoTerminal, WrongRole}
-use Rattle.room_model.specs.Enrol.{AreTerminals}
+use Rattle.room_model.specs.FleetRows.{AreTerminals}
 use Rattle.room_model.specs.Events.{AreAddressed, IsNumbered}
 use Rattle.room_model.specs.Room.{Room}
 use Rattle.room_model.specs.Run.{room_run}

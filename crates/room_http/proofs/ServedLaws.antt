@@ -6,11 +6,11 @@ use Rattle.std.specs.Prelude.{⊤, ◌⊎◌}
 use Rattle.std.specs.Io.KnownBytes.{Appends}
 use Rattle.room_types.specs.declared.fleet.Terminal.{Terminal}
 use Rattle.room_types.specs.declared.refusal_statuses.Refusal.{Refusal}
-use Rattle.room_model.specs.Enrol.{AreTerminals}
+use Rattle.room_model.specs.FleetRows.{AreTerminals}
 use Rattle.room_model.specs.Room.{Room}
-use Rattle.room_model.specs.WellFormed.{IsWellFormed}
+use Rattle.room_model.specs.RoomAgreements.{IsWellFormed}
 use Rattle.room_http.specs.declared.settings.Setting.{Setting}
-use Rattle.room_http_time.specs.ClockMoments.{HasNoMoment}
+use Rattle.room_http.specs.ClockMoments.{HasNoMoment}
 use Rattle.room_model.specs.Rooms.{IsWant, Step, machine}
 use Rattle.room_http.specs.declared.session.ServeEnd.{ServeEnd}
 use Rattle.room_http.specs.declared.session.ServeEnd.TheVariants.{Closed, Cut, ReadFault, WriteFault, ClockFault}

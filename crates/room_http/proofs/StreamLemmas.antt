@@ -136,6 +136,16 @@ read_goes_on kept left granted failed ended (Err Cut) o says is goes = absurd is
 read_goes_on kept left granted failed ended (Err ReadFault) o says is goes = absurd is
 read_goes_on kept left granted failed ended (Err ReadsSpent) o says is goes = absurd is
 
+-- what stays open is a message
+pub open_is_message : (kept : List ℕ) (read : Result Layout Unread) (o : Arrival)
+    → IsReadAs kept read o → is_closing o ≡ false → (layout : Layout) × (read ≡ Ok layout)
+open_is_message kept (Ok layout) o is goes = (layout, refl)
+open_is_message kept (Err (Refused r head_only)) o is goes = absurd (cc)
+open_is_message kept (Err End) o is goes = absurd is
+open_is_message kept (Err Cut) o is goes = absurd is
+open_is_message kept (Err ReadFault) o is goes = absurd is
+open_is_message kept (Err ReadsSpent) o is goes = absurd is
+
 -- where a message was read, it is whole
 pub read_whole : (kept : List ℕ) (left : Option (List ℕ)) (granted : ℕ) (failed ended : Bool)
     (read : Result Layout Unread) → SaysOf kept granted failed ended left read

@@ -1,5 +1,5 @@
 -- Lemmas on tokens and terminals.
-use Rattle.std.proofs.Common.{◌≡◌, ◌∙◌, sym, refl, ℕ, List, Bool, true, false, Option, Some, None}
+use Rattle.std.proofs.Common.{◌≡◌, ◌∙◌, ap, sym, refl, ℕ, List, Bool, true, false, Option, Some, None}
 use Rattle.std.specs.Prelude.{if◌then◌else◌, IsUtf8, option_map}
 use Rattle.room_types.specs.Orders.{callsigns_total, exact_callsigns}
 use Rattle.room_types.specs.Texts.{Token, is_token}
@@ -8,7 +8,7 @@ use Rattle.room_types.specs.declared.asks.Who.TheVariants.{Crew, Desk, Position}
 use Rattle.room_types.specs.declared.fleet.Terminal.{Terminal}
 use Rattle.room_types.proofs.Letters.{token_text}
 use Rattle.room_http_requests.specs.Roles.{is_known}
-use Rattle.room_model.specs.Enrol.{AreTerminals, terminal_at, terminal_key, token_cmp}
+use Rattle.room_model.specs.FleetRows.{AreTerminals, terminal_at, terminal_key, token_cmp}
 use Rattle.room_model.specs.Queries.{vehicle_at}
 use Rattle.room_model.specs.Room.{Room}
 use Rattle.room_model.proofs.Tests.{row_key}
@@ -22,6 +22,20 @@ no_token text none = go (is_token text) (token_text text)
     go : (b : Bool) → (b ≡ true → IsUtf8 text) → None ≡ (if b then Some text else None)
     go true is = absurd (none (is refl))
     go false is = refl
+
+module _ (field : Option (List ℕ)) (bytes text : List ℕ) (is : field ≡ Some bytes) (same : text ≡ bytes) where
+  -- what is read as a token is the field's
+  pub shows_token : (token : Token) → is_token text ≡ true → token ≡ text
+      → token_of field ≡ Some token
+  shows_token token valid read = ap token_of (is ∙ ap Some (sym same)) ∙ rw valid (ap Some (sym read))
+
+  none_there : (b : Bool) → ¬ (b ≡ true) → (if b then Some text else None) ≡ None
+  none_there true not = absurd (not refl)
+  none_there false not = refl
+
+  -- and where the text is none, the field has none
+  pub shows_none : ¬ (is_token text ≡ true) → token_of field ≡ None
+  shows_none not = ap token_of (is ∙ ap Some (sym same)) ∙ none_there (is_token text) not
 
 -- a terminal that is found is known
 pub found_known : (room : Room) (terminals : List Terminal) (token : Token) (who : Who)

@@ -4,13 +4,13 @@ use Rattle.std.specs.Io.KnownBytes.{Appends}
 use Rattle.room_types.specs.declared.fleet.Terminal.{Terminal}
 use Rattle.room_types.specs.declared.refusal_statuses.Refusal.{Refusal}
 use Rattle.room_model.specs.Room.{Room}
-use Rattle.room_http_time.specs.declared.moments.TheConstants.{LAST_MOMENT}
+use Rattle.room_http.specs.declared.moments.TheConstants.{LAST_MOMENT}
 use Rattle.room_http.specs.declared.session.ServeEnd.{ServeEnd}
 use Rattle.room_http.specs.declared.session.ServeEnd.TheVariants.{Closed, Cut, ReadFault, WriteFault, ClockFault}
 use Rattle.room_http.specs.declared.session.ServeEnd.TheVariants.{Unkept, ReadsSpent, Memory}
 use Rattle.room_model.specs.Rooms.{Step}
 use Rattle.room_http.specs.Arrivals.{Arrival, is_head_only}
-use Rattle.room_http_time.specs.ClockMoments.{HasNoMoment}
+use Rattle.room_http.specs.ClockMoments.{HasNoMoment}
 use Rattle.room_http_answers.specs.ReplyMessages.{fixed_bytes}
 use Rattle.room_http.specs.declared.settings.Setting.{Setting}
 use Rattle.room_http.specs.Talk.{Timed, Talks, IsCaused, IsFront, BreaksOff}

@@ -22,8 +22,8 @@ LeadsToAnother step setting digits_of terminals room x head =
 
 -- The bytes are the answer, and the room is the one after it, which the head shows. Or there are
 -- none, and the room is as it was: it would have come to another digest, if it hasn't the digest
--- already; or memory or storage is wanting. What was kept is kept, unless memory or storage is
--- wanting.
+-- already; or memory or storage fails. What was kept is kept, unless memory or storage
+-- fails.
 pub record RepliesTowards {M A : Type 0} (step : Step) (digits_of : DigitsOf)
     (is_trusted is_kept : M → Type 0) (stands : M → List Terminal → Room → Type 0) (old new : M)
     (setting : Setting) (request : Arrived) (at : ℕ) (head : Head)

@@ -1,30 +1,21 @@
 -- What is found of the event that a message asks for.
 use Rattle.std.specs.Prelude.{◌≡◌, ◌⊎◌, ℕ, List, [], ◌∷◌, Option, Some, None, true, Result, Ok, Err, MatchResult}
-use Rattle.room_types.specs.declared.asks.Ask.{Ask}
 use Rattle.room_types.specs.declared.asks.Event.{Event}
 use Rattle.room_types.specs.declared.asks.Who.{Who}
 use Rattle.room_types.specs.declared.fleet.Terminal.{Terminal}
 use Rattle.room_types.specs.declared.refusal_statuses.Refusal.{Refusal}
-use Rattle.room_types.specs.declared.refusal_statuses.Refusal.TheVariants.{BadBody, Memory, NoTerminal, Storage}
+use Rattle.room_types.specs.declared.refusal_statuses.Refusal.TheVariants.{NoTerminal, Storage}
 use Rattle.room_model.specs.Room.{Room}
 use Rattle.room_model.specs.Step.{IsAddressed}
-use Rattle.room_http_requests.specs.declared.request_asks.Request.{Request}
 use Rattle.room_http_requests.specs.Roles.{is_known}
 use Rattle.room_http_messages.specs.declared.messages.Message.{Message}
 use Rattle.room_http_messages.specs.Layouts.{Shows}
 use Rattle.room_http_messages.specs.Messages.{WholeMessage}
-use Rattle.room_http.specs.MessageEvents.{AsksFor, IsAskFor, named}
+use Rattle.room_http.specs.MessageEvents.{AsksFor, named}
 use Rattle.room_http.specs.declared.settings.Setting.{Setting}
 use Rattle.room_model.specs.Rooms.{IsWant}
 
--- what is wanted was found, or there was no memory to find it
-abbrev pub FindsAsk : Setting → Option Request → Result Ask Refusal → Type 0
-FindsAsk setting given result =
-    MatchResult result
-    (λ asks. (w : Request) × (given ≡ Some w) × IsAskFor setting w asks)
-    (λ refusal. (refusal ≡ Memory) ⊎ ((refusal ≡ BadBody) × (given ≡ None)))
-
--- The room was asked who shows the token of a field, and stayed as it was. Storage is wanting only
+-- The room was asked who shows the token of a field, and stayed as it was. Storage fails only
 -- where that call was refused.
 pub record FindsTerminal {M : Type 0} (is_trusted has_failed : M → Type 0)
     (stands : M → List Terminal → Room → Type 0) (old new : M) (field : Option (List ℕ))
@@ -39,7 +30,7 @@ pub record FindsTerminal {M : Type 0} (is_trusted has_failed : M → Type 0)
   pub failed : result ≡ Err Storage → has_failed new
 
 -- The room was asked who shows a token, and stayed as it was. What was found holds of each message
--- that is shown, whatever room is kept. Storage is wanting only where that call was refused.
+-- that is shown, whatever room is kept. Storage fails only where that call was refused.
 pub record FindsMessage {M : Type 0} (is_trusted has_failed : M → Type 0)
     (stands : M → List Terminal → Room → Type 0) (old new : M) (setting : Setting) (shown : Message)
     (at : ℕ) (result : Result Event Refusal) : Type 0 where
@@ -54,7 +45,7 @@ pub record FindsMessage {M : Type 0} (is_trusted has_failed : M → Type 0)
       ⊎ ((m : WholeMessage) → Shows shown m → AsksFor setting terminals m at (Err refusal)))
   pub failed : result ≡ Err Storage → has_failed new
 
--- What was held is still kept, unless memory or storage was wanting; and even then a stop leaves
+-- What was held is still kept, unless memory or storage failed; and even then a stop leaves
 -- the room that it was.
 pub record LooksOnly {M T : Type 0} (is_trusted is_kept : M → Type 0)
     (stands : M → List Terminal → Room → Type 0) (leaves : M → List Terminal → List Room → Type 0)

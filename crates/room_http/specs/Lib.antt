@@ -1,4 +1,5 @@
 pub mod Settings
+pub mod ClockMoments
 pub mod Arrivals
 pub mod MessageEvents
 pub mod Talk
@@ -9,7 +10,7 @@ pub mod Promises
 pub mod ServedRuns
 pub mod Course
 pub mod Laws
-pub mod Kept
+pub mod KeptMessages
 pub mod ArrivalAnswers
 pub mod ConnectionReads
 pub mod Session

@@ -15,7 +15,7 @@ use Rattle.room_types.specs.declared.refusal_statuses.Refusal.{Refusal}
 use Rattle.room_types.specs.declared.refusal_statuses.Refusal.TheVariants.{OutsideArea, SerialReused}
 use Rattle.room_types.specs.declared.tables.Assignment.{Assignment}
 use Rattle.room_types.specs.declared.tables.Turn.{Turn}
-use Rattle.room_model.specs.Alone.{alone, told_alone}
+use Rattle.room_model.specs.Isolation.{alone, told_alone}
 use Rattle.room_model.specs.Calls.{outside_again}
 use Rattle.room_model.specs.Crossing.{crossings}
 use Rattle.room_model.specs.Events.{IsUnlent, NobodyLends, by_crew, by_position, is_everyday, received}
@@ -24,7 +24,7 @@ use Rattle.room_model.specs.Room.{IsInOrder, Room}
 use Rattle.room_model.specs.Run.{told}
 use Rattle.room_model.specs.Shares.{mine, own}
 use Rattle.room_model.specs.Step.{answer_to, room_after}
-use Rattle.room_model.specs.WellFormed.{IsWellFormed}
+use Rattle.room_model.specs.RoomAgreements.{IsWellFormed}
 use Rattle.room_http.specs.declared.settings.Setting.{Setting}
 use Rattle.room_http.specs.Runs.{AreTold, Exchange, IsRun, IsTold, answers_of, arrivals_of, asker, events_of, room_by}
 use Rattle.room_http.specs.Runs.{with_desk}
@@ -84,7 +84,7 @@ pub record Promises (terminals : List Terminal) (xs : List Exchange) (room : Roo
   -- a division's rows are made of its first rows and of what it was handed
   pub share : (d : ℕ) → own d (room_by xs room)
       ≡ alone d (crossings d (events_of xs) room) (own d room)
-  -- its desk was answered with the bytes of what the room told it
+  -- its desk was answered with the bytes of what the room gave it
   pub desk_told : (d : ℕ) → AreTold (with_desk d xs) (told d (events_of xs) room)
   -- and they are of what its first rows and what it was handed determine
   pub desk_apart : (d : ℕ) → AreTold (with_desk d xs)

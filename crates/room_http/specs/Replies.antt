@@ -9,7 +9,7 @@ use Rattle.room_http.specs.declared.settings.Setting.{Setting}
 use Rattle.room_model.specs.Rooms.{Step}
 use Rattle.room_http.specs.Talk.{IsCaused, IsReplyTo, LeavesNext}
 
--- the bytes are the answer, and the room is the one after it; or memory or storage is wanting, and
+-- the bytes are the answer, and the room is the one after it; or memory or storage fails, and
 -- the room is as it was
 pub record Replies {M A : Type 0} (step : Step) (is_trusted has_failed : M → Type 0)
     (stands : M → List Terminal → Room → Type 0) (old new : M) (setting : Setting)

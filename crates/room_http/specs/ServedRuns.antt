@@ -4,7 +4,7 @@ use Rattle.std.specs.Io.KnownBytes.{Appends}
 use Rattle.room_types.specs.declared.fleet.Terminal.{Terminal}
 use Rattle.room_types.specs.declared.refusal_statuses.Refusal.{Refusal}
 use Rattle.room_model.specs.Room.{Room}
-use Rattle.room_model.specs.WellFormed.{IsWellFormed}
+use Rattle.room_model.specs.RoomAgreements.{IsWellFormed}
 use Rattle.room_http_answers.specs.ReplyMessages.{fixed_bytes}
 use Rattle.room_http.specs.declared.settings.Setting.{Setting}
 use Rattle.room_model.specs.Rooms.{IsWant, machine}
@@ -13,7 +13,7 @@ use Rattle.room_http.specs.Promises.{Promises}
 use Rattle.room_http.specs.Runs.{Exchange, IsRun, arrivals_of, bytes_of, room_by}
 use Rattle.room_http.specs.Talk.{IsFront, LeavesNext, Timed}
 
--- nothing, or some first bytes of the answer where memory or storage was wanting
+-- nothing, or some first bytes of the answer where memory or storage failed
 abbrev pub IsWantTail : List ℕ → Type 0
 IsWantTail tail = (tail ≡ []) ⊎ ((r : Refusal) × IsWant r × (head_only : Bool)
     × IsFront tail (fixed_bytes r head_only))
@@ -29,7 +29,7 @@ AreWritten xs written =
 -- What was served to these arrivals: a run that leads to the room afterwards, was written, and
 -- keeps the promises. Where what was held before it was kept, a stop after it leaves the room after
 -- all that was answered, and so after each answer that was written; or that after the event of the
--- next arrival, for which memory or storage was wanting.
+-- next arrival, for which memory or storage failed.
 pub record Served (setting : Setting) (are : List Timed → Type 0) (held holds : Option (List ℕ))
     (was_kept : Type 0) (stands : List Terminal → Room → Type 0)
     (leaves : List Terminal → List Room → Type 0) (terminals : List Terminal)

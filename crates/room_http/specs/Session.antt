@@ -11,11 +11,11 @@ use Rattle.room_http_messages.specs.Streams.{CountsBy}
 use Rattle.room_http.specs.declared.session.ServeEnd.{ServeEnd}
 use Rattle.room_http.specs.declared.session.ServeEnd.TheVariants.{Closed, Cut, ReadFault, WriteFault, ClockFault}
 use Rattle.room_http.specs.declared.session.ServeEnd.TheVariants.{Unkept, ReadsSpent, Memory}
-use Rattle.room_http_time.specs.declared.moments.TheConstants.{LAST_MOMENT}
+use Rattle.room_http.specs.declared.moments.TheConstants.{LAST_MOMENT}
 use Rattle.room_model.specs.Rooms.{Step}
 use Rattle.room_http.specs.Arrivals.{Arrival, is_head_only, is_closing, Begins, HasNext}
 use Rattle.room_http.specs.declared.settings.Setting.{Setting}
-use Rattle.room_http_time.specs.ClockMoments.{HasNoMoment}
+use Rattle.room_http.specs.ClockMoments.{HasNoMoment}
 use Rattle.room_http.specs.Course.{Course}
 use Rattle.room_http.specs.Talk.{Timed, IsCaused, IsFront, BreaksOff, Talks}
 
@@ -98,10 +98,10 @@ module _ (step : Step) (setting : Setting) (old : Sides) (new : Finish) (trusted
   abbrev pub HasActed : Timed → List Terminal → Room → Type 0
   HasActed x terminals room = BreaksOff step setting terminals stands room x []
 
-  -- where memory or storage was wanting for an arrival, so much holds of the room; and so much
+  -- where memory or storage failed for an arrival, so much holds of the room; and so much
   -- where its last call was refused
   module _ (wants : Timed → List Terminal → Room → Type 0) (failed : Type 0) where
-    -- The arrivals were answered. For the next one memory or storage was wanting: the room stayed
+    -- The arrivals were answered. For the next one memory or storage failed: the room stayed
     -- as it was, and of the fixed answer so much was written.
     pub record Unserved (outs : List Timed) (x : Timed)
         (so_much : List ℕ → List ℕ → Type 0) : Type 0 where
@@ -124,7 +124,7 @@ module _ (step : Step) (setting : Setting) (old : Sides) (new : Finish) (trusted
       EndsWith holds = (x : Timed) × (course.last ≡ Some x) × holds x
 
       -- How serving ended, which was granted so many reads. Closed: the stream ended between
-      -- messages, an answer closed, or memory or storage was wanting and its fixed answer closed.
+      -- messages, an answer closed, or memory or storage failed and its fixed answer closed.
       abbrev pub ServeIs : ℕ → ServeEnd → Type 0
       ServeIs budget Closed = (IsWhole (λ rest. rest ≡ []) × (new.read_ended ≡ true))
           ⊎ (IsWhole (λ rest. ⊤) × EndsClosing course.outs)

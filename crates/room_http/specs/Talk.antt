@@ -42,7 +42,7 @@ module _ (step : Step) (setting : Setting) (terminals : List Terminal) where
       (next : Room) × (first : List ℕ) × (others : List ℕ) × (bytes ≡ first ++ others)
       × IsReplyTo room x next first × IsTalk next more after others
 
--- memory is wanting, or storage, and then the last call of the room was refused
+-- memory fails, or storage, and then the last call of the room was refused
 abbrev pub IsCaused : Type 0 → Refusal → Type 0
 IsCaused failed refusal = (refusal ≡ Memory) ⊎ ((refusal ≡ Storage) × failed)
 
@@ -60,7 +60,7 @@ LeavesNext step setting leaves x terminals room =
     (event : Event) × Finds setting terminals x (Ok event)
     × leaves terminals (room ∷ (step event room).0 ∷ [])
 
--- For this arrival memory or storage was wanting, and the room is as before. A stop may leave the
+-- For this arrival memory or storage failed, and the room is as before. A stop may leave the
 -- one after it.
 abbrev pub Wants : Step → Setting → Type 0 → (List Terminal → Room → Type 0)
     → (List Terminal → List Room → Type 0) → Timed → List Terminal → Room → Type 0

@@ -2,7 +2,7 @@
 ghost use Rattle.std.specs.Prelude.{◌≡◌, ◌≢◌, ℕ, false, Err, IfErr, OnOk};
 ghost use Rattle.room_http.specs.Arrivals.{Arrival, IsBounded, IsShown};
 ghost use Rattle.room_http.specs.ArrivalAnswers.{Answers, EndsAnswering};
-ghost use Rattle.room_http.specs.Kept.{Acts, KeepsOne, Unmoved};
+ghost use Rattle.room_http.specs.KeptMessages.{Acts, KeepsOne, Unmoved};
 ghost use Rattle.room_http.specs.declared.session.ServeEnd.TheVariants as endings;
 ghost use Rattle.room_http_messages.specs.Streams.{WritesAll};
 ghost use Rattle.room_http.specs.ServedRuns.{IsAtMost, KeepsPromises};
@@ -10,25 +10,21 @@ ghost use Rattle.room_http.specs.Talk.{Stays, Wants};
 ghost use Rattle.room_model.specs.Rooms.{machine};
 
 use crate::arrivals::Arrived;
+use crate::clocks::Clock;
+use crate::handlers::Handler;
+use crate::moments::moment;
 use crate::observers::{Asked, Observer};
 use crate::replies::reply;
 use crate::session::ServeEnd;
-use crate::settings::Setting;
 use room_http_answers::fixed_answers::fixed;
 use room_http_messages::sinks::{Sink, WriteFailed, write_all};
-use room_http_requests::routes::Routes;
-use room_http_time::clocks::Clock;
-use room_http_time::moments::moment;
 use room_model::rooms::Room;
-use std::alloc::Global;
 
 /// Answers what has arrived at the moment of the clock, or says why serving ends with it. The
 /// observer keeps a message before the room acts on it, and its answer before any byte of it is
 /// written.
 pub fn answer<W: Sink, M: Room, C: Clock, N: Observer>(
-    alloc: Global,
-    routes: &Routes,
-    setting: &Setting,
+    handler: &Handler,
     arrived: &Arrived,
     writer: &mut W,
     room: &mut M,
@@ -42,18 +38,20 @@ pub fn answer<W: Sink, M: Room, C: Clock, N: Observer>(
     ensures zone { M.zone room.new ≡ M.zone room.old }
     ensures trusted { M.is_trusted room.new → M.is_trusted room.old }
     ensures ends { IfErr result EndsAnswering }
-    ensures answers { (o : Arrival) → IsShown arrived.now o → (at : ℕ) × Answers M.step setting.now
-        (W.held writer.old) (W.held writer.new) (C.given clock.old) (C.given clock.new)
+    ensures answers { (o : Arrival) → IsShown arrived.now o → (at : ℕ) × Answers M.step
+        handler.now.setting (W.held writer.old) (W.held writer.new)
+        (C.given clock.old) (C.given clock.new)
         (W.has_failed writer.new) (C.was_none clock.new) (N.has_failed observer.new)
         (M.is_trusted room.new) (M.stands room.old)
         (Stays (M.is_kept room.old) (M.stands room.new) (M.leaves_one_of room.new))
-        (Wants M.step setting.now (M.is_kept room.old) (M.stands room.new)
+        (Wants M.step handler.now.setting (M.is_kept room.old) (M.stands room.new)
         (M.leaves_one_of room.new))
         (M.has_failed room.new) at o result
         × KeepsOne N.came N.told
         (M.is_trusted room.new → M.is_kept room.old → M.is_kept room.new)
         (Unmoved (M.is_trusted room.new) (M.stands room.old) (M.stands room.new))
-        (Acts M.step setting.now (M.is_trusted room.new) (M.stands room.old) (M.stands room.new))
+        (Acts M.step handler.now.setting (M.is_trusted room.new) (M.stands room.old)
+        (M.stands room.new))
         (record {
           given = C.given clock.old;
           kept = N.held observer.old;
@@ -70,7 +68,7 @@ pub fn answer<W: Sink, M: Room, C: Clock, N: Observer>(
     ensures kept { M.is_trusted room.new → OnOk result (M.is_kept room.old
         → M.is_kept room.new) }
     ensures promised { M.step ≡ machine → (o : Arrival) → IsShown arrived.now o
-        → KeepsPromises setting.now (IsAtMost o (C.given clock.old) (C.given clock.new))
+        → KeepsPromises handler.now.setting (IsAtMost o (C.given clock.old) (C.given clock.new))
         (W.held writer.old) (W.held writer.new)
         (M.is_trusted room.new) (M.is_kept room.old)
         (M.stands room.old) (M.stands room.new) (M.leaves_one_of room.new) }
@@ -86,7 +84,7 @@ pub fn answer<W: Sink, M: Room, C: Clock, N: Observer>(
         at,
         who: None,
     };
-    match reply(alloc, routes, setting, room, arrived, at, &mut asked.who) {
+    match reply(handler, room, arrived, at, &mut asked.who) {
         Ok(bytes) => {
             let text = bytes.as_slice();
             if let Err(_) = observer.answering(arrived, text) {

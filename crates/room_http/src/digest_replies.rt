@@ -4,22 +4,18 @@ ghost use Rattle.room_model.specs.Digests.{digits_of};
 ghost use Rattle.room_http.specs.DigestReplies.{RepliesTowards};
 
 use crate::arrivals::Arrived;
+use crate::handlers::Handler;
 use crate::message_events::event_of;
-use crate::settings::Setting;
 use room_http_answers::reply_messages::render;
-use room_http_requests::routes::Routes;
 use room_model::digests::{Digested, Head, Miss};
 use room_types::numbers::Moment;
 use room_types::refusal_statuses::Refusal;
-use std::alloc::Global;
 
 /// The bytes of the answer to what has arrived, where the room comes by it to the digest of this
 /// head. The room has acted on it once they are there; where not, it is as it was. What is
 /// refused before it reaches the room leaves it at the digest that it has, which is another.
 pub fn reply_towards<M: Digested>(
-    alloc: Global,
-    routes: &Routes,
-    setting: &Setting,
+    handler: &Handler,
     room: &mut M,
     arrived: &Arrived,
     at: Moment,
@@ -29,7 +25,7 @@ pub fn reply_towards<M: Digested>(
     ensures ready { M.is_ready room.new }
     ensures zone { M.zone room.new ≡ M.zone room.old }
     ensures reply { RepliesTowards M.step (digits_of M.digest_of (M.zone room.old)) M.is_trusted
-        M.is_kept M.stands room.old room.new setting.now arrived.now at head.now result }
+        M.is_kept M.stands room.old room.new handler.now.setting arrived.now at head.now result }
 {
     let (head_only, closing) = (arrived.head_only(), arrived.is_closing());
     let message = match arrived {
@@ -37,9 +33,9 @@ pub fn reply_towards<M: Digested>(
         Arrived::Refused { .. } => return Err(Miss::Another),
     };
     let mut asker = None;
-    match event_of(alloc, routes, setting, room, message, at, &mut asker) {
-        Ok(event) => room.act_towards(alloc, &event, head, |answer| {
-            render(alloc, answer, at, head_only, closing)
+    match event_of(handler, room, message, at, &mut asker) {
+        Ok(event) => room.act_towards(handler.alloc, &event, head, |answer| {
+            render(handler.alloc, answer, at, head_only, closing)
         }),
         Err(Refusal::Memory) => Err(Miss::Want(Refusal::Memory)),
         Err(Refusal::Storage) => Err(Miss::Want(Refusal::Storage)),

@@ -2,12 +2,12 @@
 //! contract of a function that does nothing.
 ghost use Rattle.std.specs.Prelude.{◌≡◌, ◌++◌, ℕ, List};
 ghost use Rattle.room_types.specs.declared.fleet.Terminal.{Terminal};
-ghost use Rattle.room_model.specs.Enrol.{AreTerminals};
+ghost use Rattle.room_model.specs.FleetRows.{AreTerminals};
 ghost use Rattle.room_model.specs.Room.{Room};
-ghost use Rattle.room_model.specs.WellFormed.{IsWellFormed};
+ghost use Rattle.room_model.specs.RoomAgreements.{IsWellFormed};
 ghost use Rattle.room_http.specs.declared.settings.Setting.{Setting};
 ghost use Rattle.room_model.specs.Rooms.{machine};
-ghost use Rattle.room_http.specs.Kept.{AreReplies};
+ghost use Rattle.room_http.specs.KeptMessages.{AreReplies};
 ghost use Rattle.room_http.specs.Laws.{IsOneStream, IsOneTalk};
 ghost use Rattle.room_http.specs.Promises.{Promises};
 ghost use Rattle.room_http.specs.Runs.{Exchange, IsRun, IsRunOf, answers_of, arrivals_of, room_by};

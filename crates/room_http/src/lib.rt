@@ -3,9 +3,12 @@
 
 pub mod arrival_answers;
 pub mod arrivals;
+pub mod clocks;
 pub mod digest_replies;
+pub mod handlers;
 pub mod laws;
 pub mod message_events;
+pub mod moments;
 pub mod observers;
 pub mod replies;
 pub mod session;

@@ -1,17 +1,15 @@
 //! The event that a message asks for, or the first refusal on the way to it.
-ghost use Rattle.std.specs.Prelude.{◌≡◌, List, Some};
-ghost use Rattle.std.specs.Option.{option_map, option_copied};
-ghost use Rattle.room_http_requests.specs.RequestAsks.{request_by};
+ghost use Rattle.std.specs.Prelude.{◌≡◌};
+ghost use Rattle.std.specs.Option.{option_map};
 ghost use Rattle.room_http_requests.specs.declared.request_asks.Request.TheVariants as request;
-ghost use Rattle.room_http.specs.MessageEvents.{IsAskFor, token_of};
-ghost use Rattle.room_http.specs.Findings.{FindsAsk, FindsMessage, FindsTerminal, LooksOnly};
+ghost use Rattle.room_http.specs.MessageEvents.{IsAskFor};
+ghost use Rattle.room_http.specs.Findings.{FindsMessage, FindsTerminal, LooksOnly};
 
+use crate::handlers::Handler;
 use crate::settings::Setting;
 use room_http_messages::messages::Message;
 use room_http_requests::request_asks::{Request, ask_of};
 use room_http_requests::roles::Role;
-use room_http_requests::routes::Routes;
-use room_http_requests::targets::Target;
 use room_http_time::days::Day;
 use room_model::rooms::Room;
 use room_types::asks::{Ask, Event, Who};
@@ -19,16 +17,6 @@ use room_types::numbers::Moment;
 use room_types::refusal_statuses::Refusal;
 use room_types::token::Token;
 use std::alloc::Global;
-
-/// The token that a field has for its value: none where it is no token.
-fn token(field: Option<&[u8]>) -> Option<Token>
-    ensures { result ≡ token_of (option_map (λ text. text.now) field.entry) }
-{
-    match str::from_utf8(field?) {
-        Ok(text) => Token::parse(text),
-        Err(_) => None,
-    }
-}
 
 /// The terminal that a message names. It names none where it shows no token, or one that the room
 /// doesn't know.
@@ -41,7 +29,13 @@ fn terminal<M: Room>(alloc: Global, room: &mut M, message: &Message) -> Result<W
     ensures looks { LooksOnly M.is_trusted M.is_kept M.stands M.leaves_one_of room.old room.new
         result }
 {
-    let Some(token) = token(message.terminal) else {
+    let Some(field) = message.terminal else {
+        return Err(Refusal::NoTerminal);
+    };
+    let Ok(text) = str::from_utf8(field) else {
+        return Err(Refusal::NoTerminal);
+    };
+    let Some(token) = Token::parse(text) else {
         return Err(Refusal::NoTerminal);
     };
     match room.who(alloc, &token) {
@@ -72,22 +66,10 @@ fn ask_for(setting: &Setting, request: &Request) -> Ask
     }
 }
 
-/// What a target and a body ask for.
-fn ask(alloc: Global, setting: &Setting, target: &Target, body: &[u8]) -> Result<Ask, Refusal>
-    ensures { FindsAsk setting.now (request_by target.now body.now) result }
-{
-    match ask_of(alloc, target, body) {
-        Ok(request) => Ok(ask_for(setting, &request)),
-        Err(refusal) => Err(refusal),
-    }
-}
-
 /// The event that a message asks for. The path is looked at first, then the method, the terminal,
 /// its role and the body. Whose terminal it is, is noted once it is known.
 pub fn event_of<M: Room>(
-    alloc: Global,
-    routes: &Routes,
-    setting: &Setting,
+    handler: &Handler,
     room: &mut M,
     message: &Message,
     at: Moment,
@@ -96,16 +78,19 @@ pub fn event_of<M: Room>(
     requires { M.is_ready room.old }
     ensures ready { M.is_ready room.new }
     ensures zone { M.zone room.new ≡ M.zone room.old }
-    ensures event { FindsMessage M.is_trusted M.has_failed M.stands room.old room.new setting.now
-        message.now at result }
+    ensures event { FindsMessage M.is_trusted M.has_failed M.stands room.old room.new
+        handler.now.setting message.now at result }
     ensures looks { LooksOnly M.is_trusted M.is_kept M.stands M.leaves_one_of room.old room.new
         result }
 {
-    let target = match routes.route(setting.history, message.method, message.target) {
+    let target = match handler
+        .routes
+        .route(handler.setting.history, message.method, message.target)
+    {
         Ok(target) => target,
         Err(refusal) => return Err(refusal),
     };
-    let who = match terminal(alloc, room, message) {
+    let who = match terminal(handler.alloc, room, message) {
         Ok(who) => who,
         Err(refusal) => return Err(refusal),
     };
@@ -113,8 +98,12 @@ pub fn event_of<M: Room>(
     if !Role::of(&target).is_of(&who) {
         return Err(Refusal::WrongRole);
     }
-    match ask(alloc, setting, &target, message.body) {
-        Ok(ask) => Ok(Event { who, ask, at }),
+    match ask_of(handler.alloc, &target, message.body) {
+        Ok(request) => Ok(Event {
+            who,
+            ask: ask_for(&handler.setting, &request),
+            at,
+        }),
         Err(refusal) => Err(refusal),
     }
 }

@@ -1,7 +1,7 @@
 //! Observers of what is served, which may keep it.
 ghost use Rattle.std.specs.Prelude.{◌≡◌, ◌||◌, ℕ, List, [], Bool, false, is_err, Option, None, ⊤};
 ghost use Rattle.room_http.specs.Arrivals.{IsBounded};
-ghost use Rattle.room_http.specs.Kept.{KeepsAll, came_of, told_of};
+ghost use Rattle.room_http.specs.KeptMessages.{KeepsAll, came_of, told_of};
 ghost use Rattle.room_http.specs.declared.observers.Asked.{Asked};
 
 use crate::arrivals::Arrived;
@@ -28,7 +28,7 @@ pub trait Observer {
     // What it keeps of the answer's bytes.
     ghost told: { List ℕ → List ℕ };
 
-    // What it is before and after it was told what was asked, and the bytes of the answer.
+    // What it is before and after it was given what was asked, and the bytes of the answer.
     ghost notes: { Self → Self → Asked → List ℕ → Type 0 };
 
     /// Something has arrived. The room acts on it next.

@@ -5,10 +5,9 @@ ghost use Rattle.room_http_answers.specs.ReplyMessages.{IsReply};
 ghost use Rattle.room_http.specs.Replies.{KeepsReply, Replies};
 
 use crate::arrivals::Arrived;
+use crate::handlers::Handler;
 use crate::message_events::event_of;
-use crate::settings::Setting;
 use room_http_answers::reply_messages::render;
-use room_http_requests::routes::Routes;
 use room_model::rooms::Room;
 use room_types::asks::Who;
 use room_types::numbers::Moment;
@@ -19,9 +18,7 @@ use std::alloc::Global;
 /// refusal is lack of memory or of storage; it leaves the room as it was. Whose terminal asks, is
 /// noted once it is known.
 pub fn reply<M: Room>(
-    alloc: Global,
-    routes: &Routes,
-    setting: &Setting,
+    handler: &Handler,
     room: &mut M,
     arrived: &Arrived,
     at: Moment,
@@ -30,25 +27,25 @@ pub fn reply<M: Room>(
     requires { M.is_ready room.old }
     ensures ready { M.is_ready room.new }
     ensures zone { M.zone room.new ≡ M.zone room.old }
-    ensures reply { Replies M.step M.is_trusted M.has_failed M.stands room.old room.new setting.now
-        arrived.now at result }
+    ensures reply { Replies M.step M.is_trusted M.has_failed M.stands room.old room.new
+        handler.now.setting arrived.now at result }
     ensures keeps { KeepsReply M.step M.is_trusted M.is_kept M.stands M.leaves_one_of
-        room.old room.new setting.now arrived.now at result }
+        room.old room.new handler.now.setting arrived.now at result }
 {
     let (head_only, closing) = (arrived.head_only(), arrived.is_closing());
     let message = match arrived {
         Arrived::Message { message, .. } => message,
         Arrived::Refused { refusal, .. } => {
-            return refused(alloc, *refusal, at, head_only, closing);
+            return refused(handler.alloc, *refusal, at, head_only, closing);
         }
     };
-    match event_of(alloc, routes, setting, room, message, at, asker) {
-        Ok(event) => room.act(alloc, &event, |answer| {
-            render(alloc, answer, at, head_only, closing)
+    match event_of(handler, room, message, at, asker) {
+        Ok(event) => room.act(handler.alloc, &event, |answer| {
+            render(handler.alloc, answer, at, head_only, closing)
         }),
         Err(Refusal::Memory) => Err(Refusal::Memory),
         Err(Refusal::Storage) => Err(Refusal::Storage),
-        Err(refusal) => refused(alloc, refusal, at, head_only, closing),
+        Err(refusal) => refused(handler.alloc, refusal, at, head_only, closing),
     }
 }
 

@@ -1,11 +1,11 @@
 //! A connection that is served.
-ghost use Rattle.std.specs.Prelude.{◌≡◌, ◌≢◌, ◌≤◌, ◌⊎◌, false, length, IfErr, IfOk};
+ghost use Rattle.std.specs.Prelude.{◌≡◌, ◌≢◌, ◌⊎◌, false, IfErr, IfOk};
 ghost use Rattle.room_http_messages.specs.Layouts.{IsWhole};
 ghost use Rattle.room_model.specs.Rooms.{machine};
 ghost use Rattle.room_http.specs.Arrivals.{Arrival, IsShown};
 ghost use Rattle.room_http.specs.declared.session.ServeEnd.TheVariants as endings;
-ghost use Rattle.room_http.specs.Kept.{ActsOnEach, KeepsEach};
-ghost use Rattle.room_http.specs.ConnectionReads.{EndsAs, IsReadAs, kept_after};
+ghost use Rattle.room_http.specs.KeptMessages.{ActsOnEach, KeepsEach};
+ghost use Rattle.room_http.specs.ConnectionReads.{EndsAs, IsReadAs};
 ghost use Rattle.room_http.specs.Course.{AreFirstIn, OneCourse};
 ghost use Rattle.room_http.specs.ServedRuns.{KeepsPromises};
 ghost use Rattle.room_http.specs.Session.{MissesNone, ReadsAtMost, ServeIs};
@@ -13,18 +13,23 @@ ghost use Rattle.room_http.specs.Talk.{Stays, Wants};
 
 use crate::arrival_answers::answer;
 use crate::arrivals::Arrived;
+use crate::clocks::Clock;
+use crate::handlers::Handler;
 use crate::observers::Observer;
-use crate::settings::Setting;
 use room_http_messages::inbox::Inbox;
 use room_http_messages::message_reader::read_message;
 use room_http_messages::messages::Layout;
 use room_http_messages::read_faults::Unread;
 use room_http_messages::sinks::Sink;
 use room_http_messages::sources::Source;
-use room_http_requests::routes::Routes;
-use room_http_time::clocks::Clock;
 use room_model::rooms::Room;
-use std::alloc::Global;
+
+/// A connection: what is read from, and what is written to.
+#[derive(Drop)]
+pub struct Connection<R, W> {
+    pub reader: R,
+    pub writer: W,
+}
 
 /// Why serving ended.
 #[derive(Clone, Copy, PartialEq, Eq)]
@@ -52,107 +57,100 @@ pub enum ServeEnd {
 /// after the message is whole or refused. Where the room is the dispatch machine's, what is served
 /// keeps the room's promises, and a stop leaves the room after every answer that was written. So it
 /// is for each observer. One that keeps what is reported to it keeps each message before the room
-/// acts on it, and its answer before it is written. The routes are made where they aren't yet, and
-/// kept for the next stream: to make them takes longer than to answer.
+/// acts on it, and its answer before it is written.
 pub fn serve<R: Source, W: Sink, M: Room, C: Clock, N: Observer>(
-    alloc: Global,
-    routes: &mut Option<Routes>,
-    reader: &mut R,
-    writer: &mut W,
+    handler: &Handler,
+    connection: &mut Connection<R, W>,
     room: &mut M,
-    setting: &Setting,
     clock: &mut C,
     observer: &mut N,
     budget: u32,
 ) -> ServeEnd
-    requires reader { R.has_failed reader.old ≡ false }
-    requires writer { W.has_failed writer.old ≡ false }
+    requires reader { R.has_failed connection.old.reader ≡ false }
+    requires writer { W.has_failed connection.old.writer ≡ false }
     requires ready { M.is_ready room.old }
     ensures ready { M.is_ready room.new }
     ensures zone { M.zone room.new ≡ M.zone room.old }
-    ensures reads { ReadsAtMost budget (R.reads reader.old) (R.reads reader.new) }
+    ensures reads { ReadsAtMost budget (R.reads connection.old.reader)
+        (R.reads connection.new.reader) }
     ensures trusted { M.is_trusted room.new → M.is_trusted room.old }
     ensures run { OneCourse
-        (λ course. ServeIs M.step setting.now
+        (λ course. ServeIs M.step handler.now.setting
         (record {
-          left = R.left reader.old;
-          reads = R.reads reader.old;
-          held = W.held writer.old;
+          left = R.left connection.old.reader;
+          reads = R.reads connection.old.reader;
+          held = W.held connection.old.writer;
           given = C.given clock.old;
         })
         (record {
-          reads = R.reads reader.new;
-          held = W.held writer.new;
+          reads = R.reads connection.new.reader;
+          held = W.held connection.new.writer;
           given = C.given clock.new;
-          read_failed = R.has_failed reader.new;
-          read_ended = R.has_ended reader.new;
-          write_failed = W.has_failed writer.new;
+          read_failed = R.has_failed connection.new.reader;
+          read_ended = R.has_ended connection.new.reader;
+          write_failed = W.has_failed connection.new.writer;
           was_none = C.was_none clock.new;
           observer_failed = N.has_failed observer.new;
         })
         (M.is_trusted room.new) (M.stands room.old)
         (Stays (M.is_kept room.old) (M.stands room.new) (M.leaves_one_of room.new))
-        (Wants M.step setting.now (M.is_kept room.old) (M.stands room.new)
+        (Wants M.step handler.now.setting (M.is_kept room.old) (M.stands room.new)
         (M.leaves_one_of room.new))
         (M.has_failed room.new) course budget result)
-        (λ course. M.step ≡ machine → KeepsPromises setting.now
-        (AreFirstIn course (R.left reader.old) (C.given clock.old) (C.given clock.new))
-        (W.held writer.old) (W.held writer.new)
+        (λ course. M.step ≡ machine → KeepsPromises handler.now.setting
+        (AreFirstIn course (R.left connection.old.reader) (C.given clock.old) (C.given clock.new))
+        (W.held connection.old.writer) (W.held connection.new.writer)
         (M.is_trusted room.new) (M.is_kept room.old)
         (M.stands room.old) (M.stands room.new) (M.leaves_one_of room.new))
         (λ course. KeepsEach N.came N.told
         (M.is_trusted room.new → M.is_kept room.old → M.is_kept room.new)
-        (ActsOnEach M.step setting.now (M.is_trusted room.new) (M.stands room.old)
+        (ActsOnEach M.step handler.now.setting (M.is_trusted room.new) (M.stands room.old)
         (M.stands room.new))
-        (R.left reader.old)
+        (R.left connection.old.reader)
         (record {
           given = C.given clock.old;
           kept = N.held observer.old;
-          held = W.held writer.old;
+          held = W.held connection.old.writer;
         })
         (record {
           given = C.given clock.new;
           kept = N.held observer.new;
-          held = W.held writer.new;
+          held = W.held connection.new.writer;
         })
         result course) }
     ensures kept { M.is_trusted room.new → M.is_kept room.new ⊎ M.is_shut room.new }
     ensures failed { result ≢ endings.Unkept
         → N.has_failed observer.new ≡ N.has_failed observer.old }
-    ensures none_missed { MissesNone (R.left reader.old) (R.left reader.new) (C.given clock.old)
-        (C.given clock.new) result }
+    ensures none_missed { MissesNone (R.left connection.old.reader)
+        (R.left connection.new.reader) (C.given clock.old) (C.given clock.new) result }
 {
-    let Some(routes) = made_once(alloc, routes) else {
-        return ServeEnd::Memory;
-    };
-    let Ok(mut inbox) = Inbox::new(alloc) else {
+    let Ok(mut inbox) = Inbox::new(handler.alloc) else {
         return ServeEnd::Memory;
     };
     let mut left = budget;
     'messages: loop {
-        let read = read_message(&mut inbox, reader, &mut left);
+        let read = read_message(&mut inbox, &mut connection.reader, &mut left);
         let arrived = match arrived(&inbox, &read) {
             Ok(arrived) => arrived,
             Err(end) => return end,
         };
         if let Err(end) = answer(
-            alloc, routes, setting, &arrived, writer, room, clock, observer,
+            handler,
+            &arrived,
+            &mut connection.writer,
+            room,
+            clock,
+            observer,
         ) {
             return end;
         }
         if arrived.is_closing() {
             return ServeEnd::Closed;
         }
-        pass(&mut inbox, &read);
+        if let Ok(layout) = &read {
+            inbox.remove(layout);
+        }
     }
-}
-
-// The routes, which are made where they aren't yet: none where memory lacks for them.
-fn made_once(alloc: Global, routes: &mut Option<Routes>) -> Option<&Routes> {
-    if routes.is_none() {
-        *routes = Routes::new(alloc).ok();
-    }
-    routes.as_ref()
 }
 
 // What was read, as it is answered, or why serving ends with no answer.
@@ -178,15 +176,5 @@ fn arrived<'inbox>(
         Err(Unread::Cut) => Err(ServeEnd::Cut),
         Err(Unread::ReadFault) => Err(ServeEnd::ReadFault),
         Err(Unread::ReadsSpent) => Err(ServeEnd::ReadsSpent),
-    }
-}
-
-// Lets a message go that was answered.
-fn pass(inbox: &mut Inbox, read: &Result<Layout, Unread>)
-    requires { IfOk read.now (λ layout. layout.body.end ≤ length inbox.old) }
-    ensures { inbox.new ≡ kept_after inbox.old read.now }
-{
-    if let Ok(layout) = read {
-        inbox.remove(layout);
     }
 }

@@ -69,7 +69,7 @@ abbrev pub IsReply : Result Answer Refusal → ℕ → Bool → Bool → List �
 IsReply answer at head_only closing bytes =
     (date : List ℕ) × IsDateOf at date × (bytes ≡ reply_bytes answer date head_only closing)
 
--- The answer where memory or the database is wanting. It has no date, so that it is a text that is
+-- The answer where memory or the database fails. It has no date, so that it is a text that is
 -- written beforehand, and it closes the connection.
 unfoldable pub fixed_bytes : Refusal → Bool → List ℕ
 fixed_bytes refusal head_only = message None (Err refusal) head_only true

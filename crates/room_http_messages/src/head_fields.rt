@@ -1,5 +1,5 @@
 //! The fields of a head by their names (RFC 9110, section 5.1: names are the same in any case).
-ghost use Rattle.std.specs.Prelude.{◌≡◌, map, length, IfSome};
+ghost use Rattle.std.specs.Prelude.{◌≡◌, ℕ, List, map, length, IfSome};
 ghost use Rattle.std.specs.Option.{option_map};
 ghost use Rattle.httparse.specs.Spans.{header_bytes, span_bytes, IsWithin};
 ghost use Rattle.room_http_messages.specs.HeadFields.{AreWithin, FoundIs, found_with, is_there, only_value, values_of};
@@ -27,6 +27,30 @@ impl Found {
             Found::Once(_) | Found::Repeated => Found::Repeated,
         }
     }
+
+    /// Whether a field has the name.
+    pub fn is_there(self) -> bool
+        ensures { (buf : List ℕ) (values : List (List ℕ)) → FoundIs buf values self
+            → result ≡ is_there values }
+    {
+        match self {
+            Found::Nowhere => false,
+            Found::Once(_) | Found::Repeated => true,
+        }
+    }
+
+    /// Where the value is, if one field only has the name.
+    pub fn only(self) -> Option<Span>
+        ensures value { (buf : List ℕ) (values : List (List ℕ)) → FoundIs buf values self
+            → option_map (span_bytes buf) result ≡ only_value values }
+        ensures within { (buf : List ℕ) (values : List (List ℕ)) → FoundIs buf values self
+            → IfSome result (IsWithin (length buf)) }
+    {
+        match self {
+            Found::Once(value) => Some(value),
+            Found::Nowhere | Found::Repeated => None,
+        }
+    }
 }
 
 /// What the fields of a head hold under a name, in any case.
@@ -41,28 +65,4 @@ pub fn find_field(buf: &[u8], headers: &[HeaderSpan], name: &[u8]) -> Found
         }
     }
     found
-}
-
-/// Whether a field has a name.
-pub fn has_field(buf: &[u8], headers: &[HeaderSpan], name: &[u8]) -> bool
-    requires { AreWithin buf.now headers.now }
-    ensures { result ≡ is_there (values_of name.now (map (header_bytes buf.now) headers.now)) }
-{
-    match find_field(buf, headers, name) {
-        Found::Nowhere => false,
-        Found::Once(_) | Found::Repeated => true,
-    }
-}
-
-/// Where the value of the only field of a name is.
-pub fn only_field(buf: &[u8], headers: &[HeaderSpan], name: &[u8]) -> Option<Span>
-    requires { AreWithin buf.now headers.now }
-    ensures value { option_map (span_bytes buf.now) result ≡ only_value
-        (values_of name.now (map (header_bytes buf.now) headers.now)) }
-    ensures within { IfSome result (IsWithin (length buf.now)) }
-{
-    match find_field(buf, headers, name) {
-        Found::Once(value) => Some(value),
-        Found::Nowhere | Found::Repeated => None,
-    }
 }

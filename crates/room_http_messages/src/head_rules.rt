@@ -1,11 +1,11 @@
 //! What a complete head must not break, in the order in which it is tested.
-ghost use Rattle.std.specs.Prelude.{◌≡◌, ◌≤◌, codes, map, min, MatchOption, MatchResult, None, Some, true, false};
+ghost use Rattle.std.specs.Prelude.{◌≡◌, ◌≤◌, ℕ, List, codes, map, min, MatchOption, MatchResult, None, Some, true, false};
 ghost use Rattle.std.specs.Str.Parse.{digits_value};
 ghost use Rattle.httparse.specs.Spans.{header_bytes};
-ghost use Rattle.room_http_messages.specs.HeadFields.{AreWithin, values_of};
+ghost use Rattle.room_http_messages.specs.HeadFields.{AreWithin, FoundIs, values_of};
 ghost use Rattle.room_http_messages.specs.Rules.{body_length, fault_of, has_host_fault, has_length_fault, is_numeral, length_of};
 
-use crate::head_fields::{Found, find_field, has_field};
+use crate::head_fields::{Found, find_field};
 use crate::limits::BODY_LIMIT;
 use httparse::spans::HeaderSpan;
 use room_types::refusal_statuses::Refusal;
@@ -30,12 +30,11 @@ fn numeral(value: &[u8]) -> Option<usize>
 }
 
 /// Whether the Host fields are at fault.
-fn has_host_fault(buf: &[u8], headers: &[HeaderSpan], minor: u8) -> bool
-    requires { AreWithin buf.now headers.now }
-    ensures { result ≡ has_host_fault minor
-        (values_of (codes "host") (map (header_bytes buf.now) headers.now)) }
+fn is_host_fault(host: Found, minor: u8) -> bool
+    ensures { (buf : List ℕ) (values : List (List ℕ)) → FoundIs buf values host
+        → result ≡ has_host_fault minor values }
 {
-    match find_field(buf, headers, b"host") {
+    match host {
         Found::Nowhere => minor == 1,
         Found::Once(_) => false,
         Found::Repeated => true,
@@ -77,16 +76,16 @@ pub fn check_head(buf: &[u8], headers: &[HeaderSpan], minor: u8) -> Result<usize
         (λ n. (fault_of minor fields ≡ None) × (n ≡ body_length fields) × (n ≤ BODY_LIMIT))
         (λ r. fault_of minor fields ≡ Some r) }
 {
-    if has_host_fault(buf, headers, minor) {
+    if is_host_fault(find_field(buf, headers, b"host"), minor) {
         return Err(Refusal::BadMessage);
     }
-    if has_field(buf, headers, b"transfer-encoding") {
+    if find_field(buf, headers, b"transfer-encoding").is_there() {
         return Err(Refusal::Coding);
     }
     let Some(length) = announced_length(buf, headers) else {
         return Err(Refusal::BadMessage);
     };
-    if minor == 1 && has_field(buf, headers, b"expect") {
+    if minor == 1 && find_field(buf, headers, b"expect").is_there() {
         return Err(Refusal::Expectation);
     }
     if length > BODY_LIMIT {

@@ -4,7 +4,7 @@ ghost use Rattle.room_http_messages.specs.declared.limits.TheConstants.{INBOX_RO
 ghost use Rattle.room_http_messages.specs.Layouts.{LookIs};
 
 use crate::connection::is_closing;
-use crate::head_fields::only_field;
+use crate::head_fields::find_field;
 use crate::head_rules::check_head;
 use crate::limits::{FIELD_LIMIT, HEAD_LIMIT};
 use crate::messages::Layout;
@@ -60,7 +60,7 @@ pub fn look_at(bytes: &[u8]) -> MessagePrefix
                 start: head.len,
                 end: head.len + size,
             },
-            terminal: only_field(window, fields, b"x-terminal"),
+            terminal: find_field(window, fields, b"x-terminal").only(),
             head_only,
             closing: is_closing(window, fields, head.version),
         }),

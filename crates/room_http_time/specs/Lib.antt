@@ -1,4 +1,3 @@
 pub mod Dates
 pub mod Days
 pub mod Laws
-pub mod ClockMoments

@@ -2,7 +2,7 @@
 use Rattle.std.proofs.Common.{ap, subst, sym, ◌∙◌}
 use Rattle.std.specs.Prelude.{None, Option, Some, refl, ◌≡◌}
 use Rattle.room_place.specs.Choice.{Among}
-use Rattle.room_types_keyed.specs.Keyed.{row_at}
+use Rattle.room_types_keyed.specs.KeyedRows.{row_at}
 use Rattle.room_types.specs.Keys.{assignment_key, callsign_cmp, numbered_cmp, turn_key, vehicle_key}
 use Rattle.room_types.specs.Orders.{callsigns_total, numbered_total}
 use Rattle.room_types.specs.declared.tables.Assignment.{Assignment}
@@ -10,7 +10,7 @@ use Rattle.room_types.specs.declared.tables.Turn.{Turn}
 use Rattle.room_types.specs.declared.tables.Vehicle.{Vehicle}
 use Rattle.room_model.proofs.Tests.{row_among}
 use Rattle.room_model.specs.Room.{Room}
-use Rattle.room_model.specs.WellFormed.{AssignmentAgrees, IsWellFormed, OpenAgrees, SameIncident, TurnAgrees}
+use Rattle.room_model.specs.RoomAgreements.{AssignmentAgrees, IsWellFormed, OpenAgrees, SameIncident, TurnAgrees}
 
 module _ (r : Room) (w : IsWellFormed r) where
   assignment_there : (a : Assignment) → Among a r.assignments

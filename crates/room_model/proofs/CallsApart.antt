@@ -9,7 +9,7 @@ use Rattle.room_place.specs.Choice.{Among, least, least_from}
 use Rattle.room_place.specs.Places.{distance}
 use Rattle.room_place.specs.Plans.{division_of}
 use Rattle.room_types_keyed.proofs.KeyedLaws.{row_filter}
-use Rattle.room_types_keyed.specs.Keyed.{keep, row_at}
+use Rattle.room_types_keyed.specs.KeyedRows.{keep, row_at}
 use Rattle.room_types.specs.Keys.{call_key, division_key, owns_call, owns_division, pair_cmp}
 use Rattle.room_types.specs.Orders.{pairs_total}
 use Rattle.room_types.specs.declared.asks.Ask.{Ask}
@@ -31,7 +31,7 @@ use Rattle.room_model.proofs.OwnChanges.{own_apply_own}
 use Rattle.room_model.proofs.OwnDesk.{call_own}
 use Rattle.room_model.proofs.Tests.{among_filter, both_true, filter_filter, is_equal, keep_row, left_true, right_true}
 use Rattle.room_model.proofs.Tests.{row_key}
-use Rattle.room_model.specs.Alone.{share_by, told_by}
+use Rattle.room_model.specs.Isolation.{share_by, told_by}
 use Rattle.room_model.specs.Calls.{call_in, call_kept, call_somewhere, call_taken, new_call, new_incident, take_call}
 use Rattle.room_model.specs.Calls.{with_call}
 use Rattle.room_types.specs.Codes.{is_active}
@@ -42,8 +42,8 @@ use Rattle.room_model.specs.Queries.{is_candidate, is_nearer, kept_call, last_nu
 use Rattle.room_model.specs.Room.{IsInOrder, Room, apply}
 use Rattle.room_model.specs.Shares.{IsPlain, own}
 use Rattle.room_model.specs.Step.{position_asks}
-use Rattle.room_model.specs.WellFormed.{IsWellFormed}
-use Rattle.room_model.specs.Working.{reads_calls, reads_division, reads_incident, reads_number, working}
+use Rattle.room_model.specs.RoomAgreements.{IsWellFormed}
+use Rattle.room_model.specs.WorkingRows.{reads_calls, reads_division, reads_incident, reads_number, working}
 use Rattle.room_types.specs.declared.asks.Ask.TheVariants as ask
 
 -- the least of a list is one of it

@@ -8,7 +8,7 @@ use Rattle.std.specs.declared.cmp.Ordering.{Ordering}
 use Rattle.std.specs.declared.cmp.Ordering.TheVariants.{Equal, Greater, Less}
 use Rattle.room_place.specs.Choice.{first}
 use Rattle.room_types_keyed.proofs.KeyedLaws.{filter_drop, filter_put, keyed_filter, row_filter}
-use Rattle.room_types_keyed.specs.Keyed.{IsKeyed, drop_row, keep, put_row}
+use Rattle.room_types_keyed.specs.KeyedRows.{IsKeyed, drop_row, keep, put_row}
 use Rattle.room_types.specs.Keys.{assignment_key, callsign_cmp, loan_key, numbered_cmp, offer_key, report_key}
 use Rattle.room_types.specs.Keys.{same_callsign, turn_key, vehicle_key}
 use Rattle.room_types.specs.Orders.{callsigns_total, exact_numbered, numbered_total}
@@ -26,7 +26,7 @@ use Rattle.room_model.proofs.OwnChanges.{in_order_one}
 use Rattle.room_model.proofs.Tests.{both_true, filter_filter, is_equal, keep_row, right_true}
 use Rattle.room_model.specs.Decisions.{changes_of}
 use Rattle.room_model.specs.Events.{by_crew}
-use Rattle.room_model.specs.InHand.{in_hand}
+use Rattle.room_model.specs.CrewRows.{in_hand}
 use Rattle.room_model.specs.Queries.{assignment_at, borrowed, held, kept_report, loan_at, open_turn, vehicle_at}
 use Rattle.room_model.specs.Reports.{last_of, order_of, report_held, report_in, report_kept, report_somewhere}
 use Rattle.room_model.specs.Room.{IsInOrder, Room, apply, apply_one}

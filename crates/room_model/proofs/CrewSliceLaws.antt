@@ -6,7 +6,7 @@ use Rattle.std.specs.Prelude.{IfSome, filter, is_none, ◌&&◌, ◌↔◌}
 use Rattle.room_types_keyed.proofs.EachRow.{row_key}
 use Rattle.room_types_keyed.proofs.KeyedLaws.{row_filter}
 use Rattle.room_types.specs.Crews.{IsCrew}
-use Rattle.room_types_keyed.specs.Keyed.{IsKeyed, keep, row_at}
+use Rattle.room_types_keyed.specs.KeyedRows.{IsKeyed, keep, row_at}
 use Rattle.room_types.specs.Keys.{assignment_key, callsign_cmp, loan_key, numbered_cmp, same_callsign, turn_key}
 use Rattle.room_types.specs.Keys.{vehicle_key}
 use Rattle.room_types.specs.Orders.{callsigns_total, exact_callsigns, exact_numbered, numbered_total}
@@ -21,8 +21,8 @@ use Rattle.room_model.proofs.Tests.{both_true, is_equal, keep_keep_row, keep_row
 use Rattle.room_model.specs.Room.{IsInOrder, Room}
 use Rattle.room_model.specs.Shares.{mine}
 use Rattle.room_model.specs.RoomSlices.{AreCrewRows}
-use Rattle.room_model.specs.WellFormed.{IsWellFormed}
-use Rattle.room_model.specs.WellFormed as room
+use Rattle.room_model.specs.RoomAgreements.{IsWellFormed}
+use Rattle.room_model.specs.RoomAgreements as room
 
 -- ---- what is a vehicle's own of the room has its rows
 same_self : (c k : Callsign) → c ≡ k → same_callsign k c ≡ true

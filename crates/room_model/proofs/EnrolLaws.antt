@@ -9,7 +9,7 @@ use Rattle.std.specs.Prelude.{Bool, List, None, Option, Some, [], cond, false, i
 use Rattle.std.specs.Prelude.{◌∷◌, ◌≡◌, ◌⊎◌}
 use Rattle.room_place.specs.Plans.{has_division}
 use Rattle.room_types_keyed.proofs.KeyedLaws.{keyed_put}
-use Rattle.room_types_keyed.specs.Keyed.{put_row, row_at}
+use Rattle.room_types_keyed.specs.KeyedRows.{put_row, row_at}
 use Rattle.room_types.specs.Keys.{callsign_cmp, vehicle_key}
 use Rattle.room_types.specs.Orders.{callsigns_total, exact_callsigns}
 use Rattle.room_types.specs.Texts.{Callsign, Token}
@@ -34,12 +34,12 @@ use Rattle.room_model.proofs.Tests.{both_true}
 use Rattle.room_model.proofs.VehicleAgreements.{Agrees, agreed, kept_by}
 use Rattle.room_model.proofs.VehicleRows.{VehicleRows, bare, put_here, rows_of}
 use Rattle.room_types.specs.Codes.{same_kind}
-use Rattle.room_model.specs.Enrol.{AreTerminals, fate_again, fate_by, fate_of, is_same_vehicle, new_terminal}
-use Rattle.room_model.specs.Enrol.{new_vehicle, room_by, room_enrolled, terminal_at, terminal_key, terminals_by}
-use Rattle.room_model.specs.Enrol.{terminals_enrolled, token_cmp}
+use Rattle.room_model.specs.FleetRows.{AreTerminals, fate_again, fate_by, fate_of, is_same_vehicle, new_terminal}
+use Rattle.room_model.specs.FleetRows.{new_vehicle, room_by, room_enrolled, terminal_at, terminal_key, terminals_by}
+use Rattle.room_model.specs.FleetRows.{terminals_enrolled, token_cmp}
 use Rattle.room_model.specs.Room.{Room}
-use Rattle.room_model.specs.WellFormed.{AssignmentAgrees, IsWellFormed, LoanAgrees, OfferAgrees, ReportAgrees}
-use Rattle.room_model.specs.WellFormed.{TurnAgrees}
+use Rattle.room_model.specs.RoomAgreements.{AssignmentAgrees, IsWellFormed, LoanAgrees, OfferAgrees, ReportAgrees}
+use Rattle.room_model.specs.RoomAgreements.{TurnAgrees}
 use Rattle.room_types.specs.declared.refusal_statuses.Refusal.TheVariants as refusal
 
 -- the rows of a callsign that no vehicle has

@@ -4,7 +4,7 @@ use Rattle.std.specs.Prelude.{Bool, List, None, Option, Some, [], cond, false, i
 use Rattle.std.specs.Prelude.{◌==◌, ◌∷◌, ◌≡◌}
 use Rattle.room_place.specs.Plans.{has_division}
 use Rattle.room_types.specs.Codes.{same_kind}
-use Rattle.room_types_keyed.specs.Keyed.{row_at}
+use Rattle.room_types_keyed.specs.KeyedRows.{row_at}
 use Rattle.room_types.specs.Keys.{callsign_cmp, vehicle_key}
 use Rattle.room_types.specs.Orders.{exact_callsigns}
 use Rattle.room_types.specs.Texts.{Callsign, Token}
@@ -25,10 +25,10 @@ use Rattle.room_model.proofs.KeptCalls.{row_stays}
 use Rattle.room_model.proofs.KeptEvents.{plan_stays}
 use Rattle.room_model.proofs.Tests.{is_equal, row_key}
 use Rattle.room_model.specs.Decisions.{changes_of}
-use Rattle.room_model.specs.Enrol.{AreTerminals, fate_again, fate_by, fate_of, fleet_at, home_and_kind, is_crew}
-use Rattle.room_model.specs.Enrol.{is_crews_terminal, is_same_vehicle, new_terminal, new_vehicle, room_by}
-use Rattle.room_model.specs.Enrol.{room_enrolled, terminal_at, terminal_key, terminals_by, terminals_enrolled}
-use Rattle.room_model.specs.Enrol.{token_cmp}
+use Rattle.room_model.specs.FleetRows.{AreTerminals, fate_again, fate_by, fate_of, fleet_at, home_and_kind, is_crew}
+use Rattle.room_model.specs.FleetRows.{is_crews_terminal, is_same_vehicle, new_terminal, new_vehicle, room_by}
+use Rattle.room_model.specs.FleetRows.{room_enrolled, terminal_at, terminal_key, terminals_by, terminals_enrolled}
+use Rattle.room_model.specs.FleetRows.{token_cmp}
 use Rattle.room_model.specs.Fleets.{AreAgain, Imported, MayBecome, Reaching, Sent, enrolled, fates_of, since}
 use Rattle.room_model.specs.Room.{Room}
 use Rattle.room_model.specs.Step.{decided, room_after}

@@ -3,7 +3,7 @@ use Rattle.std.proofs.Common.{ap, sym, ◌∙◌}
 use Rattle.std.specs.Prelude.{Bool, List, None, Option, Some, [], cond, false, is_some, map, option_map, refl, true, ℕ}
 use Rattle.std.specs.Prelude.{◌&&◌, ◌++◌, ◌==◌, ◌∷◌, ◌≡◌}
 use Rattle.room_place.specs.Plans.{has_division}
-use Rattle.room_types_keyed.specs.Keyed.{row_at}
+use Rattle.room_types_keyed.specs.KeyedRows.{row_at}
 use Rattle.room_types.specs.Keys.{callsign_cmp, vehicle_key}
 use Rattle.room_types.specs.Orders.{callsigns_total, exact_callsigns}
 use Rattle.room_types.specs.Texts.{Callsign}
@@ -40,8 +40,8 @@ use Rattle.room_model.proofs.VehicleRows.{settle}
 use Rattle.room_model.specs.Calls.{call_in, call_kept, call_new, call_somewhere, call_taken, new_call}
 use Rattle.room_types.specs.Codes.{acts, same_kind}
 use Rattle.room_model.specs.Decisions.{Verdict, changes_of, refuse_if, tell, where_active, where_held}
-use Rattle.room_model.specs.Enrol.{AreTerminals, fate_by, fate_of, fleet_at, home_and_kind, is_crews_terminal}
-use Rattle.room_model.specs.Enrol.{terminal_at}
+use Rattle.room_model.specs.FleetRows.{AreTerminals, fate_by, fate_of, fleet_at, home_and_kind, is_crews_terminal}
+use Rattle.room_model.specs.FleetRows.{terminal_at}
 use Rattle.room_model.specs.Incidents.{change_needs, close, close_active, merge, merge_of, moved_call, needs_changed}
 use Rattle.room_model.specs.Loans.{accept, accepted, decline, declined, give_back, given_back, lend, offered, recall}
 use Rattle.room_model.specs.Loans.{recall_lent, withdraw, withdrawn}

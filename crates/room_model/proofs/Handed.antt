@@ -7,7 +7,7 @@ use Rattle.std.specs.Prelude.{true, ℕ, ◌&&◌, ◌==◌, ◌||◌, ◌∷◌
 use Rattle.std.specs.declared.cmp.Ordering.{Ordering}
 use Rattle.std.specs.declared.cmp.Ordering.TheVariants.{Equal, Greater, Less}
 use Rattle.room_types_keyed.proofs.KeyedLaws.{filter_put, keyed_filter, row_drop_same, row_filter, row_put}
-use Rattle.room_types_keyed.specs.Keyed.{drop_row, keep, put_row, row_at}
+use Rattle.room_types_keyed.specs.KeyedRows.{drop_row, keep, put_row, row_at}
 use Rattle.room_types.specs.Keys.{callsign_cmp, loan_key, offer_key, owns_loan, owns_offer, owns_vehicle, vehicle_key}
 use Rattle.room_types.specs.Orders.{callsigns_total, exact_callsigns}
 use Rattle.room_types.specs.declared.asks.Ask.{Ask}
@@ -28,7 +28,7 @@ use Rattle.room_model.proofs.Others.{IsHeld, apart_from, found_same, held_is, ke
 use Rattle.room_model.proofs.Others.{vehicle_foreign}
 use Rattle.room_model.proofs.OwnChanges.{in_order_one, own_apply_one}
 use Rattle.room_model.proofs.Tests.{or_left, or_right, row_key}
-use Rattle.room_model.specs.Alone.{freed, marked, share_by}
+use Rattle.room_model.specs.Isolation.{freed, marked, share_by}
 use Rattle.room_types.specs.Codes.{is_free, is_offered}
 use Rattle.room_model.specs.Crossing.{Arrive, Crossing, Declined, Left, OfferIn, Recalled, Withdrawn, cross_other}
 use Rattle.room_model.specs.Crossing.{is_loan_ended, is_local, is_offered_by, is_offered_to, newly_recalled}
@@ -40,7 +40,7 @@ use Rattle.room_model.specs.Room.{Room, apply, apply_one, settled}
 use Rattle.room_model.proofs.ShareChanges.{share_one}
 use Rattle.room_model.specs.Shares.{IsPlain, own}
 use Rattle.room_model.specs.Step.{desk_asks}
-use Rattle.room_model.specs.WellFormed.{IsWellFormed, LoanAgrees, OfferAgrees}
+use Rattle.room_model.specs.RoomAgreements.{IsWellFormed, LoanAgrees, OfferAgrees}
 use Rattle.room_types.specs.declared.asks.Ask.TheVariants as ask
 
 pub put_found : {R K : Type 0} (cmp : K → K → Ordering) (key : R → K) (total : IsTotalOrder cmp)

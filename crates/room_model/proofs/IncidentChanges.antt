@@ -7,7 +7,7 @@ use Rattle.std.specs.Ordering.{is_eq, nat_cmp}
 use Rattle.std.specs.Prelude.{Bool, List, None, Option, Some, cond, false, is_some, refl, true, ℕ, ◌≡◌, ◌≤◌}
 use Rattle.std.specs.declared.cmp.Ordering.{Ordering}
 use Rattle.room_types_keyed.proofs.KeyedLaws.{row_put}
-use Rattle.room_types_keyed.specs.Keyed.{put_row, row_at}
+use Rattle.room_types_keyed.specs.KeyedRows.{put_row, row_at}
 use Rattle.room_types.specs.Keys.{call_key, callsign_cmp, division_key, incident_key, numbered_cmp, pair_cmp, point_key}
 use Rattle.room_types.specs.Keys.{turn_key, vehicle_key}
 use Rattle.room_types.specs.Orders.{callsigns_total, exact_callsigns, exact_number, exact_pair, pairs_total}
@@ -26,8 +26,8 @@ use Rattle.room_model.proofs.VehicleRows.{bare}
 use Rattle.room_types.specs.Codes.{is_active, is_merged}
 use Rattle.room_model.specs.Room.{IsInOrder, Room}
 use Rattle.room_types.specs.Slices.{IsActive}
-use Rattle.room_model.specs.WellFormed.{CallAgrees, IsOfIncident, IsPost, IsWellFormed, NumberAgrees, OpenedAgrees}
-use Rattle.room_model.specs.WellFormed.{PostAgrees, TurnIsActive}
+use Rattle.room_model.specs.RoomAgreements.{CallAgrees, IsOfIncident, IsPost, IsWellFormed, NumberAgrees, OpenedAgrees}
+use Rattle.room_model.specs.RoomAgreements.{PostAgrees, TurnIsActive}
 
 -- what is found at each key, after a row was put
 pub put_rows : {R K : Type 0} (cmp : K → K → Ordering) (key : R → K) (total : IsTotalOrder cmp)

@@ -3,7 +3,7 @@ use Rattle.std.proofs.Common.{ap, inl, inr, subst, sym, ◌∙◌}
 use Rattle.std.specs.Prelude.{Bool, IfSome, None, Option, Some, [], false, is_some, refl, true, ℕ, ◌++◌, ◌+◌, ◌∷◌, ◌≡◌}
 use Rattle.room_place.specs.Plans.{has_division}
 use Rattle.room_place.specs.declared.places.Place.{Place}
-use Rattle.room_types_keyed.specs.Keyed.{row_at}
+use Rattle.room_types_keyed.specs.KeyedRows.{row_at}
 use Rattle.room_types.specs.Keys.{incident_key, numbered_cmp, pair_cmp, point_key, turn_key}
 use Rattle.room_types.specs.Orders.{exact_numbered, numbered_total, pairs_total}
 use Rattle.room_types.specs.Texts.{Callsign}
@@ -32,7 +32,7 @@ use Rattle.room_model.specs.Vehicles.{assignment_row, duty, mobilise, mobilise_h
 use Rattle.room_model.specs.Vehicles.{posted, stand_down, stand_down_held, standby, standby_at, stands_by, turn_row}
 use Rattle.room_model.specs.Vehicles.{turn_stood_down}
 use Rattle.room_types.specs.Slices.{IsActive}
-use Rattle.room_model.specs.WellFormed.{IsPost, IsWellFormed, ReportAgrees}
+use Rattle.room_model.specs.RoomAgreements.{IsPost, IsWellFormed, ReportAgrees}
 
 -- a report that is cleared
 cleared_report : (o : Option Vehicle) (n : ℕ) (x y : Report) → ReportAgrees o n (Some x)

@@ -10,7 +10,7 @@ use Rattle.std.specs.declared.cmp.Ordering.{Ordering}
 use Rattle.room_place.specs.Choice.{Among, least_from}
 use Rattle.room_place.specs.Plans.{division_of, has_division}
 use Rattle.room_place.specs.declared.places.Place.{Place}
-use Rattle.room_types_keyed.specs.Keyed.{put_row, row_at}
+use Rattle.room_types_keyed.specs.KeyedRows.{put_row, row_at}
 use Rattle.room_types.specs.Keys.{call_key, division_key, incident_key, pair_cmp}
 use Rattle.room_types.specs.Orders.{exact_number, exact_pair, pairs_total}
 use Rattle.room_types.specs.declared.asks.NewCall.{NewCall}
@@ -30,7 +30,7 @@ use Rattle.room_model.specs.Calls.{take_call, with_call}
 use Rattle.room_types.specs.Codes.{is_active}
 use Rattle.room_model.specs.Queries.{is_candidate, is_nearer, kept_call, last_number, link_target}
 use Rattle.room_model.specs.Room.{IsInOrder, Room}
-use Rattle.room_model.specs.WellFormed.{CallAgrees, IsGiven, IsOfIncident, IsWellFormed, NumberAgrees, OpenedAgrees}
+use Rattle.room_model.specs.RoomAgreements.{CallAgrees, IsGiven, IsOfIncident, IsWellFormed, NumberAgrees, OpenedAgrees}
 
 -- a row that is there stays, where one with a new key is put
 pub row_stays : {R K : Type 0} (cmp : K → K → Ordering) (key : R → K) (total : IsTotalOrder cmp)

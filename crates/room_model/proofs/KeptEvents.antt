@@ -2,7 +2,7 @@
 use Rattle.std.proofs.Common.{ap, ◌∙◌}
 use Rattle.std.specs.Prelude.{List, None, Option, Some, [], is_some, refl, true, ℕ, ◌∷◌, ◌≡◌}
 use Rattle.room_place.specs.Plans.{has_division}
-use Rattle.room_types_keyed.specs.Keyed.{put_row, row_at}
+use Rattle.room_types_keyed.specs.KeyedRows.{put_row, row_at}
 use Rattle.room_types.specs.Keys.{callsign_cmp, vehicle_key}
 use Rattle.room_types.specs.Texts.{Callsign}
 use Rattle.room_types.specs.declared.asks.Ask.{Ask}
@@ -33,7 +33,7 @@ use Rattle.room_model.specs.Room.{Room, apply, apply_one, settled}
 use Rattle.room_model.specs.Run.{room_run}
 use Rattle.room_model.specs.Step.{IsAddressed, crew_asks, decided, desk_asks, is_crews, is_desks, is_for, position_asks}
 use Rattle.room_model.specs.Step.{room_after, who_asks}
-use Rattle.room_model.specs.WellFormed.{IsWellFormed}
+use Rattle.room_model.specs.RoomAgreements.{IsWellFormed}
 use Rattle.room_types.specs.declared.asks.Ask.TheVariants as ask
 
 quiet_kept : (who : Who) (a : Ask) (at : ℕ) (r : Room) → IsWellFormed r → IsQuiet who a

@@ -3,7 +3,7 @@ use Rattle.std.proofs.Common.{ap, eq-eqb, eqb-true, inl, inr, subst, sym, ◌∙
 use Rattle.std.specs.Prelude.{Bool, None, Option, Some, [], cond, false, option_map, refl, true, ℕ, ◌==◌, ◌||◌, ◌∷◌}
 use Rattle.std.specs.Prelude.{◌≡◌, ◌≢◌, ◌⊎◌}
 use Rattle.room_place.specs.Plans.{has_division}
-use Rattle.room_types_keyed.specs.Keyed.{keep, row_at}
+use Rattle.room_types_keyed.specs.KeyedRows.{keep, row_at}
 use Rattle.room_types.specs.Keys.{callsign_cmp, loan_key, offer_key, vehicle_key}
 use Rattle.room_types.specs.Orders.{callsigns_total, exact_callsigns}
 use Rattle.room_types.specs.Texts.{Callsign}
@@ -23,7 +23,7 @@ use Rattle.room_model.specs.Loans.{accept, accepted, decline, declined, give_bac
 use Rattle.room_model.specs.Loans.{loan_row, offer_row, offered, recall, recall_lent, withdraw, withdrawn}
 use Rattle.room_model.specs.Queries.{borrowed, held, lent, offered_by, offered_to}
 use Rattle.room_model.specs.Room.{Room}
-use Rattle.room_model.specs.WellFormed.{IsWellFormed, LoanAgrees, OfferAgrees}
+use Rattle.room_model.specs.RoomAgreements.{IsWellFormed, LoanAgrees, OfferAgrees}
 
 or_parts : (a b : Bool) → a || b ≡ false → (a ≡ false) × (b ≡ false)
 or_parts true b e = cc

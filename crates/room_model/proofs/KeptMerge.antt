@@ -5,7 +5,7 @@ use Rattle.std.specs.Ordering.{is_eq}
 use Rattle.std.specs.Prelude.{Bool, List, None, Option, Some, [], cond, false, filter, map, refl, true, ℕ, ◌&&◌, ◌==◌}
 use Rattle.std.specs.Prelude.{◌∷◌, ◌≡◌, ◌≢◌}
 use Rattle.room_types_keyed.proofs.KeyedLaws.{keyed_filter, row_below, row_filter, row_put}
-use Rattle.room_types_keyed.specs.Keyed.{IsKeyed, keep, put_row, row_at}
+use Rattle.room_types_keyed.specs.KeyedRows.{IsKeyed, keep, put_row, row_at}
 use Rattle.room_types.specs.Keys.{call_key, incident_key, pair_cmp}
 use Rattle.room_types.specs.Orders.{exact_pair, pairs_total}
 use Rattle.room_types.specs.declared.changes.Change.TheVariants.{PutIncident}
@@ -25,7 +25,7 @@ use Rattle.room_types.specs.Codes.{is_active}
 use Rattle.room_model.specs.Incidents.{joined, merge, merge_of, moved_call}
 use Rattle.room_model.specs.Queries.{calls_of, incident_of, is_attended}
 use Rattle.room_model.specs.Room.{IsInOrder, Room, apply, apply_one}
-use Rattle.room_model.specs.WellFormed.{CallAgrees, IsOfIncident, IsWellFormed, NumberAgrees, OpenedAgrees}
+use Rattle.room_model.specs.RoomAgreements.{CallAgrees, IsOfIncident, IsWellFormed, NumberAgrees, OpenedAgrees}
 
 -- calls, each put with another incident
 abbrev pub put_calls : ℕ → List Call → List Call → List Call

@@ -33,7 +33,7 @@ use Rattle.room_model.specs.Reports.{names_order, outcome_of, press, report_acts
 use Rattle.room_model.specs.Reports.{report_made, report_row, report_somewhere, status_after, take_report, turn_after}
 use Rattle.room_model.specs.Reports.{turn_changes, vehicle_after, with_report}
 use Rattle.room_model.specs.Room.{Room, apply}
-use Rattle.room_model.specs.WellFormed.{AssignmentAgrees, IsWellFormed, LoanAgrees, SameIncident, TurnAgrees}
+use Rattle.room_model.specs.RoomAgreements.{AssignmentAgrees, IsWellFormed, LoanAgrees, SameIncident, TurnAgrees}
 use Rattle.room_types.specs.declared.answers.Answer.TheVariants as answer
 use Rattle.room_types.specs.declared.codes.Button.TheVariants as button
 

@@ -10,7 +10,7 @@ use Rattle.room_place.specs.Places.{distance, root_from, square_between}
 use Rattle.room_place.specs.declared.places.Place.{Place}
 use Rattle.room_model.proofs.Tests.{both_true}
 use Rattle.room_model.specs.Moments.{link_metres}
-use Rattle.room_model.specs.Working.{is_around}
+use Rattle.room_model.specs.WorkingRows.{is_around}
 
 -- A root is only cut short by its bits where it is the greatest of as many: below that, the next
 -- number's square is more than n, however great n is.

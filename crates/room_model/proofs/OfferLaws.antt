@@ -4,7 +4,7 @@ use Rattle.std.specs.Prelude.{Bool, Err, List, None, Option, Some, [], cond, fal
 use Rattle.std.specs.Prelude.{refl, ℕ, ◌&&◌, ◌++◌, ◌==◌, ◌∷◌, ◌≡◌, ◌↔◌}
 use Rattle.room_place.specs.Choice.{chosen}
 use Rattle.room_types.specs.Codes.{is_mobilised}
-use Rattle.room_types_keyed.specs.Keyed.{keep, row_at}
+use Rattle.room_types_keyed.specs.KeyedRows.{keep, row_at}
 use Rattle.room_types.specs.Keys.{callsign_cmp, offer_key, owns_offer, vehicle_key}
 use Rattle.room_types.specs.Orders.{callsigns_total}
 use Rattle.room_types.specs.Texts.{Callsign}
@@ -40,7 +40,7 @@ use Rattle.room_model.specs.Events.{by_desk}
 use Rattle.room_model.specs.Incidents.{change_needs, close, lacking, merge, show_incident, show_incidents}
 use Rattle.room_model.specs.Loans.{accept, accepted, decline, declined, give_back, recall, show_loans, show_offers}
 use Rattle.room_model.specs.Loans.{withdraw, withdrawn}
-use Rattle.room_model.specs.Moving.{IsUnoffered, NoneIsReserved, OffersAgree, is_lend, speaks_of_offers, without_offers}
+use Rattle.room_model.specs.UnofferedRooms.{IsUnoffered, NoneIsReserved, OffersAgree, is_lend, speaks_of_offers, without_offers}
 use Rattle.room_model.specs.Points.{breaks_post, show_points}
 use Rattle.room_model.specs.Proposals.{all_proposed, candidates, eligible, is_before, proposal_of, propose, proposed}
 use Rattle.room_model.specs.Queries.{active_incidents, all_held, assignment_at, assignment_of, borrowed, calls_of, held}
@@ -54,7 +54,7 @@ use Rattle.room_model.specs.Reports.{report_in, report_kept, report_somewhere}
 use Rattle.room_model.specs.Room.{IsInOrder, Room, apply, apply_one}
 use Rattle.room_model.specs.Step.{crew_asks, decided, desk_asks, position_asks, room_after, who_asks}
 use Rattle.room_model.specs.Vehicles.{duty, mobilise, off, show_vehicles, stand_down, standby}
-use Rattle.room_model.specs.WellFormed.{OfferAgrees}
+use Rattle.room_model.specs.RoomAgreements.{OfferAgrees}
 use Rattle.room_types.specs.declared.answers.Answer.TheVariants as answer
 use Rattle.room_types.specs.declared.asks.Ask.TheVariants as ask
 

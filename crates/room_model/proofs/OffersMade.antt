@@ -3,7 +3,7 @@ use Rattle.std.proofs.Common.{ap}
 use Rattle.std.specs.Prelude.{Bool, List, None, Option, Some, [], cond, false, is_some, map, refl, true, ℕ, ◌&&◌, ◌++◌}
 use Rattle.std.specs.Prelude.{◌∷◌, ◌≡◌}
 use Rattle.room_types.specs.Codes.{acts}
-use Rattle.room_types_keyed.specs.Keyed.{drop_row}
+use Rattle.room_types_keyed.specs.KeyedRows.{drop_row}
 use Rattle.room_types.specs.Keys.{callsign_cmp, offer_key}
 use Rattle.room_types.specs.Texts.{Callsign}
 use Rattle.room_types.specs.declared.asks.Ask.{Ask}
@@ -33,7 +33,7 @@ use Rattle.room_model.specs.Decisions.{Verdict, changes_of, refuse_if, tell, whe
 use Rattle.room_model.specs.Incidents.{change_needs, close, close_active, merge, merge_of, moved_call, needs_changed}
 use Rattle.room_model.specs.Loans.{accept, accepted, decline, declined, give_back, given_back, recall, recall_lent}
 use Rattle.room_model.specs.Loans.{withdraw, withdrawn}
-use Rattle.room_model.specs.Moving.{IsUnoffered, NobodyLends, is_lend}
+use Rattle.room_model.specs.UnofferedRooms.{IsUnoffered, NobodyLends, is_lend}
 use Rattle.room_model.specs.Queries.{borrowed, held, incident_of, is_attended, lent, offered_by, open_turn, point_of}
 use Rattle.room_model.specs.Queries.{served}
 use Rattle.room_model.specs.Queue.{clear, clear_found}

@@ -19,7 +19,7 @@ use Rattle.room_model.proofs.Handed.{desk_isolated}
 use Rattle.room_model.proofs.OwnChanges.{own_apply_own}
 use Rattle.room_model.proofs.OwnDesk.{desk_own}
 use Rattle.room_model.proofs.Questions.{by_quiet}
-use Rattle.room_model.specs.Alone.{share_by}
+use Rattle.room_model.specs.Isolation.{share_by}
 use Rattle.room_types.specs.Codes.{is_active}
 use Rattle.room_model.specs.Crossing.{cross, cross_other, cross_own}
 use Rattle.room_model.specs.Decisions.{Verdict, changes_of, refuse_if, where_active, where_held}
@@ -33,7 +33,7 @@ use Rattle.room_model.specs.Shares.{ArePlain, own}
 use Rattle.room_model.specs.Step.{desk_asks, room_after}
 use Rattle.room_model.specs.Vehicles.{duty, mobilise, mobilise_held, mobilised, off, off_duty, on_duty, stand_down}
 use Rattle.room_model.specs.Vehicles.{stand_down_held, standby, standby_at, stands_by, turn_stood_down}
-use Rattle.room_model.specs.WellFormed.{IsWellFormed}
+use Rattle.room_model.specs.RoomAgreements.{IsWellFormed}
 use Rattle.room_types.specs.declared.asks.Ask.TheVariants as ask
 use Rattle.room_types.specs.declared.refusal_statuses.Refusal.TheVariants as refusal
 

@@ -17,7 +17,7 @@ use Rattle.room_model.specs.Queries.{kept_call}
 use Rattle.room_model.specs.Room.{Room}
 use Rattle.room_model.specs.Shares.{AgreeOn, AgreeOnCall}
 use Rattle.room_model.specs.Step.{decided, who_asks}
-use Rattle.room_model.specs.WellFormed.{IsWellFormed}
+use Rattle.room_model.specs.RoomAgreements.{IsWellFormed}
 use Rattle.room_types.specs.declared.answers.Answer.TheVariants as answer
 use Rattle.room_types.specs.declared.asks.Ask.TheVariants as ask
 

@@ -8,7 +8,7 @@ use Rattle.std.specs.declared.cmp.Ordering.{Ordering}
 use Rattle.std.specs.declared.cmp.Ordering.TheVariants.{Equal, Greater, Less}
 use Rattle.room_place.specs.Choice.{Among}
 use Rattle.room_types_keyed.proofs.KeyedLaws.{below_from_less, row_below, row_filter}
-use Rattle.room_types_keyed.specs.Keyed.{IsKeyed, keep, put_row, row_at}
+use Rattle.room_types_keyed.specs.KeyedRows.{IsKeyed, keep, put_row, row_at}
 use Rattle.room_types.specs.Keys.{assignment_key, call_key, callsign_cmp, incident_key, numbered_cmp, owns_assignment}
 use Rattle.room_types.specs.Keys.{owns_call, owns_incident, owns_point, owns_report, owns_turn, owns_vehicle, pair_cmp}
 use Rattle.room_types.specs.Keys.{point_key, report_key, turn_key, vehicle_key}
@@ -29,7 +29,7 @@ use Rattle.room_model.proofs.Tests.{row_among, row_key}
 use Rattle.room_model.specs.Queries.{held, report_of}
 use Rattle.room_model.specs.Room.{Room}
 use Rattle.room_model.specs.Shares.{own}
-use Rattle.room_model.specs.WellFormed.{AssignmentAgrees, IsWellFormed, TurnAgrees}
+use Rattle.room_model.specs.RoomAgreements.{AssignmentAgrees, IsWellFormed, TurnAgrees}
 
 -- one number is not another
 pub apart_from : (a b d : ℕ) → a ≡ b → b == d ≡ false → a == d ≡ false

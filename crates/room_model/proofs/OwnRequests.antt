@@ -1,7 +1,7 @@
 -- A desk's own request: its share's step is the room's, with the vehicle at hand that it accepts.
 use Rattle.std.proofs.Common.{ap, eqb-true, subst, sym, ◌∙◌}
 use Rattle.std.specs.Prelude.{Bool, List, None, Option, Some, [], cond, false, is_ok, refl, true, ℕ, ◌==◌, ◌∷◌, ◌≡◌}
-use Rattle.room_types_keyed.specs.Keyed.{keep, row_at}
+use Rattle.room_types_keyed.specs.KeyedRows.{keep, row_at}
 use Rattle.room_types.specs.Keys.{callsign_cmp, offer_key, owns_vehicle, vehicle_key}
 use Rattle.room_types.specs.Orders.{callsigns_total, exact_callsigns}
 use Rattle.room_types.specs.declared.asks.Ask.{Ask}
@@ -20,7 +20,7 @@ use Rattle.room_model.proofs.Others.{keep_some, none_own}
 use Rattle.room_model.proofs.OwnChanges.{in_order_one, in_order_own, own_apply, own_apply_one, own_apply_own, own_twice}
 use Rattle.room_model.proofs.OwnDesk.{desk_own, sees_own}
 use Rattle.room_model.proofs.Tests.{row_key}
-use Rattle.room_model.specs.Alone.{put_vehicle, share_by, told_by}
+use Rattle.room_model.specs.Isolation.{put_vehicle, share_by, told_by}
 use Rattle.room_model.specs.Crossing.{Asked, cross_own, with_vehicle}
 use Rattle.room_model.specs.Decisions.{answer_of, changes_of}
 use Rattle.room_model.specs.Loans.{accept, accepted, decline, declined, loan_row}
@@ -29,7 +29,7 @@ use Rattle.room_model.specs.Room.{Room, apply, apply_one, settled}
 use Rattle.room_model.proofs.ShareChanges.{share_after, share_one}
 use Rattle.room_model.specs.Shares.{ArePlain, own}
 use Rattle.room_model.specs.Step.{desk_asks}
-use Rattle.room_model.specs.WellFormed.{IsWellFormed, OfferAgrees}
+use Rattle.room_model.specs.RoomAgreements.{IsWellFormed, OfferAgrees}
 use Rattle.room_types.specs.declared.asks.Ask.TheVariants as ask
 
 abbrev settled_row : Vehicle → ℕ → Vehicle

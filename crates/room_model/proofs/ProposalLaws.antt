@@ -12,7 +12,7 @@ use Rattle.room_place.proofs.Choices.{chosen_first}
 use Rattle.room_place.specs.Choice.{Among, AreBefore, AreDistinct, AreFirst, IsRising, IsStrict, chosen, comes_after}
 use Rattle.room_place.specs.Choice.{extend, least, least_from}
 use Rattle.room_types.specs.Keys.{callsign_cmp, vehicle_key}
-use Rattle.room_types_keyed.specs.Keyed.{IsBelowAll, IsKeyed}
+use Rattle.room_types_keyed.specs.KeyedRows.{IsBelowAll, IsKeyed}
 use Rattle.room_types.specs.Orders.{callsigns_total, exact_callsigns}
 use Rattle.room_types.specs.Texts.{Callsign}
 use Rattle.room_types.specs.declared.answers.Proposal.{Proposal}

@@ -5,7 +5,7 @@ use Rattle.std.specs.Prelude.{Bool, List, None, Option, Some, [], cond, false, i
 use Rattle.std.specs.Prelude.{◌++◌, ◌==◌, ◌||◌, ◌∷◌, ◌≡◌}
 use Rattle.room_place.specs.Choice.{Among}
 use Rattle.room_types_keyed.proofs.KeyedLaws.{row_drop_same, row_filter}
-use Rattle.room_types_keyed.specs.Keyed.{drop_row, keep, put_row, row_at}
+use Rattle.room_types_keyed.specs.KeyedRows.{drop_row, keep, put_row, row_at}
 use Rattle.room_types.specs.Keys.{callsign_cmp, loan_key, numbered_cmp, owns_loan, owns_report, owns_vehicle}
 use Rattle.room_types.specs.Keys.{report_key, same_callsign, vehicle_key}
 use Rattle.room_types.specs.Orders.{callsigns_total, numbered_total}
@@ -33,7 +33,7 @@ use Rattle.room_model.proofs.OwnChanges.{in_order_one, own_apply, own_apply_own}
 use Rattle.room_model.proofs.OwnDesk.{report_in_own}
 use Rattle.room_model.proofs.Questions.{quiet_shows}
 use Rattle.room_model.proofs.Tests.{among_filter, first_among, left_true, right_true}
-use Rattle.room_model.specs.Alone.{share_by, told_by}
+use Rattle.room_model.specs.Isolation.{share_by, told_by}
 use Rattle.room_model.specs.Crossing.{Arrive, Crossing, ReportIn, arrival, cross_crew, cross_report, is_held_by}
 use Rattle.room_model.specs.Crossing.{is_loan_ended}
 use Rattle.room_model.specs.Decisions.{Verdict, changes_of, tell}
@@ -45,7 +45,7 @@ use Rattle.room_model.specs.Room.{IsInOrder, Room, apply, apply_one}
 use Rattle.room_model.proofs.ShareChanges.{share_after}
 use Rattle.room_model.specs.Shares.{ArePlain, IsPlain, own}
 use Rattle.room_model.specs.Step.{crew_asks, room_after}
-use Rattle.room_model.specs.WellFormed.{IsWellFormed}
+use Rattle.room_model.specs.RoomAgreements.{IsWellFormed}
 use Rattle.room_types.specs.declared.answers.Answer.TheVariants as answer
 use Rattle.room_types.specs.declared.asks.Ask.TheVariants as ask
 use Rattle.room_types.specs.declared.codes.Button.TheVariants as button

@@ -4,7 +4,7 @@ use Rattle.std.specs.List.{list_all}
 use Rattle.std.specs.Prelude.{Bool, Err, List, None, Ok, Option, Some, [], cond, false, is_err, is_ok, map, not}
 use Rattle.std.specs.Prelude.{option_map, refl, true, ℕ, ◌&&◌, ◌++◌, ◌==◌, ◌||◌, ◌∷◌, ◌≡◌}
 use Rattle.room_place.specs.Plans.{division_of}
-use Rattle.room_types_keyed.specs.Keyed.{row_at}
+use Rattle.room_types_keyed.specs.KeyedRows.{row_at}
 use Rattle.room_types.specs.Keys.{callsign_cmp, loan_key}
 use Rattle.room_types.specs.Texts.{Callsign}
 use Rattle.room_types.specs.declared.asks.Ask.{Ask}
@@ -23,7 +23,7 @@ use Rattle.room_model.proofs.OneEvent.{other_desk}
 use Rattle.room_model.proofs.OwnRequests.{own_request, told_request}
 use Rattle.room_model.proofs.ReportsApart.{crew_event, not_ended, told_crew}
 use Rattle.room_model.proofs.Tests.{both_true}
-use Rattle.room_model.specs.Alone.{alone, share_by, told_alone, told_by}
+use Rattle.room_model.specs.Isolation.{alone, share_by, told_alone, told_by}
 use Rattle.room_model.specs.Crossing.{Arrive, CallIn, Crossing, Declined, Left, OfferIn, Recalled, ReportIn, Withdrawn}
 use Rattle.room_model.specs.Crossing.{cross, cross_call, cross_crew, cross_other, cross_own, cross_position}
 use Rattle.room_model.specs.Crossing.{cross_report, cross_who, crossings, is_division_of, is_held_by, is_loan_ended}
@@ -35,7 +35,7 @@ use Rattle.room_model.specs.Room.{Room, apply}
 use Rattle.room_model.specs.Run.{is_desk, room_run, told}
 use Rattle.room_model.specs.Shares.{own}
 use Rattle.room_model.specs.Step.{answer_to, decided, desk_asks, room_after}
-use Rattle.room_model.specs.WellFormed.{IsWellFormed}
+use Rattle.room_model.specs.RoomAgreements.{IsWellFormed}
 use Rattle.room_types.specs.declared.asks.Ask.TheVariants as ask
 
 -- ---- a request of another desk gives this one no answer

@@ -5,7 +5,7 @@ use Rattle.std.specs.List.{list_all}
 use Rattle.std.specs.Prelude.{IfSome, filter, is_none, nat_le, ◌&&◌, ◌==◌, ◌||◌}
 use Rattle.room_types_keyed.proofs.EachRow.{row_key}
 use Rattle.room_types_keyed.proofs.KeyedLaws.{row_filter}
-use Rattle.room_types_keyed.specs.Keyed.{keep, row_at}
+use Rattle.room_types_keyed.specs.KeyedRows.{keep, row_at}
 use Rattle.room_types.specs.Keys.{assignment_key, callsign_cmp, incident_key, numbered_cmp, owns_assignment, owns_call}
 use Rattle.room_types.specs.Keys.{owns_division, owns_incident, owns_loan, owns_offer, owns_point, owns_report}
 use Rattle.room_types.specs.Keys.{owns_turn, owns_vehicle, pair_cmp, turn_key, vehicle_key}
@@ -31,11 +31,11 @@ use Rattle.room_model.proofs.Tests.{Implies, left_true}
 use Rattle.room_model.specs.Room.{Room}
 use Rattle.room_model.specs.Shares.{own}
 use Rattle.room_model.specs.RoomSlices.{room_of}
-use Rattle.room_model.specs.WellFormed.{IsWellFormed}
-use Rattle.room_model.specs.Working.{names_turn, reads_assignments, reads_calls, reads_division, reads_incident}
-use Rattle.room_model.specs.Working.{reads_loan, reads_number, reads_offer, reads_point, reads_report, reads_vehicle}
-use Rattle.room_model.specs.Working.{working}
-use Rattle.room_model.specs.WellFormed as room
+use Rattle.room_model.specs.RoomAgreements.{IsWellFormed}
+use Rattle.room_model.specs.WorkingRows.{names_turn, reads_assignments, reads_calls, reads_division, reads_incident}
+use Rattle.room_model.specs.WorkingRows.{reads_loan, reads_number, reads_offer, reads_point, reads_report, reads_vehicle}
+use Rattle.room_model.specs.WorkingRows.{working}
+use Rattle.room_model.specs.RoomAgreements as room
 
 abbrev pub is_open : Turn → Bool
 is_open t = is_none t.ended

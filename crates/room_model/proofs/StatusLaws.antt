@@ -4,7 +4,7 @@ use Rattle.std.proofs.lemmas.Bool.{false_from_ne_true}
 use Rattle.std.specs.Prelude.{Bool, None, Option, Some, false, refl, true, ℕ, ◌↔◌, ◌≡◌}
 use Rattle.room_place.specs.Choice.{Among}
 use Rattle.room_types.specs.Codes.{is_busy}
-use Rattle.room_types_keyed.specs.Keyed.{row_at}
+use Rattle.room_types_keyed.specs.KeyedRows.{row_at}
 use Rattle.room_types.specs.Keys.{assignment_key, callsign_cmp, numbered_cmp, turn_key, vehicle_key}
 use Rattle.room_types.specs.Orders.{callsigns_total, exact_callsigns, exact_numbered, numbered_total}
 use Rattle.room_types.specs.Texts.{Callsign}
@@ -14,9 +14,9 @@ use Rattle.room_types.specs.declared.tables.Vehicle.{Vehicle}
 use Rattle.room_model.proofs.OpenTurns.{row_there}
 use Rattle.room_model.proofs.Tests.{row_among, row_key}
 use Rattle.room_model.specs.Room.{IsInOrder, Room}
-use Rattle.room_model.specs.WellFormed.{AssignmentAgrees, AssignmentStands, AssignmentsAgree, AssignmentsStand}
-use Rattle.room_model.specs.WellFormed.{HasAssignment, HasOpenTurn, OpenAgrees, StatusTellsAssignments}
-use Rattle.room_model.specs.WellFormed.{StatusTellsTurns, TurnAgrees, TurnStands, TurnsAgree, TurnsStand}
+use Rattle.room_model.specs.RoomAgreements.{AssignmentAgrees, AssignmentStands, AssignmentsAgree, AssignmentsStand}
+use Rattle.room_model.specs.RoomAgreements.{HasAssignment, HasOpenTurn, OpenAgrees, StatusTellsAssignments}
+use Rattle.room_model.specs.RoomAgreements.{StatusTellsTurns, TurnAgrees, TurnStands, TurnsAgree, TurnsStand}
 
 never_both : (b : Bool) → b ≡ true → b ≡ false → ⊥
 never_both b e f = cc

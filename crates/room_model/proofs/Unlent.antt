@@ -2,7 +2,7 @@
 use Rattle.std.proofs.Common.{ap, eq-eqb, subst, sym, ◌∙◌}
 use Rattle.std.specs.Prelude.{Bool, Err, List, None, Ok, Option, Some, [], false, is_err, not, refl, true, ℕ, ◌==◌}
 use Rattle.std.specs.Prelude.{◌||◌, ◌∷◌, ◌≡◌}
-use Rattle.room_types_keyed.specs.Keyed.{drop_row, keep, row_at}
+use Rattle.room_types_keyed.specs.KeyedRows.{drop_row, keep, row_at}
 use Rattle.room_types.specs.Keys.{callsign_cmp, loan_key, offer_key}
 use Rattle.room_types.specs.Texts.{Callsign}
 use Rattle.room_types.specs.declared.asks.Ask.{Ask}
@@ -28,7 +28,7 @@ use Rattle.room_model.specs.Queries.{borrowed, held, lent, offered_by, offered_t
 use Rattle.room_model.specs.Room.{Room, apply, apply_one}
 use Rattle.room_model.specs.Run.{room_run}
 use Rattle.room_model.specs.Step.{crew_asks, decided, desk_asks, position_asks, room_after, who_asks}
-use Rattle.room_model.specs.WellFormed.{IsWellFormed, LoanAgrees}
+use Rattle.room_model.specs.RoomAgreements.{IsWellFormed, LoanAgrees}
 use Rattle.room_types.specs.declared.asks.Ask.TheVariants as ask
 
 -- ---- changes that put no loan and no offer

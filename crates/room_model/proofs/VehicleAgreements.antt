@@ -4,7 +4,7 @@ use Rattle.std.specs.Ordering.{is_eq, nat_cmp}
 use Rattle.std.specs.Prelude.{Bool, IfSome, List, None, Option, Some, false, is_some, refl, true, ℕ, ◌≡◌, ◌≤◌, ◌⊎◌}
 use Rattle.room_place.specs.Plans.{has_division}
 use Rattle.room_place.specs.declared.plans.Area.{Area}
-use Rattle.room_types_keyed.specs.Keyed.{row_at}
+use Rattle.room_types_keyed.specs.KeyedRows.{row_at}
 use Rattle.room_types.specs.Keys.{call_key, callsign_cmp, division_key, incident_key, numbered_cmp, pair_cmp, point_key}
 use Rattle.room_types.specs.Keys.{report_key, vehicle_key}
 use Rattle.room_types.specs.Orders.{callsigns_total, exact_callsigns}
@@ -25,9 +25,9 @@ use Rattle.room_model.proofs.VehicleRows.{AllConcern, VehicleRows, all_after, ba
 use Rattle.room_model.proofs.VehicleRows.{rows_of}
 use Rattle.room_types.specs.Codes.{is_busy, is_free, is_offered}
 use Rattle.room_model.specs.Room.{IsInOrder, Room, apply}
-use Rattle.room_model.specs.WellFormed.{AssignmentAgrees, CallAgrees, IsWellFormed, LastAgrees, LoanAgrees}
-use Rattle.room_model.specs.WellFormed.{NumberAgrees, OfferAgrees, OpenAgrees, OpenedAgrees, PostAgrees, ReportAgrees}
-use Rattle.room_model.specs.WellFormed.{SameIncident, TurnAgrees, TurnIsActive}
+use Rattle.room_model.specs.RoomAgreements.{AssignmentAgrees, CallAgrees, IsWellFormed, LastAgrees, LoanAgrees}
+use Rattle.room_model.specs.RoomAgreements.{NumberAgrees, OfferAgrees, OpenAgrees, OpenedAgrees, PostAgrees, ReportAgrees}
+use Rattle.room_model.specs.RoomAgreements.{SameIncident, TurnAgrees, TurnIsActive}
 
 -- the vehicle's last report is there, where it sent any
 abbrev pub IsLast : (ℕ → Option Report) → Option Vehicle → Type 0

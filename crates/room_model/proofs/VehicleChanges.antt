@@ -6,7 +6,7 @@ use Rattle.std.specs.Prelude.{Bool, IfSome, List, None, Option, Some, cond, fals
 use Rattle.std.specs.Prelude.{◌≡◌, ◌≢◌, ◌⊎◌}
 use Rattle.room_place.specs.Plans.{has_division}
 use Rattle.room_place.specs.declared.plans.Area.{Area}
-use Rattle.room_types_keyed.specs.Keyed.{row_at}
+use Rattle.room_types_keyed.specs.KeyedRows.{row_at}
 use Rattle.room_types.specs.Keys.{incident_key, pair_cmp}
 use Rattle.room_types.specs.Orders.{exact_number}
 use Rattle.room_types.specs.declared.codes.Status.{Status}
@@ -23,8 +23,8 @@ use Rattle.room_types.specs.Codes.{is_busy, is_free, is_mobilised, is_off, is_of
 use Rattle.room_model.specs.Loans.{offered}
 use Rattle.room_model.specs.Room.{Room}
 use Rattle.room_types.specs.Slices.{IsActive}
-use Rattle.room_model.specs.WellFormed.{IsPost, LoanAgrees, OfferAgrees, OpenAgrees, ReportAgrees, SameIncident}
-use Rattle.room_model.specs.WellFormed.{TurnAgrees, TurnIsActive}
+use Rattle.room_model.specs.RoomAgreements.{IsPost, LoanAgrees, OfferAgrees, OpenAgrees, ReportAgrees, SameIncident}
+use Rattle.room_model.specs.RoomAgreements.{TurnAgrees, TurnIsActive}
 
 -- statuses by their tests
 pub is_true : (b : Bool) → not b ≡ false → b ≡ true

@@ -8,7 +8,7 @@ use Rattle.std.specs.Prelude.{◌==◌, ◌||◌, ◌≡◌, ◌≤◌}
 use Rattle.room_place.specs.Choice.{Among, first}
 use Rattle.room_types_keyed.proofs.KeyedLaws.{row_filter}
 use Rattle.room_types.specs.Codes.{is_active}
-use Rattle.room_types_keyed.specs.Keyed.{keep, row_at}
+use Rattle.room_types_keyed.specs.KeyedRows.{keep, row_at}
 use Rattle.room_types.specs.Keys.{assignment_key, callsign_cmp, incident_key, loan_key, numbered_cmp, offer_key}
 use Rattle.room_types.specs.Keys.{owns_assignment, owns_loan, owns_offer, owns_point, owns_vehicle, pair_cmp, point_key}
 use Rattle.room_types.specs.Keys.{report_key, same_callsign, turn_key, vehicle_key}
@@ -29,11 +29,11 @@ use Rattle.room_model.specs.Proposals.{eligible}
 use Rattle.room_model.specs.Queries.{active_incidents, all_held, assignment_of, borrowed, calls_of, held, holders}
 use Rattle.room_model.specs.Queries.{incident_of, is_attended, lent, loans_of, offered_by, offered_to, offers_of}
 use Rattle.room_model.specs.Queries.{open_turn, point_of, points_of, report_of, served, turns_of}
-use Rattle.room_model.specs.WellFormed.{IsWellFormed, OpenAgrees, TurnAgrees, TurnIsActive}
+use Rattle.room_model.specs.RoomAgreements.{IsWellFormed, OpenAgrees, TurnAgrees, TurnIsActive}
 use Rattle.room_model.specs.Room.{Room}
-use Rattle.room_model.specs.Working.{is_last_turn, names_incident, names_opening, names_turn, reads_active}
-use Rattle.room_model.specs.Working.{reads_assignments, reads_calls, reads_incident, reads_loan, reads_number}
-use Rattle.room_model.specs.Working.{reads_offer, reads_point, reads_report, reads_vehicle, working}
+use Rattle.room_model.specs.WorkingRows.{is_last_turn, names_incident, names_opening, names_turn, reads_active}
+use Rattle.room_model.specs.WorkingRows.{reads_assignments, reads_calls, reads_incident, reads_loan, reads_number}
+use Rattle.room_model.specs.WorkingRows.{reads_offer, reads_point, reads_report, reads_vehicle, working}
 use Rattle.room_types.specs.declared.asks.Ask.TheVariants as ask
 
 -- what is read of a callsign is read of a row that has it

@@ -26,8 +26,8 @@ use Rattle.room_model.proofs.WorkingQueue.{entries_read}
 use Rattle.room_model.specs.Queries.{incidents_opened}
 use Rattle.room_model.specs.Room.{Room}
 use Rattle.room_model.specs.Step.{desk_asks}
-use Rattle.room_model.specs.WellFormed.{IsWellFormed}
-use Rattle.room_model.specs.Working.{reads_incident, reads_loan, reads_point, reads_report, reads_vehicle, working}
+use Rattle.room_model.specs.RoomAgreements.{IsWellFormed}
+use Rattle.room_model.specs.WorkingRows.{reads_incident, reads_loan, reads_point, reads_report, reads_vehicle, working}
 use Rattle.room_types.specs.declared.asks.Ask.TheVariants as ask
 
 opened_read : (d : ℕ) (from to : ℤ) (at : ℕ) (r : Room)

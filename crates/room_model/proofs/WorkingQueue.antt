@@ -21,8 +21,8 @@ use Rattle.room_model.specs.Queries.{incident_of, open_turn}
 use Rattle.room_model.specs.Queue.{entries, exception, overdue, shift_over, slow, slow_incident, slow_turn, unanswered}
 use Rattle.room_model.specs.Queue.{uncovered, unread, unread_turn, unserved}
 use Rattle.room_model.specs.Room.{Room}
-use Rattle.room_model.specs.WellFormed.{IsWellFormed}
-use Rattle.room_model.specs.Working.{names_report, reads_incident, reads_report, working}
+use Rattle.room_model.specs.RoomAgreements.{IsWellFormed}
+use Rattle.room_model.specs.WorkingRows.{names_report, reads_incident, reads_report, working}
 use Rattle.room_types.specs.declared.asks.Ask.TheVariants as ask
 
 off_share : {X : Type 0} (b c : Bool) (o : Option X) → b && true ≡ false

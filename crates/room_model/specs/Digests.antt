@@ -23,6 +23,6 @@ digits_of digest_of zone version terminals room =
 abbrev pub IsHeadOf : DigitsOf → Head → List Terminal → Room → Type 0
 IsHeadOf digits_of head terminals room = digits_of head.version terminals room ≡ head.digits
 
--- it would come to another one, or memory or storage is wanting
+-- it would come to another one, or memory or storage fails
 abbrev pub IsMiss : Miss → Type 0
 IsMiss miss = (miss ≡ Another) ⊎ ((r : Refusal) × (miss ≡ Want r) × IsWant r)

@@ -5,7 +5,7 @@ use Rattle.room_types.specs.declared.fleet.FleetRow.{FleetRow}
 use Rattle.room_types.specs.declared.fleet.RowFate.{RowFate}
 use Rattle.room_types.specs.declared.fleet.RowFate.TheVariants.{Added, Refused, Same}
 use Rattle.room_types.specs.declared.fleet.Terminal.{Terminal}
-use Rattle.room_model.specs.Enrol.{fate_of, room_enrolled, terminals_enrolled}
+use Rattle.room_model.specs.FleetRows.{fate_of, room_enrolled, terminals_enrolled}
 use Rattle.room_model.specs.Room.{Room}
 use Rattle.room_model.specs.Step.{room_after}
 use Rattle.room_types.specs.declared.refusal_statuses.Refusal.TheVariants as refusal

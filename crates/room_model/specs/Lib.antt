@@ -15,18 +15,18 @@ pub mod Shares
 -- what an event hands to a division
 pub mod Crossing
 -- what becomes of a division by only what it is handed
-pub mod Alone
+pub mod Isolation
 -- ---- what the other laws speak of
 -- what always holds of a room
-pub mod WellFormed
+pub mod RoomAgreements
 -- rooms that were kept before loans were offered
-pub mod Moving
+pub mod UnofferedRooms
 -- what becomes of a row of a fleet, and of a whole fleet
-pub mod Enrol
+pub mod FleetRows
 pub mod Fleets
 -- the few rows that a request reads
-pub mod Working
-pub mod InHand
+pub mod WorkingRows
+pub mod CrewRows
 pub mod RoomSlices
 -- ---- the requests, a group a file, as Step cites them
 -- the form of each decision, and what it asks of the room

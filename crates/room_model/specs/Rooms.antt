@@ -7,7 +7,7 @@ use Rattle.room_types.specs.declared.asks.Who.{Who}
 use Rattle.room_types.specs.declared.fleet.Terminal.{Terminal}
 use Rattle.room_types.specs.declared.refusal_statuses.Refusal.{Refusal}
 use Rattle.room_types.specs.declared.refusal_statuses.Refusal.TheVariants.{Memory, Storage}
-use Rattle.room_model.specs.Enrol.{terminal_at}
+use Rattle.room_model.specs.FleetRows.{terminal_at}
 use Rattle.room_model.specs.Room.{Room}
 use Rattle.room_model.specs.Step.{answer_to, room_after}
 
@@ -23,6 +23,6 @@ machine event room = (room_after event room, answer_to event room)
 abbrev pub who_at : List Terminal → Token → Option Who
 who_at terminals token = option_map (λ t. t.who) (terminal_at token terminals)
 
--- memory or storage is wanting
+-- memory or storage fails
 abbrev pub IsWant : Refusal → Type 0
 IsWant refusal = (refusal ≡ Memory) ⊎ (refusal ≡ Storage)

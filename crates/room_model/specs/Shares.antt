@@ -46,8 +46,8 @@ mine c r = record {
   reports = filter (λ x. same_callsign x.callsign c) r.reports;
 }
 
--- two rooms agree on what decides a call: its position's call of this serial, the plan, and the rows
--- of the division that it is placed in
+-- two rooms agree on what decides a call: its position's call of this serial, the plan, and the
+-- rows of the division that it is placed in
 pub record AgreeOnCall (p : ℕ) (f : CallForm) (r s : Room) : Type 0 where
   pub kept : kept_call p f.serial r ≡ kept_call p f.serial s
   pub plan : r.plan ≡ s.plan

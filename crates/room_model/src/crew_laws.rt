@@ -6,7 +6,7 @@ ghost use Rattle.room_types.specs.declared.asks.Ask.{Ask};
 ghost use Rattle.room_types.specs.declared.asks.Ask.TheVariants.{Last, Order, Report};
 ghost use Rattle.room_types.specs.declared.asks.Press.{Press};
 ghost use Rattle.room_model.specs.Events.{by_crew};
-ghost use Rattle.room_model.specs.InHand.{in_hand};
+ghost use Rattle.room_model.specs.CrewRows.{in_hand};
 ghost use Rattle.room_model.specs.Room.{Room, IsInOrder};
 ghost use Rattle.room_model.specs.Shares.{mine};
 ghost use Rattle.room_model.specs.Step.{answer_to, crew_asks, room_after};

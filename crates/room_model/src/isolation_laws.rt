@@ -11,7 +11,7 @@ ghost use Rattle.room_types.specs.declared.asks.Event.{Event};
 ghost use Rattle.room_types.specs.declared.asks.Press.{Press};
 ghost use Rattle.room_types.specs.declared.changes.Change.{Change};
 ghost use Rattle.room_types.specs.declared.tables.Vehicle.{Vehicle};
-ghost use Rattle.room_model.specs.Alone.{alone, share_by, told_alone, told_by};
+ghost use Rattle.room_model.specs.Isolation.{alone, share_by, told_alone, told_by};
 ghost use Rattle.room_model.specs.Crossing.{cross, crossings};
 ghost use Rattle.room_model.specs.Events.{AreAddressed, AreLocal, IsUnlent, NobodyLends, by_crew, by_desk, by_position, is_everyday, received};
 ghost use Rattle.room_model.specs.Queries.{kept_call, kept_report, offer_at, vehicle_at};
@@ -19,8 +19,8 @@ ghost use Rattle.room_model.specs.Room.{Room, IsInOrder, apply};
 ghost use Rattle.room_model.specs.Run.{is_desk, room_run, told};
 ghost use Rattle.room_model.specs.Shares.{AgreeOn, ArePlain, own};
 ghost use Rattle.room_model.specs.Step.{answer_to, decided, room_after};
-ghost use Rattle.room_model.specs.WellFormed.{IsWellFormed};
-ghost use Rattle.room_model.specs.Working.{working};
+ghost use Rattle.room_model.specs.RoomAgreements.{IsWellFormed};
+ghost use Rattle.room_model.specs.WorkingRows.{working};
 
 /// Whatever happens, a share becomes what the division is handed makes of it. Its desk gets the
 /// answers to its own requests, as the share gives them.

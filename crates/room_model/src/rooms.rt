@@ -7,7 +7,7 @@ ghost use Rattle.room_types.specs.declared.refusal_statuses.Refusal.{Refusal as 
 ghost use Rattle.room_types.specs.declared.refusal_statuses.Refusal.TheVariants.{Memory};
 ghost use Rattle.room_model.specs.Room.{Room as Held};
 ghost use Rattle.room_model.specs.Step.{IsAddressed};
-ghost use Rattle.room_model.specs.Enrol.{AreTerminals};
+ghost use Rattle.room_model.specs.FleetRows.{AreTerminals};
 ghost use Rattle.room_model.specs.Rooms.{Step, who_at, IsWant};
 
 use room_types::answers::Answer;

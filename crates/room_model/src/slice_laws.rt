@@ -3,7 +3,7 @@
 ghost use Rattle.std.specs.Prelude.{◌≡◌, ◌↔◌, ℕ, List, Some, true};
 ghost use Rattle.room_place.specs.declared.plans.Area.{Area};
 ghost use Rattle.room_types.specs.Crews.{IsCrew};
-ghost use Rattle.room_types_keyed.specs.Keyed.{IsKeyed};
+ghost use Rattle.room_types_keyed.specs.KeyedRows.{IsKeyed};
 ghost use Rattle.room_types.specs.Keys.{numbered_cmp, turn_key};
 ghost use Rattle.room_types.specs.Slices.{IsShare, is_share, vehicle_at, assignment_at, open_turn as open_turn_of};
 ghost use Rattle.room_types.specs.Texts.{Callsign};
@@ -15,8 +15,8 @@ ghost use Rattle.room_model.specs.Queries.{held, assignment_of, open_turn, all_h
 ghost use Rattle.room_model.specs.Room.{IsInOrder, Room};
 ghost use Rattle.room_model.specs.Shares.{own, mine};
 ghost use Rattle.room_model.specs.RoomSlices.{room_of, AreCrewRows};
-ghost use Rattle.room_model.specs.WellFormed.{IsWellFormed};
-ghost use Rattle.room_model.specs.Working.{working};
+ghost use Rattle.room_model.specs.RoomAgreements.{IsWellFormed};
+ghost use Rattle.room_model.specs.WorkingRows.{working};
 
 /// A division's share of a well-formed room, and the rows of it that an ask reads, are a slice's.
 pub fn shares_are_slices()

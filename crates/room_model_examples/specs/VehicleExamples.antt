@@ -50,7 +50,7 @@ without_b1 = record example_room {
       ∷ fresh_vehicle C1 1 Car "TQ300800" ∷ [];
 }
 
--- what A1 was told when it was sent
+-- what A1 was given when it was sent
 abbrev pub first_assignment : Assignment
 first_assignment = record {
   callsign = A1;

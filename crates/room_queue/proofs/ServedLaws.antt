@@ -10,7 +10,7 @@ use Rattle.std.specs.declared.cmp.Ordering.TheVariants.{Equal, Greater, Less}
 use Rattle.std.specs.declared.cmp.Ordering.{Ordering}
 use Rattle.room_types_keyed.proofs.KeyedLaws.{row_put}
 use Rattle.room_types.specs.Codes.{is_active, same_kind}
-use Rattle.room_types_keyed.specs.Keyed.{put_row, row_at}
+use Rattle.room_types_keyed.specs.KeyedRows.{put_row, row_at}
 use Rattle.room_types.specs.declared.answers.Entry.{Entry}
 use Rattle.room_types.specs.declared.codes.Kind.TheVariants.{Ambulance, Car, Support}
 use Rattle.room_types.specs.declared.codes.Kind.{Kind}

@@ -10,7 +10,7 @@ use Rattle.room_model.specs.Room.{Room, apply}
 use Rattle.room_model.specs.Step.{decided, room_after}
 use Rattle.room_model.specs.Digests.{IsHeadOf, digits_of}
 use Rattle.room_model.specs.declared.digests.Head.{Head}
-use Rattle.room_tables.specs.Stands.{Configuration, Stands}
+use Rattle.room_tables.specs.RoomsInTables.{Configuration, Stands}
 use Rattle.room_tables.proofs.RoomReads.{kept}
 use Rattle.room_store_writes.specs.Transactions.{Commits}
 use Rattle.room_store_cache.specs.declared.cache.Cache.{Cache}

@@ -15,9 +15,9 @@ use Rattle.room_types.specs.declared.fleet.RowFate.{RowFate}
 use Rattle.room_types.specs.declared.fleet.RowFate.TheVariants.{Added, Refused, Same}
 use Rattle.room_types.specs.declared.fleet.Terminal.{Terminal}
 use Rattle.room_model.proofs.EnrolLaws.{enrolled_kept, terminals_kept}
-use Rattle.room_model.specs.Enrol.{fate_of, room_by, room_enrolled, terminals_enrolled}
+use Rattle.room_model.specs.FleetRows.{fate_of, room_by, room_enrolled, terminals_enrolled}
 use Rattle.room_model.specs.Room.{Room}
-use Rattle.room_tables.specs.Stands.{Configuration, Stands}
+use Rattle.room_tables.specs.RoomsInTables.{Configuration, Stands}
 use Rattle.room_tables.proofs.RoomReads.{kept}
 use Rattle.room_store_writes.specs.EnrolledRows.{Enrols, StandsAfter}
 use Rattle.room_store_cache.specs.Cache.{KnowsNothing}
@@ -29,6 +29,7 @@ use Rattle.room_store.proofs.KnownLaws.{knows_nothing, still_known}
 use Rattle.room_store.proofs.StoreLaws.{kept_stands}
 use Rattle.room_store_writes.specs.Houses.{config_of}
 use Rattle.room_store.specs.declared.store.Store.{Store}
+use Rattle.room_tables_schema.specs.FileConnections.{IsClean}
 
 -- before the reads, after them, after the write
 module _ (old mid new : State) (layout : Layout) (row : FleetRow) (fate : RowFate)
@@ -145,9 +146,9 @@ module _ (rows : List FleetRow) (i : ℕ) (row : FleetRow)
   -- A stop in the row after the first ones leaves what is there after some of the first rows, or
   -- after this one too.
   pub rows_survive : {S : Type 0} (g : Ghosts S) (first mid new : Store S) → mid.plan ≡ first.plan
-      → (HasCleanDisk (state g mid.conn) → IsTrue (state g first.conn).is_open
+      → (IsClean g mid.conn → IsTrue (state g first.conn).is_open
       → IsTrue (state g mid.conn).is_open)
-      → (HasCleanDisk (state g mid.conn) → (ts : List Terminal) (r : Room) → IsRoom g first ts r
+      → (IsClean g mid.conn → (ts : List Terminal) (r : Room) → IsRoom g first ts r
       → IsRoom g mid (terminals_after_rows (take i rows) r ts)
       (room_after_rows (take i rows) r ts))
       → Survives (state g first.conn) (state g mid.conn) (MayBeEnrolled g first rows)
@@ -160,7 +161,7 @@ module _ (rows : List FleetRow) (i : ℕ) (row : FleetRow)
       survives_then (state g first.conn) (state g mid.conn) (state g new.conn) _ _ (MayBeEnrolled g first rows)
       (λ _ db left. left)
       (λ clean db left is_open ts r is.
-      let early : HasCleanDisk (state g mid.conn) = omega (arith, last.clean) in
+      let early : IsClean g mid.conn = omega (arith, last.clean) in
       let there = left (still early is_open) (terminals_after_rows (take i rows) r ts)
       (room_after_rows (take i rows) r ts) (done early ts r is) in (
         i + 1,
@@ -173,7 +174,7 @@ module _ (rows : List FleetRow) (i : ℕ) (row : FleetRow)
   pub rows_left : {S : Type 0} (g : Ghosts S) (first mid new : Store S) (ts : List Terminal)
       (r : Room) → mid.plan ≡ first.plan → IsKept g mid
       → IsRoom g mid (terminals_after_rows (take i rows) r ts) (room_after_rows (take i rows) r ts)
-      → HasCleanDisk (state g new.conn)
+      → IsClean g new.conn
       → Survives (state g mid.conn) (state g new.conn)
       (λ db. IsTrue (state g mid.conn).is_open → (ts : List Terminal) (r : Room)
       → IsRoom g mid ts r → Stands db (config_of mid.plan (terminals_enrolled r ts row))

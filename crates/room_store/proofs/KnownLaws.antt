@@ -11,11 +11,11 @@ use Rattle.room_types.specs.declared.fleet.RowFate.TheVariants.{Added, Refused, 
 use Rattle.room_types.specs.declared.fleet.Terminal.{Terminal}
 use Rattle.room_model.proofs.EnrolLaws.{exact_tokens, is_added, tokens_total}
 use Rattle.room_model.proofs.KeptCalls.{row_stays}
-use Rattle.room_model.specs.Enrol.{fate_of, new_terminal, terminal_at, terminal_key, terminals_by, terminals_enrolled}
-use Rattle.room_model.specs.Enrol.{token_cmp}
+use Rattle.room_model.specs.FleetRows.{fate_of, new_terminal, terminal_at, terminal_key, terminals_by, terminals_enrolled}
+use Rattle.room_model.specs.FleetRows.{token_cmp}
 use Rattle.room_model.specs.Room.{Room}
 use Rattle.room_store_cache.specs.Cache.{IsCacheOf, KnowsNothing}
-use Rattle.room_store_cache.specs.Backlogs.{IsBacklogOf}
+use Rattle.room_store_cache.specs.QueueViews.{IsQueueViewOf}
 use Rattle.room_store_cache.specs.IncidentViews.{IsIncidentViewOf}
 use Rattle.room_store_cache.specs.ShownLists.{IsShownListOf}
 use Rattle.room_store_cache.specs.declared.cache.Cache.{Cache}
@@ -29,7 +29,7 @@ none_kept P xs none = All-same P xs [] none (All-nil P)
 pub knows_nothing : (cache : Cache) (room : Room) → KnowsNothing cache → IsCacheOf cache room
 knows_nothing cache room nothing = record {
   fleet = λ is. let never : false ≡ true = sym nothing.fleet ∙ is in cc;
-  backlogs = none_kept (λ x. IsBacklogOf x room) cache.backlogs.kept.items nothing.backlogs;
+  queue_views = none_kept (λ x. IsQueueViewOf x room) cache.queue_views.kept.items nothing.queue_views;
   incident_views = none_kept (λ x. IsIncidentViewOf x room) cache.incident_views.kept.items nothing.incident_views;
   recent_incidents = rw nothing.recent_incidents tt;
   shown_lists = none_kept (λ x. IsShownListOf x room) cache.shown_lists.kept.items nothing.shown_lists;

@@ -3,13 +3,13 @@ use Rattle.std.proofs.Common.{Bool, IsTrue, ap, arith, false, inl, inr, not, ref
 use Rattle.std.specs.Prelude.{◌⊎◌}
 use Rattle.sqlite.specs.Effect.{Database}
 use Rattle.sqlite.specs.Held.{Held, state}
-use Rattle.sqlite.specs.State.{HasCleanDisk, IsUnchanged, State, Survives}
+use Rattle.sqlite.specs.State.{IsUnchanged, State, Survives}
 use Rattle.sqlite.proofs.StateLemmas.{survives_then, survives_weaker}
 use Rattle.sqlite_trees.specs.Tree.{Trees}
 use Rattle.sqlite_trees.specs.declared.store.Store.{Ghosts}
-use Rattle.room_tables_schema.specs.FileConnections.{HasRoomSchema}
+use Rattle.room_tables_schema.specs.FileConnections.{HasRoomSchema, IsClean}
 use Rattle.room_tables_schema.specs.Outcomes.{Keeps}
-use Rattle.room_store_writes.specs.Transactions.{IsSettled, Leaves}
+use Rattle.room_store_writes.specs.Transactions.{Leaves, StandsSettled}
 use Rattle.room_store.specs.StoredRoom.{ShowsRoom}
 
 -- outside a transaction the tables are as they were committed
@@ -61,15 +61,14 @@ left_failed old new settled (inr back) = record {
 
 module _ {S : Type 0} (g : Ghosts S) (old new : Held S) where
   -- after reads it may be written
-  module _ (same : HasCleanDisk (state g new) → IsUnchanged (state g old) (state g new)) where
+  module _ (same : IsClean g new → IsUnchanged (state g old) (state g new)) where
     pub room_read : Survives (state g old) (state g new) (λ _. ⊥) → HasRoomSchema g old
         → HasRoomSchema g new
     room_read survives is clean =
-        let early : HasCleanDisk (state g old) = omega (arith, survives.clean) in
+        let early : IsClean g old = omega (arith, survives.clean) in
         ap (λ (db : Database). db.schema) (same clean).0.now_is ∙ is early
 
-    pub settled_read : IsAsCommitted (state g old) → HasCleanDisk (state g new)
-        → IsSettled (state g new)
+    pub settled_read : IsAsCommitted (state g old) → StandsSettled g new
     settled_read settled clean =
         let is = (same clean).0 in
         record {
@@ -78,6 +77,6 @@ module _ {S : Type 0} (g : Ghosts S) (old new : Held S) where
         }
 
     pub shows_read : Survives (state g old) (state g new) (λ _. ⊥) → HasRoomSchema g old
-        → IsAsCommitted (state g old) → HasCleanDisk (state g new) → ShowsRoom (state g new)
+        → IsAsCommitted (state g old) → IsClean g new → ShowsRoom (state g new)
     shows_read survives is settled clean =
         record { schema = room_read survives is clean; settled = settled_read settled clean }

@@ -4,7 +4,7 @@ use Rattle.std.proofs.Common.{◌≡◌}
 use Rattle.std.specs.Prelude.{OnErr, OnOk}
 use Rattle.sqlite.specs.Effect.{Database}
 use Rattle.sqlite.specs.Held.{state}
-use Rattle.sqlite.specs.State.{HasCleanDisk, State, Survives}
+use Rattle.sqlite.specs.State.{State, Survives}
 use Rattle.sqlite.proofs.StateLemmas.{survives_weaker}
 use Rattle.sqlite_trees.specs.Tree.{Trees}
 use Rattle.sqlite_trees.specs.declared.store.Store.{Ghosts}
@@ -15,8 +15,8 @@ use Rattle.room_model.proofs.KeptEvents.{event_kept}
 use Rattle.room_model.specs.Events.{IsNumbered}
 use Rattle.room_model.specs.Room.{Room}
 use Rattle.room_model.specs.Step.{IsAddressed, room_after}
-use Rattle.room_tables.specs.Stands.{Configuration, Stands}
-use Rattle.room_tables_schema.specs.FileConnections.{HasRoomSchema}
+use Rattle.room_tables.specs.RoomsInTables.{Configuration, Stands}
+use Rattle.room_tables_schema.specs.FileConnections.{HasRoomSchema, IsClean}
 use Rattle.room_store_writes.specs.Transactions.{Commits, IsSettled, Leaves}
 use Rattle.room_store_cache.specs.Cache.{IsCacheOf}
 use Rattle.room_store.specs.ActedEvents.{IsFor}
@@ -27,7 +27,7 @@ use Rattle.room_store.specs.declared.store.Store.{Store}
 
 -- a store may be called whose connection shows a room
 pub ready_sound : {S : Type 0} (g : Ghosts S) (held : Store S) → held.conn.in_transaction ≡ false
-    → held.is_sound ≡ true → (HasCleanDisk (state g held.conn) → ShowsRoom (state g held.conn))
+    → held.is_sound ≡ true → (IsClean g held.conn → ShowsRoom (state g held.conn))
     → IsReady g held
 ready_sound g held outside sound shows = record {
   outside = outside;
@@ -129,7 +129,7 @@ kept_stands g held terminals room kept is db left =
     (is.tables kept.is_open)
 
 module _ {S : Type 0} (g : Ghosts S) (old new : Store S) (same : new.plan ≡ old.plan)
-    (clean : HasCleanDisk (state g new.conn)) (kept : IsKept g old) where
+    (clean : IsClean g new.conn) (kept : IsKept g old) where
   -- A call that looked leaves what is kept as it was,
   pub looked_kept : Leaves (state g old.conn) (state g new.conn)
       → Survives (state g old.conn) (state g new.conn) (λ _. ⊥) → IsTrue (state g new.conn).is_open

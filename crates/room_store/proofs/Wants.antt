@@ -76,7 +76,7 @@ pub filled : {before : Cache} {room : Room} (fleet : Fleet) → HasFleetOf fleet
     → IsCacheOf before room → IsCacheOf (record before { fleet = fleet }) room
 filled fleet has is = record {
   fleet = λ _. has;
-  backlogs = is.backlogs;
+  queue_views = is.queue_views;
   incident_views = is.incident_views;
   recent_incidents = is.recent_incidents;
   shown_lists = is.shown_lists;
@@ -87,7 +87,7 @@ pub all_known : {known : Cache} {room : Room} → HasFleetOf known.fleet room �
     → AreKnown known room
 all_known fleet is = record {
   rows = fleet.rows;
-  backlogs = is.backlogs;
+  queue_views = is.queue_views;
   incident_views = is.incident_views;
   recent_incidents = is.recent_incidents;
   shown_lists = is.shown_lists;
@@ -98,7 +98,7 @@ pub still_known : {before : Fleet} {after : Cache} {room : Room} → HasFleetOf 
     → AreKnown after room → after.fleet ≡ before → IsCacheOf after room
 still_known {room = room} fleet are same = record {
   fleet = λ _. subst (λ x. HasFleetOf x room) (sym same) fleet;
-  backlogs = are.backlogs;
+  queue_views = are.queue_views;
   incident_views = are.incident_views;
   recent_incidents = are.recent_incidents;
   shown_lists = are.shown_lists;

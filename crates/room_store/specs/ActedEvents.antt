@@ -5,8 +5,8 @@ use Rattle.room_place.specs.Plans.{Layout}
 use Rattle.room_types.specs.declared.asks.Event.{Event}
 use Rattle.room_model.specs.Room.{Room}
 use Rattle.room_model.specs.Step.{IsAddressed}
-use Rattle.room_model.specs.WellFormed.{IsWellFormed}
-use Rattle.room_tables.specs.Stands.{Configuration, Stands}
+use Rattle.room_model.specs.RoomAgreements.{IsWellFormed}
+use Rattle.room_tables.specs.RoomsInTables.{Configuration, Stands}
 use Rattle.room_store_cache.specs.Cache.{IsCacheOf}
 use Rattle.room_store_cache.specs.declared.cache.Cache.{Cache}
 

@@ -7,7 +7,7 @@ use Rattle.room_types.specs.declared.decisions.Decision.{Decision}
 use Rattle.room_types.specs.declared.refusal_statuses.Refusal.{Refusal}
 use Rattle.room_types.specs.declared.refusal_statuses.Refusal.TheVariants as refusal
 
--- The decision or the refusal, which is to be the machine's. Where memory or storage is wanting,
+-- The decision or the refusal, which is to be the machine's. Where memory or storage fails,
 -- nothing is decided.
 abbrev pub unless_out_of_memory : Result Decision Refusal → Result Verdict Refusal
 unless_out_of_memory (Err refusal.Memory) = Err refusal.Memory

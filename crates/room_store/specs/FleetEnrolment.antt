@@ -7,10 +7,10 @@ use Rattle.room_place.specs.Plans.{Layout}
 use Rattle.room_types.specs.declared.fleet.FleetRow.{FleetRow}
 use Rattle.room_types.specs.declared.fleet.RowFate.{RowFate}
 use Rattle.room_types.specs.declared.fleet.Terminal.{Terminal}
-use Rattle.room_model.specs.Enrol.{fate_of}
+use Rattle.room_model.specs.FleetRows.{fate_of}
 use Rattle.room_model.specs.Fleets.{enrolled, fates_of}
 use Rattle.room_model.specs.Room.{Room}
-use Rattle.room_tables.specs.Stands.{Configuration, Stands}
+use Rattle.room_tables.specs.RoomsInTables.{Configuration, Stands}
 use Rattle.room_store.specs.StoredRoom.{IsKept, IsRoom}
 use Rattle.room_store_writes.specs.Houses.{config_of}
 use Rattle.room_store.specs.declared.store.Store.{Store}

@@ -9,7 +9,7 @@ use Rattle.room_types.specs.Texts.{Token}
 use Rattle.room_types.specs.declared.asks.Who.{Who}
 use Rattle.room_types.specs.declared.asks.Who.TheVariants.{Crew, Desk, Position}
 use Rattle.room_types.specs.declared.fleet.Terminal.{Terminal}
-use Rattle.room_model.specs.Enrol.{token_cmp}
+use Rattle.room_model.specs.FleetRows.{token_cmp}
 use Rattle.room_tables_schema.specs.Schema.{no_schema}
 use Rattle.room_tables_schema.specs.declared.database_faults.Fault.{Fault}
 use Rattle.room_tables_schema.specs.declared.database_faults.Fault.TheVariants as fault

@@ -1,20 +1,21 @@
 -- What a store keeps true between calls, and which room it stands for.
 use Rattle.std.specs.Prelude.{List, [], false, IsTrue, ◌∷◌, ◌≡◌, ◌⊎◌}
 use Rattle.sqlite.specs.Held.{state}
-use Rattle.sqlite.specs.State.{HasCleanDisk, State}
+use Rattle.sqlite.specs.State.{State}
 use Rattle.sqlite_trees.specs.Tree.{Trees}
 use Rattle.sqlite_trees.specs.declared.store.Store.{Ghosts}
 use Rattle.room_types.specs.declared.fleet.Terminal.{Terminal}
-use Rattle.room_model.specs.Enrol.{AreTerminals}
+use Rattle.room_model.specs.FleetRows.{AreTerminals}
 use Rattle.room_model.specs.Room.{Room}
-use Rattle.room_model.specs.WellFormed.{IsWellFormed}
+use Rattle.room_model.specs.RoomAgreements.{IsWellFormed}
 use Rattle.room_tables_schema.specs.Schema.{room_schema}
-use Rattle.room_tables.specs.Stands.{Configuration, Stands}
+use Rattle.room_tables.specs.RoomsInTables.{Configuration, Stands}
 use Rattle.room_store_writes.specs.Houses.{config_of}
 use Rattle.room_store_writes.specs.Transactions.{IsSettled}
 use Rattle.room_store_cache.specs.Cache.{IsCacheOf, KnowsNothing}
 use Rattle.room_store_cache.specs.KnownTerminals.{AreTerminalsOf}
 use Rattle.room_store.specs.declared.store.Store.{Store}
+use Rattle.room_tables_schema.specs.FileConnections.{IsClean}
 
 -- The connection shows a room: it is open, its tables are a room's, and they are as they were
 -- committed.
@@ -26,7 +27,7 @@ pub record ShowsRoom (at : State) : Type 0 where
 -- store knows nothing.
 pub record IsReady {S : Type 0} (g : Ghosts S) (held : Store S) : Type 0 where
   pub outside : held.conn.in_transaction ≡ false
-  pub sound : IsTrue held.is_sound → HasCleanDisk (state g held.conn)
+  pub sound : IsTrue held.is_sound → IsClean g held.conn
       → ShowsRoom (state g held.conn)
   pub unsound : held.is_sound ≡ false → KnowsNothing held.cache
 

@@ -1,9 +1,9 @@
 //! One event acted on: decided, answered, kept.
-ghost use Rattle.std.specs.Prelude.{◌≡◌, false, Ok, Result, IsTrue, IfOk, IfErr, OnOk, OnErr};
+ghost use Rattle.std.specs.Prelude.{◌≡◌, false, Ok, Result, IsTrue, IfOk, IfErr, OnOk};
 ghost use Rattle.std.specs.Fn.{FnOnceReturnsAt};
 ghost use Rattle.sqlite.specs.Held.{state};
-ghost use Rattle.sqlite.specs.State.{HasCleanDisk, Survives};
-ghost use Rattle.room_tables_schema.specs.FileConnections.{HasRoomSchema};
+ghost use Rattle.sqlite.specs.State.{Survives};
+ghost use Rattle.room_tables_schema.specs.FileConnections.{HasRoomSchema, IsClean, StandsOpen};
 ghost use Rattle.room_tables_schema.specs.Outcomes.{ReadsOnly};
 ghost use Rattle.room_types.specs.declared.answers.Answer.{Answer as Told};
 ghost use Rattle.room_types.specs.declared.refusal_statuses.Refusal.{Refusal as Why};
@@ -13,8 +13,8 @@ ghost use Rattle.room_model.specs.Events.{IsNumbered};
 ghost use Rattle.room_model.specs.Room.{Room};
 ghost use Rattle.room_model.specs.Step.{answer_to, decided, room_after};
 ghost use Rattle.room_model.specs.Rooms.{IsWant};
-ghost use Rattle.room_tables.specs.Stands.{Configuration, Stands};
-ghost use Rattle.room_store_writes.specs.Transactions.{Commits, Leaves};
+ghost use Rattle.room_tables.specs.RoomsInTables.{Configuration, Stands};
+ghost use Rattle.room_store_writes.specs.Transactions.{Commits, LeavesOnErr};
 ghost use Rattle.room_store_cache.specs.Cache.{IsCacheOf};
 ghost use Rattle.room_store.specs.ActedEvents.{IsFor};
 ghost use Rattle.room_store.specs.EventDecisions.{in_parts, unless_out_of_memory};
@@ -44,25 +44,23 @@ pub(crate) fn act_on<S: Alter, F: FnOnce(&Result<Answer, Refusal>) -> Result<Vec
 ) -> Result<Vec<u8>, Refusal>
     requires room { HasRoomSchema S.Store conn.old }
     requires outside { conn.old.in_transaction ≡ false }
-    requires open { IsTrue cache.old.fleet.is_known → HasCleanDisk (state S.Store conn.old)
-        → IsTrue (state S.Store conn.old).is_open }
+    requires open { IsTrue cache.old.fleet.is_known → StandsOpen S.Store conn.old }
     requires callable { F.IsAlwaysCallable render }
     requires memory { (answer : Result Told Why) (r : _)
         → FnOnceReturnsAt F.FnOnce render answer r → IfErr r (λ e. e ≡ Memory) }
-    ensures bytes { HasCleanDisk (state S.Store conn.new)
+    ensures bytes { IsClean S.Store conn.new
         → IfOk result (λ bytes. (config : Configuration) (room : Room)
         → IsFor (state S.Store conn.old).now.trees plan.now cache.old event.now config room
         → FnOnceReturnsAt F.FnOnce render (answer_to event.now room) (Ok bytes)) }
-    ensures ok { HasCleanDisk (state S.Store conn.new)
+    ensures ok { IsClean S.Store conn.new
         → OnOk result (Commits (state S.Store conn.old) (state S.Store conn.new)
         (IsFor (state S.Store conn.old).now.trees plan.now cache.old event.now)
         (room_after event.now)) }
-    ensures cache { HasCleanDisk (state S.Store conn.new)
+    ensures cache { IsClean S.Store conn.new
         → OnOk result ((config : Configuration) (room : Room)
         → IsFor (state S.Store conn.old).now.trees plan.now cache.old event.now config room
         → IsCacheOf cache.new (room_after event.now room)) }
-    ensures err { HasCleanDisk (state S.Store conn.new)
-        → OnErr result (Leaves (state S.Store conn.old) (state S.Store conn.new)) }
+    ensures err { LeavesOnErr S.Store conn.old conn.new result }
     ensures wants { IfErr result IsWant }
     ensures ended { conn.new.in_transaction ≡ false }
     ensures survives { Survives (state S.Store conn.old) (state S.Store conn.new) (λ db.
@@ -102,20 +100,19 @@ pub(crate) fn prepare<S: Alter, F: FnOnce(&Result<Answer, Refusal>) -> Result<Ve
     render: F,
 ) -> Result<Prepared, Refusal>
     requires room { HasRoomSchema S.Store conn.old }
-    requires open { IsTrue cache.old.fleet.is_known → HasCleanDisk (state S.Store conn.old)
-        → IsTrue (state S.Store conn.old).is_open }
+    requires open { IsTrue cache.old.fleet.is_known → StandsOpen S.Store conn.old }
     requires callable { F.IsAlwaysCallable render }
     requires memory { (answer : Result Told Why) (r : _)
         → FnOnceReturnsAt F.FnOnce render answer r → IfErr r (λ e. e ≡ Memory) }
-    ensures changes { HasCleanDisk (state S.Store conn.new)
+    ensures changes { IsClean S.Store conn.new
         → IfOk result (λ prepared. (config : Configuration) (room : Room)
         → IsFor (state S.Store conn.old).now.trees plan.now cache.old event.now config room
         → prepared.changes ≡ changes_of (decided event.now room)) }
-    ensures bytes { HasCleanDisk (state S.Store conn.new)
+    ensures bytes { IsClean S.Store conn.new
         → IfOk result (λ prepared. (config : Configuration) (room : Room)
         → IsFor (state S.Store conn.old).now.trees plan.now cache.old event.now config room
         → FnOnceReturnsAt F.FnOnce render (answer_to event.now room) (Ok prepared.bytes)) }
-    ensures cache { HasCleanDisk (state S.Store conn.new)
+    ensures cache { IsClean S.Store conn.new
         → OnOk result ((config : Configuration) (room : Room)
         → IsFor (state S.Store conn.old).now.trees plan.now cache.old event.now config room
         → IsCacheOf cache.new room) }

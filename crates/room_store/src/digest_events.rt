@@ -1,9 +1,9 @@
 //! One event acted on where the room comes to a digest by it.
-ghost use Rattle.std.specs.Prelude.{◌≡◌, false, Ok, Result, IsTrue, IfOk, IfErr, OnOk, OnErr};
+ghost use Rattle.std.specs.Prelude.{◌≡◌, false, Ok, Result, IsTrue, IfOk, IfErr, OnOk};
 ghost use Rattle.std.specs.Fn.{FnOnceReturnsAt};
 ghost use Rattle.sqlite.specs.Held.{state};
-ghost use Rattle.sqlite.specs.State.{HasCleanDisk, Survives};
-ghost use Rattle.room_tables_schema.specs.FileConnections.{HasRoomSchema};
+ghost use Rattle.sqlite.specs.State.{Survives};
+ghost use Rattle.room_tables_schema.specs.FileConnections.{HasRoomSchema, IsClean, StandsOpen};
 ghost use Rattle.room_types.specs.declared.answers.Answer.{Answer as Told};
 ghost use Rattle.room_types.specs.declared.refusal_statuses.Refusal.{Refusal as Why};
 ghost use Rattle.room_types.specs.declared.refusal_statuses.Refusal.TheVariants.{Memory};
@@ -11,8 +11,8 @@ ghost use Rattle.room_model.specs.Room.{Room};
 ghost use Rattle.room_model.specs.Step.{answer_to, room_after};
 ghost use Rattle.room_model.specs.Digests.{IsMiss};
 ghost use Rattle.room_model.specs.declared.digests.Miss.TheVariants.{Another};
-ghost use Rattle.room_tables.specs.Stands.{Configuration, Stands};
-ghost use Rattle.room_store_writes.specs.Transactions.{Commits, Leaves};
+ghost use Rattle.room_tables.specs.RoomsInTables.{Configuration, Stands};
+ghost use Rattle.room_store_writes.specs.Transactions.{Commits, LeavesOnErr};
 ghost use Rattle.room_store_cache.specs.Cache.{IsCacheOf};
 ghost use Rattle.room_store.specs.ActedEvents.{IsFor};
 ghost use Rattle.room_store.specs.StoreFaults.{miss_of};
@@ -46,33 +46,31 @@ pub(crate) fn act_towards_on<
 ) -> Result<Vec<u8>, Miss>
     requires room { HasRoomSchema S.Store conn.old }
     requires outside { conn.old.in_transaction ≡ false }
-    requires open { IsTrue cache.old.fleet.is_known → HasCleanDisk (state S.Store conn.old)
-        → IsTrue (state S.Store conn.old).is_open }
+    requires open { IsTrue cache.old.fleet.is_known → StandsOpen S.Store conn.old }
     requires callable { F.IsAlwaysCallable render }
     requires memory { (answer : Result Told Why) (r : _)
         → FnOnceReturnsAt F.FnOnce render answer r → IfErr r (λ e. e ≡ Memory) }
-    ensures bytes { HasCleanDisk (state S.Store conn.new)
+    ensures bytes { IsClean S.Store conn.new
         → IfOk result (λ bytes. (config : Configuration) (room : Room)
         → IsFor (state S.Store conn.old).now.trees plan.now cache.old event.now config room
         → FnOnceReturnsAt F.FnOnce render (answer_to event.now room) (Ok bytes)) }
-    ensures ok { HasCleanDisk (state S.Store conn.new)
+    ensures ok { IsClean S.Store conn.new
         → OnOk result (Commits (state S.Store conn.old) (state S.Store conn.new)
         (IsFor (state S.Store conn.old).now.trees plan.now cache.old event.now)
         (room_after event.now)) }
-    ensures cache { HasCleanDisk (state S.Store conn.new)
+    ensures cache { IsClean S.Store conn.new
         → OnOk result ((config : Configuration) (room : Room)
         → IsFor (state S.Store conn.old).now.trees plan.now cache.old event.now config room
         → IsCacheOf cache.new (room_after event.now room)) }
-    ensures reaches { HasCleanDisk (state S.Store conn.new)
+    ensures reaches { IsClean S.Store conn.new
         → OnOk result ((config : Configuration) (room : Room)
         → IsFor (state S.Store conn.old).now.trees plan.now cache.old event.now config room
         → IsHeadAfter event.now config.zone config.terminals room head.now) }
-    ensures another { HasCleanDisk (state S.Store conn.new)
+    ensures another { IsClean S.Store conn.new
         → IfErr result (λ miss. miss ≡ Another → (config : Configuration) (room : Room)
         → IsFor (state S.Store conn.old).now.trees plan.now cache.old event.now config room
         → ¬ (IsHeadAfter event.now config.zone config.terminals room head.now)) }
-    ensures err { HasCleanDisk (state S.Store conn.new)
-        → OnErr result (Leaves (state S.Store conn.old) (state S.Store conn.new)) }
+    ensures err { LeavesOnErr S.Store conn.old conn.new result }
     ensures wants { IfErr result IsMiss }
     ensures ended { conn.new.in_transaction ≡ false }
     ensures survives { Survives (state S.Store conn.old) (state S.Store conn.new) (λ db.

@@ -1,19 +1,16 @@
 //! What the room in the tables decides of an event. Nothing is written.
 ghost use Rattle.std.specs.Prelude.{◌≡◌, IsTrue, IfOk};
 ghost use Rattle.sqlite.specs.Held.{state};
-ghost use Rattle.sqlite.specs.State.{HasCleanDisk};
-ghost use Rattle.room_tables_schema.specs.FileConnections.{HasRoomSchema};
+ghost use Rattle.room_tables_schema.specs.FileConnections.{HasRoomSchema, IsClean, StandsOpen};
 ghost use Rattle.room_tables_schema.specs.Outcomes.{ReadsOnly};
 ghost use Rattle.room_types.specs.declared.asks.Ask.TheVariants.{Call as CallAsk};
 ghost use Rattle.room_types.specs.declared.asks.Who.TheVariants.{Position};
 ghost use Rattle.room_model.specs.Calls.{new_call, show_last_serial};
 ghost use Rattle.room_model.specs.Reports.{take_report};
 ghost use Rattle.room_model.specs.Room.{Room};
-ghost use Rattle.room_model.specs.RoomSlices.{room_of};
 ghost use Rattle.room_model.specs.Step.{crew_asks, decided, desk_asks};
-ghost use Rattle.room_model.specs.WellFormed.{IsWellFormed};
-ghost use Rattle.room_model.specs.Working.{working};
-ghost use Rattle.room_tables.specs.Stands.{Configuration};
+ghost use Rattle.room_model.specs.RoomAgreements.{IsWellFormed};
+ghost use Rattle.room_tables.specs.RoomsInTables.{Configuration};
 ghost use Rattle.room_tables.specs.FoundRows.{Finds};
 ghost use Rattle.room_store.specs.ActedEvents.{IsFor};
 ghost use Rattle.room_store.specs.EventDecisions.{unless_out_of_memory};
@@ -33,14 +30,12 @@ use room_store_cache::fleets::Fleet;
 use room_store_cache::working_rows::load_working;
 use room_tables::call_table::last_serial;
 use room_tables::table_loads::row_at;
-use room_tables_schema::database_faults::Fault;
 use room_types::asks::{Ask, CallForm, Event, NewCall, Press, Who};
 use room_types::callsign::Callsign;
 use room_types::crews::CrewSlice;
 use room_types::decisions::Decision;
 use room_types::numbers::{Moment, PositionNumber};
 use room_types::refusal_statuses::Refusal;
-use room_types::slices::Slice;
 use room_types::tables::{Call, Vehicle};
 use sqlite::{Alter, Connection};
 use std::alloc::Global;
@@ -56,13 +51,12 @@ pub(crate) fn decide<S: Alter>(
     event: &Event,
 ) -> Result<Decision, Refusal>
     requires room { HasRoomSchema S.Store conn.old }
-    requires open { IsTrue cache.old.fleet.is_known → HasCleanDisk (state S.Store conn.old)
-        → IsTrue (state S.Store conn.old).is_open }
-    ensures decided { HasCleanDisk (state S.Store conn.new)
+    requires open { IsTrue cache.old.fleet.is_known → StandsOpen S.Store conn.old }
+    ensures decided { IsClean S.Store conn.new
         → IfOk (unless_out_of_memory result) (λ x. (config : Configuration) (room : Room)
         → IsFor (state S.Store conn.old).now.trees plan.now cache.old event.now config room
         → x ≡ decided event.now room) }
-    ensures cache { HasCleanDisk (state S.Store conn.new)
+    ensures cache { IsClean S.Store conn.new
         → IfOk (unless_out_of_memory result) (λ _. (config : Configuration) (room : Room)
         → IsFor (state S.Store conn.old).now.trees plan.now cache.old event.now config room
         → IsCacheOf cache.new room) }
@@ -102,8 +96,7 @@ fn for_desk<S: Alter>(
     event: &Event,
 ) -> Result<Decision, Refusal>
     requires room { HasRoomSchema S.Store conn.old }
-    requires open { HasCleanDisk (state S.Store conn.old)
-        → IsTrue (state S.Store conn.old).is_open }
+    requires open { StandsOpen S.Store conn.old }
     ensures decided { Finds S.Store conn.old conn.new (unless_out_of_memory result) (λ room x.
         IsWellFormed room → room.plan ≡ plan.now.areas → AreKnown cache.old room
         → x ≡ desk_asks division event.now.ask event.now.at room) }
@@ -112,40 +105,13 @@ fn for_desk<S: Alter>(
     ensures fleet { cache.new.fleet ≡ cache.old.fleet }
     ensures reads { ReadsOnly S.Store conn.old conn.new (unless_out_of_memory result) }
 {
-    let slice = match load_slice(alloc, conn, division, event, cache) {
+    let slice = match load_working(alloc, conn, division, &event.ask, event.at, cache) {
         Ok(slice) => slice,
         Err(fault) => return Err(refusal_of(fault)),
     };
     let decision = decide_desk(alloc, plan, &slice, &event.ask, event.at);
     drop(slice);
     decision
-}
-
-// The rows of a division that its desk's request reads, or a call that is placed in it.
-fn load_slice<S: Alter>(
-    alloc: Global,
-    conn: &mut Connection<S>,
-    division: DivisionNumber,
-    event: &Event,
-    cache: &mut Cache,
-) -> Result<Slice, Fault>
-    requires room { HasRoomSchema S.Store conn.old }
-    requires open { HasCleanDisk (state S.Store conn.old)
-        → IsTrue (state S.Store conn.old).is_open }
-    ensures division { IfOk result (λ x. x.division ≡ division) }
-    ensures rows { Finds S.Store conn.old conn.new result (λ room x. IsWellFormed room
-        → AreKnown cache.old room
-        → room_of room.plan x.rows ≡ working division event.now.ask event.now.at room) }
-    ensures known { Finds S.Store conn.old conn.new result (λ room _. IsWellFormed room
-        → AreKnown cache.old room → AreKnown cache.new room) }
-    ensures fleet { cache.new.fleet ≡ cache.old.fleet }
-    ensures reads { ReadsOnly S.Store conn.old conn.new result }
-{
-    let rows = load_working(alloc, conn, division, &event.ask, event.at, cache)?;
-    match Slice::build(division, rows) {
-        Some(slice) => Ok(slice),
-        None => Err(Fault::Storage),
-    }
 }
 
 // What a vehicle's crew asks.
@@ -158,8 +124,7 @@ fn for_crew<S: Alter>(
     at: Moment,
 ) -> Result<Decision, Refusal>
     requires room { HasRoomSchema S.Store conn.old }
-    requires open { HasCleanDisk (state S.Store conn.old)
-        → IsTrue (state S.Store conn.old).is_open }
+    requires open { StandsOpen S.Store conn.old }
     ensures decided { Finds S.Store conn.old conn.new (unless_out_of_memory result) (λ room x.
         IsWellFormed room → HasFleetOf fleet.old room
         → x ≡ crew_asks callsign.now ask.now at room) }
@@ -191,8 +156,7 @@ fn for_report<S: Alter>(
     at: Moment,
 ) -> Result<Decision, Refusal>
     requires room { HasRoomSchema S.Store conn.old }
-    requires open { HasCleanDisk (state S.Store conn.old)
-        → IsTrue (state S.Store conn.old).is_open }
+    requires open { StandsOpen S.Store conn.old }
     ensures decided { Finds S.Store conn.old conn.new (unless_out_of_memory result) (λ room x.
         IsWellFormed room → HasFleetOf fleet.old room → HasVehicle vehicle.now room
         → x ≡ take_report vehicle.now.callsign press.now at room) }
@@ -248,7 +212,7 @@ fn for_call<S: Alter>(
     let Some(division) = plan.division_of(form.place) else {
         return Err(Refusal::OutsideArea);
     };
-    let slice = match load_slice(alloc, conn, division, event, cache) {
+    let slice = match load_working(alloc, conn, division, &event.ask, event.at, cache) {
         Ok(slice) => slice,
         Err(fault) => return Err(refusal_of(fault)),
     };

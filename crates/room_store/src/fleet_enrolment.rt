@@ -1,17 +1,17 @@
 //! Rows of a fleet, enrolled: vehicles and their crews' terminals.
 ghost use Rattle.std.specs.Prelude.{◌≡◌, ◌++◌, ◌∷◌, [], List, false, IsTrue, IfOk, IfErr, OnOk, OnErr, length};
 ghost use Rattle.sqlite.specs.Held.{state};
-ghost use Rattle.sqlite.specs.State.{HasCleanDisk, Survives};
+ghost use Rattle.sqlite.specs.State.{Survives};
 ghost use Rattle.sqlite_trees.specs.Tree.{Trees};
-ghost use Rattle.room_tables_schema.specs.FileConnections.{HasRoomSchema};
+ghost use Rattle.room_tables_schema.specs.FileConnections.{HasRoomSchema, IsClean};
 ghost use Rattle.room_tables_schema.specs.Outcomes.{ReadsOnly};
 ghost use Rattle.room_types.specs.declared.fleet.RowFate.TheVariants as told;
 ghost use Rattle.room_types.specs.declared.fleet.Terminal.{Terminal as Known};
-ghost use Rattle.room_model.specs.Enrol.{fate_by, fate_of, is_crews_terminal, is_same_vehicle, room_enrolled, terminals_enrolled};
+ghost use Rattle.room_model.specs.FleetRows.{fate_by, fate_of, is_crews_terminal, is_same_vehicle, room_enrolled, terminals_enrolled};
 ghost use Rattle.room_model.specs.Room.{Room};
 ghost use Rattle.room_model.specs.Rooms.{IsWant};
-ghost use Rattle.room_tables.specs.Stands.{Configuration, Stands};
-ghost use Rattle.room_store_writes.specs.Transactions.{IsSettled, Leaves};
+ghost use Rattle.room_tables.specs.RoomsInTables.{Configuration, Stands};
+ghost use Rattle.room_store_writes.specs.Transactions.{IsSettled, LeavesOnErr};
 ghost use Rattle.room_store_writes.specs.EnrolledRows.{Enrols, StandsAfter};
 ghost use Rattle.room_store_cache.specs.Cache.{IsCacheOf};
 ghost use Rattle.room_store.specs.FleetEnrolment.{HasEnrolled, MayBeEnrolled, StandsInPlan, fate_in};
@@ -44,7 +44,7 @@ impl<S: Alter> Store<S> {
         requires ready { IsReady S.Store self.old }
         ensures ready { IsReady S.Store self.new }
         ensures plan { self.new.plan ≡ self.old.plan }
-        ensures enrolled { HasCleanDisk (state S.Store self.new.conn)
+        ensures enrolled { IsClean S.Store self.new.conn
             → (terminals : List Known) (room : Room) → IsRoom S.Store self.old terminals room
             → (done : HasEnrolled S.Store self.old self.new rows.now out.old.items out.new.items
             terminals room) × OnOk result (done.count ≡ length rows.now) }
@@ -68,22 +68,21 @@ impl<S: Alter> Store<S> {
         ensures known { self.new.terminals ≡ self.old.terminals }
         ensures cache { (room : Room) → IsCacheOf self.old.cache room
             → IsCacheOf self.new.cache room }
-        ensures fate { HasCleanDisk (state S.Store self.new.conn)
+        ensures fate { IsClean S.Store self.new.conn
             → OnOk result ((terminals : List Known) (room : Room)
             → IsRoom S.Store self.old terminals room
             → out.new.items ≡ out.old.items ++ fate_of room terminals row.now ∷ []) }
-        ensures ok { HasCleanDisk (state S.Store self.new.conn)
+        ensures ok { IsClean S.Store self.new.conn
             → OnOk result ((terminals : List Known) (room : Room)
             → IsRoom S.Store self.old terminals room
             → IsRoom S.Store self.new (terminals_enrolled room terminals row.now)
             (room_enrolled room terminals row.now)) }
-        ensures settled { HasCleanDisk (state S.Store self.new.conn)
+        ensures settled { IsClean S.Store self.new.conn
             → OnOk result (IsSettled (state S.Store self.new.conn)) }
-        ensures alone { HasCleanDisk (state S.Store self.new.conn)
+        ensures alone { IsClean S.Store self.new.conn
             → OnOk result ((db : Trees) → (state S.Store self.new.conn).may_leave db
             → db ≡ (state S.Store self.new.conn).now.trees) }
-        ensures err { HasCleanDisk (state S.Store self.new.conn)
-            → OnErr result (Leaves (state S.Store self.old.conn) (state S.Store self.new.conn)) }
+        ensures err { LeavesOnErr S.Store self.old.conn self.new.conn result }
         ensures kept { OnErr result (out.new.items ≡ out.old.items) }
         ensures wants { IfErr result IsWant }
         ensures survives { Survives (state S.Store self.old.conn) (state S.Store self.new.conn)
@@ -115,15 +114,14 @@ fn add_fate<S: Alter>(
 ) -> Result<(), Fault>
     requires room { HasRoomSchema S.Store conn.old }
     requires outside { conn.old.in_transaction ≡ false }
-    ensures fate { HasCleanDisk (state S.Store conn.new)
+    ensures fate { IsClean S.Store conn.new
         → OnOk result ((config : Configuration) (room : Room)
         → StandsInPlan (state S.Store conn.old).now.trees plan.now config room
         → out.new.items ≡ out.old.items ++ fate_in row.now config room ∷ []) }
-    ensures ok { HasCleanDisk (state S.Store conn.new)
+    ensures ok { IsClean S.Store conn.new
         → OnOk result (Enrols (state S.Store conn.old) (state S.Store conn.new) row.now
         (StandsInPlan (state S.Store conn.old).now.trees plan.now) (fate_in row.now)) }
-    ensures err { HasCleanDisk (state S.Store conn.new)
-        → OnErr result (Leaves (state S.Store conn.old) (state S.Store conn.new)) }
+    ensures err { LeavesOnErr S.Store conn.old conn.new result }
     ensures kept { OnErr result (out.new.items ≡ out.old.items) }
     ensures ended { conn.new.in_transaction ≡ false }
     ensures survives { Survives (state S.Store conn.old) (state S.Store conn.new) (λ db.
@@ -151,7 +149,7 @@ fn find_fate<S: Alter>(
     row: &FleetRow,
 ) -> Result<RowFate, Fault>
     requires room { HasRoomSchema S.Store conn.old }
-    ensures fate { HasCleanDisk (state S.Store conn.new)
+    ensures fate { IsClean S.Store conn.new
         → IfOk result (λ fate. (config : Configuration) (room : Room)
         → StandsInPlan (state S.Store conn.old).now.trees plan.now config room
         → fate ≡ fate_in row.now config room) }

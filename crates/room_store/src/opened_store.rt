@@ -1,7 +1,7 @@
 //! A room opened from the tables of a file.
 ghost use Rattle.std.specs.Prelude.{◌≡◌, ◌⊎◌, false, List, IfErr, IfOk};
 ghost use Rattle.sqlite.specs.Held.{state};
-ghost use Rattle.sqlite.specs.State.{HasCleanDisk, Survives};
+ghost use Rattle.sqlite.specs.State.{Survives};
 ghost use Rattle.room_types.specs.declared.fleet.Terminal.{Terminal};
 ghost use Rattle.room_model.specs.Room.{Room};
 ghost use Rattle.room_tables_schema.specs.Schema.{room_schema};
@@ -14,6 +14,7 @@ ghost use Rattle.room_store_file.specs.declared.opened_file.OpenFault.TheVariant
   NotARoom,
   OldRoom,
 };
+ghost use Rattle.room_tables_schema.specs.FileConnections.{IsClean};
 
 use crate::store::Store;
 use room_store_cache::cache::Cache;
@@ -32,23 +33,23 @@ impl<S: Alter> Store<S> {
     ) -> Result<Store<S>, (OpenFault, Connection<S>)>
         requires outside { conn.in_transaction ≡ false }
         ensures ready { IfOk result (IsReady S.Store) }
-        ensures room { IfOk result (λ store. HasCleanDisk (state S.Store store.conn)
+        ensures room { IfOk result (λ store. IsClean S.Store store.conn
             → (terminals : List Terminal) × (room : Room) × IsRoom S.Store store terminals room) }
-        ensures schema { IfOk result (λ store. HasCleanDisk (state S.Store store.conn)
+        ensures schema { IfOk result (λ store. IsClean S.Store store.conn
             → (state S.Store store.conn).now.schema ≡ room_schema) }
-        ensures kept { IfOk result (λ store. HasCleanDisk (state S.Store store.conn)
+        ensures kept { IfOk result (λ store. IsClean S.Store store.conn
             → IsKept S.Store store) }
-        ensures same { IfOk result (λ store. HasCleanDisk (state S.Store store.conn)
+        ensures same { IfOk result (λ store. IsClean S.Store store.conn
             → KeepsFile (state S.Store conn) (state S.Store store.conn)) }
-        ensures not_old { IfOk result (λ store. HasCleanDisk (state S.Store store.conn)
+        ensures not_old { IfOk result (λ store. IsClean S.Store store.conn
             → ¬ IsOldRoom (state S.Store conn).now) }
-        ensures old_room { IfErr result (λ e. HasCleanDisk (state S.Store e.1)
+        ensures old_room { IfErr result (λ e. IsClean S.Store e.1
             → (e.0 ≡ OldRoom → IsOldRoom (state S.Store conn).now)
             × (e.0 ≡ NotARoom → ¬ IsOldRoom (state S.Store conn).now)) }
-        ensures no_room { IfErr result (λ e. HasCleanDisk (state S.Store e.1) → e.0 ≡ NotARoom
+        ensures no_room { IfErr result (λ e. IsClean S.Store e.1 → e.0 ≡ NotARoom
             → HasTables (state S.Store conn).now.schema
             → ¬ HoldsRoom (state S.Store conn).now.trees) }
-        ensures same_fault { IfErr result (λ e. HasCleanDisk (state S.Store e.1)
+        ensures same_fault { IfErr result (λ e. IsClean S.Store e.1
             → Leaves (state S.Store conn) (state S.Store e.1)) }
         ensures untouched { IfErr result (λ e. (e.0 ≡ OldRoom) ⊎ (e.0 ≡ NotARoom)
             → WritesNothing (state S.Store conn) (state S.Store e.1)) }

@@ -2,13 +2,12 @@
 ghost use Rattle.std.proofs.Common.{ap, false, inl, inr, subst, sym, ⊎_elim, ◌∙◌, ◌≡◌};
 ghost use Rattle.std.proofs.lemmas.Bool.{cases_Bool};
 ghost use Rattle.sqlite.specs.Effect.{Database};
-ghost use Rattle.sqlite.specs.Held.{state};
-ghost use Rattle.sqlite.specs.State.{HasCleanDisk};
 ghost use Rattle.room_model.specs.Rooms.{machine};
-ghost use Rattle.room_tables.specs.Stands.{Stands};
+ghost use Rattle.room_tables.specs.RoomsInTables.{Stands};
 ghost use Rattle.room_store_writes.specs.Houses.{config_of};
 ghost use Rattle.room_store_cache.specs.Cache.{KnowsNothing};
 ghost use Rattle.room_store.specs.StoredRoom.{IsKept, IsReady, IsRoom, LeavesOneOf};
+ghost use Rattle.room_tables_schema.specs.FileConnections.{IsClean};
 
 use crate::store::Store;
 use room_model::rooms::Room;
@@ -22,7 +21,7 @@ use std::alloc::Global;
 impl<S: Alter> Room for Store<S> {
     ghost is_ready = { λ held. IsReady S.Store held };
 
-    ghost is_trusted = { λ held. HasCleanDisk (state S.Store held.conn) };
+    ghost is_trusted = { λ held. IsClean S.Store held.conn };
 
     ghost stands = { λ held terminals room. IsRoom S.Store held terminals room };
 

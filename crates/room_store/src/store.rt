@@ -2,7 +2,7 @@
 ghost use Rattle.std.specs.Prelude.{◌≡◌, false, List, Result, Ok, IsTrue, IfOk, IfErr, OnOk, OnErr, MatchResult};
 ghost use Rattle.std.specs.Fn.{FnOnceReturnsAt};
 ghost use Rattle.sqlite.specs.Held.{state};
-ghost use Rattle.sqlite.specs.State.{HasCleanDisk, Survives};
+ghost use Rattle.sqlite.specs.State.{Survives};
 ghost use Rattle.sqlite_trees.specs.Tree.{Trees};
 ghost use Rattle.room_types.specs.declared.answers.Answer.{Answer as Told};
 ghost use Rattle.room_types.specs.declared.fleet.Terminal.{Terminal as Known};
@@ -11,13 +11,13 @@ ghost use Rattle.room_types.specs.declared.refusal_statuses.Refusal.TheVariants.
 ghost use Rattle.room_model.specs.Room.{Room};
 ghost use Rattle.room_model.specs.Shares.{AgreeOn};
 ghost use Rattle.room_model.specs.Step.{IsAddressed, answer_to, room_after};
-ghost use Rattle.room_model.specs.WellFormed.{IsWellFormed};
-ghost use Rattle.room_tables_schema.specs.FileConnections.{HasRoomSchema};
+ghost use Rattle.room_model.specs.RoomAgreements.{IsWellFormed};
+ghost use Rattle.room_tables_schema.specs.FileConnections.{HasRoomSchema, IsClean};
 ghost use Rattle.room_model.specs.Digests.{IsMiss};
 ghost use Rattle.room_model.specs.Rooms.{IsWant, who_at};
 ghost use Rattle.room_model.specs.declared.digests.Miss.TheVariants.{Another};
-ghost use Rattle.room_tables.specs.Stands.{Stands};
-ghost use Rattle.room_store_writes.specs.Transactions.{IsSettled, Leaves};
+ghost use Rattle.room_tables.specs.RoomsInTables.{Stands};
+ghost use Rattle.room_store_writes.specs.Transactions.{IsSettled, Leaves, LeavesOnErr};
 ghost use Rattle.room_store_cache.specs.Cache.{KnowsNothing};
 ghost use Rattle.room_store.specs.StoredRoom.{IsReady, IsRoom, ShowsRoom};
 ghost use Rattle.room_store.specs.DigestEvents.{IsHeadAfter};
@@ -69,7 +69,7 @@ impl<S: Alter> Store<S> {
     pub fn is_sound(&self) -> bool
         requires { IsReady S.Store self.now }
         ensures value { result ≡ self.now.is_sound }
-        ensures usable { HasCleanDisk (state S.Store self.now.conn)
+        ensures usable { IsClean S.Store self.now.conn
             → IsTrue result → ShowsRoom (state S.Store self.now.conn) }
     {
         self.is_sound
@@ -95,15 +95,15 @@ impl<S: Alter> Store<S> {
         requires ready { IsReady S.Store self.old }
         ensures ready { IsReady S.Store self.new }
         ensures plan { self.new.plan ≡ self.old.plan }
-        ensures known { HasCleanDisk (state S.Store self.new.conn)
+        ensures known { IsClean S.Store self.new.conn
             → IfOk result (λ who. (terminals : List Known) (room : Room)
             → IsRoom S.Store self.old terminals room → who ≡ who_at terminals token.now) }
-        ensures same { HasCleanDisk (state S.Store self.new.conn)
+        ensures same { IsClean S.Store self.new.conn
             → (terminals : List Known) (room : Room) → IsRoom S.Store self.old terminals room
             → IsRoom S.Store self.new terminals room }
-        ensures leaves { HasCleanDisk (state S.Store self.new.conn)
+        ensures leaves { IsClean S.Store self.new.conn
             → Leaves (state S.Store self.old.conn) (state S.Store self.new.conn) }
-        ensures stays_open { HasCleanDisk (state S.Store self.new.conn)
+        ensures stays_open { IsClean S.Store self.new.conn
             → OnOk result (IsTrue (state S.Store self.old.conn).is_open
             → IsTrue (state S.Store self.new.conn).is_open) }
         ensures wants { IfErr result IsWant }
@@ -150,24 +150,23 @@ impl<S: Alter> Store<S> {
         ensures known { self.new.terminals ≡ self.old.terminals }
         // After a failure only terminals are known of the room.
         ensures failed { OnErr result (KnowsNothing self.new.cache) }
-        ensures bytes { HasCleanDisk (state S.Store self.new.conn)
+        ensures bytes { IsClean S.Store self.new.conn
             → IfOk result (λ bytes. (terminals : List Known) (room : Room)
             → IsRoom S.Store self.old terminals room → IsAddressed event.now room
             → FnOnceReturnsAt F.FnOnce render (answer_to event.now room) (Ok bytes)) }
         // They are so of every room that agrees on the rows of who asks.
-        ensures apart { HasCleanDisk (state S.Store self.new.conn)
+        ensures apart { IsClean S.Store self.new.conn
             → IfOk result (λ bytes. (terminals : List Known) (room other : Room)
             → IsRoom S.Store self.old terminals room → IsAddressed event.now room
             → IsWellFormed other → AgreeOn event.now.who event.now.ask room other
             → FnOnceReturnsAt F.FnOnce render (answer_to event.now other) (Ok bytes)) }
-        ensures ok { HasCleanDisk (state S.Store self.new.conn)
+        ensures ok { IsClean S.Store self.new.conn
             → OnOk result ((terminals : List Known) (room : Room)
             → IsRoom S.Store self.old terminals room → IsAddressed event.now room
             → IsRoom S.Store self.new terminals (room_after event.now room)) }
-        ensures settled { HasCleanDisk (state S.Store self.new.conn)
+        ensures settled { IsClean S.Store self.new.conn
             → OnOk result (IsSettled (state S.Store self.new.conn)) }
-        ensures err { HasCleanDisk (state S.Store self.new.conn)
-            → OnErr result (Leaves (state S.Store self.old.conn) (state S.Store self.new.conn)) }
+        ensures err { LeavesOnErr S.Store self.old.conn self.new.conn result }
         ensures wants { IfErr result IsWant }
         // What a stop leaves is what it left before, or the room after the event; after an Ok the
         // room as it is now and nothing else.
@@ -176,7 +175,7 @@ impl<S: Alter> Store<S> {
             → (terminals : List Known) (room : Room) → IsRoom S.Store self.old terminals room
             → IsAddressed event.now room
             → Stands db (config_of self.old.plan terminals) (room_after event.now room)) }
-        ensures alone { HasCleanDisk (state S.Store self.new.conn)
+        ensures alone { IsClean S.Store self.new.conn
             → OnOk result ((db : Trees) → (state S.Store self.new.conn).may_leave db
             → db ≡ (state S.Store self.new.conn).now.trees) }
     {
@@ -218,24 +217,23 @@ impl<S: Alter> Store<S> {
         ensures known { self.new.terminals ≡ self.old.terminals }
         // After a failure only terminals are known of the room.
         ensures failed { OnErr result (KnowsNothing self.new.cache) }
-        ensures bytes { HasCleanDisk (state S.Store self.new.conn)
+        ensures bytes { IsClean S.Store self.new.conn
             → IfOk result (λ bytes. (terminals : List Known) (room : Room)
             → IsRoom S.Store self.old terminals room → IsAddressed event.now room
             → FnOnceReturnsAt F.FnOnce render (answer_to event.now room) (Ok bytes)) }
-        ensures ok { HasCleanDisk (state S.Store self.new.conn)
+        ensures ok { IsClean S.Store self.new.conn
             → OnOk result ((terminals : List Known) (room : Room)
             → IsRoom S.Store self.old terminals room → IsAddressed event.now room
             → IsRoom S.Store self.new terminals (room_after event.now room)
             × IsHeadAfter event.now self.old.plan.zone terminals room head.now) }
-        ensures another { HasCleanDisk (state S.Store self.new.conn)
+        ensures another { IsClean S.Store self.new.conn
             → IfErr result (λ miss. miss ≡ Another → (terminals : List Known) (room : Room)
             → IsRoom S.Store self.old terminals room → IsAddressed event.now room
             → ¬ (IsHeadAfter event.now self.old.plan.zone terminals room head.now)) }
-        ensures settled { HasCleanDisk (state S.Store self.new.conn)
+        ensures settled { IsClean S.Store self.new.conn
             → MatchResult result (λ _. IsSettled (state S.Store self.new.conn))
             (λ miss. miss ≡ Another → IsSettled (state S.Store self.new.conn)) }
-        ensures err { HasCleanDisk (state S.Store self.new.conn)
-            → OnErr result (Leaves (state S.Store self.old.conn) (state S.Store self.new.conn)) }
+        ensures err { LeavesOnErr S.Store self.old.conn self.new.conn result }
         ensures wants { IfErr result IsMiss }
         // What a stop leaves is what it left before, or the room after the event.
         ensures survives { Survives (state S.Store self.old.conn) (state S.Store self.new.conn)
@@ -286,7 +284,7 @@ impl<S: Alter> Store<S> {
         ensures plan { self.new.plan ≡ self.old.plan }
         ensures known { self.new.terminals ≡ self.old.terminals }
         ensures nothing { KnowsNothing self.new.cache }
-        ensures leaves { HasCleanDisk (state S.Store self.new.conn)
+        ensures leaves { IsClean S.Store self.new.conn
             → Leaves (state S.Store self.old.conn) (state S.Store self.new.conn) }
         ensures survives { Survives (state S.Store self.old.conn) (state S.Store self.new.conn)
             (λ _. ⊥) }
@@ -301,9 +299,9 @@ impl<S: Alter> Store<S> {
 fn can_read<S: Alter>(conn: &mut Connection<S>) -> bool
     requires room { HasRoomSchema S.Store conn.old }
     requires outside { conn.old.in_transaction ≡ false }
-    ensures shows { IsTrue result → HasCleanDisk (state S.Store conn.new)
+    ensures shows { IsTrue result → IsClean S.Store conn.new
         → ShowsRoom (state S.Store conn.new) }
-    ensures leaves { HasCleanDisk (state S.Store conn.new)
+    ensures leaves { IsClean S.Store conn.new
         → Leaves (state S.Store conn.old) (state S.Store conn.new) }
     ensures outside { conn.new.in_transaction ≡ false }
     ensures survives { Survives (state S.Store conn.old) (state S.Store conn.new) (λ _. ⊥) }

@@ -4,10 +4,11 @@ ghost use Rattle.std.specs.Prelude.{◌≡◌, ◌↔◌, IsTrue, IfErr, IfOk, O
 ghost use Rattle.std.specs.List.{list_any};
 ghost use Rattle.sqlite.specs.Held.{state};
 ghost use Rattle.sqlite.specs.State.{HasCleanDisk, Survives};
-ghost use Rattle.room_store_writes.specs.Transactions.{Leaves};
+ghost use Rattle.room_store_writes.specs.Transactions.{Leaves, StandsSettled};
 ghost use Rattle.room_store.specs.StoreCreation.{AreNewTerminals, Explains, MayBegin};
 ghost use Rattle.room_store.specs.StoreCreation.{is_token_of, may_use};
 ghost use Rattle.room_store_writes.specs.NewRoom.{StandsNew};
+ghost use Rattle.room_tables_schema.specs.FileConnections.{IsClean};
 
 use crate::store::Store;
 use room_place::plans::Plan;
@@ -76,11 +77,10 @@ impl<S: Alter> Store<S> {
         ensures ready { IfOk result (IsReady S.Store) }
         ensures same_plan { IfOk result (λ store. (store.plan.areas ≡ plan.now.areas)
             × (store.plan.zone ≡ plan.now.zone)) }
-        ensures room { IfOk result (λ store. HasCleanDisk (state S.Store store.conn)
+        ensures room { IfOk result (λ store. IsClean S.Store store.conn
             → IsRoom S.Store store (in_order terminals.now) (new_room plan.now)) }
-        ensures settled { IfOk result (λ store. HasCleanDisk (state S.Store store.conn)
-            → IsSettled (state S.Store store.conn)) }
-        ensures kept { IfOk result (λ store. HasCleanDisk (state S.Store store.conn)
+        ensures settled { IfOk result (λ store. StandsSettled S.Store store.conn) }
+        ensures kept { IfOk result (λ store. IsClean S.Store store.conn
             → IsKept S.Store store) }
         ensures begun { OnOk result (MayBegin
             (state S.Store conn).now.schema plan.now terminals.now) }
@@ -88,7 +88,7 @@ impl<S: Alter> Store<S> {
         ensures why { IfErr result (λ e.
             Explains (state S.Store conn).now.schema plan.now terminals.now e.0) }
         ensures ended { IfErr result (λ e. e.1.in_transaction ≡ false) }
-        ensures err { IfErr result (λ e. HasCleanDisk (state S.Store e.1)
+        ensures err { IfErr result (λ e. IsClean S.Store e.1
             → Leaves (state S.Store conn) (state S.Store e.1)) }
 
         // What a stop may leave is what it could before, or the whole room.

@@ -1,12 +1,11 @@
 //! The digest of the room that a store keeps, by which it is known again.
 ghost use Rattle.std.specs.Prelude.{◌≡◌, List, [], ◌∷◌, Ok, IsTrue, IfOk, IfErr, OnOk};
-ghost use Rattle.sqlite.specs.Held.{state};
-ghost use Rattle.sqlite.specs.State.{HasCleanDisk};
 ghost use Rattle.room_types.specs.declared.fleet.Terminal.{Terminal};
 ghost use Rattle.room_model.specs.Room.{Room};
 ghost use Rattle.room_model.specs.Rooms.{IsWant};
 ghost use Rattle.room_store_file.specs.DigestTexts.{digest_of};
 ghost use Rattle.room_store.specs.StoredRoom.{IsKept, IsReady, IsRoom, LeavesOneOf};
+ghost use Rattle.room_tables_schema.specs.FileConnections.{IsClean};
 
 use crate::store::Store;
 use crate::store_faults::refusal_of;
@@ -43,18 +42,18 @@ pub fn digest_of_room<S: Alter>(store: &mut Store<S>, version: Version) -> Resul
     requires ready { IsReady S.Store store.old }
     ensures ready { IsReady S.Store store.new }
     ensures plan { store.new.plan ≡ store.old.plan }
-    ensures trusted { HasCleanDisk (state S.Store store.new.conn)
-        → HasCleanDisk (state S.Store store.old.conn) }
-    ensures known { HasCleanDisk (state S.Store store.new.conn)
+    ensures trusted { IsClean S.Store store.new.conn
+        → IsClean S.Store store.old.conn }
+    ensures known { IsClean S.Store store.new.conn
         → IfOk result (λ digest. (terminals : List Terminal) (room : Room)
         → IsRoom S.Store store.old terminals room
         → digest ≡ digest_of version store.old.plan.zone terminals room) }
-    ensures same { HasCleanDisk (state S.Store store.new.conn)
+    ensures same { IsClean S.Store store.new.conn
         → (terminals : List Terminal) (room : Room) → IsRoom S.Store store.old terminals room
         → IsRoom S.Store store.new terminals room }
-    ensures kept { HasCleanDisk (state S.Store store.new.conn)
+    ensures kept { IsClean S.Store store.new.conn
         → OnOk result (IsKept S.Store store.old → IsKept S.Store store.new) }
-    ensures left { HasCleanDisk (state S.Store store.new.conn) → IsKept S.Store store.old
+    ensures left { IsClean S.Store store.new.conn → IsKept S.Store store.old
         → (terminals : List Terminal) (room : Room) → IsRoom S.Store store.old terminals room
         → LeavesOneOf S.Store store.new terminals (room ∷ []) }
     ensures wants { IfErr result IsWant }

@@ -1,12 +1,12 @@
 //! A room of the first version made one of this, and opened.
 ghost use Rattle.std.specs.Prelude.{◌≡◌, ◌⊎◌, false, List, IfErr, IfOk};
 ghost use Rattle.sqlite.specs.Held.{state};
-ghost use Rattle.sqlite.specs.State.{HasCleanDisk, Survives};
+ghost use Rattle.sqlite.specs.State.{Survives};
 ghost use Rattle.room_types.specs.declared.fleet.Terminal.{Terminal};
 ghost use Rattle.room_model.specs.Room.{Room};
 ghost use Rattle.room_tables_schema.specs.Schema.{room_schema};
 ghost use Rattle.room_tables_schema.specs.Versions.{HasFirstTables};
-ghost use Rattle.room_tables.specs.Stands.{StandsInFirst};
+ghost use Rattle.room_tables.specs.RoomsInTables.{StandsInFirst};
 ghost use Rattle.room_store.specs.StoredRoom.{IsKept, IsReady, IsRoom};
 ghost use Rattle.room_store_writes.specs.Houses.{config_of};
 ghost use Rattle.room_store_writes.specs.Transactions.{Leaves};
@@ -16,6 +16,7 @@ ghost use Rattle.room_store_file.specs.declared.migrated_file.MigrateFault.TheVa
   NotARoom,
   NotOld,
 };
+ghost use Rattle.room_tables_schema.specs.FileConnections.{IsClean};
 
 use crate::store::Store;
 use room_store_cache::cache::Cache;
@@ -35,24 +36,24 @@ impl<S: Alter> Store<S> {
     ) -> Result<Store<S>, (MigrateFault, Connection<S>)>
         requires outside { conn.in_transaction ≡ false }
         ensures ready { IfOk result (IsReady S.Store) }
-        ensures room { IfOk result (λ store. HasCleanDisk (state S.Store store.conn)
+        ensures room { IfOk result (λ store. IsClean S.Store store.conn
             → (terminals : List Terminal) × (room : Room) × IsRoom S.Store store terminals room
             × StandsInFirst (state S.Store conn).now.trees (config_of store.plan terminals) room) }
-        ensures schema { IfOk result (λ store. HasCleanDisk (state S.Store store.conn)
+        ensures schema { IfOk result (λ store. IsClean S.Store store.conn
             → (state S.Store store.conn).now.schema ≡ room_schema) }
-        ensures kept { IfOk result (λ store. HasCleanDisk (state S.Store store.conn)
+        ensures kept { IfOk result (λ store. IsClean S.Store store.conn
             → IsKept S.Store store) }
-        ensures moved { IfOk result (λ store. HasCleanDisk (state S.Store store.conn)
+        ensures moved { IfOk result (λ store. IsClean S.Store store.conn
             → MayBeMoved (state S.Store conn).now (state S.Store store.conn).now.trees) }
-        ensures old_room { IfOk result (λ store. HasCleanDisk (state S.Store store.conn)
+        ensures old_room { IfOk result (λ store. IsClean S.Store store.conn
             → IsOldRoom (state S.Store conn).now) }
-        ensures not_old { IfErr result (λ e. HasCleanDisk (state S.Store e.1)
+        ensures not_old { IfErr result (λ e. IsClean S.Store e.1
             → (e.0 ≡ NotOld → IsNewRoom (state S.Store conn).now)
             × (e.0 ≡ NotARoom → ¬ IsNewRoom (state S.Store conn).now)) }
-        ensures no_room { IfErr result (λ e. HasCleanDisk (state S.Store e.1) → e.0 ≡ NotARoom
+        ensures no_room { IfErr result (λ e. IsClean S.Store e.1 → e.0 ≡ NotARoom
             → HasFirstTables (state S.Store conn).now.schema
             → ¬ HoldsFirstRoom (state S.Store conn).now.trees) }
-        ensures same_fault { IfErr result (λ e. HasCleanDisk (state S.Store e.1)
+        ensures same_fault { IfErr result (λ e. IsClean S.Store e.1
             → Leaves (state S.Store conn) (state S.Store e.1)) }
         ensures untouched { IfErr result (λ e. (e.0 ≡ NotOld) ⊎ (e.0 ≡ NotARoom)
             → WritesNothing (state S.Store conn) (state S.Store e.1)) }

@@ -1,6 +1,6 @@
 -- A vehicle that was found, and the turn of its last order.
 use Rattle.std.proofs.Common.{Option, Some, ap, is_none, sym, ℕ, ◌∙◌, ◌≡◌}
-use Rattle.room_types_keyed.specs.Keyed.{keep, row_at}
+use Rattle.room_types_keyed.specs.KeyedRows.{keep, row_at}
 use Rattle.room_types.specs.Keys.{callsign_cmp, numbered_cmp, turn_key, vehicle_key}
 use Rattle.room_types.specs.Orders.{callsigns_total, exact_callsigns}
 use Rattle.room_types.specs.Texts.{Callsign}

@@ -1,5 +1,5 @@
 -- What a change does to rows kept beside a table, and to a list whose elements each follow it.
-use Rattle.std.proofs.Common.{Bool, List, None, Option, Some, [], arith, cond, false, get_or, length, map, refl, set}
+use Rattle.std.proofs.Common.{Bool, List, [], arith, cond, false, get_or, length, map, refl, set, suc}
 use Rattle.std.proofs.Common.{subst, sym, take, true, ℕ, ◌+◌, ◌++◌, ◌<◌, ◌∙◌, ◌∷◌, ◌≡◌}
 use Rattle.std.proofs.lemmas.List.{get_or-set_other, map-append}
 use Rattle.std.proofs.lemmas.List.Elements.{All-cons, All-head, All-map, All-tail, AllWithin-more_set}
@@ -7,11 +7,11 @@ use Rattle.std.proofs.lemmas.List.Quantifiers.{all_pairs_push}
 use Rattle.std.specs.Cmp.{IsTotalOrder}
 use Rattle.std.specs.List.{AllWithin}
 use Rattle.std.specs.Ordering.{is_eq, match_ordering}
-use Rattle.std.specs.Prelude.{All, AllPairs, IfNone, filter, is_some, ◌≢◌}
+use Rattle.std.specs.Prelude.{All, AllPairs, filter, remove, ◌≢◌}
 use Rattle.std.specs.declared.cmp.Ordering.{Ordering}
 use Rattle.std.specs.declared.cmp.Ordering.TheVariants.{Equal, Greater, Less}
 use Rattle.room_types_keyed.proofs.KeyedLaws.{filter_put, keyed_taken, with_passing}
-use Rattle.room_types_keyed.specs.Keyed.{IsKeyed, drop_row, put_row}
+use Rattle.room_types_keyed.specs.KeyedRows.{IsKeyed, drop_row, put_row}
 use Rattle.room_tables.proofs.Streams.{put_end}
 
 module _ {R K : Type 0} (cmp : K → K → Ordering) (key : R → K) (total : IsTotalOrder cmp) where
@@ -72,8 +72,8 @@ pub one_follows : {X : Type 0} (P Q : X → Type 0) (xs : List X) (at end : ℕ)
 one_follows P Q xs at end x y inside low here follows left made =
     AllWithin-more_set xs at y inside Q made (follows (subst P (sym here) (left at x (omega arith) low)))
 
--- where no row is of the number that one more is of, no two are of one number with it
-pub apart_push : {X : Type 0} (f : X → ℕ) (xs : List X) (x : X) (is_pushed : Bool)
+-- where none has the key that one more has, no two have one key with it
+pub apart_push : {X K : Type 0} (f : X → K) (xs : List X) (x : X) (is_pushed : Bool)
     → All (λ y. f y ≢ f x) xs → AllPairs (λ c d. c ≢ d) (map f xs)
     → AllPairs (λ c d. c ≢ d) (map f (cond is_pushed (xs ++ x ∷ []) xs))
 apart_push f xs x true others apart =
@@ -81,7 +81,8 @@ apart_push f xs x true others apart =
     (all_pairs_push (λ c d. c ≢ d) (map f xs) (f x) apart (All-map (λ c. c ≢ f x) f xs others))
 apart_push f xs x false others apart = apart
 
--- what is so where there is none
-pub where_none : {T P : Type 0} (o : Option T) → is_some o ≡ false → IfNone o P → P
-where_none None e p = p
-where_none (Some x) e p = absurd (cc)
+-- nor have two where the first is taken out
+pub apart_rest : {X K : Type 0} (f : X → K) (xs : List X) → AllPairs (λ c d. c ≢ d) (map f xs)
+    → AllPairs (λ c d. c ≢ d) (map f (remove xs 0))
+apart_rest f [] apart = apart
+apart_rest f (x ∷ xs) apart = λ i j d lt within. apart (suc i) (suc j) d (omega arith) (omega arith)

@@ -7,7 +7,7 @@ use Rattle.std.specs.Prelude.{filter}
 use Rattle.std.specs.declared.cmp.Ordering.{Ordering}
 use Rattle.std.specs.declared.cmp.Ordering.TheVariants.{Equal, Greater, Less}
 use Rattle.room_types_keyed.proofs.KeyedLaws.{below_filter, keyed_filter, put_below, row_filter}
-use Rattle.room_types_keyed.specs.Keyed.{IsBelowAll, IsKeyed, keep, put_row, row_at}
+use Rattle.room_types_keyed.specs.KeyedRows.{IsBelowAll, IsKeyed, keep, put_row, row_at}
 use Rattle.room_store_cache.specs.Selections.{listed}
 use Rattle.room_store_cache.proofs.Filters.{filter_and}
 

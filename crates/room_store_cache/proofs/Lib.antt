@@ -19,3 +19,5 @@ pub mod Selected
 pub mod CrewReads
 -- which incidents that are read a list has
 pub mod ShownLaws
+-- a request that reads nothing but the fleet
+pub mod FleetReads

@@ -10,12 +10,12 @@ use Rattle.room_types.specs.declared.asks.Ask.{Ask}
 use Rattle.room_types.specs.declared.tables.Incident.{Incident}
 use Rattle.room_types.specs.declared.tables.Turn.{Turn}
 use Rattle.room_types_keyed.proofs.KeyedLaws.{row_filter}
-use Rattle.room_types_keyed.specs.Keyed.{IsKeyed, keep, row_at}
+use Rattle.room_types_keyed.specs.KeyedRows.{IsKeyed, keep, row_at}
 use Rattle.room_model.proofs.Tests.{both_true, or_left, row_key}
 use Rattle.room_model.specs.Queries.{incident_of}
 use Rattle.room_model.specs.Room.{Room}
-use Rattle.room_model.specs.Working.{names_incident, names_opening, names_turn, reads_active, reads_incident}
-use Rattle.room_model.specs.Working.{reads_number, working}
+use Rattle.room_model.specs.WorkingRows.{names_incident, names_opening, names_turn, reads_active, reads_incident}
+use Rattle.room_model.specs.WorkingRows.{reads_number, working}
 use Rattle.room_store_cache.proofs.QueueReads.{passes}
 use Rattle.room_store_cache.proofs.Filters.{and_none, filter_and, filter_as, or_assoc}
 

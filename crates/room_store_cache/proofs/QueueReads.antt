@@ -5,7 +5,7 @@ use Rattle.std.proofs.lemmas.Bool.{eq-eqb}
 use Rattle.std.specs.Ordering.{is_eq}
 use Rattle.std.specs.Prelude.{filter, ◌==◌}
 use Rattle.room_types_keyed.proofs.KeyedLaws.{row_below}
-use Rattle.room_types_keyed.specs.Keyed.{IsBelowAll, IsKeyed, keep, row_at}
+use Rattle.room_types_keyed.specs.KeyedRows.{IsBelowAll, IsKeyed, keep, row_at}
 use Rattle.room_types.specs.Codes.{is_active}
 use Rattle.room_types.specs.Keys.{incident_key, pair_cmp}
 use Rattle.room_types.specs.Orders.{exact_pair, pairs_total}
@@ -14,7 +14,7 @@ use Rattle.room_types.specs.declared.tables.Incident.{Incident}
 use Rattle.room_model.proofs.Tests.{is_equal, or_left, or_right}
 use Rattle.room_model.specs.Queries.{incident_of}
 use Rattle.room_model.specs.Room.{Room}
-use Rattle.room_model.specs.Working.{reads_incident, reads_number, working}
+use Rattle.room_model.specs.WorkingRows.{reads_incident, reads_number, working}
 use Rattle.room_store_cache.specs.IncidentNumbers.{contains}
 use Rattle.room_store_cache.proofs.Filters.{filter_as, filter_owned, or_none, pair_turned}
 

@@ -4,14 +4,14 @@ use Rattle.std.proofs.lemmas.Bool.Decides.{nat_tests}
 use Rattle.std.proofs.lemmas.Int.{ints}
 use Rattle.std.specs.Prelude.{OnErr, OnOk, filter, int_le, nat_le, pos, ◌==◌}
 use Rattle.std.specs.Result.{is_err}
-use Rattle.room_types_keyed.specs.Keyed.{IsKeyed, drop_row, put_row}
+use Rattle.room_types_keyed.specs.KeyedRows.{IsKeyed, drop_row, put_row}
 use Rattle.room_types.specs.Keys.{incident_key, pair_cmp}
 use Rattle.room_types.specs.Orders.{pairs_total}
 use Rattle.room_types.specs.declared.asks.Ask.TheVariants.{Call}
 use Rattle.room_types.specs.declared.asks.CallForm.{CallForm}
 use Rattle.room_types.specs.declared.tables.Incident.{Incident}
 use Rattle.room_model.proofs.Tests.{filter_filter, left_true, right_true}
-use Rattle.room_model.specs.Working.{is_around, names_opening}
+use Rattle.room_model.specs.WorkingRows.{is_around, names_opening}
 use Rattle.room_store_cache.proofs.KeptLaws.{pass_put}
 use Rattle.room_store_cache.specs.RecentIncidents.{opened_since}
 

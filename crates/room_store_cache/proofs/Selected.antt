@@ -3,7 +3,7 @@ use Rattle.std.proofs.Common.{Bool, List, [], ap, arith, false, is_some, not, re
 use Rattle.std.proofs.Common.{◌≡◌, ◌||◌}
 use Rattle.std.proofs.lemmas.Bool.Decides.{nat_tests}
 use Rattle.std.specs.Prelude.{◌==◌}
-use Rattle.room_types_keyed.specs.Keyed.{keep}
+use Rattle.room_types_keyed.specs.KeyedRows.{keep}
 use Rattle.room_types.specs.Codes.{is_active, is_normal, outcome_number}
 use Rattle.room_types.specs.declared.asks.Ask.{Ask}
 use Rattle.room_types.specs.declared.asks.Ask.TheVariants as ask
@@ -13,7 +13,7 @@ use Rattle.room_types.specs.declared.tables.Incident.{Incident}
 use Rattle.room_types.specs.declared.tables.Report.{Report}
 use Rattle.room_model.specs.Queries.{incident_of}
 use Rattle.room_model.specs.Room.{Room}
-use Rattle.room_model.specs.Working.{reads_exceptions, reads_incident, reads_number, reads_report}
+use Rattle.room_model.specs.WorkingRows.{reads_exceptions, reads_incident, reads_number, reads_report}
 use Rattle.room_store_cache.specs.IncidentNumbers.{contains}
 use Rattle.room_store_cache.proofs.Filters.{and_none, or_assoc, or_none}
 use Rattle.room_store_cache.specs.Partitions.{any}

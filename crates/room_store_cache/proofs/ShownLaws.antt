@@ -4,7 +4,7 @@ use Rattle.std.proofs.Common.{◌&&◌, ◌∙◌, ◌≡◌, ◌||◌}
 use Rattle.std.proofs.lemmas.Bool.{eq-eqb}
 use Rattle.std.specs.Prelude.{filter, ◌==◌}
 use Rattle.room_types_keyed.proofs.KeyedLaws.{row_filter}
-use Rattle.room_types_keyed.specs.Keyed.{IsKeyed, keep, row_at}
+use Rattle.room_types_keyed.specs.KeyedRows.{IsKeyed, keep, row_at}
 use Rattle.room_types.specs.Codes.{is_active}
 use Rattle.room_types.specs.Keys.{incident_key, owns_call, owns_incident, owns_turn, pair_cmp}
 use Rattle.room_types.specs.Orders.{exact_pair, pairs_total}
@@ -14,7 +14,7 @@ use Rattle.room_types.specs.declared.tables.Incident.{Incident}
 use Rattle.room_model.proofs.Tests.{row_key}
 use Rattle.room_model.specs.Queries.{incident_of}
 use Rattle.room_model.specs.Room.{IsInOrder, Room}
-use Rattle.room_model.specs.Working.{reads_active, reads_calls, reads_incident, reads_number, working}
+use Rattle.room_model.specs.WorkingRows.{reads_active, reads_calls, reads_incident, reads_number, working}
 use Rattle.room_store_cache.specs.IncidentNumbers.{contains}
 use Rattle.room_store_cache.specs.ShownLists.{is_among}
 use Rattle.room_store_cache.proofs.Filters.{filter_and, filter_as, filter_owned, or_none}

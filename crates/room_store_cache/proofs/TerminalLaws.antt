@@ -5,7 +5,7 @@ use Rattle.std.specs.Prelude.{HoldsAt, IfOk, Some}
 use Rattle.room_types.specs.Texts.{Token}
 use Rattle.room_types.specs.declared.fleet.Terminal.{Terminal}
 use Rattle.room_model.proofs.EnrolLaws.{exact_tokens}
-use Rattle.room_model.specs.Enrol.{terminal_at, token_cmp}
+use Rattle.room_model.specs.FleetRows.{terminal_at, token_cmp}
 use Rattle.room_store_cache.specs.KnownTerminals.{AreTerminalsOf, IsOneOf}
 
 -- tokens that compare alike are one and the same

@@ -1,7 +1,7 @@
 -- What is known of a room.
 use Rattle.std.specs.Prelude.{IsTrue, None, [], false, ◌≡◌}
 use Rattle.room_model.specs.Room.{Room}
-use Rattle.room_store_cache.specs.Backlogs.{AreBacklogsOf}
+use Rattle.room_store_cache.specs.QueueViews.{AreQueueViewsOf}
 use Rattle.room_store_cache.specs.IncidentViews.{AreIncidentViewsOf}
 use Rattle.room_store_cache.specs.RecentIncidents.{AreRecent}
 use Rattle.room_store_cache.specs.OpenTurns.{AreTurnsOf}
@@ -31,7 +31,7 @@ IsFleetOf fleet room = IsTrue fleet.is_known → HasFleetOf fleet room
 -- nothing is known
 pub record KnowsNothing (cache : Cache) : Type 0 where
   pub fleet : cache.fleet.is_known ≡ false
-  pub backlogs : cache.backlogs.kept.items ≡ []
+  pub queue_views : cache.queue_views.kept.items ≡ []
   pub incident_views : cache.incident_views.kept.items ≡ []
   pub recent_incidents : cache.recent_incidents.known ≡ None
   pub shown_lists : cache.shown_lists.kept.items ≡ []
@@ -40,6 +40,6 @@ pub record KnowsNothing (cache : Cache) : Type 0 where
 pub record IsCacheOf (cache : Cache) (room : Room) : Type 0 where
   pub fleet : IsFleetOf cache.fleet room
   pub recent_incidents : AreRecent cache.recent_incidents room
-  pub backlogs : AreBacklogsOf cache.backlogs.kept.items room
+  pub queue_views : AreQueueViewsOf cache.queue_views.kept.items room
   pub incident_views : AreIncidentViewsOf cache.incident_views.kept.items room
   pub shown_lists : AreShownListsOf cache.shown_lists.kept.items room

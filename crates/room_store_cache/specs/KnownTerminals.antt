@@ -1,7 +1,7 @@
 -- Which terminals are of a room.
 use Rattle.std.specs.Prelude.{All, List, Some, ◌≡◌}
 use Rattle.room_types.specs.declared.fleet.Terminal.{Terminal}
-use Rattle.room_model.specs.Enrol.{terminal_at}
+use Rattle.room_model.specs.FleetRows.{terminal_at}
 
 -- the terminal is one of these: that of its token
 abbrev pub IsOneOf : List Terminal → Terminal → Type 0

@@ -1,7 +1,9 @@
 -- which incidents are known
 pub mod RecentIncidents
+-- the keys of entries distinguish them
+pub mod EntryKeys
 -- which boards are of a room
-pub mod Backlogs
+pub mod QueueViews
 -- which incident views are of a room
 pub mod IncidentViews
 -- which incidents that were shown are of a room

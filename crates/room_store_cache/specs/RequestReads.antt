@@ -2,7 +2,7 @@
 use Rattle.std.specs.Ordering.{nat_cmp}
 use Rattle.std.specs.Prelude.{Bool, IfSome, None, Option, Some, false, int_le, int_lt, is_some, not, pos, true, ℕ, ◌&&◌}
 use Rattle.std.specs.Prelude.{◌==◌, ◌||◌, ◌≡◌}
-use Rattle.room_types_keyed.specs.Keyed.{keep}
+use Rattle.room_types_keyed.specs.KeyedRows.{keep}
 use Rattle.room_types.specs.Codes.{is_active, is_normal}
 use Rattle.room_types.specs.Keys.{callsign_cmp, pair_cmp, same_callsign}
 use Rattle.room_types.specs.Texts.{Callsign}
@@ -13,9 +13,9 @@ use Rattle.room_types.specs.declared.tables.Report.{Report}
 use Rattle.room_types.specs.declared.tables.Turn.{Turn}
 use Rattle.room_model.specs.Queries.{held, incident_of}
 use Rattle.room_model.specs.Room.{Room}
-use Rattle.room_model.specs.Working.{is_last_turn, names_incident, names_opening, names_report, names_turn}
-use Rattle.room_model.specs.Working.{reads_active, reads_assignments, reads_calls, reads_division, reads_exceptions}
-use Rattle.room_model.specs.Working.{reads_loan, reads_offer, reads_point, reads_vehicle}
+use Rattle.room_model.specs.WorkingRows.{is_last_turn, names_incident, names_opening, names_report, names_turn}
+use Rattle.room_model.specs.WorkingRows.{reads_active, reads_assignments, reads_calls, reads_division, reads_exceptions}
+use Rattle.room_model.specs.WorkingRows.{reads_loan, reads_offer, reads_point, reads_vehicle}
 use Rattle.room_store_cache.specs.Selections.{reaches}
 use Rattle.room_store_cache.specs.declared.request_reads.Incidents.{Incidents}
 use Rattle.room_store_cache.specs.declared.request_reads.Incidents.TheVariants as incidents
@@ -74,6 +74,11 @@ is_report (reports.One r) x = names_one (reports.One r) x.callsign x.number
 abbrev pub is_last_of : ℕ → Option Callsign → Room → Turn → Bool
 is_last_of d None room t = false
 is_last_of d (Some c) room t = is_last_turn (held d c room) t
+
+-- nothing is read but rows of the fleet
+abbrev pub is_of_fleet : Incidents → Reports → Option Callsign → Bool
+is_of_fleet incidents.Nothing reports.Nothing None = true
+is_of_fleet x y z = false
 
 -- It is what the ask of the division's desk, or a call that is placed in it, reads.
 pub record Selects (d : ℕ) (a : Ask) (x : Reads) : Type 0 where

@@ -2,9 +2,9 @@
 ghost use Rattle.room_model.specs.Room.{IsInOrder, Room, apply};
 ghost use Rattle.room_store_cache.specs.Cache.{IsCacheOf, KnowsNothing};
 
-use crate::backlogs::Backlogs;
 use crate::fleets::Fleet;
 use crate::incident_views::IncidentViews;
+use crate::queue_views::QueueViews;
 use crate::recent_incidents::RecentIncidents;
 use crate::shown_lists::ShownLists;
 use crate::views::View;
@@ -16,7 +16,7 @@ use std::alloc::Global;
 #[derive(Drop)]
 pub struct Cache {
     pub fleet: Fleet,
-    pub backlogs: Backlogs,
+    pub queue_views: QueueViews,
     pub incident_views: IncidentViews,
     pub recent_incidents: RecentIncidents,
     pub shown_lists: ShownLists,
@@ -29,7 +29,7 @@ impl Cache {
     {
         Cache {
             fleet: Fleet::new(alloc),
-            backlogs: Backlogs::new(alloc),
+            queue_views: QueueViews::new(alloc),
             incident_views: IncidentViews::new(alloc),
             recent_incidents: RecentIncidents::new(),
             shown_lists: ShownLists::new(alloc),
@@ -41,7 +41,7 @@ impl Cache {
         ensures { KnowsNothing self.new }
     {
         self.fleet.forget();
-        self.backlogs.forget();
+        self.queue_views.forget();
         self.incident_views.forget();
         self.recent_incidents.forget();
         self.shown_lists.forget();
@@ -55,7 +55,7 @@ impl Cache {
     {
         for change in changes {
             self.fleet.apply(change);
-            self.backlogs.apply(change);
+            self.queue_views.apply(change);
             self.incident_views.apply(change);
             self.recent_incidents.apply(change);
             self.shown_lists.apply(change);

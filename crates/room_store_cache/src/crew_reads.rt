@@ -1,13 +1,11 @@
 //! The rows of a vehicle that its crew's requests read beside what is known of the fleet.
-ghost use Rattle.std.specs.Prelude.{◌≡◌, IsTrue, is_none};
-ghost use Rattle.sqlite.specs.Held.{state};
-ghost use Rattle.sqlite.specs.State.{HasCleanDisk};
+ghost use Rattle.std.specs.Prelude.{◌≡◌, is_none};
 ghost use Rattle.room_tables.specs.FoundRows.{Finds};
-ghost use Rattle.room_tables_schema.specs.FileConnections.{HasRoomSchema};
+ghost use Rattle.room_tables_schema.specs.FileConnections.{HasRoomSchema, StandsOpen};
 ghost use Rattle.room_tables_schema.specs.Outcomes.{ReadsOnly};
-ghost use Rattle.room_types_keyed.specs.Keyed.{keep, row_at};
+ghost use Rattle.room_types_keyed.specs.KeyedRows.{keep, row_at};
 ghost use Rattle.room_model.specs.RoomSlices.{AreCrewRows};
-ghost use Rattle.room_model.specs.WellFormed.{IsWellFormed};
+ghost use Rattle.room_model.specs.RoomAgreements.{IsWellFormed};
 ghost use Rattle.room_types.specs.Keys.{numbered_cmp, report_key};
 ghost use Rattle.room_store_cache.specs.Cache.{HasFleetOf};
 ghost use Rattle.room_store_cache.specs.OpenTurns.{AreTurnsOf};
@@ -28,8 +26,7 @@ pub fn load_crew<S: Alter>(
     vehicle: &Vehicle,
 ) -> Result<CrewRows, Fault>
     requires room { HasRoomSchema S.Store conn.old }
-    requires open { HasCleanDisk (state S.Store conn.old)
-        → IsTrue (state S.Store conn.old).is_open }
+    requires open { StandsOpen S.Store conn.old }
     ensures rows { Finds S.Store conn.old conn.new result (λ room x. IsWellFormed room
         → HasFleetOf fleet.old room → HasVehicle vehicle.now room → (x.vehicle ≡ vehicle.now)
         × AreCrewRows vehicle.now.callsign room x) }
@@ -53,8 +50,7 @@ pub fn load_report<S: Alter>(
     number: Number,
 ) -> Result<Option<Report>, Fault>
     requires room { HasRoomSchema S.Store conn.old }
-    requires open { HasCleanDisk (state S.Store conn.old)
-        → IsTrue (state S.Store conn.old).is_open }
+    requires open { StandsOpen S.Store conn.old }
     ensures row { Finds S.Store conn.old conn.new result (λ room x. IsWellFormed room
         → HasVehicle vehicle.now room
         → row_at numbered_cmp report_key room.reports (vehicle.now.callsign, number) ≡ x) }
@@ -73,8 +69,7 @@ fn load_turn<S: Alter>(
     vehicle: &Vehicle,
 ) -> Result<Option<Turn>, Fault>
     requires room { HasRoomSchema S.Store conn.old }
-    requires open { HasCleanDisk (state S.Store conn.old)
-        → IsTrue (state S.Store conn.old).is_open }
+    requires open { StandsOpen S.Store conn.old }
     ensures row { Finds S.Store conn.old conn.new result (λ room x. IsWellFormed room
         → AreTurnsOf fleet.old.turns.kept room → HasVehicle vehicle.now room
         → last_open_turn vehicle.now room ≡ x) }

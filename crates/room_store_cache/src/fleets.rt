@@ -1,12 +1,10 @@
 //! The rows of the tables that don't grow with time, and open turns of the fleet's vehicles.
 ghost use Rattle.std.specs.Prelude.{◌≡◌, Some, false, IfErr, IsTrue, OnOk};
-ghost use Rattle.sqlite.specs.Held.{state};
-ghost use Rattle.sqlite.specs.State.{HasCleanDisk};
 ghost use Rattle.room_tables.specs.FoundRows.{Finds};
-ghost use Rattle.room_tables_schema.specs.FileConnections.{HasRoomSchema};
+ghost use Rattle.room_tables_schema.specs.FileConnections.{HasRoomSchema, StandsOpen};
 ghost use Rattle.room_tables_schema.specs.declared.database_faults.Fault.TheVariants.{Memory};
 ghost use Rattle.room_tables_schema.specs.Outcomes.{ReadsOnly};
-ghost use Rattle.room_types_keyed.specs.Keyed.{row_at};
+ghost use Rattle.room_types_keyed.specs.KeyedRows.{row_at};
 ghost use Rattle.room_types.specs.Keys.{callsign_cmp, numbered_cmp, turn_key, vehicle_key};
 ghost use Rattle.room_model.specs.Room.{Room, apply_one, settled};
 ghost use Rattle.room_store_cache.specs.Cache.{AreRowsOf, HasFleetOf, IsFleetOf};
@@ -71,8 +69,7 @@ impl Fleet {
     /// Reads the tables, where nothing is known. A refusal is of memory or of storage.
     pub fn fill<S: Alter>(&mut self, alloc: Global, conn: &mut Connection<S>) -> Result<(), Fault>
         requires room { HasRoomSchema S.Store conn.old }
-        requires open { IsTrue self.old.is_known → HasCleanDisk (state S.Store conn.old)
-            → IsTrue (state S.Store conn.old).is_open }
+        requires open { IsTrue self.old.is_known → StandsOpen S.Store conn.old }
         ensures known { Finds S.Store conn.old conn.new result (λ room _. IsFleetOf self.old room
             → HasFleetOf self.new room) }
         ensures reads { ReadsOnly S.Store conn.old conn.new result }
@@ -93,8 +90,7 @@ impl Fleet {
         key: &(Callsign, Number),
     ) -> Result<Option<Turn>, Fault>
         requires room { HasRoomSchema S.Store conn.old }
-        requires open { HasCleanDisk (state S.Store conn.old)
-            → IsTrue (state S.Store conn.old).is_open }
+        requires open { StandsOpen S.Store conn.old }
         ensures turn { Finds S.Store conn.old conn.new result (λ room turn.
             AreTurnsOf self.old.turns.kept room
             → turn ≡ row_at numbered_cmp turn_key room.turns key.now) }

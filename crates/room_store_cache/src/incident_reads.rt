@@ -1,9 +1,7 @@
 //! The incidents of a division that a request reads, and the numbers of those whose turns it reads.
-ghost use Rattle.std.specs.Prelude.{◌≡◌, ◌&&◌, ◌==◌, ℕ, filter, map, IsTrue, IfErr, IfOk};
-ghost use Rattle.sqlite.specs.Held.{state};
-ghost use Rattle.sqlite.specs.State.{HasCleanDisk};
+ghost use Rattle.std.specs.Prelude.{◌≡◌, ◌&&◌, ◌==◌, ℕ, filter, map, IfErr, IfOk};
 ghost use Rattle.room_tables.specs.FoundRows.{Finds};
-ghost use Rattle.room_tables_schema.specs.FileConnections.{HasRoomSchema};
+ghost use Rattle.room_tables_schema.specs.FileConnections.{HasRoomSchema, StandsOpen};
 ghost use Rattle.room_tables_schema.specs.declared.database_faults.Fault.TheVariants.{Memory};
 ghost use Rattle.room_tables_schema.specs.Outcomes.{ReadsOnly};
 ghost use Rattle.room_model.specs.Room.{IsInOrder, Room};
@@ -36,8 +34,7 @@ pub fn load_incidents<S: Alter>(
     cache: &mut Cache,
 ) -> Result<Rows<Incident>, Fault>
     requires room { HasRoomSchema S.Store conn.old }
-    requires open { HasCleanDisk (state S.Store conn.old)
-        → IsTrue (state S.Store conn.old).is_open }
+    requires open { StandsOpen S.Store conn.old }
     ensures rows { Finds S.Store conn.old conn.new result (λ room x. IsInOrder room
         → AreKnown cache.old room
         → x ≡ filter (λ i. i.division == division && is_read incidents.now at i) room.incidents) }
@@ -48,8 +45,8 @@ pub fn load_incidents<S: Alter>(
 {
     match *incidents {
         Incidents::Nothing => Ok(Rows::new(alloc)),
-        Incidents::Active => match cache.backlogs.get(division) {
-            Some(backlog) => own_rows(alloc, &backlog.incidents, division),
+        Incidents::Active => match cache.queue_views.get(&division) {
+            Some(queue_view) => own_rows(alloc, &queue_view.incidents, division),
             None => active_incidents(alloc, conn, division),
         },
         Incidents::Opened(from, to) => incidents_opened(alloc, conn, from, to, division),

@@ -1,15 +1,16 @@
-//! Active incidents that desks named last, each with all its turns.
-ghost use Rattle.std.specs.Prelude.{◌≡◌, ◌≤◌, ◌==◌, ◌&&◌, ℕ, [], true, IfErr, IfOk, IfSome, vec_len};
+//! Incidents that desks named last, each with all its turns.
+ghost use Rattle.std.specs.Prelude.{◌≡◌, ◌==◌, ◌&&◌, ℕ, true, IfErr, IfOk};
 ghost use Rattle.room_types.specs.declared.asks.Ask.TheVariants.{Queue};
 ghost use Rattle.room_types.specs.declared.asks.Ask.{Ask};
 ghost use Rattle.room_model.specs.Room.{IsInOrder, Room};
 ghost use Rattle.room_model.specs.RoomSlices.{room_of};
-ghost use Rattle.room_model.specs.Working.{reads_number, working};
+ghost use Rattle.room_model.specs.WorkingRows.{reads_number, working};
 ghost use Rattle.room_tables_schema.specs.declared.database_faults.Fault.TheVariants.{Memory};
+ghost use Rattle.room_store_cache.specs.EntryKeys.{exact_pair};
 ghost use Rattle.room_store_cache.specs.IncidentViews.{AreIncidentViewsOf, IsIncidentViewOf};
 
 use crate::cached_rows::{put, put_if};
-use crate::views::{Entry, View, apply_each};
+use crate::entries::{Entries, Entry};
 use room_place::plans::DivisionNumber;
 use room_tables_schema::database_faults::Fault;
 use room_types::changes::Change;
@@ -18,9 +19,6 @@ use room_types::rows::Rows;
 use room_types::slices::DivisionRows;
 use room_types::tables::{Incident, Turn};
 use std::alloc::Global;
-
-// How many are kept: one more takes the place of the one that was kept first.
-const MOST: usize = 64;
 
 // How many incidents that a queue shows are kept with their turns: where more wait, none is.
 const MOST_SHOWN: usize = 32;
@@ -34,38 +32,10 @@ pub struct IncidentView {
     pub turns: Rows<Turn>,
 }
 
-/// Some incident views of the room that are known, 64 at most.
-#[derive(Drop)]
-pub struct IncidentViews {
-    // In the order in which they were kept.
-    kept: Vec<IncidentView>,
-    ghost few: { vec_len kept ≤ 64 },
-}
+/// Some incident views of the room that are known.
+pub type IncidentViews = Entries<IncidentView>;
 
-impl IncidentViews {
-    /// None is known yet.
-    pub fn new(alloc: Global) -> IncidentViews
-        ensures { result.kept.items ≡ [] }
-    {
-        IncidentViews {
-            kept: Vec::new(alloc),
-        }
-    }
-
-    /// The incident view of a division's number, if it is known.
-    pub fn get(&self, division: DivisionNumber, number: Number) -> Option<&IncidentView>
-        ensures { (room : Room) → AreIncidentViewsOf self.now.kept.items room
-            → IfSome result (λ x. (x.now.division ≡ division) × (x.now.number ≡ number)
-            × IsIncidentViewOf x.now room) }
-    {
-        for incident_view in &self.kept {
-            if incident_view.is_of(division, number) {
-                return Some(incident_view);
-            }
-        }
-        None
-    }
-
+impl Entries<IncidentView> {
     /// Keeps the incidents that a queue shows, with their turns, where they are few.
     pub fn fill_shown(&mut self, alloc: Global, division: DivisionNumber, rows: &DivisionRows)
         ensures { (room : Room) (at : ℕ) → IsInOrder room
@@ -96,64 +66,25 @@ impl IncidentViews {
             → AreIncidentViewsOf self.old.kept.items room
             → AreIncidentViewsOf self.new.kept.items room }
     {
-        if self.get(division, number).is_some() {
+        if self.get(&(division, number)).is_some() {
             return;
         }
         if let Ok(incident_view) = incident_view_of(alloc, division, number, rows) {
-            self.insert(incident_view);
+            self.put(incident_view);
         }
-    }
-
-    // Keeps a incident view, where memory is not refused.
-    fn insert(&mut self, incident_view: IncidentView)
-        ensures { (room : Room) → AreIncidentViewsOf self.old.kept.items room
-            → IsIncidentViewOf incident_view room
-            → AreIncidentViewsOf self.new.kept.items room }
-    {
-        if self.kept.len() == MOST {
-            drop(self.kept.remove(0));
-        }
-        let _ = self.kept.push(incident_view);
-    }
-
-    // Takes the incident view of a division's number out.
-    fn remove(&mut self, division: DivisionNumber, number: Number)
-        ensures { (room : Room) → AreIncidentViewsOf self.old.kept.items room
-            → AreIncidentViewsOf self.new.kept.items room }
-    {
-        for at in 0..self.kept.len() {
-            if self.kept[at].is_of(division, number) {
-                drop(self.kept.remove(at));
-                return;
-            }
-        }
-    }
-}
-
-impl View for IncidentViews {
-    ghost is_so = { λ incident_views room. AreIncidentViewsOf incident_views.kept.items room };
-
-    ghost is_empty = { λ incident_views. incident_views.kept.items ≡ [] };
-
-    // An incident that is active no more is taken out.
-    fn apply(&mut self, change: &Change) {
-        if let Change::PutIncident(incident) = change
-            && !incident.state.is_active()
-        {
-            self.remove(incident.division, incident.number);
-        }
-        apply_each(&mut self.kept, change);
-    }
-
-    fn forget(&mut self) {
-        self.kept.clear();
     }
 }
 
 impl Entry for IncidentView {
+    type Key = (DivisionNumber, Number);
+
     ghost is_so = { IsIncidentViewOf };
 
-    ghost division_of = { λ x. x.division };
+    ghost key_of = { λ x. (x.division, x.number) };
+
+    fn key(&self) -> (DivisionNumber, Number) {
+        (self.division, self.number)
+    }
 
     fn apply(&mut self, change: &Change) -> Result<(), Fault> {
         match change {
@@ -170,6 +101,8 @@ impl Entry for IncidentView {
             _ => Ok(()),
         }
     }
+
+    ghost exact = { exact_pair };
 }
 
 impl IncidentView {

@@ -46,7 +46,7 @@ pub fn known_part(
     ensures memory { IfErr result (λ e. e ≡ Memory) }
 {
     if let Incidents::Active = reads.incidents
-        && let Some(list) = lists.get(division)
+        && let Some(list) = lists.get(&division)
     {
         return kept_part(alloc, list, reads.calls, incidents);
     }

@@ -1,8 +1,7 @@
 //! The room's terminals that are known, in the order of their tokens.
-ghost use Rattle.std.specs.Prelude.{◌≡◌, [], HoldsAt, IfOk, IfSome, List, Some, length};
-ghost use Rattle.std.specs.List.Sorted.{IsSearchInRange};
+ghost use Rattle.std.specs.Prelude.{◌≡◌, [], IfSome, List, Some};
 ghost use Rattle.room_types.specs.declared.fleet.Terminal.{Terminal as Known};
-ghost use Rattle.room_model.specs.Enrol.{terminal_at};
+ghost use Rattle.room_model.specs.FleetRows.{terminal_at};
 ghost use Rattle.room_store_cache.specs.KnownTerminals.{AreTerminalsOf, IsOneOf};
 
 use room_types::fleet::Terminal;
@@ -30,7 +29,10 @@ impl Terminals {
         ensures { (terminals : List Known) → AreTerminalsOf self.now.kept.items terminals
             → IfSome result (λ t. terminal_at token.now terminals ≡ Some t.now) }
     {
-        match place_of(&self.kept, token) {
+        match self
+            .kept
+            .binary_search_by_key(token, |terminal| terminal.token)
+        {
             Ok(at) => Some(&self.kept[at]),
             Err(_) => None,
         }
@@ -41,7 +43,10 @@ impl Terminals {
         ensures { (terminals : List Known) → AreTerminalsOf self.old.kept.items terminals
             → IsOneOf terminals terminal.now → AreTerminalsOf self.new.kept.items terminals }
     {
-        if let Err(at) = place_of(&self.kept, &terminal.token) {
+        let place = self
+            .kept
+            .binary_search_by_key(&terminal.token, |known| known.token);
+        if let Err(at) = place {
             let terminal = Terminal {
                 token: terminal.token,
                 who: terminal.who,
@@ -49,12 +54,4 @@ impl Terminals {
             let _ = self.kept.insert(at, terminal);
         }
     }
-}
-
-// Where the terminal of a token is, or where it would go.
-fn place_of(known: &[Terminal], token: &Token) -> Result<usize, usize>
-    ensures within { IsSearchInRange result (length known.now) }
-    ensures found { IfOk result (HoldsAt (λ t. t.token ≡ token.now) known.now) }
-{
-    known.binary_search_by_key(token, |terminal| terminal.token)
 }

@@ -3,10 +3,10 @@
 //! that a request reads: those known, and others by key and by index of the tables.
 #![tactic(auto)]
 
-pub mod backlogs;
 pub mod cache;
 pub mod cached_rows;
 pub mod crew_reads;
+pub mod entries;
 pub mod fleets;
 pub mod half_hours;
 mod incident_reads;
@@ -15,6 +15,7 @@ mod known_parts;
 pub mod known_terminals;
 pub mod open_turns;
 mod partitions;
+pub mod queue_views;
 pub mod recent_incidents;
 mod request_reads;
 mod row_unions;

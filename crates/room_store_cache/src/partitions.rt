@@ -1,12 +1,10 @@
 //! Parts of a division's incidents, calls, turns and reports that are known or that an index finds,
 //! and the load of all that are in some.
-ghost use Rattle.std.specs.Prelude.{◌≡◌, ◌==◌, ◌&&◌, ◌||◌, ℕ, Bool, filter, not, IsTrue};
-ghost use Rattle.sqlite.specs.Held.{state};
-ghost use Rattle.sqlite.specs.State.{HasCleanDisk};
+ghost use Rattle.std.specs.Prelude.{◌≡◌, ◌==◌, ◌&&◌, ◌||◌, ℕ, Bool, filter, not};
 ghost use Rattle.room_types.specs.Codes.{outcome_number};
-ghost use Rattle.room_types_keyed.specs.Keyed.{IsKeyed};
+ghost use Rattle.room_types_keyed.specs.KeyedRows.{IsKeyed};
 ghost use Rattle.room_tables.specs.FoundRows.{Finds};
-ghost use Rattle.room_tables_schema.specs.FileConnections.{HasRoomSchema};
+ghost use Rattle.room_tables_schema.specs.FileConnections.{HasRoomSchema, StandsOpen};
 ghost use Rattle.room_tables_schema.specs.Outcomes.{ReadsOnly};
 ghost use Rattle.room_store_cache.specs.Partitions.{AreKnown, any};
 
@@ -44,8 +42,7 @@ pub trait Partition: Table {
         part: &Self::Part,
     ) -> Result<Rows<Self>, Fault>
         requires room { HasRoomSchema S.Store conn.old }
-        requires open { HasCleanDisk (state S.Store conn.old)
-            → IsTrue (state S.Store conn.old).is_open }
+        requires open { StandsOpen S.Store conn.old }
         ensures rows { Finds S.Store conn.old conn.new result (λ room x.
             AreKnown known.now room
             → IsKeyed Self.Key.cmp Self.key_of (Self.rows room)
@@ -63,8 +60,7 @@ pub fn load_parts<R: Partition, S: Alter>(
     mut rows: Rows<R>,
 ) -> Result<Rows<R>, Fault>
     requires room { HasRoomSchema S.Store conn.old }
-    requires open { HasCleanDisk (state S.Store conn.old)
-        → IsTrue (state S.Store conn.old).is_open }
+    requires open { StandsOpen S.Store conn.old }
     ensures rows { Finds S.Store conn.old conn.new result (λ room x.
         (first : R → Bool) → AreKnown known.now room → IsKeyed R.Key.cmp R.key_of (R.rows room)
         → rows ≡ filter first (R.rows room)
@@ -92,7 +88,7 @@ impl Partition for Incident {
         part: &Number,
     ) -> Result<Rows<Incident>, Fault> {
         let number = *part;
-        match known.incident_views.get(division, number) {
+        match known.incident_views.get(&(division, number)) {
             Some(incident_view) => listed(alloc, incident_view.incident),
             None => load_one::<Incident, S>(alloc, conn, division, &(division, number)),
         }
@@ -129,7 +125,7 @@ impl Partition for Turn {
         division: DivisionNumber,
         part: &Number,
     ) -> Result<Rows<Turn>, Fault> {
-        match known.incident_views.get(division, *part) {
+        match known.incident_views.get(&(division, *part)) {
             Some(incident_view) => own_rows(alloc, &incident_view.turns, division),
             None => turns_of(alloc, conn, division, *part),
         }

@@ -1,16 +1,14 @@
 //! The incidents opened from a moment on, and those of them that a call may be linked to. Those
 //! within 200 m east or west and 200 m north or south are decided on: none further off is within
 //! 200 m, and those in the corners of that square are few.
-ghost use Rattle.std.specs.Prelude.{◌≡◌, ◌+◌, ◌-◌, ◌≤◌, ◌==◌, ◌&&◌, None, filter, IsTrue, IfErr, IfOk, IfSome, OnOk};
-ghost use Rattle.sqlite.specs.Held.{state};
-ghost use Rattle.sqlite.specs.State.{HasCleanDisk};
+ghost use Rattle.std.specs.Prelude.{◌≡◌, ◌+◌, ◌-◌, ◌≤◌, ◌==◌, ◌&&◌, None, filter, IfErr, IfOk, IfSome, OnOk};
 ghost use Rattle.room_tables.specs.FoundRows.{Finds};
-ghost use Rattle.room_tables_schema.specs.FileConnections.{HasRoomSchema};
+ghost use Rattle.room_tables_schema.specs.FileConnections.{HasRoomSchema, StandsOpen};
 ghost use Rattle.room_tables_schema.specs.declared.database_faults.Fault.TheVariants.{Memory};
 ghost use Rattle.room_tables_schema.specs.Outcomes.{ReadsOnly};
 ghost use Rattle.room_types.specs.declared.asks.Ask.TheVariants.{Call};
 ghost use Rattle.room_model.specs.Room.{Room};
-ghost use Rattle.room_model.specs.Working.{names_opening};
+ghost use Rattle.room_model.specs.WorkingRows.{names_opening};
 ghost use Rattle.room_store_cache.specs.RecentIncidents.{AreRecent, opened_since};
 
 use crate::cached_rows::put;
@@ -84,8 +82,7 @@ impl RecentIncidents {
         at: Moment,
     ) -> Result<Rows<Incident>, Fault>
         requires room { HasRoomSchema S.Store conn.old }
-        requires open { HasCleanDisk (state S.Store conn.old)
-            → IsTrue (state S.Store conn.old).is_open }
+        requires open { StandsOpen S.Store conn.old }
         ensures rows { Finds S.Store conn.old conn.new result (λ room x. AreRecent self.old room
             → x ≡ filter (λ i. i.division == division && names_opening (Call form.now) at i)
             room.incidents) }

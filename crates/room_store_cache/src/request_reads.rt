@@ -1,5 +1,6 @@
 //! What a request reads of the rows of its division: one table, a row a request.
-ghost use Rattle.room_store_cache.specs.RequestReads.{Selects};
+ghost use Rattle.std.specs.Prelude.{◌≡◌};
+ghost use Rattle.room_store_cache.specs.RequestReads.{Selects, is_of_fleet};
 
 use self::Incidents::{Active, Near, One, Opened, Two};
 use self::Reports::Uncleared;
@@ -50,6 +51,19 @@ pub enum Incidents {
     Near(CallForm),
     One(Number),
     Two(Number, Number),
+}
+
+impl Reads {
+    /// Whether nothing is read but rows of the fleet, which are known.
+    pub fn is_of_fleet(&self) -> bool
+        ensures { result
+            ≡ is_of_fleet self.now.incidents self.now.reports self.now.last_turn }
+    {
+        match (self.incidents, self.reports, self.last_turn) {
+            (Incidents::Nothing, Reports::Nothing, None) => true,
+            _ => false,
+        }
+    }
 }
 
 // A row with nothing in its columns.

@@ -1,7 +1,7 @@
 //! Rows of one table that were loaded by several reads.
 ghost use Rattle.std.specs.Prelude.{◌≡◌, ◌||◌, Bool, List, filter, OnOk, IfErr, IfOk};
 ghost use Rattle.room_tables_schema.specs.declared.database_faults.Fault.TheVariants.{Memory};
-ghost use Rattle.room_types_keyed.specs.Keyed.{IsKeyed};
+ghost use Rattle.room_types_keyed.specs.KeyedRows.{IsKeyed};
 ghost use Rattle.room_store_cache.specs.Selections.{listed};
 
 use crate::cached_rows::put;

@@ -1,7 +1,7 @@
 //! How much of a table a request reads, and as much of its rows.
 ghost use Rattle.std.specs.Prelude.{◌≡◌, ◌&&◌, filter, IfErr, IfOk};
 ghost use Rattle.std.specs.Ordering.{is_eq};
-ghost use Rattle.room_types_keyed.specs.Keyed.{IsKeyed, keep};
+ghost use Rattle.room_types_keyed.specs.KeyedRows.{IsKeyed, keep};
 ghost use Rattle.room_tables.specs.FoundRows.{Finds};
 ghost use Rattle.room_tables_schema.specs.FileConnections.{HasRoomSchema};
 ghost use Rattle.room_tables_schema.specs.declared.database_faults.Fault.TheVariants.{Memory};

@@ -1,14 +1,15 @@
 //! The incidents that a division's list showed last, with all their calls and turns.
-ghost use Rattle.std.specs.Prelude.{◌≡◌, ◌≢◌, ◌==◌, ◌&&◌, ℕ, [], All, AllPairs, IfErr, IfOk, IfSome, map};
+ghost use Rattle.std.specs.Prelude.{◌≡◌, ◌==◌, ◌&&◌, ℕ, IfErr, IfOk};
 ghost use Rattle.room_types.specs.declared.asks.Ask.TheVariants.{Incidents};
 ghost use Rattle.room_model.specs.Room.{IsInOrder, Room};
 ghost use Rattle.room_model.specs.RoomSlices.{room_of};
-ghost use Rattle.room_model.specs.Working.{working};
+ghost use Rattle.room_model.specs.WorkingRows.{working};
 ghost use Rattle.room_tables_schema.specs.declared.database_faults.Fault.TheVariants.{Memory};
+ghost use Rattle.room_store_cache.specs.EntryKeys.{exact_number};
 ghost use Rattle.room_store_cache.specs.ShownLists.{AreShownListsOf, IsShownListOf, has, is_among};
 
 use crate::cached_rows::{own_rows, put_if};
-use crate::views::{Entry, View, apply_each};
+use crate::entries::{Entries, Entry};
 use room_place::plans::DivisionNumber;
 use room_tables_schema::database_faults::Fault;
 use room_types::changes::Change;
@@ -29,13 +30,8 @@ pub struct ShownList {
     pub turns: Rows<Turn>,
 }
 
-/// The lists of some divisions that are known, at most one of each, with no more incidents than it
-/// showed.
-#[derive(Drop)]
-pub struct ShownLists {
-    kept: Vec<ShownList>,
-    ghost apart: { AllPairs (λ c d. c ≢ d) (map (λ x. x.division) kept.items) },
-}
+/// The lists of some divisions that are known, with no more incidents than each showed.
+pub type ShownLists = Entries<ShownList>;
 
 impl ShownList {
     /// Whether the division's incident of a number is among them.
@@ -58,29 +54,7 @@ impl ShownList {
     }
 }
 
-impl ShownLists {
-    /// None is known yet.
-    pub fn new(alloc: Global) -> ShownLists
-        ensures { result.kept.items ≡ [] }
-    {
-        ShownLists {
-            kept: Vec::new(alloc),
-        }
-    }
-
-    /// The list of a division, if it is known.
-    pub fn get(&self, division: DivisionNumber) -> Option<&ShownList>
-        ensures { (room : Room) → AreShownListsOf self.now.kept.items room
-            → IfSome result (λ x. (x.now.division ≡ division) × IsShownListOf x.now room) }
-    {
-        for list in &self.kept {
-            if list.division == division {
-                return Some(list);
-            }
-        }
-        None
-    }
-
+impl Entries<ShownList> {
     /// Keeps the incidents that a division's list shows, out of the rows that it reads, where they
     /// aren't all known.
     pub fn fill(&mut self, alloc: Global, division: DivisionNumber, rows: &DivisionRows)
@@ -88,7 +62,7 @@ impl ShownLists {
             → room_of room.plan rows.now ≡ working division Incidents at room
             → AreShownListsOf self.old.kept.items room → AreShownListsOf self.new.kept.items room }
     {
-        if let Some(list) = self.get(division)
+        if let Some(list) = self.get(&division)
             && list.has_all(&rows.incidents)
         {
             return;
@@ -97,40 +71,18 @@ impl ShownLists {
             self.put(list);
         }
     }
-
-    // Keeps a list instead of the one of its division, where memory is not refused.
-    fn put(&mut self, list: ShownList)
-        ensures { (room : Room) → AreShownListsOf self.old.kept.items room
-            → IsShownListOf list room → AreShownListsOf self.new.kept.items room }
-    {
-        for at in 0..self.kept.len() {
-            if self.kept[at].division == list.division {
-                self.kept[at] = list;
-                return;
-            }
-        }
-        let _ = self.kept.push(list);
-    }
-}
-
-impl View for ShownLists {
-    ghost is_so = { λ lists room. AreShownListsOf lists.kept.items room };
-
-    ghost is_empty = { λ lists. lists.kept.items ≡ [] };
-
-    fn apply(&mut self, change: &Change) {
-        apply_each(&mut self.kept, change);
-    }
-
-    fn forget(&mut self) {
-        self.kept.clear();
-    }
 }
 
 impl Entry for ShownList {
+    type Key = DivisionNumber;
+
     ghost is_so = { IsShownListOf };
 
-    ghost division_of = { λ x. x.division };
+    ghost key_of = { λ x. x.division };
+
+    fn key(&self) -> DivisionNumber {
+        self.division
+    }
 
     // Of an incident that was opened since, nothing is kept before the next list shows it.
     fn apply(&mut self, change: &Change) -> Result<(), Fault> {
@@ -146,6 +98,8 @@ impl Entry for ShownList {
             _ => Ok(()),
         }
     }
+
+    ghost exact = { exact_number };
 }
 
 // What a list shows, out of the rows that it reads. The one fault is `Memory`.

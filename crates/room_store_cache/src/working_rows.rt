@@ -1,7 +1,5 @@
 //! The rows of a division that a request reads: of the fleet those known, others from the tables.
-ghost use Rattle.std.specs.Prelude.{◌≡◌, ◌&&◌, ◌==◌, ℕ, Bool, filter, not, IsTrue, IfErr, IfOk};
-ghost use Rattle.sqlite.specs.Held.{state};
-ghost use Rattle.sqlite.specs.State.{HasCleanDisk};
+ghost use Rattle.std.specs.Prelude.{◌≡◌, ◌&&◌, ◌==◌, ℕ, Bool, filter, not, IfErr, IfOk};
 ghost use Rattle.room_tables.specs.FoundRows.{Finds};
 ghost use Rattle.room_tables_schema.specs.Outcomes.{ReadsOnly};
 ghost use Rattle.room_types.specs.declared.asks.Ask.{Ask as AskModel};
@@ -9,10 +7,10 @@ ghost use Rattle.room_types.specs.declared.tables.Turn.{Turn};
 ghost use Rattle.room_model.specs.Queries.{held};
 ghost use Rattle.room_model.specs.Room.{IsInOrder, Room};
 ghost use Rattle.room_model.specs.RoomSlices.{room_of};
-ghost use Rattle.room_model.specs.Working.{is_last_turn, reads_number, working};
-ghost use Rattle.room_tables_schema.specs.declared.database_faults.Fault.TheVariants.{Memory};
-ghost use Rattle.room_tables_schema.specs.FileConnections.{HasRoomSchema};
-ghost use Rattle.room_store_cache.specs.Backlogs.{AreBacklogsOf};
+ghost use Rattle.room_model.specs.WorkingRows.{is_last_turn, reads_number, working};
+ghost use Rattle.room_tables_schema.specs.declared.database_faults.Fault.TheVariants.{Memory, Storage};
+ghost use Rattle.room_tables_schema.specs.FileConnections.{HasRoomSchema, StandsOpen};
+ghost use Rattle.room_store_cache.specs.QueueViews.{AreQueueViewsOf};
 ghost use Rattle.room_store_cache.specs.Cache.{AreRowsOf};
 ghost use Rattle.room_store_cache.specs.IncidentViews.{AreIncidentViewsOf};
 ghost use Rattle.room_store_cache.specs.IncidentNumbers.{contains};
@@ -36,14 +34,14 @@ use room_types::callsign::Callsign;
 use room_types::codes::Outcome;
 use room_types::numbers::{Moment, Number};
 use room_types::rows::Rows;
-use room_types::slices::DivisionRows;
+use room_types::slices::{DivisionRows, Slice};
 use room_types::tables::{Call, Incident, Report, Turn, Vehicle};
 use sqlite::{Alter, Connection};
 use std::alloc::Global;
 
-/// The rows of a division that a request at a moment reads: what its desk asks, or a call that is
-/// placed in it. What is known is handed over, and the next request knows what this one read of
-/// incidents.
+/// The rows of a division that a request at a moment reads, as a slice: what its desk asks, or a
+/// call that is placed in it. What is known is handed over, and the next request knows what this
+/// one read of incidents. Rows that don't agree are no room's: that is `Storage`.
 pub fn load_working<S: Alter>(
     alloc: Global,
     conn: &mut Connection<S>,
@@ -51,12 +49,13 @@ pub fn load_working<S: Alter>(
     ask: &Ask,
     at: Moment,
     cache: &mut Cache,
-) -> Result<DivisionRows, Fault>
+) -> Result<Slice, Fault>
     requires room { HasRoomSchema S.Store conn.old }
-    requires open { HasCleanDisk (state S.Store conn.old)
-        → IsTrue (state S.Store conn.old).is_open }
+    requires open { StandsOpen S.Store conn.old }
+    ensures division { IfOk result (λ x. x.division ≡ division) }
     ensures rows { Finds S.Store conn.old conn.new result (λ room x. IsInOrder room
-        → AreKnown cache.old room → room_of room.plan x ≡ working division ask.now at room) }
+        → AreKnown cache.old room
+        → room_of room.plan x.rows ≡ working division ask.now at room) }
     ensures known { Finds S.Store conn.old conn.new result (λ room _. IsInOrder room
         → AreKnown cache.old room → AreKnown cache.new room) }
     ensures fleet { cache.new.fleet ≡ cache.old.fleet }
@@ -64,35 +63,45 @@ pub fn load_working<S: Alter>(
 {
     let reads = reads_of(division, ask);
     let held = held_part(alloc, division, &reads, cache.fleet.get())?;
+    if reads.is_of_fleet() {
+        return slice_of(division, held);
+    }
     let work = load_work(alloc, conn, division, &reads, at, cache)?;
     let rows = DivisionRows {
-        divisions: held.divisions,
         incidents: work.incidents,
         calls: work.calls,
-        vehicles: held.vehicles,
         turns: work.turns,
-        assignments: held.assignments,
-        points: held.points,
-        loans: held.loans,
-        offers: held.offers,
         reports: work.reports,
+        ..held
     };
-    fill(alloc, cache, division, &reads, &rows);
-    Ok(rows)
+    fill_views(alloc, cache, division, &reads, &rows);
+    slice_of(division, rows)
+}
+
+// A slice of the rows. Rows that don't agree are no room's: that is `Storage`.
+fn slice_of(division: DivisionNumber, rows: DivisionRows) -> Result<Slice, Fault>
+    ensures division { IfOk result (λ x. x.division ≡ division) }
+    ensures rows { IfOk result (λ x. x.rows ≡ rows) }
+    ensures storage { IfErr result (λ e. e ≡ Storage) }
+{
+    match Slice::build(division, rows) {
+        Some(slice) => Ok(slice),
+        None => Err(Fault::Storage),
+    }
 }
 
 // Keeps what a queue or a list shows, or the one incident that was named, where it isn't known.
-fn fill(
+fn fill_views(
     alloc: Global,
     cache: &mut Cache,
     division: DivisionNumber,
     reads: &Reads,
     rows: &DivisionRows,
 )
-    ensures backlogs { (room : Room) (ask : AskModel) (at : ℕ) → Selects division ask reads.now
+    ensures queue_views { (room : Room) (ask : AskModel) (at : ℕ) → Selects division ask reads.now
         → room_of room.plan rows.now ≡ working division ask at room
-        → AreBacklogsOf cache.old.backlogs.kept.items room
-        → AreBacklogsOf cache.new.backlogs.kept.items room }
+        → AreQueueViewsOf cache.old.queue_views.kept.items room
+        → AreQueueViewsOf cache.new.queue_views.kept.items room }
     ensures incident_views { (room : Room) (ask : AskModel) (at : ℕ) → IsInOrder room
         → Selects division ask reads.now
         → room_of room.plan rows.now ≡ working division ask at room
@@ -107,7 +116,7 @@ fn fill(
     ensures recent_incidents { cache.new.recent_incidents ≡ cache.old.recent_incidents }
 {
     if let Reports::Uncleared = reads.reports {
-        cache.backlogs.fill(alloc, division, rows);
+        cache.queue_views.fill(alloc, division, rows);
         cache.incident_views.fill_shown(alloc, division, rows);
         return;
     }
@@ -123,24 +132,28 @@ fn fill(
 }
 
 // What a request reads of the fleet's rows: the division's own, vehicles that it holds and its
-// assignments, and its points, loans and offers. The one fault is `Memory`.
+// assignments, and its points, loans and offers; no other rows. The one fault is `Memory`.
 fn held_part(
     alloc: Global,
     division: DivisionNumber,
     reads: &Reads,
     fleet: &FleetRows,
-) -> Result<FleetRows, Fault>
+) -> Result<DivisionRows, Fault>
     ensures rows { IfOk result (λ x. (room : Room) (ask : AskModel) → IsInOrder room
         → AreRowsOf fleet.now room → Selects division ask reads.now → IsHeld division ask room x) }
     ensures memory { IfErr result (λ e. e ≡ Memory) }
 {
-    Ok(FleetRows {
+    Ok(DivisionRows {
         divisions: part_of(alloc, &fleet.divisions, division, &reads.divisions)?,
         vehicles: part_of(alloc, &fleet.vehicles, division, &reads.vehicles)?,
         assignments: part_of(alloc, &fleet.assignments, division, &reads.assignments)?,
         points: part_of(alloc, &fleet.points, division, &reads.points)?,
         loans: part_of(alloc, &fleet.loans, division, &reads.loans)?,
         offers: part_of(alloc, &fleet.offers, division, &reads.offers)?,
+        incidents: Rows::new(alloc),
+        calls: Rows::new(alloc),
+        turns: Rows::new(alloc),
+        reports: Rows::new(alloc),
     })
 }
 
@@ -153,6 +166,7 @@ struct Work {
     reports: Rows<Report>,
 }
 
+// What a request reads beside the fleet.
 fn load_work<S: Alter>(
     alloc: Global,
     conn: &mut Connection<S>,
@@ -162,8 +176,7 @@ fn load_work<S: Alter>(
     cache: &mut Cache,
 ) -> Result<Work, Fault>
     requires room { HasRoomSchema S.Store conn.old }
-    requires open { HasCleanDisk (state S.Store conn.old)
-        → IsTrue (state S.Store conn.old).is_open }
+    requires open { StandsOpen S.Store conn.old }
     ensures rows { Finds S.Store conn.old conn.new result (λ room x. (ask : AskModel)
         → IsInOrder room → AreKnown cache.old room → Selects division ask reads.now
         → IsWork division ask at room x) }
@@ -215,8 +228,7 @@ fn load_reports<S: Alter>(
     known: &Cache,
 ) -> Result<Rows<Report>, Fault>
     requires room { HasRoomSchema S.Store conn.old }
-    requires open { HasCleanDisk (state S.Store conn.old)
-        → IsTrue (state S.Store conn.old).is_open }
+    requires open { StandsOpen S.Store conn.old }
     ensures rows { Finds S.Store conn.old conn.new result (λ room x. IsInOrder room
         → AreKnown known.now room
         → x ≡ filter (λ y. y.division == division && is_report reports.now y) room.reports) }
@@ -224,8 +236,8 @@ fn load_reports<S: Alter>(
 {
     match reports {
         Reports::Nothing => Ok(Rows::new(alloc)),
-        Reports::Uncleared => match known.backlogs.get(division) {
-            Some(backlog) => own_rows(alloc, &backlog.exceptions, division),
+        Reports::Uncleared => match known.queue_views.get(&division) {
+            Some(queue_view) => own_rows(alloc, &queue_view.exceptions, division),
             None => {
                 let none = Rows::new(alloc);
                 load_parts::<Report, S>(alloc, conn, known, division, &EXCEPTIONS, none)
@@ -255,8 +267,7 @@ fn load_turns<S: Alter>(
     turns: Rows<Turn>,
 ) -> Result<Rows<Turn>, Fault>
     requires room { HasRoomSchema S.Store conn.old }
-    requires open { HasCleanDisk (state S.Store conn.old)
-        → IsTrue (state S.Store conn.old).is_open }
+    requires open { StandsOpen S.Store conn.old }
     ensures rows { Finds S.Store conn.old conn.new result (λ room x. (ask : AskModel)
         (is_known : ℕ → Bool) → IsInOrder room → AreKnown known.now room
         → Selects division ask reads.now
@@ -281,8 +292,7 @@ fn last_turn<S: Alter>(
     callsign: &Callsign,
 ) -> Result<Rows<Turn>, Fault>
     requires room { HasRoomSchema S.Store conn.old }
-    requires open { HasCleanDisk (state S.Store conn.old)
-        → IsTrue (state S.Store conn.old).is_open }
+    requires open { StandsOpen S.Store conn.old }
     ensures rows { Finds S.Store conn.old conn.new result (λ room x. IsInOrder room
         → AreRowsOf fleet.now room → x ≡ filter (λ t. t.division == division &&
         is_last_turn (held division callsign.now room) t) room.turns) }

@@ -10,7 +10,7 @@ use Rattle.std.proofs.lemmas.Cmp.{nat_cmp_total}
 use Rattle.room_place.specs.Plans.{has_division}
 use Rattle.room_place.specs.declared.plans.Area.{Area}
 use Rattle.room_types.specs.Codes.{is_merged}
-use Rattle.room_types_keyed.specs.Keyed.{row_at}
+use Rattle.room_types_keyed.specs.KeyedRows.{row_at}
 use Rattle.room_types.specs.Keys.{assignment_key, call_key, callsign_cmp, division_key, incident_key, loan_key}
 use Rattle.room_types.specs.Keys.{numbered_cmp, offer_key, pair_cmp, point_key, report_key, turn_key, vehicle_key}
 use Rattle.room_types.specs.Orders.{callsigns_total, exact_callsigns, exact_number, exact_numbered, exact_pair}
@@ -23,8 +23,8 @@ use Rattle.room_types.specs.declared.tables.Incident.{Incident}
 use Rattle.room_types.proofs.SentLaws.{itself}
 use Rattle.room_model.specs.Room.{IsInOrder, Room}
 use Rattle.room_model.specs.RoomSlices.{room_of}
-use Rattle.room_model.specs.WellFormed.{CallAgrees, NumberAgrees, OpenedAgrees}
-use Rattle.room_store_check_rows.specs.Fits.{has_row, is_opened, loan_at, offer_at, opens, rows_fit}
+use Rattle.room_model.specs.RoomAgreements.{CallAgrees, NumberAgrees, OpenedAgrees}
+use Rattle.room_store_check_rows.specs.RowTests.{has_row, is_opened, loan_at, offer_at, opens, rows_fit}
 use Rattle.room_store_check_rows.proofs.Agreements.{each}
 use Rattle.room_store_check_rows.proofs.PassingRows.{passed, passing}
 use Rattle.room_store_check_rows.proofs.RowLaws.{ReportFits, TurnFits, VehicleFits, call_decides, incident_decides}

@@ -8,7 +8,7 @@ use Rattle.std.proofs.Common.{◌≡◌, ◌⊎◌}
 use Rattle.std.proofs.lemmas.Bool.{false≢true}
 use Rattle.room_place.specs.Choice.{Among}
 use Rattle.room_model.specs.Room.{Room}
-use Rattle.room_model.specs.WellFormed.{IsWellFormed}
+use Rattle.room_model.specs.RoomAgreements.{IsWellFormed}
 use Rattle.room_store_check_rows.specs.FirstFaults.{first_of, unless}
 use Rattle.room_store_check_rows.specs.Disagreements.{IsWrong, Tells}
 use Rattle.room_store_check_rows.specs.declared.disagreements.Disagreement.{Disagreement}

@@ -18,16 +18,16 @@ use Rattle.room_types.specs.declared.tables.Turn.{Turn}
 use Rattle.room_types.specs.declared.tables.Vehicle.{Vehicle}
 use Rattle.room_types_keyed.proofs.EachRow.{row_key}
 use Rattle.room_types_keyed.proofs.KeyedLaws.{row_filter}
-use Rattle.room_types_keyed.specs.Keyed.{keep, row_at}
+use Rattle.room_types_keyed.specs.KeyedRows.{keep, row_at}
 use Rattle.room_model.proofs.Tests.{row_among}
 use Rattle.room_model.specs.Room.{IsInOrder}
 use Rattle.room_model.specs.RoomSlices.{room_of}
-use Rattle.room_model.specs.WellFormed.{IsWellFormed}
+use Rattle.room_model.specs.RoomAgreements.{IsWellFormed}
 use Rattle.room_store_check_rows.specs.FirstFaults.{call_disagreement, first_disagreement, first_of}
 use Rattle.room_store_check_rows.specs.FirstFaults.{incident_disagreement, opening_fault, report_disagreement}
 use Rattle.room_store_check_rows.specs.FirstFaults.{standing_disagreement, told_fault, turn_disagreement}
 use Rattle.room_store_check_rows.specs.FirstFaults.{vehicle_disagreement}
-use Rattle.room_store_check_rows.specs.Fits.{has_last_report, has_open_turn, is_open}
+use Rattle.room_store_check_rows.specs.RowTests.{has_last_report, has_open_turn, is_open}
 use Rattle.room_store_check_rows.specs.declared.disagreements.Disagreement.{Disagreement}
 use Rattle.room_store_check_rows.specs.HistoryChecks.{Tell, has_last_number, histories_fit, is_last, kept}
 use Rattle.room_store_check_rows.specs.HistoryChecks.{kept_disagreement}

@@ -15,7 +15,7 @@ use Rattle.room_types.specs.declared.slices.DivisionRows.{DivisionRows}
 use Rattle.room_types.specs.declared.tables.Call.{Call}
 use Rattle.room_types.specs.declared.tables.Incident.{Incident}
 use Rattle.room_store_check_rows.specs.FirstFaults.{first_of, opening_fault, told_fault, unless}
-use Rattle.room_store_check_rows.specs.Fits.{opens, told_cmp, told_of}
+use Rattle.room_store_check_rows.specs.RowTests.{opens, told_cmp, told_of}
 use Rattle.room_store_check_rows.specs.HistoryChecks.{Tell}
 use Rattle.room_store_check_rows.specs.declared.disagreements.Disagreement.TheVariants as wrong
 use Rattle.room_store_check_rows.specs.declared.disagreements.IncidentFault.TheVariants as incident

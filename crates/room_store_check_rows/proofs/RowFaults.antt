@@ -28,18 +28,18 @@ use Rattle.room_types.specs.declared.tables.Vehicle.{Vehicle}
 use Rattle.room_types.proofs.SentLaws.{itself}
 use Rattle.room_model.specs.Room.{IsInOrder, Room}
 use Rattle.room_model.specs.RoomSlices.{room_of}
-use Rattle.room_model.specs.WellFormed.{AssignmentAgrees, IsWellFormed, LoanAgrees, OfferAgrees, OpenAgrees}
+use Rattle.room_model.specs.RoomAgreements.{AssignmentAgrees, IsWellFormed, LoanAgrees, OfferAgrees, OpenAgrees}
 use Rattle.room_model.proofs.Tests.{or_right}
 use Rattle.room_store_check_rows.specs.FirstFaults.{area_disagreement, assignment_fault, call_disagreement, call_fault}
 use Rattle.room_store_check_rows.specs.FirstFaults.{division_disagreement, first_disagreement, first_of}
 use Rattle.room_store_check_rows.specs.FirstFaults.{incident_disagreement, loan_fault, offer_fault, open_fault}
 use Rattle.room_store_check_rows.specs.FirstFaults.{opening_fault, order_fault, point_disagreement, report_fault}
 use Rattle.room_store_check_rows.specs.FirstFaults.{rows_disagreement, turn_fault, unless, vehicle_fault}
-use Rattle.room_store_check_rows.specs.Fits.{assignment_fits, call_fits, divisions_fit, fleet_fits, has_last_report}
-use Rattle.room_store_check_rows.specs.Fits.{has_open_turn, has_post, has_row, has_vehicle, incident_fits}
-use Rattle.room_store_check_rows.specs.Fits.{is_as_assigned, is_given, is_in_turn, is_numbered, is_of, is_open}
-use Rattle.room_store_check_rows.specs.Fits.{is_opened, is_over, loan_at, loan_fits, offer_at, offer_fits, open_fits}
-use Rattle.room_store_check_rows.specs.Fits.{report_fits, rows_fit, turn_fits, vehicle_fits}
+use Rattle.room_store_check_rows.specs.RowTests.{assignment_fits, call_fits, divisions_fit, fleet_fits, has_last_report}
+use Rattle.room_store_check_rows.specs.RowTests.{has_open_turn, has_post, has_row, has_vehicle, incident_fits}
+use Rattle.room_store_check_rows.specs.RowTests.{is_as_assigned, is_given, is_in_turn, is_numbered, is_of, is_open}
+use Rattle.room_store_check_rows.specs.RowTests.{is_opened, is_over, loan_at, loan_fits, offer_at, offer_fits, open_fits}
+use Rattle.room_store_check_rows.specs.RowTests.{report_fits, rows_fit, turn_fits, vehicle_fits}
 use Rattle.room_store_check_rows.specs.Disagreements.{HasRow, IsCallFault, IsIncidentFault, IsOddly, IsOfNone, IsOpen}
 use Rattle.room_store_check_rows.specs.Disagreements.{IsReportFault, IsTurnFault, IsVehicleFault, IsWrong, Tells}
 use Rattle.room_store_check_rows.specs.Disagreements.{WasGiven}

@@ -22,12 +22,12 @@ use Rattle.room_types.specs.declared.tables.Vehicle.{Vehicle}
 use Rattle.room_types.proofs.SentLaws.{itself}
 use Rattle.room_model.specs.Room.{Room}
 use Rattle.room_model.specs.RoomSlices.{room_of}
-use Rattle.room_model.specs.WellFormed.{AssignmentAgrees, CallAgrees, IsGiven, IsOfIncident, IsPost, LastAgrees}
-use Rattle.room_model.specs.WellFormed.{LoanAgrees, OfferAgrees, OpenAgrees, PostAgrees, ReportAgrees, SameIncident}
-use Rattle.room_model.specs.WellFormed.{TurnAgrees, TurnIsActive}
-use Rattle.room_store_check_rows.specs.Fits.{assignment_fits, call_fits, has_post, incident_fits, is_as_assigned}
-use Rattle.room_store_check_rows.specs.Fits.{is_given, is_in_turn, is_numbered, is_of, is_open, loan_at, loan_fits}
-use Rattle.room_store_check_rows.specs.Fits.{offer_at, offer_fits, open_fits, report_fits, turn_fits, vehicle_fits}
+use Rattle.room_model.specs.RoomAgreements.{AssignmentAgrees, CallAgrees, IsGiven, IsOfIncident, IsPost, LastAgrees}
+use Rattle.room_model.specs.RoomAgreements.{LoanAgrees, OfferAgrees, OpenAgrees, PostAgrees, ReportAgrees, SameIncident}
+use Rattle.room_model.specs.RoomAgreements.{TurnAgrees, TurnIsActive}
+use Rattle.room_store_check_rows.specs.RowTests.{assignment_fits, call_fits, has_post, incident_fits, is_as_assigned}
+use Rattle.room_store_check_rows.specs.RowTests.{is_given, is_in_turn, is_numbered, is_of, is_open, loan_at, loan_fits}
+use Rattle.room_store_check_rows.specs.RowTests.{offer_at, offer_fits, open_fits, report_fits, turn_fits, vehicle_fits}
 
 -- ---- tests of tests
 pub idle : (b : Bool) → Decides (not b) (b ≡ false)

@@ -13,7 +13,7 @@ use Rattle.std.proofs.lemmas.Cmp.{tied_itself}
 use Rattle.room_place.specs.Choice.{Among}
 use Rattle.room_place.specs.Plans.{has_division}
 use Rattle.room_place.specs.declared.plans.Area.{Area}
-use Rattle.room_types_keyed.specs.Keyed.{IsKeyed, row_at}
+use Rattle.room_types_keyed.specs.KeyedRows.{IsKeyed, row_at}
 use Rattle.room_types.specs.Keys.{callsign_cmp, same_callsign, vehicle_key}
 use Rattle.room_types.specs.Orders.{callsigns_total, exact_callsigns}
 use Rattle.room_types.specs.Slices.{vehicle_at}
@@ -23,14 +23,14 @@ use Rattle.room_types.specs.declared.asks.Who.{Who}
 use Rattle.room_types.specs.declared.fleet.Terminal.{Terminal}
 use Rattle.room_types.specs.declared.slices.DivisionRows.{DivisionRows}
 use Rattle.room_types.specs.declared.tables.Vehicle.{Vehicle}
-use Rattle.room_model.specs.Enrol.{AreTerminals, is_crew, terminal_key, token_cmp}
+use Rattle.room_model.specs.FleetRows.{AreTerminals, is_crew, terminal_key, token_cmp}
 use Rattle.room_model.specs.Room.{Room}
 use Rattle.room_model.specs.RoomSlices.{room_of}
 use Rattle.room_model.proofs.Tests.{or_right}
 use Rattle.room_store_check_rows.specs.TerminalCrews.{crew_again, crew_of, crews_fit, crews_of, has_subject}
 use Rattle.room_store_check_rows.specs.TerminalCrews.{second_crew, subject_fault, terminals_fault, two_crews, uncrewed}
 use Rattle.room_store_check_rows.specs.FirstFaults.{first_of}
-use Rattle.room_store_check_rows.specs.Fits.{has_vehicle}
+use Rattle.room_store_check_rows.specs.RowTests.{has_vehicle}
 use Rattle.room_store_check_rows.specs.Misfits.{HasTerminal, HasTwoCrews, IsMisfit, TellsOf}
 use Rattle.room_store_check_rows.specs.declared.disagreements.TerminalFault.TheVariants as wrong
 use Rattle.room_store_check_rows.specs.declared.disagreements.TerminalFault.{TerminalFault}

@@ -4,7 +4,7 @@ use Rattle.std.specs.Prelude.{IfSome, List, None, Option, Some, false, is_some, 
 use Rattle.room_place.specs.Choice.{Among}
 use Rattle.room_place.specs.Plans.{has_division}
 use Rattle.room_types.specs.Codes.{is_busy, is_merged}
-use Rattle.room_types_keyed.specs.Keyed.{row_at}
+use Rattle.room_types_keyed.specs.KeyedRows.{row_at}
 use Rattle.room_types.specs.Keys.{assignment_key, call_key, callsign_cmp, division_key, incident_key, loan_key}
 use Rattle.room_types.specs.Keys.{numbered_cmp, offer_key, pair_cmp, point_key, report_key, turn_key, vehicle_key}
 use Rattle.room_types.specs.Texts.{Callsign}
@@ -14,9 +14,9 @@ use Rattle.room_types.specs.declared.tables.Report.{Report}
 use Rattle.room_types.specs.declared.tables.Turn.{Turn}
 use Rattle.room_types.specs.declared.tables.Vehicle.{Vehicle}
 use Rattle.room_model.specs.Room.{Room}
-use Rattle.room_model.specs.WellFormed.{AssignmentAgrees, IsWellFormed, LastAgrees, LoanAgrees, NumberAgrees}
-use Rattle.room_model.specs.WellFormed.{OfferAgrees, OpenAgrees, OpenedAgrees, PostAgrees, ReportAgrees, SameIncident}
-use Rattle.room_model.specs.WellFormed.{TurnIsActive}
+use Rattle.room_model.specs.RoomAgreements.{AssignmentAgrees, IsWellFormed, LastAgrees, LoanAgrees, NumberAgrees}
+use Rattle.room_model.specs.RoomAgreements.{OfferAgrees, OpenAgrees, OpenedAgrees, PostAgrees, ReportAgrees, SameIncident}
+use Rattle.room_model.specs.RoomAgreements.{TurnIsActive}
 use Rattle.room_store_check_rows.specs.declared.disagreements.CallFault.TheVariants as call
 use Rattle.room_store_check_rows.specs.declared.disagreements.CallFault.{CallFault}
 use Rattle.room_store_check_rows.specs.declared.disagreements.Disagreement.TheVariants as wrong

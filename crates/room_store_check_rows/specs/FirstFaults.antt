@@ -28,9 +28,9 @@ use Rattle.room_store_check_rows.specs.declared.disagreements.TurnFault.TheVaria
 use Rattle.room_store_check_rows.specs.declared.disagreements.TurnFault.{TurnFault}
 use Rattle.room_store_check_rows.specs.declared.disagreements.VehicleFault.TheVariants as vehicle
 use Rattle.room_store_check_rows.specs.declared.disagreements.VehicleFault.{VehicleFault}
-use Rattle.room_store_check_rows.specs.Fits.{assignment_fits, has_last_report, has_open_turn, has_post, has_row}
-use Rattle.room_store_check_rows.specs.Fits.{has_vehicle, is_as_assigned, is_given, is_numbered, is_opened, is_over}
-use Rattle.room_store_check_rows.specs.Fits.{loan_at, loan_fits, offer_at, offer_fits, open_fits, told_cmp}
+use Rattle.room_store_check_rows.specs.RowTests.{assignment_fits, has_last_report, has_open_turn, has_post, has_row}
+use Rattle.room_store_check_rows.specs.RowTests.{has_vehicle, is_as_assigned, is_given, is_numbered, is_opened, is_over}
+use Rattle.room_store_check_rows.specs.RowTests.{loan_at, loan_fits, offer_at, offer_fits, open_fits, told_cmp}
 
 -- the fault, unless the row fits
 abbrev pub unless : {X : Type 0} → Bool → X → Option X

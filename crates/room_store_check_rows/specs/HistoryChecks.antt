@@ -5,7 +5,7 @@ use Rattle.std.specs.Option.{option_or}
 use Rattle.std.specs.Ordering.{is_eq}
 use Rattle.std.specs.Prelude.{◌≡◌, ℕ, Bool, false, List, [], Option, Some, None, ◌==◌, ◌&&◌, filter, is_none}
 use Rattle.room_place.specs.declared.plans.Area.{Area}
-use Rattle.room_types_keyed.specs.Keyed.{row_at}
+use Rattle.room_types_keyed.specs.KeyedRows.{row_at}
 use Rattle.room_types.specs.Keys.{callsign_cmp, vehicle_key}
 use Rattle.room_types.specs.declared.slices.DivisionRows.{DivisionRows}
 use Rattle.room_types.specs.declared.tables.Call.{Call}
@@ -14,7 +14,7 @@ use Rattle.room_types.specs.declared.tables.Vehicle.{Vehicle}
 use Rattle.room_store_check_rows.specs.FirstFaults.{call_disagreement, first_of, incident_disagreement}
 use Rattle.room_store_check_rows.specs.FirstFaults.{report_disagreement, standing_disagreement, told_fault}
 use Rattle.room_store_check_rows.specs.FirstFaults.{turn_disagreement}
-use Rattle.room_store_check_rows.specs.Fits.{told_cmp, told_of}
+use Rattle.room_store_check_rows.specs.RowTests.{told_cmp, told_of}
 use Rattle.room_store_check_rows.specs.declared.disagreements.Disagreement.{Disagreement}
 
 abbrev pub has_last_number : Report → Option Vehicle → Bool

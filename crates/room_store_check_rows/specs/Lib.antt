@@ -1,6 +1,6 @@
 pub mod TerminalCrews
 pub mod FirstFaults
-pub mod Fits
+pub mod RowTests
 -- turns, reports and calls that are judged one at a time
 pub mod HistoryChecks
 pub mod Misfits

@@ -2,13 +2,13 @@
 use Rattle.std.specs.Prelude.{List, None, Option, Some, [], false, is_some, true, ◌≡◌, ◌∷◌, ◌⊎◌}
 use Rattle.room_place.specs.Choice.{Among}
 use Rattle.room_place.specs.Plans.{has_division}
-use Rattle.room_types_keyed.specs.Keyed.{IsKeyed, row_at}
+use Rattle.room_types_keyed.specs.KeyedRows.{IsKeyed, row_at}
 use Rattle.room_types.specs.Keys.{callsign_cmp, vehicle_key}
 use Rattle.room_types.specs.Texts.{Callsign}
 use Rattle.room_types.specs.declared.asks.Who.TheVariants.{Crew, Desk}
 use Rattle.room_types.specs.declared.asks.Who.{Who}
 use Rattle.room_types.specs.declared.fleet.Terminal.{Terminal}
-use Rattle.room_model.specs.Enrol.{AreTerminals, terminal_key, token_cmp}
+use Rattle.room_model.specs.FleetRows.{AreTerminals, terminal_key, token_cmp}
 use Rattle.room_model.specs.Room.{Room}
 use Rattle.room_store_check_rows.specs.Disagreements.{IsOfNone}
 use Rattle.room_store_check_rows.specs.declared.disagreements.TerminalFault.TheVariants as wrong

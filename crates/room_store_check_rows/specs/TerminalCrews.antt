@@ -13,11 +13,11 @@ use Rattle.room_types.specs.declared.asks.Who.{Who}
 use Rattle.room_types.specs.declared.fleet.Terminal.{Terminal}
 use Rattle.room_types.specs.declared.slices.DivisionRows.{DivisionRows}
 use Rattle.room_types.specs.declared.tables.Vehicle.{Vehicle}
-use Rattle.room_model.specs.Enrol.{is_crew}
+use Rattle.room_model.specs.FleetRows.{is_crew}
 use Rattle.room_store_check_rows.specs.declared.disagreements.TerminalFault.{TerminalFault}
 use Rattle.room_store_check_rows.specs.declared.disagreements.TerminalFault.TheVariants as wrong
 use Rattle.room_store_check_rows.specs.FirstFaults.{first_of, unless}
-use Rattle.room_store_check_rows.specs.Fits.{has_vehicle}
+use Rattle.room_store_check_rows.specs.RowTests.{has_vehicle}
 
 -- the vehicle whose crew it is
 abbrev pub crew_of : Who → Option Callsign

@@ -1,6 +1,6 @@
 //! Whether the plan's divisions and no others have their rows, and whether points are theirs.
 ghost use Rattle.std.specs.Prelude.{◌≡◌};
-ghost use Rattle.room_store_check_rows.specs.Fits.{has_row};
+ghost use Rattle.room_store_check_rows.specs.RowTests.{has_row};
 
 use crate::disagreements::Disagreement;
 use crate::first_disagreement::{Judged, unless};

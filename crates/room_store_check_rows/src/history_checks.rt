@@ -3,10 +3,10 @@ ghost use Rattle.std.specs.Prelude.{◌≡◌, ◌↔◌, ◌++◌, ◌∷◌, [
 ghost use Rattle.std.specs.BTreeSet.{BTreeSet, contains};
 ghost use Rattle.room_model.specs.Room.{IsInOrder};
 ghost use Rattle.room_model.specs.RoomSlices.{room_of};
-ghost use Rattle.room_model.specs.WellFormed.{IsWellFormed};
+ghost use Rattle.room_model.specs.RoomAgreements.{IsWellFormed};
 ghost use Rattle.room_types.specs.declared.slices.DivisionRows.{DivisionRows};
 ghost use Rattle.room_types.specs.declared.tables.Call.{Call as Told};
-ghost use Rattle.room_store_check_rows.specs.Fits.{told_cmp};
+ghost use Rattle.room_store_check_rows.specs.RowTests.{told_cmp};
 ghost use Rattle.room_store_check_rows.specs.HistoryChecks.{Tell, has_last_number, histories_fit, is_last, kept, kept_disagreement};
 
 use crate::disagreements::Disagreement;

@@ -2,7 +2,7 @@
 ghost use Rattle.std.specs.Prelude.{◌≡◌, option_copied};
 ghost use Rattle.room_types.specs.Codes.{is_merged};
 ghost use Rattle.room_store_check_rows.specs.FirstFaults.{call_fault};
-ghost use Rattle.room_store_check_rows.specs.Fits.{is_given};
+ghost use Rattle.room_store_check_rows.specs.RowTests.{is_given};
 
 use crate::disagreements::{CallFault, Disagreement, IncidentFault};
 use crate::first_disagreement::{Judged, unless};

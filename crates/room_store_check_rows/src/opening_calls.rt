@@ -3,7 +3,7 @@ ghost use Rattle.std.specs.Prelude.{◌≡◌, ◌||◌, IfErr, IfOk};
 ghost use Rattle.std.specs.BTreeSet.{contains};
 ghost use Rattle.room_types.specs.Codes.{is_merged};
 ghost use Rattle.room_types.specs.declared.refusal_statuses.Refusal.TheVariants.{Memory};
-ghost use Rattle.room_store_check_rows.specs.Fits.{told_cmp};
+ghost use Rattle.room_store_check_rows.specs.RowTests.{told_cmp};
 ghost use Rattle.room_store_check_rows.specs.FirstFaults.{first_of, opening_fault, told_fault};
 ghost use Rattle.room_store_check_rows.specs.HistoryChecks.{Tell};
 

@@ -3,10 +3,10 @@
 ghost use Rattle.std.specs.Prelude.{◌≡◌, ◌↔◌, IfErr, IfOk, IsTrue, length};
 ghost use Rattle.std.specs.BTreeSet.{IsFromIterResult};
 ghost use Rattle.std.specs.List.{list_any};
-ghost use Rattle.room_types_keyed.specs.Keyed.{IsKeyed};
+ghost use Rattle.room_types_keyed.specs.KeyedRows.{IsKeyed};
 ghost use Rattle.room_types.specs.Keys.{callsign_cmp};
 ghost use Rattle.room_types.specs.declared.refusal_statuses.Refusal.TheVariants.{Memory};
-ghost use Rattle.room_model.specs.Enrol.{AreTerminals, is_crew, terminal_key, token_cmp};
+ghost use Rattle.room_model.specs.FleetRows.{AreTerminals, is_crew, terminal_key, token_cmp};
 ghost use Rattle.room_model.specs.RoomSlices.{room_of};
 ghost use Rattle.room_store_check_rows.specs.TerminalCrews.{crew_again, crew_of, crews_of, second_crew, subject_fault, terminals_fault, two_crews, uncrewed};
 ghost use Rattle.room_store_check_rows.specs.FirstFaults.{first_of};

@@ -2,7 +2,7 @@
 //! and its incident.
 ghost use Rattle.std.specs.Prelude.{◌≡◌, option_copied};
 ghost use Rattle.room_store_check_rows.specs.FirstFaults.{open_fault, order_fault, report_fault, turn_fault};
-ghost use Rattle.room_store_check_rows.specs.Fits.{is_as_assigned, is_numbered, is_over};
+ghost use Rattle.room_store_check_rows.specs.RowTests.{is_as_assigned, is_numbered, is_over};
 
 use crate::disagreements::{Disagreement, ReportFault, TurnFault};
 use crate::first_disagreement::{Judged, unless};

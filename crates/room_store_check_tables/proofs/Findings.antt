@@ -9,16 +9,16 @@ use Rattle.room_tables_schema.specs.declared.database_faults.Fault.{Fault}
 use Rattle.room_tables_schema.specs.declared.database_faults.Fault.TheVariants as faults
 use Rattle.room_tables.specs.Failures.{IfStorage}
 use Rattle.room_tables.specs.Rowids.{AreAllNumbered}
-use Rattle.room_tables.specs.Stands.{Configuration, Stands}
+use Rattle.room_tables.specs.RoomsInTables.{Configuration, Stands}
 use Rattle.room_store_check_tables.specs.HeldRooms.{HasConfiguration, HasRows, HoldsRoom, MakesNoPlan, take_fault}
 use Rattle.room_store_check_tables.specs.declared.file_faults.FileFault.{FileFault}
 use Rattle.room_store_check_tables.specs.declared.file_faults.FileFault.TheVariants.{Memory, NotARoom, Storage}
 use Rattle.room_place.specs.Plans.{Layout}
 use Rattle.room_types.specs.declared.fleet.Terminal.{Terminal}
 use Rattle.room_types.specs.declared.slices.DivisionRows.{DivisionRows}
-use Rattle.room_model.specs.Enrol.{AreTerminals}
+use Rattle.room_model.specs.FleetRows.{AreTerminals}
 use Rattle.room_model.specs.RoomSlices.{room_of}
-use Rattle.room_model.specs.WellFormed.{IsWellFormed}
+use Rattle.room_model.specs.RoomAgreements.{IsWellFormed}
 use Rattle.room_tables_rows.proofs.Moves.{one_zone}
 use Rattle.room_tables_rows.proofs.OneRoom.{one_config, one_room}
 use Rattle.room_tables_rows.proofs.PlanLaws.{numbered-injective}

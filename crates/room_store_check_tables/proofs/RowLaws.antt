@@ -5,7 +5,7 @@ use Rattle.std.proofs.lemmas.Result.{IfErr-weaker}
 use Rattle.std.specs.Prelude.{OnOk}
 use Rattle.sqlite.specs.Effect.{Database}
 use Rattle.sqlite.specs.Held.{Held, state}
-use Rattle.sqlite.specs.State.{HasCleanDisk, State}
+use Rattle.sqlite.specs.State.{State}
 use Rattle.sqlite_schema.specs.declared.schema.Table.{Table}
 use Rattle.sqlite_trees.specs.Tree.{Trees}
 use Rattle.sqlite_trees.specs.declared.store.Store.{Ghosts}
@@ -14,7 +14,7 @@ use Rattle.room_types.specs.declared.slices.DivisionRows.{DivisionRows}
 use Rattle.room_tables_schema.proofs.ReadLaws.{fails_inside, told_inside}
 use Rattle.room_tables_schema.specs.Outcomes.{ReadsInside}
 use Rattle.room_tables_schema.specs.TableTrees.{AreNumbered}
-use Rattle.room_tables_schema.specs.FileConnections.{HasRoomSchema}
+use Rattle.room_tables_schema.specs.FileConnections.{HasRoomSchema, IsClean}
 use Rattle.room_tables_schema.specs.Schema.{assignments_table, calls_table, divisions_table, incidents_table}
 use Rattle.room_tables_schema.specs.Schema.{loans_table, offers_table, points_table, reports_table, turns_table}
 use Rattle.room_tables_schema.specs.Schema.{vehicles_table}
@@ -33,7 +33,7 @@ use Rattle.room_tables.proofs.Inside.{inside_then}
 use Rattle.room_tables.proofs.Told.{if_storage}
 use Rattle.room_tables.specs.Failures.{FailsAtLast, IfStorage, WentWell}
 use Rattle.room_tables.specs.Rowids.{AreAllNumbered, FailsAtRowids}
-use Rattle.room_tables.specs.Stands.{StandsFor}
+use Rattle.room_tables.specs.RoomsInTables.{StandsFor}
 use Rattle.room_store_writes.proofs.CommitLaws.{ok_then}
 use Rattle.room_store_check_tables.specs.HeldRooms.{HasRows, ReadsNext}
 use Rattle.room_store_check_tables.specs.ReadCauses.{FailsAtTable, FailsInTables, TellsTable, rowids_fail}
@@ -44,14 +44,14 @@ module _ {S T : Type 0} {g : Ghosts S} {a b : Held S} {before : Result (Unit {0}
     {Is : Trees → Type 0} {Fails : State → State → Type 0} where
   pub next_found : {x : Unit {0}} {rows : T} → before ≡ Ok x
       → ReadsInside {T = T} {E = Fault} g a b (Ok rows)
-      → (HasCleanDisk (state g b) → Is (state g a).now.trees) → ReadsNext g a b before before Is Fails
+      → (IsClean g b → Is (state g a).now.trees) → ReadsNext g a b before before Is Fails
   next_found is reads found =
       subst (λ r. ReadsNext g a b r r Is Fails) (sym is)
       (record { found = found; reads = told_inside _ reads; why = λ clean. tt; stays = tt })
 
   pub next_failed : {x : Unit {0}} {e : Fault} → before ≡ Ok x
       → ReadsInside {T = T} {E = Fault} g a b (Err e)
-      → (HasCleanDisk (state g b) → IfStorage (Fails (state g a) (state g b)) e)
+      → (IsClean g b → IfStorage (Fails (state g a) (state g b)) e)
       → ReadsNext g a b before (Err e) Is Fails
   next_failed {e = e} is reads why =
       subst (λ r. ReadsNext g a b r (Err e) Is Fails) (sym is)
@@ -62,7 +62,7 @@ module _ {S T : Type 0} {g : Ghosts S} {a b : Held S} {before : Result (Unit {0}
       → ReadsInside {T = T} {E = Fault} g a b (Ok rows) → OnOk before (HasRoomSchema g a)
       → OnOk before (HasRoomSchema g b)
   room_after is reads room = subst (λ r. OnOk r (HasRoomSchema g b)) (sym is) (λ clean.
-      let early : HasCleanDisk (state g a) = omega (arith, reads.survives.clean) in
+      let early : IsClean g a = omega (arith, reads.survives.clean) in
       ap (λ (db : Database). db.schema) (reads.ok clean).0.now_is
       ∙ subst (λ r. OnOk r (HasRoomSchema g a)) is room early)
 
@@ -100,7 +100,7 @@ fails_at_rowids h = record { before = h.before; well = h.well; fails = rowids_fa
 pub record ReadSoFar {S : Type 0} (g : Ghosts S) (first last : Held S)
     (done : Result (Unit {0}) Fault) (P : Type 0) : Type 0 where
   pub reads : ReadsInside g first last done
-  pub found : HasCleanDisk (state g last) → OnOk done P
+  pub found : IsClean g last → OnOk done P
   pub why : TellsTable g first last done
 
 module _ {S : Type 0} {g : Ghosts S} {Is : Trees → Type 0} {Fails : State → State → Type 0} where
@@ -123,7 +123,7 @@ module _ {S : Type 0} {g : Ghosts S} {Is : Trees → Type 0} {Fails : State → 
     one_more (Ok x) after so_far next at = record {
       reads = inside_then so_far.reads after next.reads;
       found = λ clean.
-          let early : HasCleanDisk (state g b) = omega (arith, next.reads.survives.clean) in
+          let early : IsClean g b = omega (arith, next.reads.survives.clean) in
           ok_then after _ _
           (λ is. (so_far.found early, subst (λ (db : Database). Is db.trees) (so_far.reads.ok early).0.now_is is))
           (next.found clean);

@@ -16,21 +16,21 @@ use Rattle.room_place.specs.Plans.{Layout}
 use Rattle.room_place.specs.declared.plans.Area.{Area}
 use Rattle.room_types.specs.declared.fleet.Terminal.{Terminal}
 use Rattle.room_types.specs.declared.slices.DivisionRows.{DivisionRows}
-use Rattle.room_model.specs.Enrol.{AreTerminals}
+use Rattle.room_model.specs.FleetRows.{AreTerminals}
 use Rattle.room_model.specs.Room.{IsInOrder, Room}
 use Rattle.room_model.specs.RoomSlices.{room_of}
-use Rattle.room_model.specs.WellFormed.{IsWellFormed}
+use Rattle.room_model.specs.RoomAgreements.{IsWellFormed}
 use Rattle.room_model.proofs.Tests.{both_true}
 use Rattle.room_tables_schema.proofs.Refusals.{keeps_commit}
 use Rattle.room_tables_schema.specs.Outcomes.{CommitsNothing, Keeps, ReadsInside, ReadsOnly}
 use Rattle.room_tables_schema.specs.Schema.{room_schema}
 use Rattle.room_tables.specs.Rowids.{AreAllNumbered}
-use Rattle.room_tables.specs.Stands.{Stands}
+use Rattle.room_tables.specs.RoomsInTables.{Stands}
 use Rattle.room_tables.specs.RowStreams.{AreAll}
 use Rattle.room_store_check_rows.specs.HistoryChecks.{Tell, histories_fit, kept}
 use Rattle.room_store_writes.proofs.CommitLaws.{unchanged_survives}
 use Rattle.room_store_writes.specs.Houses.{config_of}
-use Rattle.room_store_writes.specs.Transactions.{Leaves}
+use Rattle.room_store_writes.specs.Transactions.{Leaves, IsCommitted}
 use Rattle.room_store_check_tables.proofs.Findings.{held_is, stands_with}
 use Rattle.room_store_check_tables.specs.HeldRooms.{HasConfiguration, HasRows, HoldsRoom, IsPlanOf, WritesNothing}
 use Rattle.room_store_check_tables.specs.StreamedPlan.{AreAssignments, AreBeside, AreDivisions, AreIncidents, AreLoans}
@@ -39,6 +39,7 @@ use Rattle.room_store_check_tables.specs.StreamedPlan.{IsHistory, TellsSound}
 use Rattle.room_store_check_tables.specs.ReadCauses.{FailsInTables, FailsToTake}
 use Rattle.room_store_check_tables.specs.declared.streamed_plan.JudgedRows.{JudgedRows}
 use Rattle.room_store_check_tables.specs.declared.streamed_plan.KeptHistory.{KeptHistory}
+use Rattle.room_tables_schema.specs.FileConnections.{IsClean}
 
 -- ---- reads outside a transaction
 module _ {S T E : Type 0} {g : Ghosts S} {a b : Held S} {r : Result T E} where
@@ -52,11 +53,11 @@ module _ {S T E : Type 0} {g : Ghosts S} {a b : Held S} {r : Result T E} where
 
 -- it writes nothing
 pub reads_nothing : {S T E : Type 0} (g : Ghosts S) (a b : Held S) (r : Result T E)
-    → (IsTrue (state g a).is_open → (state g a).now ≡ (state g a).committed) → ReadsOnly g a b r
+    → IsCommitted g a → ReadsOnly g a b r
     → WritesNothing (state g a) (state g b)
 reads_nothing g a b r settled h = record { left = λ clean. left (kept_by r h clean); survives = h.survives }
   where
-    kept_by : {T E : Type 0} (r : Result T E) → ReadsOnly g a b r → HasCleanDisk (state g b)
+    kept_by : {T E : Type 0} (r : Result T E) → ReadsOnly g a b r → IsClean g b
         → Keeps (state g a) (state g b)
     kept_by (Ok x) h clean = inl (h.ok clean)
     kept_by (Err e) h clean = h.err clean
@@ -101,7 +102,7 @@ nothing_then old mid new one two = record {
 
 -- the file was judged after such a call, and this failed; or the call left it shut
 pub file_fails : {S : Type 0} (g : Ghosts S) (old mid new : Held S)
-    → WritesNothing (state g old) (state g mid) → HasCleanDisk (state g mid)
+    → WritesNothing (state g old) (state g mid) → IsClean g mid
     → (state g mid).faults ≤ (state g new).faults → (state g old).now.schema ≡ room_schema
     → (state g mid).now.schema ≢ room_schema ⊎ FailsInTables g mid new → FailsToTake g old new
 file_fails g old mid new nothing clean counts has (inl other) =

@@ -8,9 +8,9 @@ use Rattle.room_place.specs.Plans.{Layout, is_plan}
 use Rattle.room_place.specs.declared.plans.Area.{Area}
 use Rattle.room_types.specs.declared.fleet.Terminal.{Terminal}
 use Rattle.room_types.specs.declared.slices.DivisionRows.{DivisionRows}
-use Rattle.room_model.specs.Enrol.{AreTerminals}
+use Rattle.room_model.specs.FleetRows.{AreTerminals}
 use Rattle.room_model.specs.Room.{Room}
-use Rattle.room_model.specs.WellFormed.{IsWellFormed}
+use Rattle.room_model.specs.RoomAgreements.{IsWellFormed}
 use Rattle.room_tables_rows.specs.AreaSql.{area_row}
 use Rattle.room_tables_rows.specs.AssignmentSql.{assignment_row}
 use Rattle.room_tables_rows.specs.CallSql.{call_row}
@@ -32,11 +32,12 @@ use Rattle.room_tables_schema.specs.declared.database_faults.Fault.{Fault}
 use Rattle.room_tables_schema.specs.declared.database_faults.Fault.TheVariants as fault
 use Rattle.room_tables.specs.Failures.{IfStorage}
 use Rattle.room_tables.specs.Rowids.{AreAllNumbered}
-use Rattle.room_tables.specs.Stands.{Configuration, Stands, StandsFor, numbered}
+use Rattle.room_tables.specs.RoomsInTables.{Configuration, Stands, StandsFor, numbered}
 use Rattle.room_store_writes.specs.Houses.{config_of}
 use Rattle.room_store_writes.specs.Transactions.{Leaves}
 use Rattle.room_store_check_tables.specs.declared.file_faults.FileFault.{FileFault}
 use Rattle.room_store_check_tables.specs.declared.file_faults.FileFault.TheVariants.{Memory, Storage}
+use Rattle.room_tables_schema.specs.FileConnections.{IsClean}
 
 -- Some well-formed room with terminals that fit it is stood for.
 pub record Holds (AreFor : Configuration → Room → Type 0) : Type 0 where
@@ -109,8 +110,8 @@ pub record HasConfiguration (trees : Trees) (areas : List Area) (zone : List ℕ
 pub record ReadsNext {S : Type 0} (g : Ghosts S) (old new : Held S)
     (before after : Result (Unit {0}) Fault) (Is : Trees → Type 0)
     (Fails : State → State → Type 0) : Type 0 where
-  pub found : HasCleanDisk (state g new) → OnOk after (Is (state g old).now.trees)
+  pub found : IsClean g new → OnOk after (Is (state g old).now.trees)
   pub reads : OnOk before (ReadsInside g old new after)
-  pub why : OnOk before (HasCleanDisk (state g new)
+  pub why : OnOk before (IsClean g new
       → IfErr after (IfStorage (Fails (state g old) (state g new))))
   pub stays : OnErr before ((new ≡ old) × (after ≡ before))

@@ -9,7 +9,7 @@ use Rattle.sqlite_trees.specs.declared.store.Store.{Ghosts}
 use Rattle.sqlite_value.specs.Order.{Row}
 use Rattle.room_types.specs.Keys.{assignment_key, call_key, callsign_cmp, division_key, incident_key, loan_key}
 use Rattle.room_types.specs.Keys.{numbered_cmp, offer_key, pair_cmp, point_key, report_key, turn_key, vehicle_key}
-use Rattle.room_model.specs.Enrol.{terminal_key, token_cmp}
+use Rattle.room_model.specs.FleetRows.{terminal_key, token_cmp}
 use Rattle.room_tables_rows.specs.AssignmentSql.{is_assignment_row, assignment_row}
 use Rattle.room_tables_rows.specs.CallSql.{is_call_row, call_row}
 use Rattle.room_tables_rows.specs.DivisionSql.{is_division_row, division_row}

@@ -2,11 +2,10 @@
 ghost use Rattle.std.specs.Prelude.{◌≡◌, ◌++◌, ◌∷◌, [], Bool, List, IfErr, IfOk, OnOk, filter, is_none, refl};
 ghost use Rattle.std.specs.List.{list_all};
 ghost use Rattle.sqlite.specs.Held.{state};
-ghost use Rattle.sqlite.specs.State.{HasCleanDisk};
-ghost use Rattle.room_types_keyed.specs.Keyed.{IsKeyed};
+ghost use Rattle.room_types_keyed.specs.KeyedRows.{IsKeyed};
 ghost use Rattle.room_types.specs.declared.slices.DivisionRows.{DivisionRows};
 ghost use Rattle.room_store_check_rows.specs.HistoryChecks.{Tell, is_last};
-ghost use Rattle.room_tables_schema.specs.FileConnections.{HasRoomSchema};
+ghost use Rattle.room_tables_schema.specs.FileConnections.{HasRoomSchema, IsClean};
 ghost use Rattle.room_tables_schema.specs.declared.database_faults.Fault.TheVariants.{Memory};
 ghost use Rattle.room_tables_schema.specs.Outcomes.{ReadsOnly};
 ghost use Rattle.room_tables.specs.Failures.{AreNoRows, TellsWhy};
@@ -124,7 +123,7 @@ pub(crate) fn judge<X: History, S: Alter>(
     kept: X::Kept,
 ) -> Result<(X::Kept, bool), Fault>
     requires room { HasRoomSchema S.Store conn.old }
-    ensures judged { HasCleanDisk (state S.Store conn.new)
+    ensures judged { IsClean S.Store conn.new
         → IfOk result (λ judged. (xs : List X) × AreAll X.Key.cmp X.key_of X.cells X.rows X.table
         (state S.Store conn.old).now.trees xs
         × (judged.1 ≡ list_all (λ x. is_none (X.disagreement plan.now.areas rows.now x)) xs)

@@ -1,8 +1,7 @@
 //! The plan of the room that a file holds, judged with its history read one row at a time.
 ghost use Rattle.std.specs.Prelude.{◌≡◌, ◌≢◌, ◌⊎◌, false, true, IfErr, IfOk, IsTrue, OnOk};
 ghost use Rattle.sqlite.specs.Held.{state};
-ghost use Rattle.sqlite.specs.State.{HasCleanDisk};
-ghost use Rattle.room_tables_schema.specs.FileConnections.{HasRoomSchema};
+ghost use Rattle.room_tables_schema.specs.FileConnections.{HasRoomSchema, IsClean};
 ghost use Rattle.room_tables_schema.specs.Schema.{room_schema};
 ghost use Rattle.room_tables_schema.specs.Outcomes.{ReadsOnly};
 ghost use Rattle.room_tables.specs.Rowids.{AreAllNumbered};
@@ -11,6 +10,7 @@ ghost use Rattle.room_store_check_tables.specs.HeldRooms.{HasConfiguration, Hold
 ghost use Rattle.room_store_check_tables.specs.StreamedPlan.{AreBeside, HasJudged, IsFound, IsHistory, TellsSound};
 ghost use Rattle.room_store_check_tables.specs.ReadCauses.{FailsAtRows, FailsInFile, FailsInTables, FailsToTake, TellsTable};
 ghost use Rattle.room_store_check_tables.specs.declared.file_faults.FileFault.TheVariants.{Memory, NotARoom, Storage};
+ghost use Rattle.room_store_writes.specs.Transactions.{IsCommitted};
 
 use crate::file_faults::FileFault;
 use crate::judged_histories::judge;
@@ -37,13 +37,12 @@ use std::alloc::Global;
 pub fn stream_plan<S: Alter>(alloc: Global, conn: &mut Connection<S>) -> Result<Plan, FileFault>
     requires schema { (state S.Store conn.old).now.schema ≡ room_schema }
     requires outside { conn.old.in_transaction ≡ false }
-    requires committed { IsTrue (state S.Store conn.old).is_open
-        → (state S.Store conn.old).now ≡ (state S.Store conn.old).committed }
-    ensures room { HasCleanDisk (state S.Store conn.new)
+    requires committed { IsCommitted S.Store conn.old }
+    ensures room { IsClean S.Store conn.new
         → IfOk result (IsPlanOf (state S.Store conn.old).now.trees) }
-    ensures no_room { HasCleanDisk (state S.Store conn.new)
+    ensures no_room { IsClean S.Store conn.new
         → IfErr result (λ e. e ≡ NotARoom → ¬ HoldsRoom (state S.Store conn.old).now.trees) }
-    ensures why { HasCleanDisk (state S.Store conn.new)
+    ensures why { IsClean S.Store conn.new
         → IfErr result (λ e. e ≡ Storage → FailsToTake S.Store conn.old conn.new) }
     ensures nothing { WritesNothing (state S.Store conn.old) (state S.Store conn.new) }
     ensures ended { conn.new.in_transaction ≡ false }
@@ -65,14 +64,13 @@ fn config_of_file<S: Alter>(
 ) -> Result<Configuration, FileFault>
     requires schema { (state S.Store conn.old).now.schema ≡ room_schema }
     requires outside { conn.old.in_transaction ≡ false }
-    requires committed { IsTrue (state S.Store conn.old).is_open
-        → (state S.Store conn.old).now ≡ (state S.Store conn.old).committed }
-    ensures found { HasCleanDisk (state S.Store conn.new)
+    requires committed { IsCommitted S.Store conn.old }
+    ensures found { IsClean S.Store conn.new
         → IfOk result (λ x. AreAllNumbered (state S.Store conn.old).now.trees
         → HasConfiguration (state S.Store conn.old).now.trees x.plan.areas x.plan.zone x.terminals.items) }
-    ensures no_room { HasCleanDisk (state S.Store conn.new)
+    ensures no_room { IsClean S.Store conn.new
         → IfErr result (λ e. e ≡ NotARoom → ¬ HoldsRoom (state S.Store conn.old).now.trees) }
-    ensures why { HasCleanDisk (state S.Store conn.new)
+    ensures why { IsClean S.Store conn.new
         → IfErr result (λ e. e ≡ Storage → FailsInFile S.Store conn.old conn.new) }
     ensures nothing { WritesNothing (state S.Store conn.old) (state S.Store conn.new) }
     ensures ended { conn.new.in_transaction ≡ false }
@@ -91,12 +89,12 @@ fn judge_file<S: Alter>(
     plan: &Plan,
 ) -> Result<JudgedRows, FileFault>
     requires outside { conn.old.in_transaction ≡ false }
-    ensures found { HasCleanDisk (state S.Store conn.new)
+    ensures found { IsClean S.Store conn.new
         → IfOk result (IsFound (state S.Store conn.old) plan.now.areas) }
-    ensures unnumbered { HasCleanDisk (state S.Store conn.new)
+    ensures unnumbered { IsClean S.Store conn.new
         → IfErr result (λ e. e ≡ NotARoom → IsTrue (state S.Store conn.old).is_open
         × ¬ AreAllNumbered (state S.Store conn.old).now.trees) }
-    ensures why { HasCleanDisk (state S.Store conn.new)
+    ensures why { IsClean S.Store conn.new
         → IfErr result (λ e. e ≡ Storage → (state S.Store conn.old).now.schema ≢ room_schema
         ⊎ FailsInTables S.Store conn.old conn.new) }
     ensures nothing { WritesNothing (state S.Store conn.old) (state S.Store conn.new) }
@@ -133,7 +131,7 @@ fn judge_rows<S: Alter>(
     plan: &Plan,
 ) -> Result<JudgedRows, Fault>
     requires room { HasRoomSchema S.Store conn.old }
-    ensures judged { HasCleanDisk (state S.Store conn.new)
+    ensures judged { IsClean S.Store conn.new
         → IfOk result (HasJudged (state S.Store conn.old).now.trees plan.now.areas) }
     ensures why { TellsTable S.Store conn.old conn.new result }
     ensures reads { ReadsOnly S.Store conn.old conn.new result }
@@ -159,7 +157,7 @@ fn judge_rows<S: Alter>(
 // The rows of the tables that are no history.
 fn rows_beside<S: Alter>(alloc: Global, conn: &mut Connection<S>) -> Result<DivisionRows, Fault>
     requires room { HasRoomSchema S.Store conn.old }
-    ensures beside { HasCleanDisk (state S.Store conn.new)
+    ensures beside { IsClean S.Store conn.new
         → IfOk result (AreBeside (state S.Store conn.old).now.trees) }
     ensures why { TellsTable S.Store conn.old conn.new result }
     ensures reads { ReadsOnly S.Store conn.old conn.new result }
@@ -229,7 +227,7 @@ fn judge_history<S: Alter>(
     rows: &RoomRows,
 ) -> Result<KeptHistory, Fault>
     requires room { HasRoomSchema S.Store conn.old }
-    ensures history { HasCleanDisk (state S.Store conn.new)
+    ensures history { IsClean S.Store conn.new
         → IfOk result (IsHistory (state S.Store conn.old).now.trees plan.now.areas rows.now) }
     ensures why { TellsTable S.Store conn.old conn.new result }
     ensures reads { ReadsOnly S.Store conn.old conn.new result }

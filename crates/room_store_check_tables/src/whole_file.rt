@@ -1,14 +1,13 @@
 //! All that the tables of a file hold, read inside a transaction.
 ghost use Rattle.std.specs.Prelude.{◌≡◌, ◌⊎◌, false, IfErr, IfOk, OnOk, string_bytes};
 ghost use Rattle.sqlite.specs.Held.{state};
-ghost use Rattle.sqlite.specs.State.{HasCleanDisk};
-ghost use Rattle.room_tables_schema.specs.FileConnections.{HasRoomSchema};
+ghost use Rattle.room_tables_schema.specs.FileConnections.{HasRoomSchema, IsClean};
 ghost use Rattle.room_tables_schema.specs.TableTrees.{AreNumbered};
 ghost use Rattle.room_tables_schema.specs.Outcomes.{ReadsInside};
 ghost use Rattle.room_place.specs.Plans.{is_plan};
 ghost use Rattle.room_model.specs.RoomSlices.{room_of};
 ghost use Rattle.room_tables.specs.Rowids.{AreAllNumbered};
-ghost use Rattle.room_tables.specs.Stands.{Stands, StandsFor};
+ghost use Rattle.room_tables.specs.RoomsInTables.{Stands, StandsFor};
 ghost use Rattle.room_store_writes.specs.Houses.{config_of};
 ghost use Rattle.room_store_check_tables.specs.HeldRooms.{HasConfiguration, HasNoPlan, HasRows, MakesNoPlan, ReadsNext};
 ghost use Rattle.room_store_check_tables.specs.ReadCauses.{FailsAtRows, FailsInTables, TellsTable};
@@ -47,12 +46,12 @@ pub fn read_whole<S: Alter>(
     tx: &mut Transaction<'_, S>,
 ) -> Result<ReadFile, FileFault>
     requires room { HasRoomSchema S.Store tx.old.conn.now }
-    ensures stands { HasCleanDisk (state S.Store tx.new.conn.now)
+    ensures stands { IsClean S.Store tx.new.conn.now
         → IfOk result (λ x. Stands (state S.Store tx.old.conn.now).now.trees
         (config_of x.config.plan x.config.terminals.items) (room_of x.config.plan.areas x.rows)) }
-    ensures no_plan { HasCleanDisk (state S.Store tx.new.conn.now)
+    ensures no_plan { IsClean S.Store tx.new.conn.now
         → IfErr result (λ e. e ≡ NotARoom → HasNoPlan (state S.Store tx.old.conn.now).now.trees) }
-    ensures why { HasCleanDisk (state S.Store tx.new.conn.now)
+    ensures why { IsClean S.Store tx.new.conn.now
         → IfErr result (λ e. e ≡ Storage
         → FailsInTables S.Store tx.old.conn.now tx.new.conn.now) }
     ensures reads { ReadsInside S.Store tx.old.conn.now tx.new.conn.now result }
@@ -78,15 +77,15 @@ pub(crate) fn read_config<S: Alter>(
     tx: &mut Transaction<'_, S>,
 ) -> Result<Configuration, FileFault>
     requires room { HasRoomSchema S.Store tx.old.conn.now }
-    ensures found { HasCleanDisk (state S.Store tx.new.conn.now)
+    ensures found { IsClean S.Store tx.new.conn.now
         → IfOk result (λ x. AreAllNumbered (state S.Store tx.old.conn.now).now.trees
         → HasConfiguration (state S.Store tx.old.conn.now).now.trees x.plan.areas x.plan.zone
         x.terminals.items) }
-    ensures no_plan { HasCleanDisk (state S.Store tx.new.conn.now)
+    ensures no_plan { IsClean S.Store tx.new.conn.now
         → IfErr result (λ e. e ≡ NotARoom
         → AreAllNumbered (state S.Store tx.old.conn.now).now.trees
         → MakesNoPlan (state S.Store tx.old.conn.now).now.trees) }
-    ensures why { HasCleanDisk (state S.Store tx.new.conn.now)
+    ensures why { IsClean S.Store tx.new.conn.now
         → IfErr result (λ e. e ≡ Storage
         → FailsInTables S.Store tx.old.conn.now tx.new.conn.now) }
     ensures reads { ReadsInside S.Store tx.old.conn.now tx.new.conn.now result }
@@ -120,7 +119,7 @@ fn planned_config(
 
 fn read_rows<S: Alter>(alloc: Global, tx: &mut Transaction<'_, S>) -> Result<DivisionRows, Fault>
     requires room { HasRoomSchema S.Store tx.old.conn.now }
-    ensures found { HasCleanDisk (state S.Store tx.new.conn.now)
+    ensures found { IsClean S.Store tx.new.conn.now
         → IfOk result (λ x. AreAllNumbered (state S.Store tx.old.conn.now).now.trees
         → HasRows (state S.Store tx.old.conn.now).now.trees x) }
     ensures why { TellsTable S.Store tx.old.conn.now tx.new.conn.now result }

@@ -10,7 +10,7 @@ use Rattle.room_types.specs.declared.fleet.Terminal.{Terminal}
 use Rattle.room_types.specs.declared.slices.DivisionRows.{DivisionRows}
 use Rattle.room_model.specs.Room.{Room}
 use Rattle.room_model.specs.RoomSlices.{room_of}
-use Rattle.room_tables.specs.Stands.{Configuration, Stands}
+use Rattle.room_tables.specs.RoomsInTables.{Configuration, Stands}
 use Rattle.room_tables_schema.specs.Schema.{room_tables}
 use Rattle.room_tables_schema.specs.Versions.{HasTables}
 use Rattle.room_tables_schema.proofs.Standing.{holds_still}

@@ -10,12 +10,12 @@ use Rattle.sqlite.proofs.StateLemmas.{survives_then}
 use Rattle.room_tables_schema.proofs.Standing.{holds_still}
 use Rattle.room_place.specs.Plans.{Layout}
 use Rattle.room_types.specs.declared.fleet.Terminal.{Terminal}
-use Rattle.room_model.specs.Enrol.{AreTerminals}
+use Rattle.room_model.specs.FleetRows.{AreTerminals}
 use Rattle.room_model.specs.Room.{Room}
-use Rattle.room_model.specs.WellFormed.{IsWellFormed}
+use Rattle.room_model.specs.RoomAgreements.{IsWellFormed}
 use Rattle.room_tables_schema.specs.Schema.{room_schema, room_tables, tables_schema}
 use Rattle.room_tables_rows.proofs.OneRoom.{one_config, one_room}
-use Rattle.room_tables.specs.Stands.{Configuration, Stands}
+use Rattle.room_tables.specs.RoomsInTables.{Configuration, Stands}
 use Rattle.room_store_writes.specs.Houses.{config_of}
 use Rattle.room_store_writes.specs.Transactions.{Leaves}
 use Rattle.room_store_file.specs.OpenedFile.{Becomes, KeepsAllRows, KeepsFile, MayBeIndexed, MayBeMoved, MayBecome}

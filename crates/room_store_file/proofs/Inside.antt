@@ -7,7 +7,7 @@ use Rattle.sqlite.specs.State.{IsUnchanged, State}
 use Rattle.sqlite_trees.specs.declared.store.Store.{Ghosts}
 use Rattle.room_types.specs.declared.changes.Change.{Change}
 use Rattle.room_model.specs.Room.{apply}
-use Rattle.room_tables.specs.Stands.{Stands}
+use Rattle.room_tables.specs.RoomsInTables.{Stands}
 use Rattle.room_tables_schema.specs.Outcomes.{CommitsNothing, ReadsInside}
 use Rattle.room_store_writes.specs.Transactions.{MakesAll}
 use Rattle.room_tables_schema.proofs.Refusals.{keeps_commit}

@@ -4,12 +4,12 @@ use Rattle.std.proofs.Common.{ap, ◌∙◌, arith, []}
 use Rattle.std.specs.List.{flat_map}
 use Rattle.sha2.specs.declared.Sha256.{Sha256}
 use Rattle.sqlite.specs.Held.{Held, state}
-use Rattle.sqlite.specs.State.{HasCleanDisk, Shown, State}
+use Rattle.sqlite.specs.State.{Shown, State}
 use Rattle.sqlite_trees.specs.Tree.{Trees}
 use Rattle.sqlite_trees.specs.declared.store.Store.{Ghosts}
 use Rattle.sqlite_trees.proofs.ListLemmas.{all_of, filter_all}
 use Rattle.sqlite_value.specs.Order.{Row}
-use Rattle.room_tables_schema.specs.FileConnections.{HasRoomSchema}
+use Rattle.room_tables_schema.specs.FileConnections.{HasRoomSchema, IsClean}
 use Rattle.room_tables_schema.specs.Schema.{room_schema}
 use Rattle.room_tables_schema.specs.Outcomes.{ReadsInside}
 use Rattle.room_tables_schema.proofs.ReadLaws.{told_inside}
@@ -43,10 +43,10 @@ module _ {S : Type 0} {g : Ghosts S} {a b : Held S} {reads : ℕ} where
   pub still_room : HasRoomSchema g a → SoFar g a reads b → HasRoomSchema g b
   still_room room (inl none) clean = subst (HasRoomSchema g) (sym none.1) room clean
   still_room room (inr it) clean =
-      let early : HasCleanDisk (state g a) = omega (arith, it.survives.clean) in
+      let early : IsClean g a = omega (arith, it.survives.clean) in
       ap (λ db. db.schema) (it.ok clean).0.now_is ∙ room early
 
-  pub trees_stay : SoFar g a reads b → HasCleanDisk (state g b)
+  pub trees_stay : SoFar g a reads b → IsClean g b
       → (state g b).now.trees ≡ (state g a).now.trees
   trees_stay (inl none) clean = ap (λ h. (state g h).now.trees) none.1
   trees_stay (inr it) clean = ap (λ db. db.trees) (it.ok clean).0.now_is

@@ -7,7 +7,7 @@ use Rattle.std.specs.Prelude.{IfErr, IfOk, IsOk, OnErr, OnOk, ◌≢◌}
 use Rattle.std.specs.Result.{IsErrAnd}
 use Rattle.sqlite.specs.Effect.{Database}
 use Rattle.sqlite.specs.Held.{Held, state}
-use Rattle.sqlite.specs.State.{HasCleanDisk, State, Survives}
+use Rattle.sqlite.specs.State.{State, Survives}
 use Rattle.sqlite_catalog.specs.Change.{KeepsRows}
 use Rattle.sqlite_schema.specs.declared.schema.Schema.{Schema}
 use Rattle.sqlite_schema.specs.declared.schema.Table.{Table}
@@ -15,7 +15,7 @@ use Rattle.sqlite_trees.specs.Tree.{Trees}
 use Rattle.sqlite_trees.specs.declared.store.Store.{Ghosts}
 use Rattle.room_model.specs.Room.{Room}
 use Rattle.room_tables_schema.specs.Outcomes.{ReadsInside}
-use Rattle.room_tables_schema.specs.FileConnections.{MayWrite}
+use Rattle.room_tables_schema.specs.FileConnections.{MayWrite, IsClean}
 use Rattle.room_tables_schema.specs.Definitions.{AddsLast}
 use Rattle.room_tables_schema.specs.Schema.{room_tables}
 use Rattle.room_tables_schema.specs.Versions.{BeginsAsRoom, HasFirstTables, HasTables}
@@ -24,7 +24,7 @@ use Rattle.room_tables_schema.specs.declared.database_faults.Fault.TheVariants a
 use Rattle.room_tables_rows.proofs.Moves.{moved_from, moves}
 use Rattle.room_tables_rows.proofs.Version.{tells_held}
 use Rattle.room_tables.specs.Failures.{IfStorage}
-use Rattle.room_tables.specs.Stands.{Configuration, Stands}
+use Rattle.room_tables.specs.RoomsInTables.{Configuration, Stands}
 use Rattle.room_tables.specs.Writes.{Renews}
 use Rattle.room_store_writes.specs.Transactions.{Leaves}
 use Rattle.room_store_file.proofs.FileLaws.{rows_kept}
@@ -288,7 +288,7 @@ told_moved Storage is = cc
 
 -- what recorded the version may be followed by more
 pub renewed_on : {S T E : Type 0} (g : Ghosts S) (a b : Held S) (r : Result T E)
-    → (HasCleanDisk (state g b) → OnOk r (Renews (state g a) (state g b))) → OnOk r (MayWrite g b)
+    → (IsClean g b → OnOk r (Renews (state g a) (state g b))) → OnOk r (MayWrite g b)
 renewed_on g a b (Ok x) made =
     record { room = λ clean. (made clean).schema; inside = λ clean. (made clean).inside.mode }
 renewed_on g a b (Err e) made = tt
@@ -299,11 +299,11 @@ pub may_write_on : {S T E : Type 0} (g : Ghosts S) (a b : Held S) (r : Result T 
 may_write_on g a b (Ok x) may reads = record {
   room =
       λ clean.
-      let early : HasCleanDisk (state g a) = omega (arith, reads.survives.clean) in
+      let early : IsClean g a = omega (arith, reads.survives.clean) in
       ap (λ (db : Database). db.schema) (reads.ok clean).0.now_is ∙ may.room early;
   inside =
       λ clean.
-      let early : HasCleanDisk (state g a) = omega (arith, reads.survives.clean) in
+      let early : IsClean g a = omega (arith, reads.survives.clean) in
       (reads.ok clean).0.mode ∙ may.inside early;
 }
 may_write_on g a b (Err e) may reads = tt

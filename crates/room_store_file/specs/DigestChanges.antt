@@ -5,7 +5,7 @@ use Rattle.room_types.specs.declared.changes.Change.{Change}
 use Rattle.room_model.specs.Room.{Room, apply}
 use Rattle.room_model.specs.Digests.{IsHeadOf, digits_of}
 use Rattle.room_model.specs.declared.digests.Head.{Head}
-use Rattle.room_tables.specs.Stands.{Configuration, Stands}
+use Rattle.room_tables.specs.RoomsInTables.{Configuration, Stands}
 use Rattle.room_store_file.specs.DigestTexts.{digest_of}
 
 -- the head is of the room after these changes

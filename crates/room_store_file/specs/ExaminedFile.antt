@@ -9,9 +9,9 @@ use Rattle.room_place.specs.Plans.{Layout}
 use Rattle.room_place.specs.declared.plans.Area.{Area}
 use Rattle.room_types.specs.declared.fleet.Terminal.{Terminal}
 use Rattle.room_types.specs.declared.slices.DivisionRows.{DivisionRows}
-use Rattle.room_model.specs.Enrol.{AreTerminals}
+use Rattle.room_model.specs.FleetRows.{AreTerminals}
 use Rattle.room_model.specs.RoomSlices.{room_of}
-use Rattle.room_model.specs.WellFormed.{IsWellFormed}
+use Rattle.room_model.specs.RoomAgreements.{IsWellFormed}
 use Rattle.room_store_check_rows.specs.FirstFaults.{first_disagreement}
 use Rattle.room_store_check_rows.specs.Misfits.{IsMisfit}
 use Rattle.room_store_check_rows.specs.Summaries.{summary_of}
@@ -20,7 +20,7 @@ use Rattle.room_store_check_rows.specs.declared.disagreements.Disagreement.{Disa
 use Rattle.room_store_check_rows.specs.declared.disagreements.TerminalFault.{TerminalFault}
 use Rattle.room_store_check_rows.specs.declared.summaries.Summary.{Summary}
 use Rattle.room_tables_schema.specs.Versions.{HasTables}
-use Rattle.room_tables.specs.Stands.{Stands}
+use Rattle.room_tables.specs.RoomsInTables.{Stands}
 use Rattle.room_store_writes.specs.Houses.{config_of}
 use Rattle.room_store_file.specs.OpeningCauses.{FailsInside}
 use Rattle.room_store_file.specs.OpenedFile.{HidesVersion, IsOldRoom}

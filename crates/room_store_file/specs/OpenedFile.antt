@@ -18,7 +18,7 @@ use Rattle.room_tables_schema.specs.Schema.{tables_schema}
 use Rattle.room_tables_rows.specs.declared.meta_sql.TheConstants.{ALL_META}
 use Rattle.room_tables_schema.specs.Versions.{BeginsAsRoom, HasFirstTables}
 use Rattle.room_tables.specs.Failures.{FailsToRead}
-use Rattle.room_tables.specs.Stands.{Configuration, Stands, StandsInFirst}
+use Rattle.room_tables.specs.RoomsInTables.{Configuration, Stands, StandsInFirst}
 use Rattle.room_tables.specs.MetaVersions.{IsOfVersion}
 use Rattle.room_store_writes.specs.Transactions.{IsSettled, Leaves}
 use Rattle.room_store_file.specs.declared.opened_file.OpenFault.{OpenFault}

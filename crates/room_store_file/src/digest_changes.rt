@@ -1,14 +1,14 @@
 //! Changes of a room that are made where it comes to a digest by them.
-ghost use Rattle.std.specs.Prelude.{◌≡◌, ◌↔◌, false, IsTrue, IfErr, OnOk, OnErr};
+ghost use Rattle.std.specs.Prelude.{◌≡◌, ◌↔◌, false, IsTrue, IfErr, OnOk};
 ghost use Rattle.hex.specs.Hex.{encode_lower};
 ghost use Rattle.sqlite.specs.Held.{state};
-ghost use Rattle.sqlite.specs.State.{HasCleanDisk, Survives};
+ghost use Rattle.sqlite.specs.State.{Survives};
 ghost use Rattle.room_model.specs.Room.{Room, apply};
-ghost use Rattle.room_tables.specs.Stands.{Configuration, Stands};
-ghost use Rattle.room_tables_schema.specs.FileConnections.{HasRoomSchema, MayWrite};
+ghost use Rattle.room_tables.specs.RoomsInTables.{Configuration, Stands};
+ghost use Rattle.room_tables_schema.specs.FileConnections.{HasRoomSchema, MayWrite, IsClean};
 ghost use Rattle.room_tables_schema.specs.DatabaseFaults.{fault_of};
 ghost use Rattle.room_tables_schema.specs.Outcomes.{CommitsNothing};
-ghost use Rattle.room_store_writes.specs.Transactions.{Commits, IsSettled, Leaves, MakesAll};
+ghost use Rattle.room_store_writes.specs.Transactions.{Commits, MakesAll, LeavesOnErr, StandsSettled};
 ghost use Rattle.room_store_file.specs.DigestChanges.{Misses, Reaches};
 ghost use Rattle.room_store_file.specs.declared.digest_changes.Undone.TheVariants.{Another, Want};
 
@@ -53,18 +53,17 @@ pub fn write_towards<S: Alter>(
 ) -> Result<(), Undone>
     requires room { HasRoomSchema S.Store conn.old }
     requires outside { conn.old.in_transaction ≡ false }
-    requires settled { HasCleanDisk (state S.Store conn.old) → IsSettled (state S.Store conn.old) }
-    ensures ok { HasCleanDisk (state S.Store conn.new)
+    requires settled { StandsSettled S.Store conn.old }
+    ensures ok { IsClean S.Store conn.new
         → OnOk result (Commits (state S.Store conn.old) (state S.Store conn.new)
         (Stands (state S.Store conn.old).now.trees) (λ room. apply room changes.now)) }
-    ensures reaches { HasCleanDisk (state S.Store conn.new)
+    ensures reaches { IsClean S.Store conn.new
         → OnOk result (Reaches changes.now head.now (state S.Store conn.old).now.trees
         (state S.Store conn.new).now.trees) }
-    ensures another { HasCleanDisk (state S.Store conn.new)
+    ensures another { IsClean S.Store conn.new
         → IfErr result (λ e. e ≡ Another
         → Misses changes.now head.now (state S.Store conn.old).now.trees) }
-    ensures err { HasCleanDisk (state S.Store conn.new)
-        → OnErr result (Leaves (state S.Store conn.old) (state S.Store conn.new)) }
+    ensures err { LeavesOnErr S.Store conn.old conn.new result }
     ensures ended { conn.new.in_transaction ≡ false }
     ensures survives { Survives (state S.Store conn.old) (state S.Store conn.new)
         (Reaches changes.now head.now (state S.Store conn.old).now.trees) }
@@ -82,12 +81,12 @@ fn make_towards<S: Alter>(
 ) -> Result<(), Undone>
     requires inside { MayWrite S.Store tx.old.conn.now }
     ensures same_reference { tx.new.conn.ghost_name ≡ tx.old.conn.ghost_name }
-    ensures ok { HasCleanDisk (state S.Store tx.new.conn.now)
+    ensures ok { IsClean S.Store tx.new.conn.now
         → OnOk result (MakesAll (state S.Store tx.old.conn.now)
         (state S.Store tx.new.conn.now) changes.now
         × Reaches changes.now head.now (state S.Store tx.old.conn.now).now.trees
         (state S.Store tx.new.conn.now).now.trees) }
-    ensures another { HasCleanDisk (state S.Store tx.new.conn.now)
+    ensures another { IsClean S.Store tx.new.conn.now
         → IfErr result (λ e. e ≡ Another
         → Misses changes.now head.now (state S.Store tx.old.conn.now).now.trees) }
     ensures commits { CommitsNothing S.Store tx.old.conn.now tx.new.conn.now }

@@ -1,13 +1,14 @@
 //! What is wrong with a file first, or how much its room has. Nothing is written to the file.
-ghost use Rattle.std.specs.Prelude.{◌≡◌, ◌⊎◌, false, IfErr, IfOk, IsTrue};
+ghost use Rattle.std.specs.Prelude.{◌≡◌, ◌⊎◌, false, IfErr, IfOk};
 ghost use Rattle.sqlite.specs.Held.{state};
-ghost use Rattle.sqlite.specs.State.{HasCleanDisk};
 ghost use Rattle.room_store_file.specs.OpeningCauses.{FailsInside};
 ghost use Rattle.room_store_file.specs.OpenedFile.{schema_of};
 ghost use Rattle.room_store_check_tables.specs.HeldRooms.{WritesNothing};
 ghost use Rattle.room_store_file.specs.declared.room_in_tables.Tables.TheVariants.{Unindexed, Whole};
 ghost use Rattle.room_store_file.specs.ExaminedFile.{Explains, ExplainsFile, FailsToReadTables, HasCause, HoldsAll, IsAmount, IsSummaryOf, Weighs};
 ghost use Rattle.room_store_file.specs.declared.examined_file.Wrong.TheVariants.{Storage};
+ghost use Rattle.room_store_writes.specs.Transactions.{IsCommitted};
+ghost use Rattle.room_tables_schema.specs.FileConnections.{IsClean};
 
 use crate::opened_file::{is_room_of, room_tables_of};
 use crate::room_in_tables::{Tables, read_file};
@@ -78,11 +79,11 @@ impl From<FileFault> for Wrong {
 /// The file stays as it is, also where it lacks the indexes of its tables.
 pub fn examine<S: Alter>(alloc: Global, conn: &mut Connection<S>) -> Result<(Plan, Summary), Wrong>
     requires outside { conn.old.in_transaction ≡ false }
-    ensures room { HasCleanDisk (state S.Store conn.new)
+    ensures room { IsClean S.Store conn.new
         → IfOk result (λ x. IsSummaryOf (state S.Store conn.old).now.trees x.0 x.1) }
-    ensures wrong { HasCleanDisk (state S.Store conn.new)
+    ensures wrong { IsClean S.Store conn.new
         → IfErr result (ExplainsFile (state S.Store conn.old) (state S.Store conn.new)) }
-    ensures why { HasCleanDisk (state S.Store conn.new)
+    ensures why { IsClean S.Store conn.new
         → IfErr result (HasCause S.Store conn.old conn.new) }
     ensures nothing { WritesNothing (state S.Store conn.old) (state S.Store conn.new) }
     ensures ended { conn.new.in_transaction ≡ false }
@@ -104,11 +105,11 @@ pub fn read_room<S: Alter>(
     conn: &mut Connection<S>,
 ) -> Result<(ReadFile, Summary), Wrong>
     requires outside { conn.old.in_transaction ≡ false }
-    ensures room { HasCleanDisk (state S.Store conn.new)
+    ensures room { IsClean S.Store conn.new
         → IfOk result (λ x. HoldsAll (state S.Store conn.old).now.trees x.0 x.1) }
-    ensures wrong { HasCleanDisk (state S.Store conn.new)
+    ensures wrong { IsClean S.Store conn.new
         → IfErr result (ExplainsFile (state S.Store conn.old) (state S.Store conn.new)) }
-    ensures why { HasCleanDisk (state S.Store conn.new)
+    ensures why { IsClean S.Store conn.new
         → IfErr result (HasCause S.Store conn.old conn.new) }
     ensures nothing { WritesNothing (state S.Store conn.old) (state S.Store conn.new) }
     ensures ended { conn.new.in_transaction ≡ false }
@@ -126,11 +127,11 @@ fn read_tables<S: Alter>(
     conn: &mut Connection<S>,
 ) -> Result<(ReadFile, Summary), Wrong>
     requires outside { conn.old.in_transaction ≡ false }
-    ensures room { HasCleanDisk (state S.Store conn.new)
+    ensures room { IsClean S.Store conn.new
         → IfOk result (λ x. HoldsAll (state S.Store conn.old).now.trees x.0 x.1) }
-    ensures wrong { HasCleanDisk (state S.Store conn.new)
+    ensures wrong { IsClean S.Store conn.new
         → IfErr result (Explains (state S.Store conn.old).now) }
-    ensures why { HasCleanDisk (state S.Store conn.new)
+    ensures why { IsClean S.Store conn.new
         → IfErr result (λ e. e ≡ Storage → FailsToReadTables S.Store conn.old conn.new) }
     ensures nothing { WritesNothing (state S.Store conn.old) (state S.Store conn.new) }
     ensures ended { conn.new.in_transaction ≡ false }
@@ -152,13 +153,12 @@ fn read_sound<S: Alter>(
     requires tables { (state S.Store conn.old).now.schema ≡ schema_of tables }
     requires new { (tables ≡ Whole) ⊎ (tables ≡ Unindexed) }
     requires outside { conn.old.in_transaction ≡ false }
-    requires committed { IsTrue (state S.Store conn.old).is_open
-        → (state S.Store conn.old).now ≡ (state S.Store conn.old).committed }
-    ensures room { HasCleanDisk (state S.Store conn.new)
+    requires committed { IsCommitted S.Store conn.old }
+    ensures room { IsClean S.Store conn.new
         → IfOk result (λ x. HoldsAll (state S.Store conn.old).now.trees x.0 x.1) }
-    ensures wrong { HasCleanDisk (state S.Store conn.new)
+    ensures wrong { IsClean S.Store conn.new
         → IfErr result (Explains (state S.Store conn.old).now) }
-    ensures why { HasCleanDisk (state S.Store conn.new)
+    ensures why { IsClean S.Store conn.new
         → IfErr result (λ e. e ≡ Storage → FailsInside S.Store tables conn.old conn.new) }
     ensures nothing { WritesNothing (state S.Store conn.old) (state S.Store conn.new) }
     ensures ended { conn.new.in_transaction ≡ false }

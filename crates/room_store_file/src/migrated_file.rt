@@ -1,9 +1,9 @@
 //! A file of the first version made one of this.
-ghost use Rattle.std.specs.Prelude.{◌≡◌, ◌≢◌, ◌⊎◌, IfErr, IfOk, IfNone, IfSome, OnErr, OnOk, false};
+ghost use Rattle.std.specs.Prelude.{◌≡◌, ◌≢◌, ◌⊎◌, IfErr, IfOk, IfNone, IfSome, OnOk, false};
 ghost use Rattle.sqlite.specs.Held.{state};
-ghost use Rattle.sqlite.specs.State.{HasCleanDisk, Survives};
+ghost use Rattle.sqlite.specs.State.{Survives};
 ghost use Rattle.room_tables_schema.specs.Versions.{HasFirstTables};
-ghost use Rattle.room_store_writes.specs.Transactions.{Leaves};
+ghost use Rattle.room_store_writes.specs.Transactions.{LeavesOnErr};
 ghost use Rattle.room_store_file.specs.OpenedFile.{HoldsFirstRoom, IsNewRoom, IsOldRoom, MayBeMoved, Moves, schema_of};
 ghost use Rattle.room_store_check_tables.specs.HeldRooms.{IsPlanOf, WritesNothing};
 ghost use Rattle.room_store_file.specs.declared.migrated_file.MigrateFault.TheVariants.{
@@ -11,6 +11,7 @@ ghost use Rattle.room_store_file.specs.declared.migrated_file.MigrateFault.TheVa
   NotOld,
 };
 ghost use Rattle.room_store_file.specs.declared.room_in_tables.Tables.TheVariants.{First, FirstUnindexed};
+ghost use Rattle.room_tables_schema.specs.FileConnections.{IsClean};
 
 use crate::opened_file::is_room_of;
 use crate::room_in_tables::{Tables, read_room_in};
@@ -75,18 +76,17 @@ impl From<FileFault> for MigrateFault {
 /// leaves the file as it was.
 pub fn migrate_in<S: Alter>(alloc: Global, conn: &mut Connection<S>) -> Result<Plan, MigrateFault>
     requires outside { conn.old.in_transaction ≡ false }
-    ensures room { HasCleanDisk (state S.Store conn.new)
+    ensures room { IsClean S.Store conn.new
         → IfOk result (IsPlanOf (state S.Store conn.new).now.trees) }
-    ensures moves { HasCleanDisk (state S.Store conn.new)
+    ensures moves { IsClean S.Store conn.new
         → OnOk result (Moves (state S.Store conn.old) (state S.Store conn.new)) }
-    ensures old_room { HasCleanDisk (state S.Store conn.new)
+    ensures old_room { IsClean S.Store conn.new
         → OnOk result (IsOldRoom (state S.Store conn.old).now) }
-    ensures leaves { HasCleanDisk (state S.Store conn.new)
-        → OnErr result (Leaves (state S.Store conn.old) (state S.Store conn.new)) }
-    ensures not_old { HasCleanDisk (state S.Store conn.new)
+    ensures leaves { LeavesOnErr S.Store conn.old conn.new result }
+    ensures not_old { IsClean S.Store conn.new
         → IfErr result (λ e. (e ≡ NotOld → IsNewRoom (state S.Store conn.old).now)
         × (e ≡ NotARoom → ¬ IsNewRoom (state S.Store conn.old).now)) }
-    ensures no_room { HasCleanDisk (state S.Store conn.new)
+    ensures no_room { IsClean S.Store conn.new
         → IfErr result (λ e. e ≡ NotARoom → HasFirstTables (state S.Store conn.old).now.schema
         → ¬ HoldsFirstRoom (state S.Store conn.old).now.trees) }
     ensures untouched { IfErr result (λ e. (e ≡ NotOld) ⊎ (e ≡ NotARoom)
@@ -107,14 +107,13 @@ pub fn migrate_in<S: Alter>(alloc: Global, conn: &mut Connection<S>) -> Result<P
 // The plan of the room that the file's tables hold, which are those of the first version.
 fn move_tables<S: Alter>(alloc: Global, conn: &mut Connection<S>) -> Result<Plan, MigrateFault>
     requires outside { conn.old.in_transaction ≡ false }
-    ensures room { HasCleanDisk (state S.Store conn.new)
+    ensures room { IsClean S.Store conn.new
         → IfOk result (IsPlanOf (state S.Store conn.new).now.trees) }
-    ensures moves { HasCleanDisk (state S.Store conn.new)
+    ensures moves { IsClean S.Store conn.new
         → OnOk result (Moves (state S.Store conn.old) (state S.Store conn.new)) }
-    ensures leaves { HasCleanDisk (state S.Store conn.new)
-        → OnErr result (Leaves (state S.Store conn.old) (state S.Store conn.new)) }
+    ensures leaves { LeavesOnErr S.Store conn.old conn.new result }
     ensures is_old { IfErr result (λ e. e ≢ NotOld) }
-    ensures no_room { HasCleanDisk (state S.Store conn.new)
+    ensures no_room { IsClean S.Store conn.new
         → IfErr result (λ e. e ≡ NotARoom → HasFirstTables (state S.Store conn.old).now.schema
         → ¬ HoldsFirstRoom (state S.Store conn.old).now.trees) }
     ensures untouched { IfErr result (λ e. e ≡ NotARoom

@@ -1,11 +1,11 @@
 //! The plan of the room that the tables of a file stand for.
-ghost use Rattle.std.specs.Prelude.{◌≡◌, ◌≢◌, ◌⊎◌, ◌↔◌, IsTrue, IfErr, IfOk, IfNone, IfSome, OnErr, OnOk, false};
+ghost use Rattle.std.specs.Prelude.{◌≡◌, ◌≢◌, ◌⊎◌, ◌↔◌, IsTrue, IfErr, IfOk, IfNone, IfSome, OnOk, false};
 ghost use Rattle.sqlite.specs.Held.{state};
-ghost use Rattle.sqlite.specs.State.{HasCleanDisk, Survives};
+ghost use Rattle.sqlite.specs.State.{Survives};
 ghost use Rattle.room_tables.specs.Failures.{IfStorage};
 ghost use Rattle.room_tables_schema.specs.Schema.{room_schema};
 ghost use Rattle.room_tables_schema.specs.Versions.{HasTables};
-ghost use Rattle.room_store_writes.specs.Transactions.{IsSettled, Leaves};
+ghost use Rattle.room_store_writes.specs.Transactions.{IsSettled, LeavesOnErr};
 ghost use Rattle.room_store_file.specs.OpeningCauses.{FailsByTables, FailsToOpen};
 ghost use Rattle.room_store_file.specs.OpenedFile.{HidesVersion, IsOldRoom, IsRoomOf, KeepsFile, MayBeIndexed, Opens, schema_of};
 ghost use Rattle.room_store_check_tables.specs.HeldRooms.{HoldsRoom, IsPlanOf, WritesNothing};
@@ -15,6 +15,7 @@ ghost use Rattle.room_store_file.specs.declared.opened_file.OpenFault.TheVariant
   Storage,
 };
 ghost use Rattle.room_store_file.specs.declared.room_in_tables.Tables.TheVariants.{Unindexed, Whole};
+ghost use Rattle.room_tables_schema.specs.FileConnections.{IsClean};
 
 use crate::room_in_tables::{Tables, take};
 use room_place::plans::Plan;
@@ -76,28 +77,27 @@ impl From<FileFault> for OpenFault {
 /// The plan of the room that the file holds. A fault leaves the file as it was.
 pub fn open_in<S: Alter>(alloc: Global, conn: &mut Connection<S>) -> Result<Plan, OpenFault>
     requires outside { conn.old.in_transaction ≡ false }
-    ensures room { HasCleanDisk (state S.Store conn.new)
+    ensures room { IsClean S.Store conn.new
         → IfOk result (IsPlanOf (state S.Store conn.new).now.trees) }
-    ensures schema { HasCleanDisk (state S.Store conn.new)
+    ensures schema { IsClean S.Store conn.new
         → OnOk result ((state S.Store conn.new).now.schema ≡ room_schema) }
-    ensures settled { HasCleanDisk (state S.Store conn.new)
+    ensures settled { IsClean S.Store conn.new
         → OnOk result (IsSettled (state S.Store conn.new)) }
-    ensures kept { HasCleanDisk (state S.Store conn.new)
+    ensures kept { IsClean S.Store conn.new
         → OnOk result (KeepsFile (state S.Store conn.old) (state S.Store conn.new)) }
-    ensures leaves { HasCleanDisk (state S.Store conn.new)
-        → OnErr result (Leaves (state S.Store conn.old) (state S.Store conn.new)) }
-    ensures not_old { HasCleanDisk (state S.Store conn.new)
+    ensures leaves { LeavesOnErr S.Store conn.old conn.new result }
+    ensures not_old { IsClean S.Store conn.new
         → OnOk result (¬ IsOldRoom (state S.Store conn.old).now) }
-    ensures old_room { HasCleanDisk (state S.Store conn.new)
+    ensures old_room { IsClean S.Store conn.new
         → IfErr result (λ e. (e ≡ OldRoom → IsOldRoom (state S.Store conn.old).now)
         × (e ≡ NotARoom → ¬ IsOldRoom (state S.Store conn.old).now)) }
-    ensures no_room { HasCleanDisk (state S.Store conn.new)
+    ensures no_room { IsClean S.Store conn.new
         → IfErr result (λ e. e ≡ NotARoom → HasTables (state S.Store conn.old).now.schema
         → ¬ HoldsRoom (state S.Store conn.old).now.trees) }
-    ensures storage { HasCleanDisk (state S.Store conn.new)
+    ensures storage { IsClean S.Store conn.new
         → IfErr result (λ e. e ≡ Storage → HasTables (state S.Store conn.old).now.schema
         ⊎ HidesVersion (state S.Store conn.old) (state S.Store conn.new)) }
-    ensures why { HasCleanDisk (state S.Store conn.new) → IfErr result (λ e. e ≡ Storage
+    ensures why { IsClean S.Store conn.new → IfErr result (λ e. e ≡ Storage
         → HidesVersion (state S.Store conn.old) (state S.Store conn.new)
         ⊎ FailsToOpen S.Store conn.old conn.new) }
     ensures untouched { IfErr result (λ e. (e ≡ OldRoom) ⊎ (e ≡ NotARoom)
@@ -115,13 +115,13 @@ pub fn open_in<S: Alter>(alloc: Global, conn: &mut Connection<S>) -> Result<Plan
 /// Whether the file holds a room of a version, whatever its other tables are.
 pub fn is_room_of<S: Alter>(conn: &mut Connection<S>, version: u32) -> Result<bool, Fault>
     requires outside { conn.old.in_transaction ≡ false }
-    ensures told { HasCleanDisk (state S.Store conn.new)
+    ensures told { IsClean S.Store conn.new
         → IfOk result (λ yes. IsTrue yes ↔ IsRoomOf version (state S.Store conn.old).now) }
-    ensures ok { HasCleanDisk (state S.Store conn.new)
+    ensures ok { IsClean S.Store conn.new
         → OnOk result ((state S.Store conn.new).now ≡ (state S.Store conn.old).now) }
-    ensures is_open { HasCleanDisk (state S.Store conn.new)
+    ensures is_open { IsClean S.Store conn.new
         → IfOk result (λ yes. IsTrue yes → IsTrue (state S.Store conn.new).is_open) }
-    ensures why { HasCleanDisk (state S.Store conn.new) → IfErr result
+    ensures why { IsClean S.Store conn.new → IfErr result
         (IfStorage (HidesVersion (state S.Store conn.old) (state S.Store conn.new))) }
     ensures nothing { WritesNothing (state S.Store conn.old) (state S.Store conn.new) }
     ensures ended { conn.new.in_transaction ≡ false }
@@ -137,19 +137,18 @@ pub fn is_room_of<S: Alter>(conn: &mut Connection<S>, version: u32) -> Result<bo
 // The plan of the room of this version that the file holds.
 fn open_tables<S: Alter>(alloc: Global, conn: &mut Connection<S>) -> Result<Plan, OpenFault>
     requires outside { conn.old.in_transaction ≡ false }
-    ensures room { HasCleanDisk (state S.Store conn.new)
+    ensures room { IsClean S.Store conn.new
         → IfOk result (IsPlanOf (state S.Store conn.new).now.trees) }
-    ensures opens { HasCleanDisk (state S.Store conn.new)
+    ensures opens { IsClean S.Store conn.new
         → OnOk result (Opens (state S.Store conn.old) (state S.Store conn.new)) }
-    ensures leaves { HasCleanDisk (state S.Store conn.new)
-        → OnErr result (Leaves (state S.Store conn.old) (state S.Store conn.new)) }
+    ensures leaves { LeavesOnErr S.Store conn.old conn.new result }
     ensures this_version { IfErr result (λ e. e ≢ OldRoom) }
-    ensures no_room { HasCleanDisk (state S.Store conn.new)
+    ensures no_room { IsClean S.Store conn.new
         → IfErr result (λ e. e ≡ NotARoom → HasTables (state S.Store conn.old).now.schema
         → ¬ HoldsRoom (state S.Store conn.old).now.trees) }
-    ensures storage { HasCleanDisk (state S.Store conn.new)
+    ensures storage { IsClean S.Store conn.new
         → IfErr result (λ e. e ≡ Storage → HasTables (state S.Store conn.old).now.schema) }
-    ensures why { HasCleanDisk (state S.Store conn.new)
+    ensures why { IsClean S.Store conn.new
         → IfErr result (λ e. e ≡ Storage → FailsByTables S.Store conn.old conn.new) }
     ensures untouched { IfErr result (λ e. e ≡ NotARoom
         → WritesNothing (state S.Store conn.old) (state S.Store conn.new)) }

@@ -2,11 +2,11 @@
 ghost use Rattle.std.specs.Prelude.{◌≡◌, ◌<◌, false, List, length, map, IfOk, OnOk};
 ghost use Rattle.std.specs.List.{AllByRecursion, flat_map};
 ghost use Rattle.sqlite.specs.Held.{state};
-ghost use Rattle.sqlite.specs.State.{HasCleanDisk, Survives};
+ghost use Rattle.sqlite.specs.State.{Survives};
 ghost use Rattle.sqlite_value.specs.Order.{Row};
 ghost use Rattle.room_model.specs.Room.{Room};
-ghost use Rattle.room_tables_rows.specs.Stands.{Configuration, Stands};
-ghost use Rattle.room_tables_schema.specs.FileConnections.{HasRoomSchema};
+ghost use Rattle.room_tables_rows.specs.RoomsInTables.{Configuration, Stands};
+ghost use Rattle.room_tables_schema.specs.FileConnections.{HasRoomSchema, IsClean};
 ghost use Rattle.room_tables_schema.specs.Outcomes.{ReadsInside};
 ghost use Rattle.room_store_writes.specs.Transactions.{Leaves};
 ghost use Rattle.room_store_file.specs.RowHash.{Adds};
@@ -57,11 +57,11 @@ const WHOLE_TABLES: [&str; 13] = [
 pub fn digest_in<S: Alter>(conn: &mut Connection<S>, version: Version) -> Result<[u8; 32], Fault>
     requires room { HasRoomSchema S.Store conn.old }
     requires outside { conn.old.in_transaction ≡ false }
-    ensures digest { HasCleanDisk (state S.Store conn.new)
+    ensures digest { IsClean S.Store conn.new
         → IfOk result (λ digest. (config : Configuration) (room : Room)
         → Stands (state S.Store conn.old).now.trees config room
         → digest ≡ digest_of version config.zone config.terminals room) }
-    ensures leaves { HasCleanDisk (state S.Store conn.new)
+    ensures leaves { IsClean S.Store conn.new
         → Leaves (state S.Store conn.old) (state S.Store conn.new) }
     ensures ended { conn.new.in_transaction ≡ false }
     ensures survives { Survives (state S.Store conn.old) (state S.Store conn.new) (λ _. ⊥) }
@@ -82,7 +82,7 @@ pub fn digest_inside<S: Alter>(
 ) -> Result<[u8; 32], Fault>
     requires room { HasRoomSchema S.Store tx.old.conn.now }
     ensures same_reference { tx.new.conn.ghost_name ≡ tx.old.conn.ghost_name }
-    ensures digest { HasCleanDisk (state S.Store tx.new.conn.now)
+    ensures digest { IsClean S.Store tx.new.conn.now
         → IfOk result (λ digest. (config : Configuration) (room : Room)
         → Stands (state S.Store tx.old.conn.now).now.trees config room
         → digest ≡ digest_of version config.zone config.terminals room) }
@@ -118,7 +118,7 @@ fn add_tables<S: Alter>(
     requires known { AllByRecursion IsKnown (map (λ text. text.now) texts.now) }
     requires some { 0 < length texts.now }
     ensures same_reference { tx.new.conn.ghost_name ≡ tx.old.conn.ghost_name }
-    ensures rows { HasCleanDisk (state S.Store tx.new.conn.now)
+    ensures rows { IsClean S.Store tx.new.conn.now
         → OnOk result ((tables : List (List Row))
         → ReadEach (map (λ text. text.now) texts.now) (state S.Store tx.old.conn.now).now.trees tables
         → Adds hasher.old hasher.new (flat_map table_text tables)) }
@@ -139,7 +139,7 @@ fn add_table<S: Alter>(
     requires room { HasRoomSchema S.Store tx.old.conn.now }
     requires known { IsKnown text.now }
     ensures same_reference { tx.new.conn.ghost_name ≡ tx.old.conn.ghost_name }
-    ensures rows { HasCleanDisk (state S.Store tx.new.conn.now)
+    ensures rows { IsClean S.Store tx.new.conn.now
         → OnOk result ((rows : List Row)
         → ReadsTable text.now (state S.Store tx.old.conn.now).now.trees rows
         → Adds hasher.old hasher.new (table_text rows)) }

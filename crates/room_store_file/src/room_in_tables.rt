@@ -3,14 +3,14 @@
 //! well-formed room, and undone where they don't.
 ghost use Rattle.std.specs.Prelude.{◌≡◌, ◌⊎◌, Err, Ok, cond, false, IsOk, IsTrue, IfErr, IfOk, OnErr, OnOk};
 ghost use Rattle.sqlite.specs.Held.{state};
-ghost use Rattle.sqlite.specs.State.{HasCleanDisk, IsRolledBack, Shows, Survives};
+ghost use Rattle.sqlite.specs.State.{IsRolledBack, Shows, Survives};
 ghost use Rattle.room_tables_schema.specs.Outcomes.{CommitsNothing};
 ghost use Rattle.room_model.specs.RoomSlices.{room_of};
-ghost use Rattle.room_tables_schema.specs.FileConnections.{MayWrite};
+ghost use Rattle.room_tables_schema.specs.FileConnections.{MayWrite, IsClean, StandsInTransaction};
 ghost use Rattle.room_tables_schema.specs.Schema.{first_schema, first_tables_schema};
-ghost use Rattle.room_tables.specs.Stands.{Stands};
+ghost use Rattle.room_tables.specs.RoomsInTables.{Stands};
 ghost use Rattle.room_store_writes.specs.Houses.{config_of};
-ghost use Rattle.room_store_writes.specs.Transactions.{Leaves};
+ghost use Rattle.room_store_writes.specs.Transactions.{IsCommitted, LeavesOnErr};
 ghost use Rattle.room_store_file.specs.OpeningCauses.{FailsAtEnd, FailsBy, FailsInside, FailsToReadAs};
 ghost use Rattle.room_store_file.specs.OpenedFile.{Becomes, FailsToMake, HasNoPlanBy, HoldsBy, IsMoved, IsUncommitted, MayBecome, StandsBy, Takes, TellsNoVersion, schema_of};
 ghost use Rattle.room_store_check_tables.specs.HeldRooms.{IsPlanOf, WritesNothing};
@@ -50,18 +50,16 @@ pub(crate) fn take<S: Alter>(
 ) -> Result<Plan, FileFault>
     requires tables { (state S.Store conn.old).now.schema ≡ schema_of tables }
     requires outside { conn.old.in_transaction ≡ false }
-    requires committed { IsTrue (state S.Store conn.old).is_open
-        → (state S.Store conn.old).now ≡ (state S.Store conn.old).committed }
-    ensures room { HasCleanDisk (state S.Store conn.new)
+    requires committed { IsCommitted S.Store conn.old }
+    ensures room { IsClean S.Store conn.new
         → IfOk result (IsPlanOf (state S.Store conn.new).now.trees) }
-    ensures takes { HasCleanDisk (state S.Store conn.new)
+    ensures takes { IsClean S.Store conn.new
         → OnOk result (Takes tables (state S.Store conn.old) (state S.Store conn.new)) }
-    ensures no_room { HasCleanDisk (state S.Store conn.new)
+    ensures no_room { IsClean S.Store conn.new
         → IfErr result (λ e. e ≡ NotARoom → ¬ HoldsBy tables (state S.Store conn.old).now.trees) }
-    ensures why { HasCleanDisk (state S.Store conn.new)
+    ensures why { IsClean S.Store conn.new
         → IfErr result (λ e. e ≡ Storage → FailsBy S.Store tables conn.old conn.new) }
-    ensures leaves { HasCleanDisk (state S.Store conn.new)
-        → OnErr result (Leaves (state S.Store conn.old) (state S.Store conn.new)) }
+    ensures leaves { LeavesOnErr S.Store conn.old conn.new result }
     ensures untouched { IfErr result (λ e. e ≡ NotARoom
         → WritesNothing (state S.Store conn.old) (state S.Store conn.new)) }
     ensures ended { conn.new.in_transaction ≡ false }
@@ -86,14 +84,13 @@ pub fn read_file<S: Alter>(
 ) -> Result<ReadFile, FileFault>
     requires tables { (state S.Store conn.old).now.schema ≡ schema_of tables }
     requires outside { conn.old.in_transaction ≡ false }
-    requires committed { IsTrue (state S.Store conn.old).is_open
-        → (state S.Store conn.old).now ≡ (state S.Store conn.old).committed }
-    ensures stands { HasCleanDisk (state S.Store conn.new)
+    requires committed { IsCommitted S.Store conn.old }
+    ensures stands { IsClean S.Store conn.new
         → IfOk result (λ x. StandsBy tables (state S.Store conn.old).now.trees
         (config_of x.config.plan x.config.terminals.items) (room_of x.config.plan.areas x.rows)) }
-    ensures no_plan { HasCleanDisk (state S.Store conn.new)
+    ensures no_plan { IsClean S.Store conn.new
         → IfErr result (λ e. e ≡ NotARoom → HasNoPlanBy tables (state S.Store conn.old).now.trees) }
-    ensures why { HasCleanDisk (state S.Store conn.new)
+    ensures why { IsClean S.Store conn.new
         → IfErr result (λ e. e ≡ Storage → FailsInside S.Store tables conn.old conn.new) }
     ensures nothing { WritesNothing (state S.Store conn.old) (state S.Store conn.new) }
     ensures ended { conn.new.in_transaction ≡ false }
@@ -112,9 +109,9 @@ fn if_open<S: Alter>(
     requires outside { conn.old.in_transaction ≡ false }
     ensures plan { IfOk result (λ plan. found ≡ Ok plan) }
     ensures no_room { IfErr result (λ e. e ≡ NotARoom → found ≡ Err NotARoom) }
-    ensures is_open { HasCleanDisk (state S.Store conn.new)
+    ensures is_open { IsClean S.Store conn.new
         → OnOk result (IsTrue (state S.Store conn.new).is_open) }
-    ensures storage { HasCleanDisk (state S.Store conn.new)
+    ensures storage { IsClean S.Store conn.new
         → IfErr result (λ e. e ≡ Storage → (found ≡ Err Storage)
         ⊎ TellsNoVersion (state S.Store conn.old) (state S.Store conn.new)) }
     ensures nothing { WritesNothing (state S.Store conn.old) (state S.Store conn.new) }
@@ -136,19 +133,17 @@ pub(crate) fn read_room_in<S: Alter>(
 ) -> Result<Plan, FileFault>
     requires tables { (state S.Store conn.old).now.schema ≡ schema_of tables }
     requires outside { conn.old.in_transaction ≡ false }
-    requires committed { IsTrue (state S.Store conn.old).is_open
-        → (state S.Store conn.old).now ≡ (state S.Store conn.old).committed }
-    ensures room { HasCleanDisk (state S.Store conn.new)
+    requires committed { IsCommitted S.Store conn.old }
+    ensures room { IsClean S.Store conn.new
         → IfOk result (IsPlanOf (state S.Store conn.new).now.trees) }
-    ensures takes { HasCleanDisk (state S.Store conn.new)
+    ensures takes { IsClean S.Store conn.new
         → OnOk result (Takes tables (state S.Store conn.old) (state S.Store conn.new)) }
-    ensures no_room { HasCleanDisk (state S.Store conn.new)
+    ensures no_room { IsClean S.Store conn.new
         → IfErr result (λ e. e ≡ NotARoom → ¬ HoldsBy tables (state S.Store conn.old).now.trees) }
-    ensures why { HasCleanDisk (state S.Store conn.new)
+    ensures why { IsClean S.Store conn.new
         → IfErr result (λ e. e ≡ Storage → FailsInside S.Store tables conn.old conn.new
         ⊎ FailsAtEnd S.Store tables conn.old conn.new) }
-    ensures leaves { HasCleanDisk (state S.Store conn.new)
-        → OnErr result (Leaves (state S.Store conn.old) (state S.Store conn.new)) }
+    ensures leaves { LeavesOnErr S.Store conn.old conn.new result }
     ensures untouched { IfErr result (λ e. e ≡ NotARoom
         → WritesNothing (state S.Store conn.old) (state S.Store conn.new)) }
     ensures ended { conn.new.in_transaction ≡ false }
@@ -165,17 +160,17 @@ fn finish<S: Alter>(
     tx: Transaction<'_, S>,
     found: Result<Plan, FileFault>,
 ) -> Result<Plan, FileFault>
-    requires { HasCleanDisk (state S.Store tx.conn.now)
+    requires { IsClean S.Store tx.conn.now
         → OnOk found (IsTrue (state S.Store tx.conn.now).in_transaction) }
     ensures plan { IfOk result (λ plan. found ≡ Ok plan) }
     ensures no_room { IfErr result (λ e. e ≡ NotARoom → found ≡ Err NotARoom) }
-    ensures why { HasCleanDisk (state S.Store tx.exit.0.now)
+    ensures why { IsClean S.Store tx.exit.0.now
         → IfErr result (λ e. (found ≡ Err e) ⊎ IsUncommitted (state S.Store tx.entry.conn.now)
         (state S.Store tx.exit.0.now) e) }
-    ensures ok { HasCleanDisk (state S.Store tx.exit.0.now)
+    ensures ok { IsClean S.Store tx.exit.0.now
         → OnOk result (Shows (state S.Store tx.entry.conn.now) (state S.Store tx.exit.0.now)
         (state S.Store tx.entry.conn.now).now (state S.Store tx.entry.conn.now).now false) }
-    ensures err { HasCleanDisk (state S.Store tx.exit.0.now)
+    ensures err { IsClean S.Store tx.exit.0.now
         → OnErr result (IsRolledBack (state S.Store tx.entry.conn.now)
         (state S.Store tx.exit.0.now)) }
     ensures ended { tx.exit.0.now.in_transaction ≡ false }
@@ -200,22 +195,21 @@ fn find_room<S: Alter>(
     tx: &mut Transaction<'_, S>,
     tables: Tables,
 ) -> Result<Plan, FileFault>
-    requires tables { HasCleanDisk (state S.Store tx.old.conn.now)
+    requires tables { IsClean S.Store tx.old.conn.now
         → (state S.Store tx.old.conn.now).now.schema ≡ schema_of tables }
-    requires inside { HasCleanDisk (state S.Store tx.old.conn.now)
-        → IsTrue (state S.Store tx.old.conn.now).in_transaction }
-    ensures room { HasCleanDisk (state S.Store tx.new.conn.now)
+    requires inside { StandsInTransaction S.Store tx.old.conn.now }
+    ensures room { IsClean S.Store tx.new.conn.now
         → IfOk result (IsPlanOf (state S.Store tx.new.conn.now).now.trees) }
-    ensures becomes { HasCleanDisk (state S.Store tx.new.conn.now)
+    ensures becomes { IsClean S.Store tx.new.conn.now
         → OnOk result (Becomes tables (state S.Store tx.old.conn.now).now.trees
         (state S.Store tx.new.conn.now).now.trees) }
-    ensures is_open { HasCleanDisk (state S.Store tx.new.conn.now)
+    ensures is_open { IsClean S.Store tx.new.conn.now
         → OnOk result (IsTrue (state S.Store tx.old.conn.now).is_open) }
     ensures inside { OnOk result (MayWrite S.Store tx.new.conn.now) }
-    ensures no_room { HasCleanDisk (state S.Store tx.new.conn.now)
+    ensures no_room { IsClean S.Store tx.new.conn.now
         → IfErr result (λ e. e ≡ NotARoom
         → ¬ HoldsBy tables (state S.Store tx.old.conn.now).now.trees) }
-    ensures why { HasCleanDisk (state S.Store tx.new.conn.now)
+    ensures why { IsClean S.Store tx.new.conn.now
         → IfErr result (λ e. e ≡ Storage
         → FailsToReadAs S.Store tables tx.old.conn.now tx.new.conn.now) }
     ensures commits { CommitsNothing S.Store tx.old.conn.now tx.new.conn.now }
@@ -233,23 +227,22 @@ fn read_as<S: Alter>(
     tx: &mut Transaction<'_, S>,
     tables: Tables,
 ) -> Result<ReadFile, FileFault>
-    requires tables { HasCleanDisk (state S.Store tx.old.conn.now)
+    requires tables { IsClean S.Store tx.old.conn.now
         → (state S.Store tx.old.conn.now).now.schema ≡ schema_of tables }
-    requires inside { HasCleanDisk (state S.Store tx.old.conn.now)
-        → IsTrue (state S.Store tx.old.conn.now).in_transaction }
-    ensures stands { HasCleanDisk (state S.Store tx.new.conn.now)
+    requires inside { StandsInTransaction S.Store tx.old.conn.now }
+    ensures stands { IsClean S.Store tx.new.conn.now
         → IfOk result (λ x. Stands (state S.Store tx.new.conn.now).now.trees
         (config_of x.config.plan x.config.terminals.items) (room_of x.config.plan.areas x.rows)) }
-    ensures becomes { HasCleanDisk (state S.Store tx.new.conn.now)
+    ensures becomes { IsClean S.Store tx.new.conn.now
         → OnOk result (Becomes tables (state S.Store tx.old.conn.now).now.trees
         (state S.Store tx.new.conn.now).now.trees) }
-    ensures is_open { HasCleanDisk (state S.Store tx.new.conn.now)
+    ensures is_open { IsClean S.Store tx.new.conn.now
         → OnOk result (IsTrue (state S.Store tx.old.conn.now).is_open) }
     ensures inside { OnOk result (MayWrite S.Store tx.new.conn.now) }
-    ensures no_plan { HasCleanDisk (state S.Store tx.new.conn.now)
+    ensures no_plan { IsClean S.Store tx.new.conn.now
         → IfErr result (λ e. e ≡ NotARoom
         → HasNoPlanBy tables (state S.Store tx.old.conn.now).now.trees) }
-    ensures why { HasCleanDisk (state S.Store tx.new.conn.now)
+    ensures why { IsClean S.Store tx.new.conn.now
         → IfErr result (λ e. e ≡ Storage
         → FailsToReadAs S.Store tables tx.old.conn.now tx.new.conn.now) }
     ensures commits { CommitsNothing S.Store tx.old.conn.now tx.new.conn.now }
@@ -265,16 +258,15 @@ fn make_lacking<S: Alter>(
     tx: &mut Transaction<'_, S>,
     tables: Tables,
 ) -> Result<(), Fault>
-    requires tables { HasCleanDisk (state S.Store tx.old.conn.now)
+    requires tables { IsClean S.Store tx.old.conn.now
         → (state S.Store tx.old.conn.now).now.schema ≡ schema_of tables }
-    requires inside { HasCleanDisk (state S.Store tx.old.conn.now)
-        → IsTrue (state S.Store tx.old.conn.now).in_transaction }
-    ensures becomes { HasCleanDisk (state S.Store tx.new.conn.now)
+    requires inside { StandsInTransaction S.Store tx.old.conn.now }
+    ensures becomes { IsClean S.Store tx.new.conn.now
         → OnOk result (Becomes tables (state S.Store tx.old.conn.now).now.trees
         (state S.Store tx.new.conn.now).now.trees) }
     ensures inside { OnOk result (MayWrite S.Store tx.new.conn.now) }
     ensures commits { CommitsNothing S.Store tx.old.conn.now tx.new.conn.now }
-    ensures why { HasCleanDisk (state S.Store tx.new.conn.now)
+    ensures why { IsClean S.Store tx.new.conn.now
         → IfErr result (FailsToMake S.Store tables tx.old.conn.now tx.new.conn.now) }
     ensures same_reference { tx.new.conn.ghost_name ≡ tx.old.conn.ghost_name }
 {
@@ -292,12 +284,11 @@ fn renew<S: Alter>(
     tx: &mut Transaction<'_, S>,
     is_indexed: bool,
 ) -> Result<(), Fault>
-    requires tables { HasCleanDisk (state S.Store tx.old.conn.now)
+    requires tables { IsClean S.Store tx.old.conn.now
         → (state S.Store tx.old.conn.now).now.schema
         ≡ cond is_indexed first_schema first_tables_schema }
-    requires inside { HasCleanDisk (state S.Store tx.old.conn.now)
-        → IsTrue (state S.Store tx.old.conn.now).in_transaction }
-    ensures moved { HasCleanDisk (state S.Store tx.new.conn.now)
+    requires inside { StandsInTransaction S.Store tx.old.conn.now }
+    ensures moved { IsClean S.Store tx.new.conn.now
         → OnOk result (IsMoved (state S.Store tx.old.conn.now).now.trees
         (state S.Store tx.new.conn.now).now.trees) }
     ensures inside { OnOk result (MayWrite S.Store tx.new.conn.now) }

@@ -5,7 +5,7 @@ use Rattle.room_place.specs.declared.plans.Area.{Area}
 use Rattle.room_types.specs.Texts.{Token}
 use Rattle.room_types.specs.declared.asks.Who.{Who}
 use Rattle.room_model.specs.Room.{Room}
-use Rattle.room_tables_rows.specs.Stands.{Configuration, Stands}
+use Rattle.room_tables_rows.specs.RoomsInTables.{Configuration, Stands}
 use Rattle.room_store_writes.specs.TerminalChanges.{Explains, fault_in}
 use Rattle.room_store_writes.specs.declared.change_faults.ChangeFault.{ChangeFault}
 use Rattle.room_store_writes.specs.declared.change_faults.ChangeFault.TheVariants.{CrewsTerminal, Memory, NoDivision}

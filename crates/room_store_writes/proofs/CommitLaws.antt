@@ -1,11 +1,11 @@
 -- What a transaction leaves that was ended: committed where all went well, and undone where not.
-use Rattle.std.proofs.Common.{Err, IsTrue, List, Ok, Result, [], ap, arith, false, inl, subst, sym, true, ℕ, ◌∙◌, ◌∷◌}
+use Rattle.std.proofs.Common.{Err, List, Ok, Result, [], ap, arith, false, inl, subst, sym, true, ℕ, ◌∙◌, ◌∷◌}
 use Rattle.std.proofs.Common.{◌≡◌}
 use Rattle.std.proofs.lemmas.Result.{on_err_weaker, on_ok_weaker}
 use Rattle.std.specs.Prelude.{IsOk, OnErr, OnOk}
 use Rattle.sqlite.specs.Effect.{Database}
 use Rattle.sqlite.specs.Held.{Held, state}
-use Rattle.sqlite.specs.State.{HasCleanDisk, IsRolledBack, KeepsCommit, Shows, Survives}
+use Rattle.sqlite.specs.State.{IsRolledBack, KeepsCommit, Shows, Survives}
 use Rattle.sqlite.proofs.Callers.{survives_begin}
 use Rattle.sqlite.proofs.StateLemmas.{survives_then}
 use Rattle.sqlite_trees.specs.Tree.{Trees}
@@ -15,11 +15,11 @@ use Rattle.room_tables_schema.proofs.WriteLaws.{commits_none, write_commits}
 use Rattle.room_place.specs.declared.plans.Area.{Area}
 use Rattle.room_types.specs.declared.changes.Change.{Change}
 use Rattle.room_model.specs.Room.{Room, apply, apply_one}
-use Rattle.room_tables_schema.specs.FileConnections.{MayWrite}
+use Rattle.room_tables_schema.specs.FileConnections.{MayWrite, IsClean}
 use Rattle.room_tables_schema.specs.Schema.{room_schema}
-use Rattle.room_tables.specs.Stands.{Configuration, Stands}
+use Rattle.room_tables.specs.RoomsInTables.{Configuration, Stands}
 use Rattle.room_tables.specs.Writes.{AppendsArea, Changes}
-use Rattle.room_store_writes.specs.Transactions.{IsSettled, Leaves}
+use Rattle.room_store_writes.specs.Transactions.{IsSettled, Leaves, IsCommitted, LeavesOnErr}
 
 pub on_ok : {T E : Type 0} (r : Result T E) (P : Type 0) → P → OnOk r P
 on_ok (Ok x) P p = p
@@ -36,7 +36,7 @@ ok_then (Err e) P Q f p = tt
 -- what changed a room's tables in a transaction may be followed by more
 pub may_on : {S T E : Type 0} (g : Ghosts S) (a b : Held S) (config_after : Configuration → Configuration)
     (room_after : Room → Room) (r : Result T E)
-    → (HasCleanDisk (state g b) → OnOk r (Changes (state g a) (state g b) config_after room_after))
+    → (IsClean g b → OnOk r (Changes (state g a) (state g b) config_after room_after))
     → OnOk r (MayWrite g b)
 may_on g a b config_after room_after (Ok x) made =
     record { room = λ clean. (made clean).schema; inside = λ clean. (made clean).inside.mode }
@@ -44,7 +44,7 @@ may_on g a b config_after room_after (Err e) made = tt
 
 module _ {S T E : Type 0} (g : Ghosts S) (a b : Held S) (config_after : Configuration → Configuration)
     (room_after : Room → Room) (r : Result T E)
-    (made : HasCleanDisk (state g b) → OnOk r (Changes (state g a) (state g b) config_after room_after)) where
+    (made : IsClean g b → OnOk r (Changes (state g a) (state g b) config_after room_after)) where
   -- what changed them commits nothing
   pub put_commits : WritesInside g a b r → CommitsNothing g a b
   put_commits wrote =
@@ -54,7 +54,7 @@ module _ {S T E : Type 0} (g : Ghosts S) (a b : Held S) (config_after : Configur
 -- nor does the next area
 pub area_commits : {S T E : Type 0} (g : Ghosts S) (a b : Held S) (at : ℕ) (area : Area)
     (r : Result T E)
-    → (HasCleanDisk (state g b) → OnOk r (AppendsArea (state g a) (state g b) at area))
+    → (IsClean g b → OnOk r (AppendsArea (state g a) (state g b) at area))
     → WritesInside g a b r → CommitsNothing g a b
 area_commits g a b at area r made wrote =
     write_commits r wrote
@@ -86,18 +86,18 @@ module _ {S : Type 0} (g : Ghosts S) (old last end : Held S) where
   pub ended_survives : {A B : Type 0} (done : Result A B) (P : Trees → Type 0)
       → Survives (state g (record old { in_transaction = true })) (state g last) (λ _. ⊥)
       → Survives (state g last) (state g end) (λ db. IsOk done × (db ≡ (state g last).now.trees))
-      → (HasCleanDisk (state g last) → OnOk done (P (state g last).now.trees))
+      → (IsClean g last → OnOk done (P (state g last).now.trees))
       → Survives (state g old) (state g end) P
   ended_survives done P inside ended holds =
       survives_then (state g old) (state g last) (state g end) _ _ P (λ _ db none. absurd none)
       (λ clean db is.
-      let early : HasCleanDisk (state g last) = omega (arith, ended.clean) in
+      let early : IsClean g last = omega (arith, ended.clean) in
       subst P (sym is.1) (when_ok done (P (state g last).now.trees) is.0 (holds early)))
       (survives_begin g old (state g last) _ inside) ended
 
   pub undone_leaves : KeepsCommit (state g (record old { in_transaction = true })) (state g last)
       → IsRolledBack (state g last) (state g end)
-      → (IsTrue (state g old).is_open → (state g old).now ≡ (state g old).committed)
+      → (IsCommitted g old)
       → Leaves (state g old) (state g end)
   undone_leaves kept back settled = record {
     was_open = λ is_open. kept.was_open (back.was_open is_open);
@@ -111,11 +111,11 @@ module _ {S : Type 0} (g : Ghosts S) (old last end : Held S) where
 -- A transaction, from `old` to `end`: all that was done in it is committed, or nothing.
 pub record IsWhole {S A B : Type 0} (g : Ghosts S) (old end : Held S) (result : Result A B)
     (P : Trees → Trees → Type 0) : Type 0 where
-  pub ok : HasCleanDisk (state g end)
-      → OnOk result (HasCleanDisk (state g old) × IsSettled (state g end)
+  pub ok : IsClean g end
+      → OnOk result (IsClean g old × IsSettled (state g end)
       × ((state g end).now.schema ≡ room_schema)
       × P (state g old).now.trees (state g end).now.trees)
-  pub err : HasCleanDisk (state g end) → OnErr result (Leaves (state g old) (state g end))
+  pub err : LeavesOnErr g old end result
   pub survives : Survives (state g old) (state g end) (P (state g old).now.trees)
 
 -- It is, where what was done left `last`, and `end` commits that where it went well, and undoes it
@@ -123,21 +123,21 @@ pub record IsWhole {S A B : Type 0} (g : Ghosts S) (old end : Held S) (result : 
 module _ {S A B C D : Type 0} (g : Ghosts S) (old begun last end : Held S) (done : Result A B)
     (result : Result C D) (P : Trees → Trees → Type 0)
     (begins : begun ≡ record old { in_transaction = true })
-    (settled : HasCleanDisk (state g old) → IsTrue (state g old).is_open → (state g old).now ≡ (state g old).committed)
+    (settled : IsClean g old → IsCommitted g old)
     (inside : CommitsNothing g begun last)
-    (made : HasCleanDisk (state g last)
+    (made : IsClean g last
     → OnOk done (((state g last).now.schema ≡ room_schema) × P (state g begun).now.trees (state g last).now.trees))
-    (well : OnOk result (IsOk done)) (committed : HasCleanDisk (state g end)
+    (well : OnOk result (IsOk done)) (committed : IsClean g end
     → OnOk result (Shows (state g last) (state g end) (state g last).now (state g last).now false))
-    (undone : HasCleanDisk (state g end) → OnErr result (IsRolledBack (state g last) (state g end)))
+    (undone : IsClean g end → OnErr result (IsRolledBack (state g last) (state g end)))
     (ended : Survives (state g last) (state g end) (λ db. IsOk done × (db ≡ (state g last).now.trees))) where
   kept : CommitsNothing g (record old { in_transaction = true }) last
   kept = subst (λ h. CommitsNothing g h last) begins inside
 
-  last_clean : HasCleanDisk (state g end) → HasCleanDisk (state g last)
+  last_clean : IsClean g end → IsClean g last
   last_clean clean = omega (arith, ended.clean)
 
-  old_clean : HasCleanDisk (state g end) → HasCleanDisk (state g old)
+  old_clean : IsClean g end → IsClean g old
   old_clean clean = let early = last_clean clean in omega (arith, kept.survives.clean)
 
   from_old : P (state g begun).now.trees (state g last).now.trees

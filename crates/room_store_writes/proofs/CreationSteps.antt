@@ -4,10 +4,10 @@ use Rattle.std.proofs.lemmas.Bool.Decides.{nat_tests}
 use Rattle.std.specs.Ordering.{nat_cmp}
 use Rattle.std.specs.Prelude.{filter}
 use Rattle.std.specs.declared.cmp.Ordering.TheVariants.{Greater}
-use Rattle.room_types_keyed.specs.Keyed.{put_row}
+use Rattle.room_types_keyed.specs.KeyedRows.{put_row}
 use Rattle.room_types.specs.Keys.{division_key}
 use Rattle.room_types.specs.declared.tables.Division.{Division}
-use Rattle.room_tables.specs.Stands.{places_from}
+use Rattle.room_tables.specs.RoomsInTables.{places_from}
 use Rattle.room_store_writes.specs.NewRoom.{new_division}
 
 greater : (m n : ℕ) → n < m → nat_cmp m n ≡ Greater

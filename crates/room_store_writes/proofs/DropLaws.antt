@@ -21,11 +21,11 @@ use Rattle.room_types.specs.Texts.{Callsign}
 use Rattle.room_types.specs.declared.asks.Who.{Who}
 use Rattle.room_types.specs.declared.asks.Who.TheVariants.{Crew, Desk, Position}
 use Rattle.room_types.specs.declared.fleet.Terminal.{Terminal}
-use Rattle.room_model.specs.Enrol.{is_crew}
+use Rattle.room_model.specs.FleetRows.{is_crew}
 use Rattle.room_tables_schema.specs.Schema.{room_schema, terminals_table}
 use Rattle.room_tables_rows.proofs.Kept.{with_terminals}
 use Rattle.room_tables_rows.proofs.TerminalsTable.{terminals_alone}
-use Rattle.room_tables_rows.specs.Stands.{places}
+use Rattle.room_tables_rows.specs.RoomsInTables.{places}
 use Rattle.room_tables_rows.specs.Tables.{DeletesChosen}
 use Rattle.room_tables_rows.specs.TerminalSql.{crew_of, number_of, role_of, terminal_row}
 use Rattle.room_tables_rows.specs.Writes.{Changes}

@@ -8,7 +8,7 @@ use Rattle.room_place.specs.Plans.{has_division}
 use Rattle.room_place.specs.declared.plans.Area.{Area}
 use Rattle.room_tables_schema.proofs.Comparisons.{is_Equal}
 use Rattle.room_types_keyed.proofs.KeyedLaws.{keyed_filter, keyed_put, row_below, row_filter}
-use Rattle.room_types_keyed.specs.Keyed.{IsBelowAll, IsKeyed, keep, row_at}
+use Rattle.room_types_keyed.specs.KeyedRows.{IsBelowAll, IsKeyed, keep, row_at}
 use Rattle.room_types.specs.Keys.{callsign_cmp, vehicle_key}
 use Rattle.room_types.specs.Orders.{callsigns_total, exact_callsigns}
 use Rattle.room_types.specs.Texts.{Callsign, Token}
@@ -18,7 +18,7 @@ use Rattle.room_types.specs.declared.fleet.Terminal.{Terminal}
 use Rattle.room_model.proofs.EnrolLaws.{exact_tokens, terminals_put, tokens_total}
 use Rattle.room_model.proofs.KeptCalls.{row_stays}
 use Rattle.room_model.proofs.VehicleRows.{put_here}
-use Rattle.room_model.specs.Enrol.{AreTerminals, terminal_at, terminal_key, token_cmp}
+use Rattle.room_model.specs.FleetRows.{AreTerminals, terminal_at, terminal_key, token_cmp}
 use Rattle.room_model.specs.Room.{Room}
 use Rattle.room_store_writes.specs.TerminalChanges.{fault_in, fault_to_take, nobody}
 use Rattle.room_store_writes.specs.TerminalHolders.{has_terminal, has_token, is_token_of, may_have, same_who}

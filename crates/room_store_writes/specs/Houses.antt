@@ -2,7 +2,7 @@
 use Rattle.std.specs.Prelude.{List}
 use Rattle.room_place.specs.Plans.{Layout}
 use Rattle.room_types.specs.declared.fleet.Terminal.{Terminal}
-use Rattle.room_tables.specs.Stands.{Configuration}
+use Rattle.room_tables.specs.RoomsInTables.{Configuration}
 
 -- the configuration of these terminals in a plan
 abbrev pub config_of : Layout → List Terminal → Configuration

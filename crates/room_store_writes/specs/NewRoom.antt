@@ -6,16 +6,16 @@ use Rattle.sqlite_trees.specs.Tree.{Trees}
 use Rattle.sqlite_trees.specs.declared.store.Store.{Ghosts}
 use Rattle.room_place.specs.Plans.{Layout, has_division}
 use Rattle.room_place.specs.declared.plans.Area.{Area}
-use Rattle.room_types_keyed.specs.Keyed.{put_row}
+use Rattle.room_types_keyed.specs.KeyedRows.{put_row}
 use Rattle.room_types.specs.declared.changes.Change.{Change}
 use Rattle.room_types.specs.declared.fleet.Terminal.{Terminal}
 use Rattle.room_types.specs.declared.tables.Division.{Division}
-use Rattle.room_model.specs.Enrol.{terminal_key, token_cmp}
+use Rattle.room_model.specs.FleetRows.{terminal_key, token_cmp}
 use Rattle.room_model.specs.Room.{Room, apply}
 use Rattle.room_tables_schema.specs.Schema.{room_schema}
 use Rattle.room_tables_schema.specs.declared.database_faults.Fault.{Fault}
 use Rattle.room_tables_schema.specs.declared.database_faults.Fault.TheVariants as fault
-use Rattle.room_tables.specs.Stands.{Stands, empty_room}
+use Rattle.room_tables.specs.RoomsInTables.{Stands, empty_room}
 use Rattle.room_store_writes.specs.Transactions.{IsSettled}
 use Rattle.room_store_writes.specs.Houses.{config_of}
 

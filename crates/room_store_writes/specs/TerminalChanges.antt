@@ -8,7 +8,7 @@ use Rattle.room_types.specs.declared.asks.Who.{Who}
 use Rattle.room_types.specs.declared.asks.Who.TheVariants.{Crew, Desk, Position}
 use Rattle.room_types.specs.declared.fleet.Terminal.{Terminal}
 use Rattle.room_model.specs.Room.{Room}
-use Rattle.room_tables_rows.specs.Stands.{Configuration, Stands}
+use Rattle.room_tables_rows.specs.RoomsInTables.{Configuration, Stands}
 use Rattle.room_tables_schema.specs.declared.database_faults.Fault.{Fault}
 use Rattle.room_tables_schema.specs.declared.database_faults.Fault.TheVariants as fault
 use Rattle.room_store_writes.specs.TerminalHolders.{has_terminal, has_token, may_have, terminals_by}

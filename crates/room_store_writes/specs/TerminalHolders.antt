@@ -4,12 +4,12 @@ use Rattle.std.specs.Ordering.{is_eq}
 use Rattle.std.specs.Prelude.{Bool, List, None, Option, Some, false, filter, not, true, ℕ, ◌==◌}
 use Rattle.room_place.specs.Plans.{has_division}
 use Rattle.room_place.specs.declared.plans.Area.{Area}
-use Rattle.room_types_keyed.specs.Keyed.{put_row}
+use Rattle.room_types_keyed.specs.KeyedRows.{put_row}
 use Rattle.room_types.specs.Texts.{Token}
 use Rattle.room_types.specs.declared.asks.Who.{Who}
 use Rattle.room_types.specs.declared.asks.Who.TheVariants.{Crew, Desk, Position}
 use Rattle.room_types.specs.declared.fleet.Terminal.{Terminal}
-use Rattle.room_model.specs.Enrol.{is_crew, terminal_key, token_cmp}
+use Rattle.room_model.specs.FleetRows.{is_crew, terminal_key, token_cmp}
 
 -- who is the desk of a division
 abbrev pub is_desk : ℕ → Who → Bool

@@ -1,10 +1,13 @@
 -- What a transaction makes of the tables: all of its changes, or nothing.
-use Rattle.std.specs.Prelude.{IsTrue, List, ◌≡◌}
+use Rattle.std.specs.Prelude.{IsTrue, List, ◌≡◌, Result, OnErr}
 use Rattle.sqlite.specs.State.{State}
 use Rattle.room_types.specs.declared.changes.Change.{Change}
 use Rattle.room_model.specs.Room.{Room, apply}
 use Rattle.room_tables_schema.specs.Schema.{room_schema}
-use Rattle.room_tables.specs.Stands.{Configuration, Stands}
+use Rattle.room_tables.specs.RoomsInTables.{Configuration, Stands}
+use Rattle.sqlite_trees.specs.declared.store.Store.{Ghosts}
+use Rattle.sqlite.specs.Held.{Held, state}
+use Rattle.room_tables_schema.specs.FileConnections.{IsClean}
 
 -- In a transaction, which goes on, all these changes are made.
 pub record MakesAll (old new : State) (changes : List Change) : Type 0 where
@@ -32,3 +35,16 @@ pub record Leaves (old new : State) : Type 0 where
   pub was_open : IsTrue new.is_open → IsTrue old.is_open
   pub now_is : IsTrue new.is_open → new.now ≡ old.now
   pub committed_is : IsTrue new.is_open → new.committed ≡ old.committed
+
+-- of a connection whose disk is clean: it is open and in no transaction, and its tables are
+-- committed
+abbrev pub StandsSettled : {S : Type 0} → Ghosts S → Held S → Type 0
+StandsSettled g held = IsClean g held → IsSettled (state g held)
+
+-- what an open connection holds is committed
+abbrev pub IsCommitted : {S : Type 0} → Ghosts S → Held S → Type 0
+IsCommitted g held = IsTrue (state g held).is_open → (state g held).now ≡ (state g held).committed
+
+-- a call that failed has left all as it was
+abbrev pub LeavesOnErr : {S T E : Type 0} → Ghosts S → Held S → Held S → Result T E → Type 0
+LeavesOnErr g old new result = IsClean g new → OnErr result (Leaves (state g old) (state g new))

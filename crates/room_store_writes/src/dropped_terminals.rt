@@ -1,12 +1,11 @@
 //! The terminals of one desk, position or crew, dropped from their table.
 ghost use Rattle.std.specs.Prelude.{◌≡◌, ◌∷◌, [], Bool, OnOk, filter, not};
 ghost use Rattle.sqlite.specs.Held.{state};
-ghost use Rattle.sqlite.specs.State.{HasCleanDisk};
 ghost use Rattle.sqlite.specs.Values.{bound};
 ghost use Rattle.sqlite_value.specs.declared.value.Value.TheVariants.{Text};
 ghost use Rattle.room_tables_schema.specs.Outcomes.{WritesInside};
 ghost use Rattle.room_tables_schema.specs.TypedRows.{number};
-ghost use Rattle.room_tables_schema.specs.FileConnections.{MayWrite};
+ghost use Rattle.room_tables_schema.specs.FileConnections.{MayWrite, IsClean};
 ghost use Rattle.room_tables_schema.specs.Schema.{terminals_table};
 ghost use Rattle.room_tables_rows.specs.Tables.{DeletesChosen};
 ghost use Rattle.room_tables_rows.specs.TerminalSql.{terminal_row};
@@ -33,7 +32,7 @@ pub const DROP_CREWS: &str = "DELETE FROM terminals WHERE callsign = ?1";
 /// Drops all terminals of a desk, a position or a crew.
 pub fn drop_of<S: Alter>(tx: &mut Transaction<'_, S>, who: &Who) -> Result<(), Fault>
     requires inside { MayWrite S.Store tx.old.conn.now }
-    ensures ok { HasCleanDisk (state S.Store tx.new.conn.now)
+    ensures ok { IsClean S.Store tx.new.conn.now
         → OnOk result (Changes (state S.Store tx.old.conn.now) (state S.Store tx.new.conn.now)
         (λ config. record config { terminals = without who.now config.terminals }) (λ room. room)) }
     ensures writes { WritesInside S.Store tx.old.conn.now tx.new.conn.now result }
@@ -61,7 +60,7 @@ fn drop_where<S: Alter>(
     params: &[ValueRef<'_>],
 ) -> Result<(), Fault>
     requires inside { MayWrite S.Store tx.old.conn.now }
-    ensures ok { HasCleanDisk (state S.Store tx.new.conn.now)
+    ensures ok { IsClean S.Store tx.new.conn.now
         → OnOk result ((chosen : Terminal → Bool)
         → DeletesChosen terminals_table terminal_row 2 text.now (bound params.now) chosen
         → Changes (state S.Store tx.old.conn.now) (state S.Store tx.new.conn.now)

@@ -1,15 +1,15 @@
 //! What the enrolment of a fleet row writes.
-ghost use Rattle.std.specs.Prelude.{◌≡◌, false, OnOk, OnErr};
+ghost use Rattle.std.specs.Prelude.{◌≡◌, false, OnOk};
 ghost use Rattle.sqlite.specs.Held.{state};
-ghost use Rattle.sqlite.specs.State.{HasCleanDisk, Survives};
-ghost use Rattle.room_tables_schema.specs.FileConnections.{HasRoomSchema, MayWrite};
+ghost use Rattle.sqlite.specs.State.{Survives};
+ghost use Rattle.room_tables_schema.specs.FileConnections.{HasRoomSchema, MayWrite, IsClean};
 ghost use Rattle.room_tables_schema.specs.Outcomes.{CommitsNothing};
 ghost use Rattle.room_types.specs.declared.fleet.RowFate.TheVariants as told;
-ghost use Rattle.room_model.specs.Enrol.{new_terminal, new_vehicle, room_by};
+ghost use Rattle.room_model.specs.FleetRows.{new_terminal, new_vehicle, room_by};
 ghost use Rattle.room_model.specs.Room.{Room};
-ghost use Rattle.room_tables.specs.Stands.{Configuration, Stands};
+ghost use Rattle.room_tables.specs.RoomsInTables.{Configuration, Stands};
 ghost use Rattle.room_tables.specs.Writes.{Changes};
-ghost use Rattle.room_store_writes.specs.Transactions.{IsSettled, Leaves};
+ghost use Rattle.room_store_writes.specs.Transactions.{LeavesOnErr, StandsSettled};
 ghost use Rattle.room_store_writes.specs.EnrolledRows.{Enrols, StandsAfter, config_by};
 
 use crate::transactions::end;
@@ -28,12 +28,11 @@ use sqlite::{Alter, Connection, Transaction};
 pub fn write<S: Alter>(conn: &mut Connection<S>, row: &FleetRow, fate: RowFate) -> Result<(), Fault>
     requires room { HasRoomSchema S.Store conn.old }
     requires outside { conn.old.in_transaction ≡ false }
-    requires settled { HasCleanDisk (state S.Store conn.old) → IsSettled (state S.Store conn.old) }
-    ensures ok { HasCleanDisk (state S.Store conn.new)
+    requires settled { StandsSettled S.Store conn.old }
+    ensures ok { IsClean S.Store conn.new
         → OnOk result (Enrols (state S.Store conn.old) (state S.Store conn.new) row.now
         (Stands (state S.Store conn.old).now.trees) (λ _ _. fate)) }
-    ensures err { HasCleanDisk (state S.Store conn.new)
-        → OnErr result (Leaves (state S.Store conn.old) (state S.Store conn.new)) }
+    ensures err { LeavesOnErr S.Store conn.old conn.new result }
     ensures ended { conn.new.in_transaction ≡ false }
     ensures survives { Survives (state S.Store conn.old) (state S.Store conn.new) (λ db.
         (config : Configuration) (room : Room)
@@ -49,12 +48,11 @@ pub fn write<S: Alter>(conn: &mut Connection<S>, row: &FleetRow, fate: RowFate) 
 fn write_row<S: Alter>(conn: &mut Connection<S>, row: &FleetRow) -> Result<(), Fault>
     requires room { HasRoomSchema S.Store conn.old }
     requires outside { conn.old.in_transaction ≡ false }
-    requires settled { HasCleanDisk (state S.Store conn.old) → IsSettled (state S.Store conn.old) }
-    ensures ok { HasCleanDisk (state S.Store conn.new)
+    requires settled { StandsSettled S.Store conn.old }
+    ensures ok { IsClean S.Store conn.new
         → OnOk result (Enrols (state S.Store conn.old) (state S.Store conn.new) row.now
         (Stands (state S.Store conn.old).now.trees) (λ _ _. told.Added)) }
-    ensures err { HasCleanDisk (state S.Store conn.new)
-        → OnErr result (Leaves (state S.Store conn.old) (state S.Store conn.new)) }
+    ensures err { LeavesOnErr S.Store conn.old conn.new result }
     ensures ended { conn.new.in_transaction ≡ false }
     ensures survives { Survives (state S.Store conn.old) (state S.Store conn.new) (λ db.
         (config : Configuration) (room : Room)
@@ -70,7 +68,7 @@ fn write_row<S: Alter>(conn: &mut Connection<S>, row: &FleetRow) -> Result<(), F
 fn put_row<S: Alter>(tx: &mut Transaction<'_, S>, row: &FleetRow) -> Result<(), Fault>
     requires inside { MayWrite S.Store tx.old.conn.now }
     ensures same_reference { tx.new.conn.ghost_name ≡ tx.old.conn.ghost_name }
-    ensures ok { HasCleanDisk (state S.Store tx.new.conn.now)
+    ensures ok { IsClean S.Store tx.new.conn.now
         → OnOk result (Changes (state S.Store tx.old.conn.now) (state S.Store tx.new.conn.now)
         (config_by told.Added row.now) (room_by told.Added row.now)) }
     ensures commits { CommitsNothing S.Store tx.old.conn.now tx.new.conn.now }

@@ -1,18 +1,18 @@
 //! The tables of a new room, made and filled.
 
-ghost use Rattle.std.specs.Prelude.{◌≡◌, ◌≤◌, [], cond, false, length, IsTrue, OnOk, OnErr};
+ghost use Rattle.std.specs.Prelude.{◌≡◌, ◌≤◌, [], cond, false, length, IsTrue, OnOk};
 ghost use Rattle.std.specs.Ordering.{nat_cmp};
 ghost use Rattle.sqlite.specs.Held.{state};
-ghost use Rattle.sqlite.specs.State.{HasCleanDisk, Survives};
+ghost use Rattle.sqlite.specs.State.{Survives};
 ghost use Rattle.room_tables_schema.specs.Outcomes.{CommitsNothing};
 ghost use Rattle.room_place.specs.Plans.{has_division, most_areas};
-ghost use Rattle.room_types_keyed.specs.Keyed.{put_row};
+ghost use Rattle.room_types_keyed.specs.KeyedRows.{put_row};
 ghost use Rattle.room_types.specs.Keys.{division_key};
 ghost use Rattle.room_model.specs.Room.{Room};
 ghost use Rattle.room_tables_schema.specs.Schema.{no_schema, room_schema};
-ghost use Rattle.room_tables_schema.specs.FileConnections.{MayWrite};
-ghost use Rattle.room_tables.specs.Stands.{Configuration, Stands};
-ghost use Rattle.room_store_writes.specs.Transactions.{Leaves};
+ghost use Rattle.room_tables_schema.specs.FileConnections.{MayWrite, IsClean, StandsInTransaction};
+ghost use Rattle.room_tables.specs.RoomsInTables.{Configuration, Stands};
+ghost use Rattle.room_store_writes.specs.Transactions.{IsCommitted, LeavesOnErr};
 ghost use Rattle.room_store_writes.specs.NewRoom.{Begins, BeginsWith, StandsNew, StandsWith, new_division, new_divisions, put_all};
 
 use crate::transactions::{end, put_each};
@@ -37,12 +37,10 @@ pub fn create_in<S: Alter>(
 ) -> Result<(), Fault>
     requires empty { (state S.Store conn.old).now.schema ≡ no_schema }
     requires outside { conn.old.in_transaction ≡ false }
-    requires committed { IsTrue (state S.Store conn.old).is_open
-        → (state S.Store conn.old).now ≡ (state S.Store conn.old).committed }
-    ensures ok { HasCleanDisk (state S.Store conn.new)
+    requires committed { IsCommitted S.Store conn.old }
+    ensures ok { IsClean S.Store conn.new
         → OnOk result (Begins S.Store conn.new plan.now terminals.now) }
-    ensures err { HasCleanDisk (state S.Store conn.new)
-        → OnErr result (Leaves (state S.Store conn.old) (state S.Store conn.new)) }
+    ensures err { LeavesOnErr S.Store conn.old conn.new result }
     ensures ended { conn.new.in_transaction ≡ false }
     ensures survives { Survives (state S.Store conn.old) (state S.Store conn.new)
         (StandsNew plan.now terminals.now) }
@@ -62,12 +60,10 @@ pub fn create_with<S: Alter>(
 ) -> Result<(), Fault>
     requires empty { (state S.Store conn.old).now.schema ≡ no_schema }
     requires outside { conn.old.in_transaction ≡ false }
-    requires committed { IsTrue (state S.Store conn.old).is_open
-        → (state S.Store conn.old).now ≡ (state S.Store conn.old).committed }
-    ensures ok { HasCleanDisk (state S.Store conn.new)
+    requires committed { IsCommitted S.Store conn.old }
+    ensures ok { IsClean S.Store conn.new
         → OnOk result (BeginsWith S.Store conn.new plan.now terminals.now changes.now) }
-    ensures err { HasCleanDisk (state S.Store conn.new)
-        → OnErr result (Leaves (state S.Store conn.old) (state S.Store conn.new)) }
+    ensures err { LeavesOnErr S.Store conn.old conn.new result }
     ensures ended { conn.new.in_transaction ≡ false }
     ensures survives { Survives (state S.Store conn.old) (state S.Store conn.new)
         (StandsWith plan.now terminals.now changes.now) }
@@ -84,12 +80,11 @@ fn fill_with<S: Alter>(
     terminals: &[Terminal],
     changes: &[Change],
 ) -> Result<(), Fault>
-    requires empty { HasCleanDisk (state S.Store tx.old.conn.now)
+    requires empty { IsClean S.Store tx.old.conn.now
         → (state S.Store tx.old.conn.now).now.schema ≡ no_schema }
-    requires inside { HasCleanDisk (state S.Store tx.old.conn.now)
-        → IsTrue (state S.Store tx.old.conn.now).in_transaction }
+    requires inside { StandsInTransaction S.Store tx.old.conn.now }
     ensures same_reference { tx.new.conn.ghost_name ≡ tx.old.conn.ghost_name }
-    ensures ok { HasCleanDisk (state S.Store tx.new.conn.now)
+    ensures ok { IsClean S.Store tx.new.conn.now
         → OnOk result (IsTrue (state S.Store tx.new.conn.now).in_transaction
         × ((state S.Store tx.new.conn.now).now.schema ≡ room_schema)
         × StandsWith plan.now terminals.now changes.now
@@ -106,12 +101,11 @@ fn fill<S: Alter>(
     plan: &Plan,
     terminals: &[Terminal],
 ) -> Result<(), Fault>
-    requires empty { HasCleanDisk (state S.Store tx.old.conn.now)
+    requires empty { IsClean S.Store tx.old.conn.now
         → (state S.Store tx.old.conn.now).now.schema ≡ no_schema }
-    requires inside { HasCleanDisk (state S.Store tx.old.conn.now)
-        → IsTrue (state S.Store tx.old.conn.now).in_transaction }
+    requires inside { StandsInTransaction S.Store tx.old.conn.now }
     ensures same_reference { tx.new.conn.ghost_name ≡ tx.old.conn.ghost_name }
-    ensures ok { HasCleanDisk (state S.Store tx.new.conn.now)
+    ensures ok { IsClean S.Store tx.new.conn.now
         → OnOk result (IsTrue (state S.Store tx.new.conn.now).in_transaction
         × ((state S.Store tx.new.conn.now).now.schema ≡ room_schema)
         × StandsNew plan.now terminals.now (state S.Store tx.new.conn.now).now.trees) }
@@ -130,7 +124,7 @@ fn put_areas<S: Alter>(tx: &mut Transaction<'_, S>, areas: &[Area]) -> Result<()
     requires few { length areas.now ≤ most_areas }
     ensures same_reference { tx.new.conn.ghost_name ≡ tx.old.conn.ghost_name }
     ensures inside { OnOk result (MayWrite S.Store tx.new.conn.now) }
-    ensures stands { HasCleanDisk (state S.Store tx.new.conn.now)
+    ensures stands { IsClean S.Store tx.new.conn.now
         → OnOk result ((config : Configuration) (room : Room)
         → Stands (state S.Store tx.old.conn.now).now.trees config room
         → room.plan ≡ [] → Stands (state S.Store tx.new.conn.now).now.trees config
@@ -149,7 +143,7 @@ fn put_terminals<S: Alter>(tx: &mut Transaction<'_, S>, terminals: &[Terminal]) 
     requires inside { MayWrite S.Store tx.old.conn.now }
     ensures same_reference { tx.new.conn.ghost_name ≡ tx.old.conn.ghost_name }
     ensures inside { OnOk result (MayWrite S.Store tx.new.conn.now) }
-    ensures stands { HasCleanDisk (state S.Store tx.new.conn.now)
+    ensures stands { IsClean S.Store tx.new.conn.now
         → OnOk result ((config : Configuration) (room : Room)
         → Stands (state S.Store tx.old.conn.now).now.trees config room
         → Stands (state S.Store tx.new.conn.now).now.trees
@@ -167,7 +161,7 @@ fn put_divisions<S: Alter>(tx: &mut Transaction<'_, S>, plan: &Plan) -> Result<(
     requires inside { MayWrite S.Store tx.old.conn.now }
     ensures same_reference { tx.new.conn.ghost_name ≡ tx.old.conn.ghost_name }
     ensures inside { OnOk result (MayWrite S.Store tx.new.conn.now) }
-    ensures stands { HasCleanDisk (state S.Store tx.new.conn.now)
+    ensures stands { IsClean S.Store tx.new.conn.now
         → OnOk result ((config : Configuration) (room : Room)
         → Stands (state S.Store tx.old.conn.now).now.trees config room
         → room.divisions ≡ [] → Stands (state S.Store tx.new.conn.now).now.trees config
@@ -189,7 +183,7 @@ fn put_new_division<S: Alter>(
     requires inside { MayWrite S.Store tx.old.conn.now }
     ensures same_reference { tx.new.conn.ghost_name ≡ tx.old.conn.ghost_name }
     ensures inside { OnOk result (MayWrite S.Store tx.new.conn.now) }
-    ensures stands { HasCleanDisk (state S.Store tx.new.conn.now)
+    ensures stands { IsClean S.Store tx.new.conn.now
         → OnOk result ((config : Configuration) (room : Room)
         → Stands (state S.Store tx.old.conn.now).now.trees config room
         → Stands (state S.Store tx.new.conn.now).now.trees config

@@ -1,14 +1,14 @@
 //! The terminals of one desk, position or crew, changed in one transaction.
-ghost use Rattle.std.specs.Prelude.{◌≡◌, None, false, IfErr, OnErr, OnOk};
+ghost use Rattle.std.specs.Prelude.{◌≡◌, None, false, IfErr, OnOk};
 ghost use Rattle.sqlite.specs.Held.{state};
-ghost use Rattle.sqlite.specs.State.{HasCleanDisk, Survives};
+ghost use Rattle.sqlite.specs.State.{Survives};
 ghost use Rattle.room_model.specs.Room.{Room};
-ghost use Rattle.room_tables_rows.specs.Stands.{Configuration, Stands};
+ghost use Rattle.room_tables_rows.specs.RoomsInTables.{Configuration, Stands};
 ghost use Rattle.room_tables_rows.specs.Writes.{Changes};
-ghost use Rattle.room_tables_schema.specs.FileConnections.{HasRoomSchema, MayWrite};
+ghost use Rattle.room_tables_schema.specs.FileConnections.{HasRoomSchema, MayWrite, IsClean};
 ghost use Rattle.room_tables_schema.specs.Schema.{room_schema};
 ghost use Rattle.room_tables_schema.specs.Outcomes.{CommitsNothing, ReadsInside};
-ghost use Rattle.room_store_writes.specs.Transactions.{IsSettled, Leaves};
+ghost use Rattle.room_store_writes.specs.Transactions.{IsSettled, LeavesOnErr, StandsSettled};
 ghost use Rattle.room_store_writes.specs.TerminalChanges.{Explains, Gives, fault_in, config_by};
 
 use crate::change_faults::{ChangeFault, TokenChange, fault_in};
@@ -32,19 +32,18 @@ pub fn change<S: Alter>(
 ) -> Result<(), ChangeFault>
     requires room { HasRoomSchema S.Store conn.old }
     requires outside { conn.old.in_transaction ≡ false }
-    requires settled { HasCleanDisk (state S.Store conn.old) → IsSettled (state S.Store conn.old) }
-    ensures ok { HasCleanDisk (state S.Store conn.new)
+    requires settled { StandsSettled S.Store conn.old }
+    ensures ok { IsClean S.Store conn.new
         → OnOk result (Gives plan.now.areas change.now.who change.now.token
         (state S.Store conn.old).now.trees
         (state S.Store conn.new).now.trees) }
-    ensures settled { HasCleanDisk (state S.Store conn.new)
+    ensures settled { IsClean S.Store conn.new
         → OnOk result (IsSettled (state S.Store conn.new)
         × ((state S.Store conn.new).now.schema ≡ room_schema)) }
-    ensures why { HasCleanDisk (state S.Store conn.new)
+    ensures why { IsClean S.Store conn.new
         → IfErr result (Explains plan.now.areas change.now.who change.now.token
         (state S.Store conn.old).now.trees) }
-    ensures err { HasCleanDisk (state S.Store conn.new)
-        → OnErr result (Leaves (state S.Store conn.old) (state S.Store conn.new)) }
+    ensures err { LeavesOnErr S.Store conn.old conn.new result }
     ensures ended { conn.new.in_transaction ≡ false }
     ensures survives { Survives (state S.Store conn.old) (state S.Store conn.new)
         (Gives plan.now.areas change.now.who change.now.token
@@ -64,12 +63,12 @@ fn change_inside<S: Alter>(
 ) -> Result<(), ChangeFault>
     requires inside { MayWrite S.Store tx.old.conn.now }
     ensures same_reference { tx.new.conn.ghost_name ≡ tx.old.conn.ghost_name }
-    ensures ok { HasCleanDisk (state S.Store tx.new.conn.now)
+    ensures ok { IsClean S.Store tx.new.conn.now
         → OnOk result (MayWrite S.Store tx.new.conn.now
         × Gives plan.now.areas change.now.who change.now.token
         (state S.Store tx.old.conn.now).now.trees
         (state S.Store tx.new.conn.now).now.trees) }
-    ensures why { HasCleanDisk (state S.Store tx.new.conn.now)
+    ensures why { IsClean S.Store tx.new.conn.now
         → IfErr result (Explains plan.now.areas change.now.who change.now.token
         (state S.Store tx.old.conn.now).now.trees) }
     ensures commits { CommitsNothing S.Store tx.old.conn.now tx.new.conn.now }
@@ -88,11 +87,11 @@ fn find_fault<S: Alter>(
 ) -> Result<(), ChangeFault>
     requires room { HasRoomSchema S.Store tx.old.conn.now }
     ensures same_reference { tx.new.conn.ghost_name ≡ tx.old.conn.ghost_name }
-    ensures ok { HasCleanDisk (state S.Store tx.new.conn.now)
+    ensures ok { IsClean S.Store tx.new.conn.now
         → OnOk result ((config : Configuration) (room : Room)
         → Stands (state S.Store tx.old.conn.now).now.trees config room
         → fault_in plan.now.areas config.terminals change.now.who change.now.token ≡ None) }
-    ensures why { HasCleanDisk (state S.Store tx.new.conn.now)
+    ensures why { IsClean S.Store tx.new.conn.now
         → IfErr result (Explains plan.now.areas change.now.who change.now.token
         (state S.Store tx.old.conn.now).now.trees) }
     ensures reads { ReadsInside S.Store tx.old.conn.now tx.new.conn.now result }
@@ -108,7 +107,7 @@ fn find_fault<S: Alter>(
 fn replace<S: Alter>(tx: &mut Transaction<'_, S>, change: &TokenChange) -> Result<(), Fault>
     requires inside { MayWrite S.Store tx.old.conn.now }
     ensures same_reference { tx.new.conn.ghost_name ≡ tx.old.conn.ghost_name }
-    ensures ok { HasCleanDisk (state S.Store tx.new.conn.now)
+    ensures ok { IsClean S.Store tx.new.conn.now
         → OnOk result (Changes (state S.Store tx.old.conn.now) (state S.Store tx.new.conn.now)
         (config_by change.now.who change.now.token) (λ room. room)) }
     ensures commits { CommitsNothing S.Store tx.old.conn.now tx.new.conn.now }

@@ -1,7 +1,7 @@
 //! What becomes of a room's terminals where those of one who are changed. The contracts are the
 //! laws; the functions do nothing.
 ghost use Rattle.std.specs.Prelude.{◌≡◌, List, None, Option, Some, false};
-ghost use Rattle.room_model.specs.Enrol.{AreTerminals, terminal_at};
+ghost use Rattle.room_model.specs.FleetRows.{AreTerminals, terminal_at};
 ghost use Rattle.room_model.specs.Room.{Room};
 ghost use Rattle.room_types.specs.Texts.{Token};
 ghost use Rattle.room_types.specs.declared.asks.Who.{Who};

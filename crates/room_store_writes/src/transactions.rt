@@ -2,13 +2,13 @@
 ghost use Rattle.std.specs.Prelude.{◌≡◌, ◌⊎◌, false, Err, IfErr, IsOk, IsTrue, OnOk, OnErr};
 ghost use Rattle.sqlite.specs.Held.{state};
 ghost use Rattle.sqlite.specs.declared.error.Error.{Error as Failure};
-ghost use Rattle.sqlite.specs.State.{HasCleanDisk, IsRolledBack, Shows, Survives};
-ghost use Rattle.room_tables_schema.specs.FileConnections.{HasRoomSchema, MayWrite};
+ghost use Rattle.sqlite.specs.State.{IsRolledBack, Shows, Survives};
+ghost use Rattle.room_tables_schema.specs.FileConnections.{HasRoomSchema, MayWrite, IsClean};
 ghost use Rattle.room_tables_schema.specs.Outcomes.{CommitsNothing};
 ghost use Rattle.room_model.specs.Room.{Room, apply};
-ghost use Rattle.room_tables.specs.Stands.{Configuration, Stands};
+ghost use Rattle.room_tables.specs.RoomsInTables.{Configuration, Stands};
 ghost use Rattle.room_tables.specs.Writes.{Makes};
-ghost use Rattle.room_store_writes.specs.Transactions.{Commits, IsSettled, Leaves, MakesAll};
+ghost use Rattle.room_store_writes.specs.Transactions.{Commits, MakesAll, LeavesOnErr, StandsSettled};
 
 use room_tables::row_changes::apply;
 use room_tables_schema::database_faults::Fault;
@@ -20,12 +20,11 @@ use sqlite::{Alter, Connection, Error, Transaction};
 pub fn write<S: Alter>(conn: &mut Connection<S>, changes: &[Change]) -> Result<(), Fault>
     requires room { HasRoomSchema S.Store conn.old }
     requires outside { conn.old.in_transaction ≡ false }
-    requires settled { HasCleanDisk (state S.Store conn.old) → IsSettled (state S.Store conn.old) }
-    ensures ok { HasCleanDisk (state S.Store conn.new)
+    requires settled { StandsSettled S.Store conn.old }
+    ensures ok { IsClean S.Store conn.new
         → OnOk result (Commits (state S.Store conn.old) (state S.Store conn.new)
         (Stands (state S.Store conn.old).now.trees) (λ room. apply room changes.now)) }
-    ensures err { HasCleanDisk (state S.Store conn.new)
-        → OnErr result (Leaves (state S.Store conn.old) (state S.Store conn.new)) }
+    ensures err { LeavesOnErr S.Store conn.old conn.new result }
     ensures ended { conn.new.in_transaction ≡ false }
     ensures survives { Survives (state S.Store conn.old) (state S.Store conn.new) (λ db.
         (config : Configuration) (room : Room)
@@ -42,13 +41,13 @@ pub fn write<S: Alter>(conn: &mut Connection<S>, changes: &[Change]) -> Result<(
 
 /// Ends a transaction: commits it where what was done in it went well, and undoes it where not.
 pub fn end<S: Alter, E: From<Error>>(tx: Transaction<'_, S>, done: Result<(), E>) -> Result<(), E>
-    requires { HasCleanDisk (state S.Store tx.conn.now)
+    requires { IsClean S.Store tx.conn.now
         → OnOk done (IsTrue (state S.Store tx.conn.now).in_transaction) }
     ensures well { OnOk result (IsOk done) }
-    ensures ok { HasCleanDisk (state S.Store tx.exit.0.now)
+    ensures ok { IsClean S.Store tx.exit.0.now
         → OnOk result (Shows (state S.Store tx.entry.conn.now) (state S.Store tx.exit.0.now)
         (state S.Store tx.entry.conn.now).now (state S.Store tx.entry.conn.now).now false) }
-    ensures err { HasCleanDisk (state S.Store tx.exit.0.now)
+    ensures err { IsClean S.Store tx.exit.0.now
         → OnErr result (IsRolledBack (state S.Store tx.entry.conn.now)
         (state S.Store tx.exit.0.now)) }
     ensures why { IfErr result (λ e. (done ≡ Err e) ⊎ ((cause : Failure) × E.from_gives cause e)) }
@@ -72,7 +71,7 @@ pub fn end<S: Alter, E: From<Error>>(tx: Transaction<'_, S>, done: Result<(), E>
 pub fn put_each<S: Alter>(tx: &mut Transaction<'_, S>, changes: &[Change]) -> Result<(), Fault>
     requires inside { MayWrite S.Store tx.old.conn.now }
     ensures same_reference { tx.new.conn.ghost_name ≡ tx.old.conn.ghost_name }
-    ensures ok { HasCleanDisk (state S.Store tx.new.conn.now)
+    ensures ok { IsClean S.Store tx.new.conn.now
         → OnOk result (MakesAll (state S.Store tx.old.conn.now)
         (state S.Store tx.new.conn.now) changes.now) }
     ensures commits { CommitsNothing S.Store tx.old.conn.now tx.new.conn.now }

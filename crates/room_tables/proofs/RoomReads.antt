@@ -3,7 +3,7 @@ use Rattle.std.proofs.Common.{arith, subst, sym}
 use Rattle.sqlite.specs.State.{HasCleanDisk, IsUnchanged, State, Survives}
 use Rattle.sqlite_trees.specs.Tree.{Trees}
 use Rattle.room_model.specs.Room.{Room}
-use Rattle.room_tables_rows.specs.Stands.{Configuration, Stands}
+use Rattle.room_tables_rows.specs.RoomsInTables.{Configuration, Stands}
 
 -- a read leaves the room
 pub kept : (old new : State) → IsUnchanged old new → (config : Configuration) (room : Room)

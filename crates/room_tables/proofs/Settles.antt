@@ -2,7 +2,7 @@
 use Rattle.std.proofs.Common.{◌≡◌, ℕ, true, Option, Some, None, map, ◌∙◌, sym, subst}
 use Rattle.sqlite.specs.State.{State, IsUnchanged, Shown}
 use Rattle.sqlite_trees.specs.Tree.{Trees}
-use Rattle.room_types_keyed.specs.Keyed.{row_at}
+use Rattle.room_types_keyed.specs.KeyedRows.{row_at}
 use Rattle.room_types.specs.Keys.{callsign_cmp, vehicle_key}
 use Rattle.room_types.specs.Texts.{Callsign}
 use Rattle.room_types.specs.declared.changes.Change.TheVariants.{PutVehicle, Settle}
@@ -10,9 +10,9 @@ use Rattle.room_types.specs.declared.codes.Status.TheVariants.{Available}
 use Rattle.room_types.specs.declared.tables.Vehicle.{Vehicle}
 use Rattle.room_model.specs.Room.{Room, settled}
 use Rattle.room_tables_schema.specs.Schema.{room_schema}
-use Rattle.room_tables_rows.specs.Finds.{listed}
+use Rattle.room_tables_rows.specs.OptionalRows.{listed}
 use Rattle.room_tables_rows.specs.KeyColumns.{text_cells}
-use Rattle.room_tables_rows.specs.Stands.{Configuration, Stands}
+use Rattle.room_tables_rows.specs.RoomsInTables.{Configuration, Stands}
 use Rattle.room_tables_rows.specs.VehicleSql.{vehicle_row}
 use Rattle.room_tables_rows.specs.Writes.{Makes}
 use Rattle.room_tables_rows.specs.declared.vehicle_sql.TheConstants.{VEHICLE_AT}

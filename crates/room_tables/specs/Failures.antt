@@ -5,15 +5,16 @@ use Rattle.std.specs.declared.cmp.Ordering.{Ordering}
 use Rattle.sqlite_value.specs.Order.{Row}
 use Rattle.sqlite.specs.Held.{Held, state}
 use Rattle.sqlite_trees.specs.declared.store.Store.{Ghosts}
-use Rattle.sqlite.specs.State.{HasCleanDisk, ExecutesInside, FailsToQuery, Shown, State}
+use Rattle.sqlite.specs.State.{ExecutesInside, FailsToQuery, Shown, State}
 use Rattle.sqlite.specs.declared.error.Error.{Error}
 use Rattle.room_place.specs.declared.plans.Area.{Area}
-use Rattle.room_types_keyed.specs.Keyed.{IsKeyed}
+use Rattle.room_types_keyed.specs.KeyedRows.{IsKeyed}
 use Rattle.room_tables_schema.specs.Outcomes.{ReadsInside}
 use Rattle.room_tables_rows.specs.AreaSql.{is_area_row, area_row}
 use Rattle.room_tables_schema.specs.DatabaseFaults.{fault_of}
 use Rattle.room_tables_schema.specs.declared.database_faults.Fault.{Fault}
 use Rattle.room_tables_schema.specs.declared.database_faults.Fault.TheVariants.{Memory, Storage}
+use Rattle.room_tables_schema.specs.FileConnections.{IsClean}
 
 -- where storage is given, this is so
 abbrev pub IfStorage : Type 0 → Fault → Type 0
@@ -34,7 +35,7 @@ module _ (text : List ℕ) (params : Row) (old new : State) where
 abbrev pub TellsWhy : {S T : Type 0} → Ghosts S → Held S → Held S → Result T Fault → List ℕ → Row
     → (List Row → Type 0) → Type 0
 TellsWhy g old new result text params AreNone =
-    HasCleanDisk (state g new) → IfErr result
+    IsClean g new → IfErr result
     (IfStorage (FailsToRead text params (state g old) (state g new) AreNone))
 
 -- No read was made yet, or those that were made went well and changed nothing.
@@ -52,13 +53,13 @@ pub record FailsAtLast {S : Type 0} (g : Ghosts S) (Fails : State → State → 
 abbrev pub TellsWhyAtLast : {S T : Type 0} → Ghosts S → Held S → Held S → Result T Fault
     → (State → State → Type 0) → Type 0
 TellsWhyAtLast g old new result Fails =
-    HasCleanDisk (state g new) → IfErr result (IfStorage (FailsAtLast g Fails old new))
+    IsClean g new → IfErr result (IfStorage (FailsAtLast g Fails old new))
 
 -- why a write failed: storage is reported for this cause
 abbrev pub TellsWhyUnwritten : {S T : Type 0} → Ghosts S → Held S → Held S → Result T Fault
     → List ℕ → Row → Type 0
 TellsWhyUnwritten g old new result text params =
-    HasCleanDisk (state g new) → IfErr result
+    IsClean g new → IfErr result
     (IfStorage (FailsToWrite text params (state g old) (state g new)))
 
 -- one of them is none of the table's rows

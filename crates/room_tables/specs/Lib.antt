@@ -9,8 +9,8 @@ pub mod Failures
 pub mod RowStreams
 -- a statement that ran
 pub mod ChangeStatements
-pub use Rattle.room_tables_rows.specs.Stands
+pub use Rattle.room_tables_rows.specs.RoomsInTables
 pub use Rattle.room_tables_rows.specs.Tables
 pub use Rattle.room_tables_rows.specs.MetaVersions
-pub use Rattle.room_tables_rows.specs.Finds
+pub use Rattle.room_tables_rows.specs.OptionalRows
 pub use Rattle.room_tables_rows.specs.Writes

@@ -5,11 +5,11 @@ use Rattle.sqlite.specs.State.{Shown, State}
 use Rattle.sqlite_value.specs.Order.{Row}
 use Rattle.sqlite_trees.specs.Tree.{Trees}
 use Rattle.sqlite_schema.specs.declared.schema.Table.{Table}
-use Rattle.room_types_keyed.specs.Keyed.{IsKeyed}
+use Rattle.room_types_keyed.specs.KeyedRows.{IsKeyed}
 use Rattle.room_model.specs.Room.{Room}
 use Rattle.room_tables_schema.specs.TableTrees.{AreNumbered}
 use Rattle.room_tables_schema.specs.declared.database_faults.Fault.{Fault}
-use Rattle.room_tables_rows.specs.Stands.{Configuration, Stands, StandsFor}
+use Rattle.room_tables_rows.specs.RoomsInTables.{Configuration, Stands, StandsFor}
 use Rattle.room_tables.specs.Failures.{AreNoRows, IfStorage}
 
 -- the last of some rows
@@ -21,7 +21,7 @@ last_of (x ∷ y ∷ xs) = last_of (y ∷ xs)
 module _ {X K T : Type 0} (is_row : Row → Bool) (order : K → K → Ordering) (key : X → K)
     (row : X → Row) (takes : T → List X → T → Type 0) where
   -- What was shown so far are the table's rows in the order of their keys, and all were taken;
-  -- or memory was wanting, or they are no such rows.
+  -- or memory failed, or they are no such rows.
   abbrev pub AreTaken : T → List Row → T → Option X → Result (Unit {0}) Fault → Type 0
   AreTaken first shown now last (Ok done) = (rows : List X) × (map row rows ≡ shown)
       × IsKeyed order key rows × (last ≡ last_of rows) × takes first rows now

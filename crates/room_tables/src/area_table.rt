@@ -2,13 +2,12 @@
 
 ghost use Rattle.std.specs.Prelude.{◌≡◌, map, IfOk, OnOk, IfErr, []};
 ghost use Rattle.sqlite.specs.Held.{state};
-ghost use Rattle.sqlite.specs.State.{HasCleanDisk};
 ghost use Rattle.room_tables_schema.specs.TableTrees.{AreNumbered};
 ghost use Rattle.room_tables_schema.specs.Outcomes.{ReadsInside, WritesInside};
 ghost use Rattle.room_tables_rows.specs.AreaSql.{area_row};
 ghost use Rattle.room_tables_schema.specs.Schema.{areas_table};
-ghost use Rattle.room_tables_schema.specs.FileConnections.{HasRoomSchema, MayWrite};
-ghost use Rattle.room_tables_rows.specs.Stands.{StandsFor, numbered};
+ghost use Rattle.room_tables_schema.specs.FileConnections.{HasRoomSchema, MayWrite, IsClean};
+ghost use Rattle.room_tables_rows.specs.RoomsInTables.{StandsFor, numbered};
 ghost use Rattle.room_tables_rows.specs.Writes.{AppendsArea};
 ghost use Rattle.room_tables_rows.specs.declared.area_sql.TheConstants.{ALL_AREAS, PUT_AREA};
 ghost use Rattle.room_tables.specs.Failures.{AreNoPlan, IfStorage, TellsWhy, TellsWhyUnwritten};
@@ -28,7 +27,7 @@ pub fn all_areas<S: Alter>(alloc: Global, tx: &mut Transaction<'_, S>) -> Result
     requires room { HasRoomSchema S.Store tx.old.conn.now }
     ensures areas { Finds S.Store tx.old.conn.now tx.new.conn.now result (λ room areas.
         areas.items ≡ room.plan) }
-    ensures found { HasCleanDisk (state S.Store tx.new.conn.now)
+    ensures found { IsClean S.Store tx.new.conn.now
         → IfOk result (λ areas.
         AreNumbered ((state S.Store tx.old.conn.now).now.trees areas_table.tree)
         → StandsFor (state S.Store tx.old.conn.now).now.trees areas_table area_row
@@ -63,7 +62,7 @@ fn areas_in(alloc: Global, shown: &[Row]) -> Result<Vec<Area>, Fault>
 /// Puts an area after those of the plan, of which it is the next.
 pub fn put_area<S: Alter>(tx: &mut Transaction<'_, S>, at: u32, area: &Area) -> Result<(), Fault>
     requires inside { MayWrite S.Store tx.old.conn.now }
-    ensures ok { HasCleanDisk (state S.Store tx.new.conn.now)
+    ensures ok { IsClean S.Store tx.new.conn.now
         → OnOk result (AppendsArea (state S.Store tx.old.conn.now)
         (state S.Store tx.new.conn.now) at area.now) }
     ensures writes { WritesInside S.Store tx.old.conn.now tx.new.conn.now result }

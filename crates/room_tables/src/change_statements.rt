@@ -2,11 +2,10 @@
 
 ghost use Rattle.std.specs.Prelude.{◌≡◌, OnOk};
 ghost use Rattle.sqlite.specs.Held.{state};
-ghost use Rattle.sqlite.specs.State.{HasCleanDisk};
 ghost use Rattle.sqlite.specs.Values.{bound};
 ghost use Rattle.room_tables.specs.Failures.{TellsWhyUnwritten};
 ghost use Rattle.room_tables.specs.ChangeStatements.{Ran};
-ghost use Rattle.room_tables_schema.specs.FileConnections.{MayWrite};
+ghost use Rattle.room_tables_schema.specs.FileConnections.{MayWrite, IsClean};
 ghost use Rattle.room_tables_schema.specs.Outcomes.{WritesInside};
 
 use room_tables_schema::database_faults::Fault;
@@ -21,7 +20,7 @@ pub(crate) fn run<S: Alter>(
     params: &[ValueRef<'_>],
 ) -> Result<(), Fault>
     requires inside { MayWrite S.Store tx.old.conn.now }
-    ensures ran { HasCleanDisk (state S.Store tx.new.conn.now)
+    ensures ran { IsClean S.Store tx.new.conn.now
         → OnOk result (Ran text.now (bound params.now) (state S.Store tx.old.conn.now)
         (state S.Store tx.new.conn.now)) }
     ensures writes { WritesInside S.Store tx.old.conn.now tx.new.conn.now result }

@@ -4,12 +4,13 @@ ghost use Rattle.std.specs.Prelude.{◌≡◌, map, IfOk, IfErr};
 ghost use Rattle.sqlite.specs.Given.{IsPlain};
 ghost use Rattle.sqlite.specs.Held.{state};
 ghost use Rattle.sqlite.specs.Listing.{understood};
-ghost use Rattle.sqlite.specs.State.{HasCleanDisk, Shown};
+ghost use Rattle.sqlite.specs.State.{Shown};
 ghost use Rattle.sqlite.specs.Values.{bound};
 ghost use Rattle.room_tables_schema.specs.Outcomes.{ReadsOnly};
-ghost use Rattle.room_types_keyed.specs.Keyed.{IsKeyed};
-ghost use Rattle.room_tables_rows.specs.Finds.{listed};
+ghost use Rattle.room_types_keyed.specs.KeyedRows.{IsKeyed};
+ghost use Rattle.room_tables_rows.specs.OptionalRows.{listed};
 ghost use Rattle.room_tables.specs.Failures.{AreMoreThanOne, AreNoRows, IfStorage, TellsWhy};
+ghost use Rattle.room_tables_schema.specs.FileConnections.{IsClean};
 
 use crate::room_table::Table;
 use crate::row_streams::Reader;
@@ -30,9 +31,9 @@ pub(crate) fn load<X: Table, S: Alter>(
     text: &str,
     params: &[ValueRef<'_>],
 ) -> Result<Rows<X>, Fault>
-    requires { HasCleanDisk (state S.Store conn.old)
+    requires { IsClean S.Store conn.old
         → IsPlain (understood (state S.Store conn.old).now.schema text.now) }
-    ensures shown { HasCleanDisk (state S.Store conn.new)
+    ensures shown { IsClean S.Store conn.new
         → IfOk result (λ rows. Shown text.now (bound params.now) (state S.Store conn.old)
         (state S.Store conn.new) (map X.cells rows)) }
     ensures keyed { IfOk result (IsKeyed X.Key.cmp X.key_of) }
@@ -50,9 +51,9 @@ pub(crate) fn find<X: Stored, S: Alter>(
     text: &str,
     params: &[ValueRef<'_>],
 ) -> Result<Option<X>, Fault>
-    requires { HasCleanDisk (state S.Store conn.old)
+    requires { IsClean S.Store conn.old
         → IsPlain (understood (state S.Store conn.old).now.schema text.now) }
-    ensures shown { HasCleanDisk (state S.Store conn.new)
+    ensures shown { IsClean S.Store conn.new
         → IfOk result (λ row. Shown text.now (bound params.now) (state S.Store conn.old)
         (state S.Store conn.new) (map X.cells (listed row))) }
     ensures reads { ReadsOnly S.Store conn.old conn.new result }

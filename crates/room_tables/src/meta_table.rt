@@ -2,14 +2,13 @@
 
 ghost use Rattle.std.specs.Prelude.{◌≡◌, ◌↔◌, false, [], ◌∷◌, string_bytes, IsTrue, IfOk, OnOk, IfErr};
 ghost use Rattle.sqlite.specs.Held.{state};
-ghost use Rattle.sqlite.specs.State.{HasCleanDisk};
 ghost use Rattle.room_tables_schema.specs.Outcomes.{ReadsInside, ReadsOnly, WritesInside};
 ghost use Rattle.room_tables_rows.specs.MetaSql.{is_meta_row, meta_row, version_row};
 ghost use Rattle.room_tables_schema.specs.Definitions.{IsBlank};
 ghost use Rattle.room_tables_schema.specs.Schema.{meta_table};
 ghost use Rattle.room_tables_schema.specs.Versions.{BeginsAsRoom};
-ghost use Rattle.room_tables_schema.specs.FileConnections.{HasRoomSchema, MayWrite};
-ghost use Rattle.room_tables_rows.specs.Stands.{Stands, StandsFor, empty_room};
+ghost use Rattle.room_tables_schema.specs.FileConnections.{HasRoomSchema, MayWrite, IsClean};
+ghost use Rattle.room_tables_rows.specs.RoomsInTables.{Stands, StandsFor, empty_room};
 ghost use Rattle.room_tables_rows.specs.MetaVersions.{IsOfVersion, OneTells};
 ghost use Rattle.room_tables_rows.specs.Writes.{Changes, Renews};
 ghost use Rattle.room_tables_rows.specs.declared.meta_sql.TheConstants.{ALL_META, PUT_META};
@@ -32,7 +31,7 @@ pub fn zone<S: Alter>(
     version: u32,
 ) -> Result<String, Fault>
     requires room { HasRoomSchema S.Store tx.old.conn.now }
-    ensures found { HasCleanDisk (state S.Store tx.new.conn.now)
+    ensures found { IsClean S.Store tx.new.conn.now
         → IfOk result (λ zone. StandsFor (state S.Store tx.old.conn.now).now.trees meta_table
         (version_row version) (string_bytes zone ∷ [])) }
     ensures reads { ReadsInside S.Store tx.old.conn.now tx.new.conn.now result }
@@ -46,9 +45,9 @@ pub fn zone<S: Alter>(
 
 /// Whether `meta` has one row, and it gives this version. Of the other tables nothing is read.
 pub fn is_of_version<S: Alter>(conn: &mut Connection<S>, version: u32) -> Result<bool, Fault>
-    requires { HasCleanDisk (state S.Store conn.old)
+    requires { IsClean S.Store conn.old
         → BeginsAsRoom (state S.Store conn.old).now.schema }
-    ensures version { HasCleanDisk (state S.Store conn.new)
+    ensures version { IsClean S.Store conn.new
         → IfOk result (λ yes. IsTrue yes ↔ IsOfVersion version (state S.Store conn.old).now.trees) }
     ensures reads { ReadsOnly S.Store conn.old conn.new result }
     ensures why { TellsWhy S.Store conn.old conn.new result ALL_META.now [] (λ _. ⊥) }
@@ -86,14 +85,14 @@ fn zone_in(alloc: Global, shown: &[Row], version: u32) -> Result<String, Fault>
 /// rows.
 pub fn put_meta<S: Alter>(tx: &mut Transaction<'_, S>, zone: &str) -> Result<(), Fault>
     requires inside { MayWrite S.Store tx.old.conn.now }
-    ensures ok { HasCleanDisk (state S.Store tx.new.conn.now)
+    ensures ok { IsClean S.Store tx.new.conn.now
         → OnOk result (Changes (state S.Store tx.old.conn.now) (state S.Store tx.new.conn.now)
         (λ config. record config { zone = zone.now }) (λ room. room)) }
-    ensures begun { HasCleanDisk (state S.Store tx.new.conn.now)
+    ensures begun { IsClean S.Store tx.new.conn.now
         → OnOk result (IsBlank (state S.Store tx.old.conn.now).now.trees
         → Stands (state S.Store tx.new.conn.now).now.trees
         (record { zone = zone.now; terminals = [] }) empty_room) }
-    ensures renews { HasCleanDisk (state S.Store tx.new.conn.now)
+    ensures renews { IsClean S.Store tx.new.conn.now
         → OnOk result (StandsFor (state S.Store tx.old.conn.now).now.trees meta_table
         (version_row 1) (zone.now ∷ [])
         → Renews (state S.Store tx.old.conn.now) (state S.Store tx.new.conn.now)) }
@@ -108,7 +107,7 @@ pub fn put_meta<S: Alter>(tx: &mut Transaction<'_, S>, zone: &str) -> Result<(),
 /// Records this version where the tables give the first, with the zone that they gave.
 pub fn tell_version<S: Alter>(alloc: Global, tx: &mut Transaction<'_, S>) -> Result<(), Fault>
     requires inside { MayWrite S.Store tx.old.conn.now }
-    ensures ok { HasCleanDisk (state S.Store tx.new.conn.now)
+    ensures ok { IsClean S.Store tx.new.conn.now
         → OnOk result (Renews (state S.Store tx.old.conn.now) (state S.Store tx.new.conn.now)) }
     ensures writes { WritesInside S.Store tx.old.conn.now tx.new.conn.now result }
     ensures same_reference { tx.new.conn.ghost_name ≡ tx.old.conn.ghost_name }

@@ -2,11 +2,10 @@
 
 ghost use Rattle.std.specs.Prelude.{◌≡◌, OnOk};
 ghost use Rattle.sqlite.specs.Held.{state};
-ghost use Rattle.sqlite.specs.State.{HasCleanDisk};
 ghost use Rattle.sqlite.specs.Values.{bound};
 ghost use Rattle.room_tables.specs.Failures.{TellsWhyUnwritten};
 ghost use Rattle.room_tables.specs.ChangeStatements.{AreInsertions, AreStatements, IsWritePlan};
-ghost use Rattle.room_tables_schema.specs.FileConnections.{MayWrite};
+ghost use Rattle.room_tables_schema.specs.FileConnections.{MayWrite, IsClean};
 ghost use Rattle.room_tables_schema.specs.Outcomes.{CommitsNothing, WritesInside};
 ghost use Rattle.room_types.specs.declared.changes.Change.{Change as ChangeModel};
 ghost use Rattle.room_types.specs.declared.changes.Change.TheVariants.{Settle};
@@ -41,7 +40,7 @@ use sqlite_value::value::ValueRef;
 /// Puts a row in its key's place.
 pub fn put<X: Table, S: Alter>(tx: &mut Transaction<'_, S>, row: &X) -> Result<(), Fault>
     requires inside { MayWrite S.Store tx.old.conn.now }
-    ensures ok { HasCleanDisk (state S.Store tx.new.conn.now)
+    ensures ok { IsClean S.Store tx.new.conn.now
         → OnOk result (Makes (state S.Store tx.old.conn.now) (state S.Store tx.new.conn.now)
         (X.put row.now)) }
     ensures writes { WritesInside S.Store tx.old.conn.now tx.new.conn.now result }
@@ -60,7 +59,7 @@ pub fn settle<S: Alter>(
     division: DivisionNumber,
 ) -> Result<(), Fault>
     requires inside { MayWrite S.Store tx.old.conn.now }
-    ensures ok { HasCleanDisk (state S.Store tx.new.conn.now)
+    ensures ok { IsClean S.Store tx.new.conn.now
         → OnOk result (Makes (state S.Store tx.old.conn.now) (state S.Store tx.new.conn.now)
         (Settle callsign.now division)) }
     ensures writes { WritesInside S.Store tx.old.conn.now tx.new.conn.now result }
@@ -129,7 +128,7 @@ fn insert_or_put<S: Alter>(
     requires inside { MayWrite S.Store tx.old.conn.now }
     requires statements { (made : ChangeModel)
         × AreInsertions insertion.now put.now (bound values.now) made }
-    ensures ok { HasCleanDisk (state S.Store tx.new.conn.now)
+    ensures ok { IsClean S.Store tx.new.conn.now
         → OnOk result ((made : ChangeModel)
         → AreInsertions insertion.now put.now (bound values.now) made
         → Makes (state S.Store tx.old.conn.now) (state S.Store tx.new.conn.now) made) }
@@ -153,7 +152,7 @@ fn overwrite<S: Alter>(
     requires inside { MayWrite S.Store tx.old.conn.now }
     requires statements { (made : ChangeModel)
         × AreStatements over.now put.now (bound values.now) made }
-    ensures ok { HasCleanDisk (state S.Store tx.new.conn.now)
+    ensures ok { IsClean S.Store tx.new.conn.now
         → OnOk result ((made : ChangeModel) → AreStatements over.now put.now (bound values.now) made
         → Makes (state S.Store tx.old.conn.now) (state S.Store tx.new.conn.now) made) }
     ensures commits { CommitsNothing S.Store tx.old.conn.now tx.new.conn.now }
@@ -170,7 +169,7 @@ fn overwrite<S: Alter>(
 /// it undoes the transaction. Of a failure of storage no cause is known.
 pub fn apply<S: Alter>(tx: &mut Transaction<'_, S>, change: &Change) -> Result<(), Fault>
     requires inside { MayWrite S.Store tx.old.conn.now }
-    ensures ok { HasCleanDisk (state S.Store tx.new.conn.now)
+    ensures ok { IsClean S.Store tx.new.conn.now
         → OnOk result (Makes (state S.Store tx.old.conn.now)
         (state S.Store tx.new.conn.now) change.now) }
     ensures commits { CommitsNothing S.Store tx.old.conn.now tx.new.conn.now }

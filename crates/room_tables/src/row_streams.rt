@@ -4,11 +4,10 @@ ghost use Rattle.std.specs.Prelude.{◌≡◌, ◌++◌, ◌⊎◌, [], ◌∷�
 ghost use Rattle.sqlite.specs.Given.{IsPlain};
 ghost use Rattle.sqlite.specs.Held.{state};
 ghost use Rattle.sqlite.specs.Listing.{understood};
-ghost use Rattle.sqlite.specs.State.{HasCleanDisk};
 ghost use Rattle.sqlite.specs.Values.{bound};
 ghost use Rattle.sqlite_value.specs.Order.{Row as Cells};
-ghost use Rattle.room_types_keyed.specs.Keyed.{IsKeyed, put_row};
-ghost use Rattle.room_tables_schema.specs.FileConnections.{HasRoomSchema};
+ghost use Rattle.room_types_keyed.specs.KeyedRows.{IsKeyed, put_row};
+ghost use Rattle.room_tables_schema.specs.FileConnections.{HasRoomSchema, IsClean};
 ghost use Rattle.room_tables_schema.specs.declared.database_faults.Fault.TheVariants.{Memory};
 ghost use Rattle.room_tables_schema.specs.Outcomes.{ReadsOnly};
 ghost use Rattle.room_tables.specs.Failures.{AreNoRows, TellsWhy};
@@ -61,7 +60,7 @@ impl<X: Table> TypedRowSink for Rows<X> {
 /// the connection keeps no room for more.
 pub fn each_row<T: TypedRowSink, S: Alter>(conn: &mut Connection<S>, taker: T) -> Result<T, Fault>
     requires room { HasRoomSchema S.Store conn.old }
-    ensures taken { HasCleanDisk (state S.Store conn.new)
+    ensures taken { IsClean S.Store conn.new
         → IfOk result (λ taken. (rows : List T.Row) × AreAll T.Row.Key.cmp T.Row.key_of
         T.Row.cells T.Row.rows T.Row.table (state S.Store conn.old).now.trees rows
         × T.takes taker rows taken) }
@@ -79,9 +78,9 @@ pub(crate) fn each_shown<T: TypedRowSink, S: Alter>(
     params: &[ValueRef<'_>],
     taker: T,
 ) -> Result<T, Fault>
-    requires { HasCleanDisk (state S.Store conn.old)
+    requires { IsClean S.Store conn.old
         → IsPlain (understood (state S.Store conn.old).now.schema text.now) }
-    ensures taken { HasCleanDisk (state S.Store conn.new)
+    ensures taken { IsClean S.Store conn.new
         → IfOk result (λ taken. (rows : List T.Row) × AreShown T.Row.Key.cmp T.Row.key_of
         T.Row.cells text.now (bound params.now) (state S.Store conn.old) (state S.Store conn.new)
         rows × T.takes taker rows taken) }

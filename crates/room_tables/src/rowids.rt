@@ -5,11 +5,10 @@ ghost use Rattle.std.specs.Prelude.{◌≡◌, ◌↔◌, ℕ, [], None, map, tr
 ghost use Rattle.sqlite_value.specs.declared.value.Value.TheVariants.{Null};
 ghost use Rattle.sqlite_trees.specs.Tree.{rowid};
 ghost use Rattle.sqlite.specs.Held.{state};
-ghost use Rattle.sqlite.specs.State.{HasCleanDisk};
 ghost use Rattle.room_tables_schema.specs.TableTrees.{AreNumbered, RowidsRise};
 ghost use Rattle.room_tables_schema.specs.Outcomes.{ReadsInside, ReadsOnly};
 ghost use Rattle.room_tables_schema.specs.Schema.{room_tables};
-ghost use Rattle.room_tables_schema.specs.FileConnections.{HasRoomSchema};
+ghost use Rattle.room_tables_schema.specs.FileConnections.{HasRoomSchema, IsClean};
 ghost use Rattle.room_tables.specs.Failures.{TellsWhy, TellsWhyAtLast};
 ghost use Rattle.room_tables.specs.Rowids.{AreAllNumbered, FailsAtRowids, SelectEach};
 ghost use Rattle.room_tables.specs.Rowids.{SelectsRowids, TellsRise, integer_in};
@@ -40,7 +39,7 @@ const ROWIDS: [&str; 13] = [
 /// Whether every table of a room numbers its rows, each number once.
 pub fn are_numbered<S: Alter>(tx: &mut Transaction<'_, S>) -> Result<bool, Fault>
     requires room { HasRoomSchema S.Store tx.old.conn.now }
-    ensures numbered { HasCleanDisk (state S.Store tx.new.conn.now)
+    ensures numbered { IsClean S.Store tx.new.conn.now
         → IfOk result (λ yes. IsTrue yes
         ↔ AreAllNumbered (state S.Store tx.old.conn.now).now.trees) }
     ensures reads { ReadsInside S.Store tx.old.conn.now tx.new.conn.now result }
@@ -53,7 +52,7 @@ pub fn are_numbered<S: Alter>(tx: &mut Transaction<'_, S>) -> Result<bool, Fault
 /// The same outside a transaction, with the rowids read one at a time.
 pub fn are_numbered_streamed<S: Alter>(conn: &mut Connection<S>) -> Result<bool, Fault>
     requires room { HasRoomSchema S.Store conn.old }
-    ensures numbered { HasCleanDisk (state S.Store conn.new)
+    ensures numbered { IsClean S.Store conn.new
         → IfOk result (λ yes. IsTrue yes ↔ AreAllNumbered (state S.Store conn.old).now.trees) }
     ensures reads { ReadsOnly S.Store conn.old conn.new result }
     ensures why { TellsWhyAtLast S.Store conn.old conn.new result FailsAtRowids }
@@ -68,7 +67,7 @@ fn are_all_numbered_streamed<S: Alter>(
 ) -> Result<bool, Fault>
     requires room { HasRoomSchema S.Store conn.old }
     requires texts { SelectEach (map (λ text. text.now) texts.now) room_tables }
-    ensures numbered { HasCleanDisk (state S.Store conn.new)
+    ensures numbered { IsClean S.Store conn.new
         → IfOk result (λ yes. IsTrue yes ↔ AreAllNumbered (state S.Store conn.old).now.trees) }
     ensures reads { ReadsOnly S.Store conn.old conn.new result }
     ensures why { TellsWhyAtLast S.Store conn.old conn.new result FailsAtRowids }
@@ -84,9 +83,9 @@ fn are_all_numbered_streamed<S: Alter>(
 // Whether a table numbers its rows, by the text that selects its rowids.
 fn is_numbered_streamed<S: Alter>(conn: &mut Connection<S>, text: &str) -> Result<bool, Fault>
     requires room { HasRoomSchema S.Store conn.old }
-    requires selects { HasCleanDisk (state S.Store conn.old) → (tree : ℕ)
+    requires selects { IsClean S.Store conn.old → (tree : ℕ)
         × SelectsRowids text.now tree }
-    ensures numbered { HasCleanDisk (state S.Store conn.new)
+    ensures numbered { IsClean S.Store conn.new
         → IfOk result (λ yes. (tree : ℕ) → SelectsRowids text.now tree
         → (IsTrue yes ↔ AreNumbered ((state S.Store conn.old).now.trees tree))) }
     ensures reads { ReadsOnly S.Store conn.old conn.new result }
@@ -101,7 +100,7 @@ fn is_numbered_streamed<S: Alter>(conn: &mut Connection<S>, text: &str) -> Resul
 fn are_all_numbered<S: Alter>(tx: &mut Transaction<'_, S>, texts: &[&str]) -> Result<bool, Fault>
     requires room { HasRoomSchema S.Store tx.old.conn.now }
     requires texts { SelectEach (map (λ text. text.now) texts.now) room_tables }
-    ensures numbered { HasCleanDisk (state S.Store tx.new.conn.now)
+    ensures numbered { IsClean S.Store tx.new.conn.now
         → IfOk result (λ yes. IsTrue yes
         ↔ AreAllNumbered (state S.Store tx.old.conn.now).now.trees) }
     ensures reads { ReadsInside S.Store tx.old.conn.now tx.new.conn.now result }
@@ -119,9 +118,9 @@ fn are_all_numbered<S: Alter>(tx: &mut Transaction<'_, S>, texts: &[&str]) -> Re
 // Whether a table numbers its rows, by the text that selects its rowids.
 fn is_numbered<S: Alter>(tx: &mut Transaction<'_, S>, text: &str) -> Result<bool, Fault>
     requires room { HasRoomSchema S.Store tx.old.conn.now }
-    requires selects { HasCleanDisk (state S.Store tx.old.conn.now) → (tree : ℕ)
+    requires selects { IsClean S.Store tx.old.conn.now → (tree : ℕ)
         × SelectsRowids text.now tree }
-    ensures numbered { HasCleanDisk (state S.Store tx.new.conn.now)
+    ensures numbered { IsClean S.Store tx.new.conn.now
         → IfOk result (λ yes. (tree : ℕ) → SelectsRowids text.now tree
         → (IsTrue yes ↔ AreNumbered ((state S.Store tx.old.conn.now).now.trees tree))) }
     ensures reads { ReadsInside S.Store tx.old.conn.now tx.new.conn.now result }

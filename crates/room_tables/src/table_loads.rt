@@ -2,12 +2,11 @@
 
 ghost use Rattle.std.specs.Prelude.{◌≡◌, IfOk, []};
 ghost use Rattle.sqlite.specs.Held.{state};
-ghost use Rattle.sqlite.specs.State.{HasCleanDisk};
-ghost use Rattle.room_tables_schema.specs.FileConnections.{HasRoomSchema};
+ghost use Rattle.room_tables_schema.specs.FileConnections.{HasRoomSchema, IsClean};
 ghost use Rattle.room_tables_schema.specs.TableTrees.{AreNumbered};
 ghost use Rattle.room_tables_schema.specs.Outcomes.{ReadsInside, ReadsOnly};
-ghost use Rattle.room_types_keyed.specs.Keyed.{row_at};
-ghost use Rattle.room_tables_rows.specs.Stands.{StandsFor};
+ghost use Rattle.room_types_keyed.specs.KeyedRows.{row_at};
+ghost use Rattle.room_tables_rows.specs.RoomsInTables.{StandsFor};
 ghost use Rattle.room_tables.specs.Failures.{AreMoreThanOne, AreNoRows, TellsWhy};
 ghost use Rattle.room_tables.specs.FoundRows.{Finds};
 
@@ -27,7 +26,7 @@ pub fn all_rows<X: Table, S: Alter>(
     requires room { HasRoomSchema S.Store tx.old.conn.now }
     ensures rows { Finds S.Store tx.old.conn.now tx.new.conn.now result (λ room rows.
         rows ≡ X.rows room) }
-    ensures found { HasCleanDisk (state S.Store tx.new.conn.now)
+    ensures found { IsClean S.Store tx.new.conn.now
         → IfOk result (λ rows. AreNumbered ((state S.Store tx.old.conn.now).now.trees X.table.tree)
         → StandsFor (state S.Store tx.old.conn.now).now.trees X.table X.cells rows) }
     ensures reads { ReadsInside S.Store tx.old.conn.now tx.new.conn.now result }

@@ -3,15 +3,14 @@
 ghost use Rattle.std.specs.Prelude.{◌≡◌, false, map, IsTrue, IfOk, OnOk, IfErr, [], ◌∷◌, ◌↔◌};
 ghost use Rattle.sqlite_value.specs.declared.value.Value.TheVariants.{Text};
 ghost use Rattle.sqlite.specs.Held.{state};
-ghost use Rattle.sqlite.specs.State.{HasCleanDisk};
 ghost use Rattle.room_tables_schema.specs.TableTrees.{AreNumbered};
 ghost use Rattle.room_tables_schema.specs.Outcomes.{ReadsInside, ReadsOnly, WritesInside};
-ghost use Rattle.room_types_keyed.specs.Keyed.{IsKeyed, put_row};
-ghost use Rattle.room_model.specs.Enrol.{terminal_at as found_terminal, terminal_key, token_cmp};
+ghost use Rattle.room_types_keyed.specs.KeyedRows.{IsKeyed, put_row};
+ghost use Rattle.room_model.specs.FleetRows.{terminal_at as found_terminal, terminal_key, token_cmp};
 ghost use Rattle.room_tables_rows.specs.TerminalSql.{terminal_row, is_terminal_row};
 ghost use Rattle.room_tables_schema.specs.Schema.{terminals_table};
-ghost use Rattle.room_tables_schema.specs.FileConnections.{HasRoomSchema, MayWrite};
-ghost use Rattle.room_tables_rows.specs.Stands.{StandsFor};
+ghost use Rattle.room_tables_schema.specs.FileConnections.{HasRoomSchema, MayWrite, IsClean};
+ghost use Rattle.room_tables_rows.specs.RoomsInTables.{StandsFor};
 ghost use Rattle.room_tables_rows.specs.Writes.{Changes};
 ghost use Rattle.room_tables_rows.specs.declared.terminal_sql.TheConstants.{ALL_TERMINALS, PUT_TERMINAL, TERMINAL_AT};
 ghost use Rattle.room_tables.specs.Failures.{AreMoreThanOne, AreNoRows, IfStorage, TellsWhy, TellsWhyUnwritten};
@@ -36,7 +35,7 @@ pub fn all_terminals<S: Alter>(
     requires room { HasRoomSchema S.Store tx.old.conn.now }
     ensures terminals { FindsInConfiguration S.Store tx.old.conn.now tx.new.conn.now result
         (λ config terminals. terminals.items ≡ config.terminals) }
-    ensures found { HasCleanDisk (state S.Store tx.new.conn.now)
+    ensures found { IsClean S.Store tx.new.conn.now
         → IfOk result (λ terminals.
         AreNumbered ((state S.Store tx.old.conn.now).now.trees terminals_table.tree)
         → StandsFor
@@ -102,7 +101,7 @@ pub fn terminal_at<S: Alter>(
 /// Puts a terminal in its token's place.
 pub fn put_terminal<S: Alter>(tx: &mut Transaction<'_, S>, terminal: &Terminal) -> Result<(), Fault>
     requires inside { MayWrite S.Store tx.old.conn.now }
-    ensures ok { HasCleanDisk (state S.Store tx.new.conn.now)
+    ensures ok { IsClean S.Store tx.new.conn.now
         → OnOk result (Changes (state S.Store tx.old.conn.now) (state S.Store tx.new.conn.now)
         (λ config. record config {
           terminals = put_row token_cmp terminal_key config.terminals

@@ -4,7 +4,7 @@ use Rattle.room_place.specs.declared.plans.Area.{Area}
 use Rattle.room_tables_rows.proofs.Loads.{ShowsAll, all_rows}
 use Rattle.room_tables_rows.proofs.RowLaws.{area_faithful}
 use Rattle.room_tables_rows.specs.AreaSql.{area_key, area_row}
-use Rattle.room_tables_rows.specs.Stands.{Configuration, numbered}
+use Rattle.room_tables_rows.specs.RoomsInTables.{Configuration, numbered}
 use Rattle.room_tables_rows.specs.Tables.{IsHeld, PutsRow}
 use Rattle.room_tables_rows.specs.declared.area_sql.TheConstants.{ALL_AREAS, PUT_AREA}
 use Rattle.room_tables_schema.proofs.ColumnValues.{cast-Int, cast-Null}

@@ -4,7 +4,7 @@ use Rattle.room_tables_rows.proofs.Kept.{with_assignments}
 use Rattle.room_tables_rows.proofs.RowLaws.{assignment_faithful}
 use Rattle.room_tables_rows.specs.AssignmentSql.{assignment_row}
 use Rattle.room_tables_rows.specs.KeyColumns.{text_cells}
-use Rattle.room_tables_rows.specs.Stands.{Configuration}
+use Rattle.room_tables_rows.specs.RoomsInTables.{Configuration}
 use Rattle.room_tables_rows.specs.Tables.{InsertsRow, IsDropped, IsHeld, IsTable, PutsRow, SelectsChosen}
 use Rattle.room_tables_rows.specs.declared.assignment_sql.TheConstants.{ALL_ASSIGNMENTS, ASSIGNMENT_AT, DROP_ASSIGNMENT}
 use Rattle.room_tables_rows.specs.declared.assignment_sql.TheConstants.{INSERT_ASSIGNMENT, PUT_ASSIGNMENT}

@@ -5,7 +5,7 @@ use Rattle.room_tables_rows.proofs.Loads.{Shows, chosen_rows}
 use Rattle.room_tables_rows.proofs.RowLaws.{call_faithful}
 use Rattle.room_tables_rows.specs.CallSql.{call_row}
 use Rattle.room_tables_rows.specs.KeyColumns.{pair_cells}
-use Rattle.room_tables_rows.specs.Stands.{Configuration}
+use Rattle.room_tables_rows.specs.RoomsInTables.{Configuration}
 use Rattle.room_tables_rows.specs.Tables.{InsertsRow, IsHeld, IsTable, PutsRow, SelectsChosen}
 use Rattle.room_tables_rows.specs.declared.call_sql.TheConstants.{ALL_CALLS, CALLS_BY, CALLS_OF, CALL_AT, INSERT_CALL}
 use Rattle.room_tables_rows.specs.declared.call_sql.TheConstants.{PUT_CALL}

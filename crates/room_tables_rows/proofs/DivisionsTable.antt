@@ -4,7 +4,7 @@ use Rattle.room_tables_rows.proofs.Kept.{with_divisions}
 use Rattle.room_tables_rows.proofs.RowLaws.{division_faithful}
 use Rattle.room_tables_rows.specs.DivisionSql.{division_row}
 use Rattle.room_tables_rows.specs.KeyColumns.{number_cells}
-use Rattle.room_tables_rows.specs.Stands.{Configuration}
+use Rattle.room_tables_rows.specs.RoomsInTables.{Configuration}
 use Rattle.room_tables_rows.specs.Tables.{IsHeld, IsTable, PutsRow, SelectsChosen}
 use Rattle.room_tables_rows.specs.declared.division_sql.TheConstants.{ALL_DIVISIONS, DIVISION_AT, PUT_DIVISION}
 use Rattle.room_tables_schema.proofs.ColumnValues.{cast-Int, cast-Null}

@@ -6,7 +6,7 @@ use Rattle.room_tables_rows.proofs.RowLaws.{incident_faithful}
 use Rattle.room_tables_rows.proofs.Tests.{at_least-integers, below-integers, equal-active}
 use Rattle.room_tables_rows.specs.IncidentSql.{incident_row}
 use Rattle.room_tables_rows.specs.KeyColumns.{pair_cells}
-use Rattle.room_tables_rows.specs.Stands.{Configuration}
+use Rattle.room_tables_rows.specs.RoomsInTables.{Configuration}
 use Rattle.room_tables_rows.specs.Tables.{InsertsRow, IsHeld, IsOverwritten, IsTable, PutsRow, SelectsChosen}
 use Rattle.room_tables_rows.specs.declared.incident_sql.TheConstants.{ACTIVE_INCIDENTS, ALL_INCIDENTS, INCIDENTS_OPENED}
 use Rattle.room_tables_rows.specs.declared.incident_sql.TheConstants.{INCIDENTS_SINCE, INCIDENT_AT, INSERT_INCIDENT}

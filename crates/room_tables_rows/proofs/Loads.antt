@@ -5,7 +5,7 @@ use Rattle.sqlite_sql.specs.Term.{Term}
 use Rattle.sqlite_schema.specs.declared.schema.Table.{Table}
 use Rattle.sqlite_trees.specs.Tree.{Trees}
 use Rattle.sqlite.specs.State.{State, Shown}
-use Rattle.room_types_keyed.specs.Keyed.{IsKeyed, row_at}
+use Rattle.room_types_keyed.specs.KeyedRows.{IsKeyed, row_at}
 use Rattle.room_tables_schema.specs.TableTrees.{cells, AreNumbered, Holds}
 use Rattle.room_tables_schema.specs.Statements.{passes, Selects}
 use Rattle.room_tables_schema.proofs.TypedTables.{stands_for_one, selection_is_chosen}
@@ -13,8 +13,8 @@ use Rattle.room_tables_schema.proofs.Selections.{shows_all}
 use Rattle.room_tables_schema.proofs.Openings.{stands_for_read}
 use Rattle.room_model.specs.Room.{Room}
 use Rattle.room_tables_schema.specs.Schema.{room_schema}
-use Rattle.room_tables_rows.specs.Finds.{listed}
-use Rattle.room_tables_rows.specs.Stands.{Configuration, Stands, StandsFor, places}
+use Rattle.room_tables_rows.specs.OptionalRows.{listed}
+use Rattle.room_tables_rows.specs.RoomsInTables.{Configuration, Stands, StandsFor, places}
 use Rattle.room_tables_rows.specs.Tables.{IsHeld, SelectsChosen}
 use Rattle.room_tables_rows.proofs.Found.{found_at}
 

@@ -4,7 +4,7 @@ use Rattle.room_tables_rows.proofs.Kept.{with_loans}
 use Rattle.room_tables_rows.proofs.RowLaws.{loan_faithful}
 use Rattle.room_tables_rows.specs.KeyColumns.{text_cells}
 use Rattle.room_tables_rows.specs.LoanSql.{loan_row}
-use Rattle.room_tables_rows.specs.Stands.{Configuration}
+use Rattle.room_tables_rows.specs.RoomsInTables.{Configuration}
 use Rattle.room_tables_rows.specs.Tables.{IsDropped, IsHeld, IsTable, PutsRow, SelectsChosen}
 use Rattle.room_tables_rows.specs.declared.loan_sql.TheConstants.{ALL_LOANS, DROP_LOAN, LOAN_AT, PUT_LOAN}
 use Rattle.room_tables_schema.proofs.ColumnValues.{cast-Int}

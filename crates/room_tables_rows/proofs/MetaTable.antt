@@ -3,7 +3,7 @@ use Rattle.room_model.specs.Room.{Room}
 use Rattle.room_tables_rows.proofs.Loads.{ShowsAll, all_rows}
 use Rattle.room_tables_rows.proofs.RowLaws.{meta_faithful}
 use Rattle.room_tables_rows.specs.MetaSql.{meta_key, meta_row}
-use Rattle.room_tables_rows.specs.Stands.{Configuration}
+use Rattle.room_tables_rows.specs.RoomsInTables.{Configuration}
 use Rattle.room_tables_rows.specs.Tables.{IsHeld, PutsRow}
 use Rattle.room_tables_rows.specs.declared.meta_sql.TheConstants.{ALL_META, PUT_META}
 use Rattle.room_tables_schema.proofs.ColumnValues.{cast-Int, cast-Null}

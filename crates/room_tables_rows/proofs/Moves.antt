@@ -12,7 +12,7 @@ use Rattle.room_tables_schema.specs.Definitions.{AddsLast}
 use Rattle.room_tables_schema.specs.Schema.{meta_table, room_schema}
 use Rattle.room_tables_rows.proofs.RowLaws.{offer_faithful, version_faithful}
 use Rattle.room_tables_rows.specs.MetaSql.{meta_row, version_row}
-use Rattle.room_tables_rows.specs.Stands.{Configuration, Stands, StandsFor, StandsInFirst}
+use Rattle.room_tables_rows.specs.RoomsInTables.{Configuration, Stands, StandsFor, StandsInFirst}
 use Rattle.room_tables_rows.specs.Writes.{Renews}
 
 -- a version's row gives one zone

@@ -4,7 +4,7 @@ use Rattle.room_tables_rows.proofs.Kept.{with_offers}
 use Rattle.room_tables_rows.proofs.RowLaws.{offer_faithful}
 use Rattle.room_tables_rows.specs.KeyColumns.{text_cells}
 use Rattle.room_tables_rows.specs.OfferSql.{offer_row}
-use Rattle.room_tables_rows.specs.Stands.{Configuration}
+use Rattle.room_tables_rows.specs.RoomsInTables.{Configuration}
 use Rattle.room_tables_rows.specs.Tables.{IsDropped, IsHeld, IsTable, PutsRow, SelectsChosen}
 use Rattle.room_tables_rows.specs.declared.offer_sql.TheConstants.{ALL_OFFERS, DROP_OFFER, OFFER_AT, PUT_OFFER}
 use Rattle.room_tables_schema.proofs.ColumnValues.{cast-Int}

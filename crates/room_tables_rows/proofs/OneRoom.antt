@@ -7,7 +7,7 @@ use Rattle.room_tables_rows.proofs.RowLaws.{meta_faithful, area_faithful, termin
 use Rattle.room_tables_rows.proofs.RowLaws.{incident_faithful, call_faithful, vehicle_faithful, turn_faithful}
 use Rattle.room_tables_rows.proofs.RowLaws.{assignment_faithful, point_faithful, loan_faithful, report_faithful}
 use Rattle.room_tables_rows.proofs.RowLaws.{offer_faithful}
-use Rattle.room_tables_rows.specs.Stands.{Configuration, Stands}
+use Rattle.room_tables_rows.specs.RoomsInTables.{Configuration, Stands}
 use Rattle.room_tables_rows.proofs.PlanLaws.{numbered-injective}
 
 module _ (trees : Trees) (config other : Configuration) (room another : Room) (h : Stands trees config room)

@@ -4,7 +4,7 @@ use Rattle.room_tables_rows.proofs.Kept.{with_points}
 use Rattle.room_tables_rows.proofs.RowLaws.{point_faithful}
 use Rattle.room_tables_rows.specs.KeyColumns.{pair_cells}
 use Rattle.room_tables_rows.specs.PointSql.{point_row}
-use Rattle.room_tables_rows.specs.Stands.{Configuration}
+use Rattle.room_tables_rows.specs.RoomsInTables.{Configuration}
 use Rattle.room_tables_rows.specs.Tables.{IsHeld, IsTable, PutsRow, SelectsChosen}
 use Rattle.room_tables_rows.specs.declared.point_sql.TheConstants.{ALL_POINTS, POINT_AT, PUT_POINT}
 use Rattle.room_tables_schema.proofs.ColumnValues.{cast-Int}

@@ -5,7 +5,7 @@ use Rattle.sqlite_value.specs.Order.{Row}
 use Rattle.sqlite_schema.specs.declared.schema.Table.{Table}
 use Rattle.sqlite.specs.Effect.{Database}
 use Rattle.sqlite.specs.State.{State, Executes}
-use Rattle.room_types_keyed.specs.Keyed.{put_row, drop_row}
+use Rattle.room_types_keyed.specs.KeyedRows.{put_row, drop_row}
 use Rattle.room_types.specs.declared.changes.Change.{Change}
 use Rattle.room_tables_schema.specs.Outcomes.{Inside, Only}
 use Rattle.room_tables_schema.specs.Statements.{StandsAlone}
@@ -16,7 +16,7 @@ use Rattle.room_tables_schema.proofs.Upserts.{upserted_schema}
 use Rattle.room_tables_schema.proofs.Deletions.{deleted}
 use Rattle.room_model.specs.Room.{Room, apply_one}
 use Rattle.room_tables_schema.specs.Schema.{room_schema}
-use Rattle.room_tables_rows.specs.Stands.{Configuration, Stands, StandsFor, places}
+use Rattle.room_tables_rows.specs.RoomsInTables.{Configuration, Stands, StandsFor, places}
 use Rattle.room_tables_rows.specs.Tables.{DeletesChosen, InsertsRow, IsDropped, IsHeld, IsOverwritten, IsTable, PutsRow}
 use Rattle.room_tables_rows.specs.Tables.{Texts}
 use Rattle.room_tables_rows.specs.Writes.{Changes, Makes}

@@ -7,7 +7,7 @@ use Rattle.room_tables_rows.proofs.Tests.{and_three, equal-false}
 use Rattle.room_tables_rows.specs.ColumnValues.{outcome_code, truth}
 use Rattle.room_tables_rows.specs.KeyColumns.{numbered_cells}
 use Rattle.room_tables_rows.specs.ReportSql.{report_row}
-use Rattle.room_tables_rows.specs.Stands.{Configuration}
+use Rattle.room_tables_rows.specs.RoomsInTables.{Configuration}
 use Rattle.room_tables_rows.specs.Tables.{InsertsRow, IsHeld, IsTable, PutsRow, SelectsChosen}
 use Rattle.room_tables_rows.specs.declared.report_sql.TheConstants.{ALL_REPORTS, INSERT_REPORT, PUT_REPORT, REPORT_AT}
 use Rattle.room_tables_rows.specs.declared.report_sql.TheConstants.{UNCLEARED_REPORTS}

@@ -25,7 +25,7 @@ use Rattle.room_types.specs.declared.codes.Outcome.TheVariants.{Normal, Skipped,
 use Rattle.room_types.specs.declared.codes.State.{State}
 use Rattle.room_types.specs.declared.codes.State.TheVariants.{Active, Closed, Merged}
 use Rattle.room_types.specs.declared.fleet.Terminal.{Terminal}
-use Rattle.room_model.specs.Enrol.{token_cmp, terminal_key}
+use Rattle.room_model.specs.FleetRows.{token_cmp, terminal_key}
 use Rattle.room_tables_rows.specs.ColumnValues.{truth, kind_code, status_code, button_code, outcome_code, number_in}
 use Rattle.room_tables_rows.specs.ColumnValues.{number_or_none, truth_in, kind_in, status_in, button_in, outcome_in}
 use Rattle.room_tables_rows.specs.ColumnValues.{state_in}

@@ -19,7 +19,7 @@ use Rattle.room_tables_schema.specs.Definitions.{IsBlank}
 use Rattle.room_tables_schema.specs.Schema.{room_schema, meta_table, areas_table}
 use Rattle.room_tables_rows.specs.declared.meta_sql.TheConstants.{PUT_META}
 use Rattle.room_tables_rows.specs.declared.area_sql.TheConstants.{ALL_AREAS, PUT_AREA}
-use Rattle.room_tables_rows.specs.Stands.{Configuration, Stands, StandsFor, numbered, empty_room}
+use Rattle.room_tables_rows.specs.RoomsInTables.{Configuration, Stands, StandsFor, numbered, empty_room}
 use Rattle.room_tables_rows.specs.Writes.{Changes, AppendsArea}
 use Rattle.room_tables_rows.proofs.Kept.{with_meta, with_areas, with_first}
 use Rattle.room_tables_rows.proofs.Puts.{put_changes}

@@ -1,12 +1,12 @@
 -- What the statements on the table terminals say, and what they make of a room. (Written by tools/tables.py.)
-use Rattle.room_model.specs.Enrol.{terminal_key, token_cmp}
+use Rattle.room_model.specs.FleetRows.{terminal_key, token_cmp}
 use Rattle.room_model.specs.Room.{Room}
 use Rattle.room_tables_rows.proofs.Kept.{with_terminals}
 use Rattle.room_tables_rows.proofs.Loads.{ShowsAll, ShowsRow, all_rows, row_of_key}
 use Rattle.room_tables_rows.proofs.Puts.{put_changes}
 use Rattle.room_tables_rows.proofs.RowLaws.{terminal_faithful}
 use Rattle.room_tables_rows.proofs.Tests.{cast-text_or_null}
-use Rattle.room_tables_rows.specs.Stands.{Configuration}
+use Rattle.room_tables_rows.specs.RoomsInTables.{Configuration}
 use Rattle.room_tables_rows.specs.Tables.{IsHeld, PutsRow, SelectsChosen}
 use Rattle.room_tables_rows.specs.TerminalSql.{terminal_row}
 use Rattle.room_tables_rows.specs.Writes.{Changes}
@@ -19,7 +19,7 @@ use Rattle.room_tables_schema.specs.Schema.{room_schema, terminals_table}
 use Rattle.room_tables_schema.specs.Statements.{Selects, StandsAlone, Stores, Upserts, equals, row_update, row_values}
 use Rattle.room_types.specs.Texts.{Token}
 use Rattle.room_types.specs.declared.fleet.Terminal.{Terminal}
-use Rattle.room_types_keyed.specs.Keyed.{put_row, row_at}
+use Rattle.room_types_keyed.specs.KeyedRows.{put_row, row_at}
 use Rattle.sqlite.specs.Listing.{understood}
 use Rattle.sqlite.specs.State.{Executes, State}
 use Rattle.sqlite_schema.specs.Rules.{equal}

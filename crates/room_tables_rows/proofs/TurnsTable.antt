@@ -4,7 +4,7 @@ use Rattle.room_tables_rows.proofs.Kept.{with_turns}
 use Rattle.room_tables_rows.proofs.Loads.{Shows, chosen_rows}
 use Rattle.room_tables_rows.proofs.RowLaws.{turn_faithful}
 use Rattle.room_tables_rows.specs.KeyColumns.{numbered_cells}
-use Rattle.room_tables_rows.specs.Stands.{Configuration}
+use Rattle.room_tables_rows.specs.RoomsInTables.{Configuration}
 use Rattle.room_tables_rows.specs.Tables.{InsertsRow, IsHeld, IsOverwritten, IsTable, PutsRow, SelectsChosen}
 use Rattle.room_tables_rows.specs.TurnSql.{turn_row}
 use Rattle.room_tables_rows.specs.declared.turn_sql.TheConstants.{ALL_TURNS, INSERT_TURN, OVERWRITE_TURN, PUT_TURN}

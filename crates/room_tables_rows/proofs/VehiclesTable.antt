@@ -3,7 +3,7 @@ use Rattle.room_model.specs.Room.{Room}
 use Rattle.room_tables_rows.proofs.Kept.{with_vehicles}
 use Rattle.room_tables_rows.proofs.RowLaws.{vehicle_faithful}
 use Rattle.room_tables_rows.specs.KeyColumns.{text_cells}
-use Rattle.room_tables_rows.specs.Stands.{Configuration}
+use Rattle.room_tables_rows.specs.RoomsInTables.{Configuration}
 use Rattle.room_tables_rows.specs.Tables.{IsHeld, IsOverwritten, IsTable, PutsRow, SelectsChosen}
 use Rattle.room_tables_rows.specs.VehicleSql.{vehicle_row}
 use Rattle.room_tables_rows.specs.declared.vehicle_sql.TheConstants.{ALL_VEHICLES, OVERWRITE_VEHICLE, PUT_VEHICLE}

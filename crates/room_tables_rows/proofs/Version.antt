@@ -18,7 +18,7 @@ use Rattle.room_tables_schema.proofs.Selections.{shows_all}
 use Rattle.room_tables_schema.specs.Schema.{meta_table}
 use Rattle.room_tables_schema.specs.Versions.{BeginsAsRoom}
 use Rattle.room_tables_rows.specs.MetaSql.{version_row}
-use Rattle.room_tables_rows.specs.Stands.{StandsFor}
+use Rattle.room_tables_rows.specs.RoomsInTables.{StandsFor}
 use Rattle.room_tables_rows.specs.MetaVersions.{IsOfVersion, OneTells}
 use Rattle.room_tables_rows.specs.declared.meta_sql.TheConstants.{ALL_META}
 

@@ -4,7 +4,7 @@ use Rattle.sqlite_value.specs.Order.{Row, column}
 use Rattle.room_tables_schema.specs.TypedRows.{number}
 use Rattle.room_place.specs.declared.plans.Area.{Area}
 use Rattle.room_tables_rows.specs.ColumnValues.{number_in}
-use Rattle.room_tables_rows.specs.Readable.{is_word}
+use Rattle.room_tables_rows.specs.ReadableColumns.{is_word}
 
 -- an area, with its place in the plan
 abbrev pub area_row : ℕ × Area → Row

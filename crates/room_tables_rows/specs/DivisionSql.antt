@@ -4,7 +4,7 @@ use Rattle.sqlite_value.specs.Order.{Row, column}
 use Rattle.room_tables_schema.specs.TypedRows.{number}
 use Rattle.room_types.specs.declared.tables.Division.{Division}
 use Rattle.room_tables_rows.specs.ColumnValues.{number_in}
-use Rattle.room_tables_rows.specs.Readable.{is_division, is_last}
+use Rattle.room_tables_rows.specs.ReadableColumns.{is_division, is_last}
 
 abbrev pub division_row : Division → Row
 division_row x = number x.number ∷ number x.last_incident ∷ []

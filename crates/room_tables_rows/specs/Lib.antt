@@ -2,7 +2,7 @@
 -- what a value of the room is in a column, and back
 pub mod ColumnValues
 -- which columns a reader takes
-pub mod Readable
+pub mod ReadableColumns
 -- the columns of a key
 pub mod KeyColumns
 -- the columns of each row, and back, a file a table
@@ -20,12 +20,12 @@ pub mod LoanSql
 pub mod ReportSql
 pub mod OfferSql
 -- a table that stands for a list, and the tables that stand for a room
-pub mod Stands
+pub mod RoomsInTables
 -- what a table is to the room, and what the statements on it say
 pub mod Tables
 -- files of other versions
 pub mod MetaVersions
 -- what is found
-pub mod Finds
+pub mod OptionalRows
 -- what a write leaves
 pub mod Writes

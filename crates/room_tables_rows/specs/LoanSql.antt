@@ -5,7 +5,7 @@ use Rattle.sqlite_value.specs.Order.{Row, column}
 use Rattle.room_tables_schema.specs.TypedRows.{number}
 use Rattle.room_types.specs.declared.tables.Loan.{Loan}
 use Rattle.room_tables_rows.specs.ColumnValues.{truth, number_in, text_in, truth_in}
-use Rattle.room_tables_rows.specs.Readable.{is_truth, is_division, is_moment, is_name}
+use Rattle.room_tables_rows.specs.ReadableColumns.{is_truth, is_division, is_moment, is_name}
 
 abbrev pub loan_row : Loan → Row
 loan_row x = Text x.callsign ∷ number x.lender ∷ number x.borrower ∷ number x.since

@@ -6,7 +6,7 @@ use Rattle.sqlite_value.specs.Order.{Row, column}
 use Rattle.room_tables_schema.specs.TypedRows.{number}
 use Rattle.room_tables_rows.specs.ColumnValues.{text_in}
 use Rattle.std.specs.Str.{is_utf8}
-use Rattle.room_tables_rows.specs.Readable.{is_number, is_text}
+use Rattle.room_tables_rows.specs.ReadableColumns.{is_number, is_text}
 
 -- the one row of its table in a version, known by its zone
 abbrev pub version_row : ℕ → List ℕ → Row

@@ -5,7 +5,7 @@ use Rattle.sqlite_value.specs.Order.{Row, column}
 use Rattle.room_tables_schema.specs.TypedRows.{number}
 use Rattle.room_types.specs.declared.tables.Offer.{Offer}
 use Rattle.room_tables_rows.specs.ColumnValues.{number_in, text_in}
-use Rattle.room_tables_rows.specs.Readable.{is_division, is_moment, is_name}
+use Rattle.room_tables_rows.specs.ReadableColumns.{is_division, is_moment, is_name}
 
 abbrev pub offer_row : Offer → Row
 offer_row x =

@@ -4,7 +4,7 @@ use Rattle.sqlite_value.specs.Order.{Row, column}
 use Rattle.room_tables_schema.specs.TypedRows.{number}
 use Rattle.room_types.specs.declared.tables.Point.{Point}
 use Rattle.room_tables_rows.specs.ColumnValues.{number_in}
-use Rattle.room_tables_rows.specs.Readable.{is_division, is_point, is_count, is_place}
+use Rattle.room_tables_rows.specs.ReadableColumns.{is_division, is_point, is_count, is_place}
 
 abbrev pub point_row : Point → Row
 point_row x = number x.division ∷ number x.number ∷ number x.place.east ∷ number x.place.north

@@ -12,11 +12,11 @@ use Rattle.room_tables_schema.specs.Statements.{passes, Selects, StandsAlone, De
 use Rattle.room_tables_schema.specs.Statements.{Overwrites, Covers}
 use Rattle.room_tables_schema.specs.TableTrees.{cells}
 use Rattle.room_tables_schema.specs.TypedRows.{IsFaithful}
-use Rattle.room_types_keyed.specs.Keyed.{put_row, drop_row}
+use Rattle.room_types_keyed.specs.KeyedRows.{put_row, drop_row}
 use Rattle.room_types.specs.declared.changes.Change.{Change}
 use Rattle.room_model.specs.Room.{Room, apply_one}
 use Rattle.room_tables_schema.specs.Schema.{room_schema}
-use Rattle.room_tables_rows.specs.Stands.{Configuration, Stands, StandsFor, places}
+use Rattle.room_tables_rows.specs.RoomsInTables.{Configuration, Stands, StandsFor, places}
 
 -- The table holds these rows of a configuration and a room, and no other table refers to it.
 pub record IsHeld {X K : Type 0} (order : K → K → Ordering) (key : X → K) (row : X → Row)

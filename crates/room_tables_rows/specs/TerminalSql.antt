@@ -9,7 +9,7 @@ use Rattle.room_types.specs.declared.asks.Who.{Who}
 use Rattle.room_types.specs.declared.asks.Who.TheVariants.{Desk, Crew, Position}
 use Rattle.room_types.specs.declared.fleet.Terminal.{Terminal}
 use Rattle.room_tables_rows.specs.ColumnValues.{number_in, text_in}
-use Rattle.room_tables_rows.specs.Readable.{is_text, is_who}
+use Rattle.room_tables_rows.specs.ReadableColumns.{is_text, is_who}
 
 -- 0 a desk, 1 a position, 2 a crew
 abbrev pub role_of : Who → ℕ

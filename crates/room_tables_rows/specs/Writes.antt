@@ -7,7 +7,7 @@ use Rattle.room_types.specs.declared.changes.Change.{Change}
 use Rattle.room_model.specs.Room.{Room, apply_one}
 use Rattle.room_tables_schema.specs.Schema.{meta_table, room_schema}
 use Rattle.room_tables_rows.specs.MetaSql.{meta_row, version_row}
-use Rattle.room_tables_rows.specs.Stands.{Configuration, Stands, StandsFor}
+use Rattle.room_tables_rows.specs.RoomsInTables.{Configuration, Stands, StandsFor}
 
 -- The tables stand for another configuration and room than before, and nothing is committed.
 pub record Changes (old new : State) (config_after : Configuration → Configuration)

@@ -4,7 +4,7 @@ ghost use Rattle.std.specs.Prelude.{◌≡◌, ◌+◌, ◌≤◌, ◌==◌, tru
 ghost use Rattle.sqlite_value.specs.Order.{Row as Cells};
 ghost use Rattle.sqlite_value.specs.declared.value.Value.{Value};
 ghost use Rattle.room_tables_schema.proofs.ColumnValues.{columns_from};
-ghost use Rattle.room_tables_rows.specs.Readable.{all_stand};
+ghost use Rattle.room_tables_rows.specs.ReadableColumns.{all_stand};
 ghost use Rattle.room_tables_rows.specs.declared.stored_rows.TheConstants.{WIDEST};
 
 use crate::column_values::{Field, value_at};

@@ -5,7 +5,7 @@ ghost use Rattle.std.specs.Prelude.{[], ◌∷◌, ◌≡◌};
 ghost use Rattle.std.specs.Ordering.{nat_cmp};
 ghost use Rattle.room_tables_schema.specs.TypedRows.{IsFaithful};
 ghost use Rattle.room_types.specs.Keys.{callsign_cmp, pair_cmp, numbered_cmp, division_key, incident_key, call_key, vehicle_key, turn_key, assignment_key, point_key, loan_key, offer_key, report_key};
-ghost use Rattle.room_model.specs.Enrol.{token_cmp, terminal_key};
+ghost use Rattle.room_model.specs.FleetRows.{token_cmp, terminal_key};
 ghost use Rattle.room_tables_rows.specs.MetaSql.{meta_key, meta_row};
 ghost use Rattle.room_tables_rows.specs.AreaSql.{area_key, area_row};
 ghost use Rattle.room_tables_rows.specs.TerminalSql.{terminal_row};
@@ -21,7 +21,7 @@ ghost use Rattle.room_tables_rows.specs.ReportSql.{report_row};
 ghost use Rattle.room_tables_rows.specs.OfferSql.{offer_row};
 ghost use Rattle.sqlite_trees.specs.Tree.{Trees};
 ghost use Rattle.room_model.specs.Room.{Room};
-ghost use Rattle.room_tables_rows.specs.Stands.{Configuration, Stands};
+ghost use Rattle.room_tables_rows.specs.RoomsInTables.{Configuration, Stands};
 
 /// The rows of every table are written faithfully.
 pub fn rows_are_faithful()

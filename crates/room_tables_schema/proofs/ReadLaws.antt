@@ -1,14 +1,15 @@
 -- Reads of a connection, one after another.
-use Rattle.std.proofs.Common.{Err, IsTrue, Ok, Result, arith, inl, refl, rules}
+use Rattle.std.proofs.Common.{Err, Ok, Result, arith, inl, refl, rules}
 use Rattle.std.specs.Prelude.{OnErr, OnOk}
 use Rattle.std.specs.Result.{IsErr}
 use Rattle.sqlite.specs.Held.{Held, state}
-use Rattle.sqlite.specs.State.{HasCleanDisk, State, Survives}
+use Rattle.sqlite.specs.State.{State, Survives}
 use Rattle.sqlite.proofs.Callers.{unchanged_then}
 use Rattle.sqlite.proofs.StateLemmas.{survives_then, unchanged}
 use Rattle.sqlite_trees.specs.declared.store.Store.{Ghosts}
 use Rattle.room_tables_schema.proofs.Refusals.{keeps_then}
 use Rattle.room_tables_schema.specs.Outcomes.{ReadsInside, ReadsOnly}
+use Rattle.room_tables_schema.specs.FileConnections.{IsClean, StandsOpen}
 
 -- all was read as it was to be
 abbrev pub Looked : {S : Type 0} → Ghosts S → Held S → Held S → Type 0
@@ -28,7 +29,7 @@ any_err (Err e) p = p
 
 -- nothing was read yet of an open connection
 pub begins : {S : Type 0} {g : Ghosts S} {a : Held S}
-    → (HasCleanDisk (state g a) → IsTrue (state g a).is_open) → Looked g a a
+    → StandsOpen g a → Looked g a a
 begins {g = g} {a = a} open_ =
     let same : Survives (state g a) (state g a) (λ _. ⊥) = search rules in
     record {
@@ -67,8 +68,8 @@ module _ {S : Type 0} {g : Ghosts S} {a b : Held S} where
 
 module _ {S : Type 0} {g : Ghosts S} {a b c : Held S} (before : Looked g a b) where
   -- it was clean before the next read
-  pub clean_before : {T E : Type 0} {r : Result T E} → ReadsOnly g b c r → HasCleanDisk (state g c)
-      → HasCleanDisk (state g b)
+  pub clean_before : {T E : Type 0} {r : Result T E} → ReadsOnly g b c r → IsClean g c
+      → IsClean g b
   clean_before next clean = omega (arith, next.survives.clean)
 
   -- one read more

@@ -14,7 +14,7 @@ use Rattle.sqlite.specs.Effect.{Database, RefusesToRead}
 use Rattle.sqlite.specs.Given.{Advances, FailsToAdvance, HasBegun, HasGiven, IsPlain, IsRefused}
 use Rattle.sqlite.specs.Held.{Held, state}
 use Rattle.sqlite.specs.Listing.{IsSourceOf, reads_listing, understood}
-use Rattle.sqlite.specs.State.{CommitsShowing, FailsToQuery, FailsToShow, Fails, HasCleanDisk, IsNotRun, IsStatement}
+use Rattle.sqlite.specs.State.{CommitsShowing, FailsToQuery, FailsToShow, Fails, IsNotRun, IsStatement}
 use Rattle.sqlite.specs.State.{IsUnchanged, Shown, ShowsRows, State, Survives}
 use Rattle.sqlite.proofs.Callers.{begun_plain, unchanged_then}
 use Rattle.sqlite.proofs.StateLemmas.{unchanged}
@@ -23,6 +23,7 @@ use Rattle.room_tables_schema.specs.Outcomes.{ReadsOnly}
 use Rattle.room_tables_schema.specs.QueryStreams.{ReadsOut, Tells}
 use Rattle.room_tables_schema.proofs.ReadLaws.{still}
 use Rattle.room_tables_schema.proofs.Refusals.{keeps_then, query_failed, query_survives, query_unchanged}
+use Rattle.room_tables_schema.specs.FileConnections.{IsClean}
 
 -- ---- what is said of the state before a call is so of an earlier one, if nothing has changed
 
@@ -90,7 +91,7 @@ pub record Reads {S : Type 0} (g : Ghosts S) (AreTaken : List Row → Type 0)
     (first now : Held S) : Type 0 where
   pub survives : Survives (state g first) (state g now) (λ _. ⊥)
   pub mode : first.in_transaction ≡ false → now.in_transaction ≡ false
-  pub so_far : HasCleanDisk (state g now) → (text : List ℕ) (params : Row)
+  pub so_far : IsClean g now → (text : List ℕ) (params : Row)
       → HasGiven g text params first []
       → (given : List Row) × HasGiven g text params now given
       × IsUnchanged (state g first) (state g now) × AreTaken given
@@ -118,7 +119,7 @@ module _ {S : Type 0} {g : Ghosts S} {AreTaken : List Row → Type 0} {first mid
     (mode : mid.in_transaction ≡ false → new.in_transaction ≡ false) where
   -- what the last step says holds of the whole
   out : (result : Result (Unit {0}) Error)
-      → (HasCleanDisk (state g new) → (text : List ℕ) (params : Row) (given : List Row)
+      → (IsClean g new → (text : List ℕ) (params : Row) (given : List Row)
       → HasGiven g text params mid given → AreTaken given
       → Tells AreTaken text params (state g mid) (state g new) result)
       → ReadsOut g AreTaken first new result
@@ -133,7 +134,7 @@ module _ {S : Type 0} {g : Ghosts S} {AreTaken : List Row → Type 0} {first mid
   }
 
   -- those that were given are all
-  pub ends : (HasCleanDisk (state g new) → Advances g mid new None)
+  pub ends : (IsClean g new → Advances g mid new None)
       → ReadsOut g AreTaken first new (Ok tt)
   ends moves =
       out (Ok tt) (λ clean text params given has are.
@@ -141,8 +142,8 @@ module _ {S : Type 0} {g : Ghosts S} {AreTaken : List Row → Type 0} {first mid
 
   -- the next is not given
   pub fails : (e : Error) (result : Result (Unit {0}) Error) → IsErrAnd result (λ why. why ≡ e)
-      → (HasCleanDisk (state g new) → FailsToAdvance g mid new e)
-      → (HasCleanDisk (state g new) → Fails (state g mid) (state g new) ⊥ e
+      → (IsClean g new → FailsToAdvance g mid new e)
+      → (IsClean g new → Fails (state g mid) (state g new) ⊥ e
       ⊎ IsUnchanged (state g mid) (state g new)) → ReadsOut g AreTaken first new result
   fails e (Ok x) is moves kept = absurd is
   fails e (Err why) is moves kept = rw is (out (Err e) (λ clean text params given has are. record {
@@ -154,7 +155,7 @@ module _ {S : Type 0} {g : Ghosts S} {AreTaken : List Row → Type 0} {first mid
 -- ---- a query that is begun and read out
 
 module _ {S : Type 0} (g : Ghosts S) (text : List ℕ) (params : Row) (old : Held S)
-    (plain : HasCleanDisk (state g old) → IsPlain (understood (state g old).now.schema text)) where
+    (plain : IsClean g old → IsPlain (understood (state g old).now.schema text)) where
   -- it doesn't begin
   pub unbegun : {X : Type 0} (new : Held S) (e : Error)
       → IsRefused g {X = X} text params old (Err e) new → ReadsOnly {T = Unit {0}} g old new (Err e)
@@ -162,36 +163,36 @@ module _ {S : Type 0} (g : Ghosts S) (text : List ℕ) (params : Row) (old : Hel
     ok = λ clean. tt;
     err =
         λ clean.
-        let was : HasCleanDisk (state g old) = omega (arith, h.survives.clean) in
+        let was : IsClean g old = omega (arith, h.survives.clean) in
         query_failed text params _ _ plain was e (h.err clean);
     mode = h.mode;
     survives = query_survives text params _ _ plain h.survives;
   }
 
   module _ {AreTaken : List Row → Type 0} {mid new : Held S} {result : Result (Unit {0}) Error}
-      (begun : HasCleanDisk (state g mid) → HasBegun g text params old mid)
+      (begun : IsClean g mid → HasBegun g text params old mid)
       (first : Survives (state g old) (state g mid) (CommitsShowing text params (state g old)))
       (reads : ReadsOut g AreTaken mid new result) where
-    was : HasCleanDisk (state g new) → HasCleanDisk (state g old)
+    was : IsClean g new → IsClean g old
     was clean = omega (arith, first.clean, reads.survives.clean)
 
     stays : Survives (state g old) (state g mid) (λ _. ⊥)
     stays = query_survives text params _ _ plain first
 
     -- its rows are all taken, or it is reported why not
-    told : HasCleanDisk (state g new)
+    told : IsClean g new
         → Tells AreTaken text params (state g old) (state g new) result
     told clean =
         let at = begun_plain g text params old mid (plain (was clean)) (begun (omega (arith, reads.survives.clean))) in
         told_since text params (state g old) (state g mid) (state g new) at.1 stays
         (given_plain g text params mid [] at.0) AreTaken result (reads.tells clean text params at.0)
 
-    pub shows : HasCleanDisk (state g new)
+    pub shows : IsClean g new
         → OnOk result ((rows : List Row) × Shown text params (state g old) (state g new) rows
         × AreTaken rows)
     shows clean = (told clean).shown
 
-    pub because : HasCleanDisk (state g new)
+    pub because : IsClean g new
         → IfErr result (λ e. (e ≡ SqliteFailure OutOfMemory)
         ⊎ FailsToQuery text params (state g old) (state g new) e)
     because clean = (told clean).why

@@ -17,6 +17,7 @@ use Rattle.sqlite.specs.State.{RunsCommand, shows_rows, Executes, ExecutesIn, Ex
 use Rattle.room_tables_schema.proofs.ReadLaws.{any_err, still}
 use Rattle.room_tables_schema.proofs.Refusals.{keeps_commit, keeps_then}
 use Rattle.room_tables_schema.specs.Outcomes.{CommitsNothing, Inside, ReadsInside, WritesInside}
+use Rattle.room_tables_schema.specs.FileConnections.{IsClean}
 
 -- nothing was done yet
 pub commits_none : {S : Type 0} {g : Ghosts S} {a : Held S} → CommitsNothing g a a
@@ -26,15 +27,15 @@ commits_none {g = g} {a = a} =
 
 module _ {S : Type 0} {g : Ghosts S} {b c : Held S} where
   write_keeps : {T E : Type 0} (r : Result T E) → WritesInside g b c r
-      → (HasCleanDisk (state g c) → OnOk r (Inside (state g b) (state g c)))
-      → HasCleanDisk (state g c) → KeepsCommit (state g b) (state g c)
+      → (IsClean g c → OnOk r (Inside (state g b) (state g c)))
+      → IsClean g c → KeepsCommit (state g b) (state g c)
   write_keeps (Ok x) wrote done clean =
       let is = done clean in record { was_open = λ _. is.was_open; committed = λ _. is.committed_is }
   write_keeps (Err e) wrote done clean = keeps_commit _ _ (wrote.err clean)
 
   -- a write commits nothing, whether it succeeds or fails
   pub write_commits : {T E : Type 0} (r : Result T E) → WritesInside g b c r
-      → (HasCleanDisk (state g c) → OnOk r (Inside (state g b) (state g c))) → CommitsNothing g b c
+      → (IsClean g c → OnOk r (Inside (state g b) (state g c))) → CommitsNothing g b c
   write_commits r wrote done = record { kept = write_keeps r wrote done; survives = wrote.survives }
 
 -- more is done
@@ -42,7 +43,7 @@ pub commits_more : {S : Type 0} {g : Ghosts S} {a b c : Held S} → CommitsNothi
     → CommitsNothing g b c → CommitsNothing g a c
 commits_more {g = g} {b = b} before next = record {
   kept = λ clean.
-      let early : HasCleanDisk (state g b) = omega (arith, next.survives.clean) in
+      let early : IsClean g b = omega (arith, next.survives.clean) in
       let past = before.kept early in
       let now = next.kept clean in
       record {
@@ -81,7 +82,7 @@ module _ {S : Type 0} {g : Ghosts S} {a b : Held S} {T E : Type 0} where
   read_writes before (Err e) h = record {
     err =
         λ clean.
-        let early : HasCleanDisk (state g b) = omega (arith, h.survives.clean) in
+        let early : IsClean g b = omega (arith, h.survives.clean) in
         keeps_then _ _ _ (before.ok early) (h.err clean);
     survives = still before.survives h.survives;
   }

@@ -12,7 +12,7 @@ use Rattle.sqlite_schema.specs.declared.schema.Table.{Table}
 use Rattle.sqlite_schema.specs.declared.schema.Index.{Index}
 use Rattle.sqlite_schema.specs.declared.schema.Schema.{Schema}
 use Rattle.sqlite.specs.State.{State, Shown, Executes}
-use Rattle.room_types_keyed.specs.Keyed.{IsKeyed, put_row, drop_row}
+use Rattle.room_types_keyed.specs.KeyedRows.{IsKeyed, put_row, drop_row}
 use Rattle.room_tables_schema.specs.TableTrees.{cells, keys, AreNumbered, RowidsRise, Holds}
 use Rattle.room_tables_schema.specs.Outcomes.{Only, MakesTable, MakesIndex}
 use Rattle.room_tables_schema.specs.Statements.{passes, Selects, StandsAlone, Deletes, Inserts, Upserts, Stores}
@@ -41,8 +41,8 @@ module _ (schema : Schema) (text : List ℕ) (old new : State) where
       → IsPermutation (map (cells (key ++ more)) (old.now.trees tree)) rows
       × IsSorted (key_cmp 0 (keys key)) rows
 
-  -- The rowids that a selection shows in their order rise where the tree is numbered, and there
-  -- alone.
+  -- The rowids that a selection shows in their order rise where the tree is numbered, and only
+  -- there.
   abbrev pub RowidsTell : Type 0
   RowidsTell =
       (tree : ℕ) (params : Row) (rows : List Row) → Selects schema text tree (0 ∷ []) (0 ∷ []) []

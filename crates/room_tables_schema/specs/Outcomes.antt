@@ -8,7 +8,8 @@ use Rattle.sqlite_schema.specs.declared.schema.Schema.{Schema}
 use Rattle.sqlite_catalog.specs.Change.{created, indexed, next_tree, KeepsRows}
 use Rattle.sqlite.specs.Effect.{Database}
 use Rattle.sqlite.specs.Held.{Held, state}
-use Rattle.sqlite.specs.State.{State, HasCleanDisk, Shows, Survives, IsUnchanged, IsRolledBack, KeepsCommit}
+use Rattle.sqlite.specs.State.{State, Shows, Survives, IsUnchanged, IsRolledBack, KeepsCommit}
+use Rattle.room_tables_schema.specs.FileConnections.{IsClean}
 
 -- The call wrote nothing: all is as before, or a failed store has undone the transaction.
 abbrev pub Keeps : State → State → Type 0
@@ -18,29 +19,29 @@ Keeps old new = IsUnchanged old new ⊎ IsRolledBack old new
 -- opens no transaction.
 pub record ReadsOnly {S T E : Type 0} (g : Ghosts S) (old new : Held S)
     (result : Result T E) : Type 0 where
-  pub ok : HasCleanDisk (state g new) → OnOk result (IsUnchanged (state g old) (state g new))
-  pub err : HasCleanDisk (state g new) → OnErr result (Keeps (state g old) (state g new))
+  pub ok : IsClean g new → OnOk result (IsUnchanged (state g old) (state g new))
+  pub err : IsClean g new → OnErr result (Keeps (state g old) (state g new))
   pub mode : old.in_transaction ≡ false → new.in_transaction ≡ false
   pub survives : Survives (state g old) (state g new) (λ _. ⊥)
 
 -- So does a read in a transaction.
 pub record ReadsInside {S T E : Type 0} (g : Ghosts S) (old new : Held S)
     (result : Result T E) : Type 0 where
-  pub ok : HasCleanDisk (state g new) → OnOk result (IsUnchanged (state g old) (state g new))
-  pub err : HasCleanDisk (state g new) → OnErr result (Keeps (state g old) (state g new))
+  pub ok : IsClean g new → OnOk result (IsUnchanged (state g old) (state g new))
+  pub err : IsClean g new → OnErr result (Keeps (state g old) (state g new))
   pub survives : Survives (state g old) (state g new) (λ _. ⊥)
 
 -- A write in a transaction that fails has written nothing; either way nothing more is left to a
 -- stop.
 pub record WritesInside {S T E : Type 0} (g : Ghosts S) (old new : Held S)
     (result : Result T E) : Type 0 where
-  pub err : HasCleanDisk (state g new) → OnErr result (Keeps (state g old) (state g new))
+  pub err : IsClean g new → OnErr result (Keeps (state g old) (state g new))
   pub survives : Survives (state g old) (state g new) (λ _. ⊥)
 
 -- Writes in a transaction, of which some may be done where one fails. None is committed, or left to
 -- a stop.
 pub record CommitsNothing {S : Type 0} (g : Ghosts S) (old new : Held S) : Type 0 where
-  pub kept : HasCleanDisk (state g new) → KeepsCommit (state g old) (state g new)
+  pub kept : IsClean g new → KeepsCommit (state g old) (state g new)
   pub survives : Survives (state g old) (state g new) (λ _. ⊥)
 
 -- The call was made in a transaction, which goes on, and committed nothing.

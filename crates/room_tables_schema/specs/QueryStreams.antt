@@ -7,10 +7,12 @@ use Rattle.sqlite.specs.declared.error.Error.TheVariants.{SqliteFailure}
 use Rattle.sqlite.specs.declared.error.ErrorCode.TheVariants.{OutOfMemory}
 use Rattle.sqlite.specs.Given.{HasGiven}
 use Rattle.sqlite.specs.Held.{Held, state}
-use Rattle.sqlite.specs.State.{State, HasCleanDisk, Shown, FailsToQuery, Survives}
+use Rattle.sqlite.specs.State.{State, Shown, FailsToQuery, Survives}
 use Rattle.room_tables_schema.specs.Outcomes.{Keeps}
+use Rattle.room_tables_schema.specs.FileConnections.{IsClean}
 
--- All rows that the query shows are taken; or it is reported why they are not, and nothing was written.
+-- All rows that the query shows are taken; or it is reported why they are not, and nothing was
+-- written.
 pub record Tells (AreTaken : List Row → Type 0) (text : List ℕ) (params : Row) (old new : State)
     (result : Result (Unit {0}) Error) : Type 0 where
   pub shown : OnOk result ((rows : List Row) × Shown text params old new rows × AreTaken rows)
@@ -21,7 +23,7 @@ pub record Tells (AreTaken : List Row → Type 0) (text : List ℕ) (params : Ro
 -- leaves nothing more to a stop.
 pub record ReadsOut {S : Type 0} (g : Ghosts S) (AreTaken : List Row → Type 0) (old new : Held S)
     (result : Result (Unit {0}) Error) : Type 0 where
-  pub tells : HasCleanDisk (state g new) → (text : List ℕ) (params : Row)
+  pub tells : IsClean g new → (text : List ℕ) (params : Row)
       → HasGiven g text params old [] → Tells AreTaken text params (state g old)
       (state g new) result
   pub mode : old.in_transaction ≡ false → new.in_transaction ≡ false

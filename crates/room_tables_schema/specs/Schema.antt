@@ -1,5 +1,5 @@
--- The tables and indexes that a room's file has, with the columns that `src/schema_tables.rt` lists; the
--- texts that make them are proved to make just these.
+-- The tables and indexes that a room's file has, with the columns that `src/schema_tables.rt`
+-- lists; the texts that make them are proved to make just these.
 use Rattle.std.specs.Prelude.{ℕ, List, [], Bool, take, map}
 use Rattle.sqlite_schema.specs.declared.schema.Table.{Table}
 use Rattle.sqlite_schema.specs.declared.schema.Index.{Index}

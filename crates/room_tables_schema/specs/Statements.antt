@@ -196,8 +196,8 @@ pub record Stores (schema : Schema) (table : Table) (places key : List ℕ) (col
       → column (row ++ rowid r ∷ shown table (fresh id)) columns ≡ rowid r
   pub over_shows : (r : Row) → cells places (cast_row table (over r)) ≡ row
 
--- An update of one row, where SQL picks the rowid, has the row's columns as parameters. It finds the
--- rows with the columns of its key ..
+-- An update of one row, where SQL picks the rowid, has the row's columns as parameters. It finds
+-- the rows with the columns of its key ..
 abbrev pub own_key : List ℕ → List Term
 own_key = map (λ place. equals place (place - 1))
 

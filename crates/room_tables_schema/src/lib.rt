@@ -1,5 +1,5 @@
-//! Which tables a room's file has: how they are made, and how a file is tested for them; and what SQL
-//! makes of a table that stands for a list of rows in key order: laws over any table's columns.
+//! Which tables a room's file has: how they are made, and how a file is tested for them; and what
+//! SQL makes of a table that stands for a list of rows in key order: laws over any table's columns.
 //!
 //! A crate of tables uses the laws so:
 //!

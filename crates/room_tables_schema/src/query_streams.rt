@@ -7,10 +7,11 @@ ghost use Rattle.sqlite.specs.declared.error.ErrorCode.TheVariants.{OutOfMemory}
 ghost use Rattle.sqlite.specs.Given.{IsPlain};
 ghost use Rattle.sqlite.specs.Held.{state};
 ghost use Rattle.sqlite.specs.Listing.{understood};
-ghost use Rattle.sqlite.specs.State.{FailsToQuery, HasCleanDisk, Shown};
+ghost use Rattle.sqlite.specs.State.{FailsToQuery, Shown};
 ghost use Rattle.sqlite.specs.Values.{bound};
 ghost use Rattle.room_tables_schema.specs.Outcomes.{ReadsOnly};
 ghost use Rattle.room_tables_schema.specs.QueryStreams.{ReadsOut};
+ghost use Rattle.room_tables_schema.specs.FileConnections.{IsClean};
 
 use sqlite::{Alter, Connection, Error, ErrorCode, Row};
 use sqlite_value::value::ValueRef;
@@ -38,13 +39,13 @@ pub fn stream<T: RowSink, S: Alter>(
     params: &[ValueRef<'_>],
     taker: &mut T,
 ) -> Result<(), Error>
-    requires { HasCleanDisk (state S.Store conn.old)
+    requires { IsClean S.Store conn.old
         → IsPlain (understood (state S.Store conn.old).now.schema text.now) }
-    ensures shown { HasCleanDisk (state S.Store conn.new)
+    ensures shown { IsClean S.Store conn.new
         → OnOk result ((rows : List Values) × Shown text.now (bound params.now)
         (state S.Store conn.old) (state S.Store conn.new) rows × T.takes taker.old rows taker.new) }
     ensures reads { ReadsOnly S.Store conn.old conn.new result }
-    ensures why { HasCleanDisk (state S.Store conn.new)
+    ensures why { IsClean S.Store conn.new
         → IfErr result (λ e. (e ≡ SqliteFailure OutOfMemory) ⊎ FailsToQuery text.now
         (bound params.now) (state S.Store conn.old) (state S.Store conn.new) e) }
 {

@@ -1,10 +1,11 @@
 //! Statements in a transaction, which commit nothing, whether they succeed or fail.
 
-ghost use Rattle.std.specs.Prelude.{◌≡◌, ℕ, IsTrue, Ok, Err, IfOk, IfErr, OnOk, true, false};
+ghost use Rattle.std.specs.Prelude.{◌≡◌, ℕ, Ok, Err, IfOk, IfErr, OnOk, true, false};
 ghost use Rattle.sqlite.specs.Held.{state};
-ghost use Rattle.sqlite.specs.State.{Executes, ExecutesInside, HasCleanDisk, IsUnchanged};
+ghost use Rattle.sqlite.specs.State.{Executes, ExecutesInside, IsUnchanged};
 ghost use Rattle.sqlite.specs.Values.{bound};
 ghost use Rattle.room_tables_schema.specs.Outcomes.{Inside, WritesInside};
+ghost use Rattle.room_tables_schema.specs.FileConnections.{IsClean, StandsInTransaction};
 
 use sqlite::{Alter, Error, ErrorCode, Transaction};
 use sqlite_value::value::ValueRef;
@@ -17,15 +18,14 @@ pub fn write<S: Alter>(
     text: &str,
     params: &[ValueRef<'_>],
 ) -> Result<usize, Error>
-    requires { HasCleanDisk (state S.Store tx.old.conn.now)
-        → IsTrue (state S.Store tx.old.conn.now).in_transaction }
-    ensures ran { HasCleanDisk (state S.Store tx.new.conn.now)
+    requires { StandsInTransaction S.Store tx.old.conn.now }
+    ensures ran { IsClean S.Store tx.new.conn.now
         → IfOk result (λ count. Executes text.now (bound params.now)
         (state S.Store tx.old.conn.now) (state S.Store tx.new.conn.now) (Ok count)) }
-    ensures ok { HasCleanDisk (state S.Store tx.new.conn.now)
+    ensures ok { IsClean S.Store tx.new.conn.now
         → OnOk result (Inside (state S.Store tx.old.conn.now) (state S.Store tx.new.conn.now)) }
     ensures writes { WritesInside S.Store tx.old.conn.now tx.new.conn.now result }
-    ensures why { HasCleanDisk (state S.Store tx.new.conn.now)
+    ensures why { IsClean S.Store tx.new.conn.now
         → IfErr result (λ e. ExecutesInside 0 text.now (bound params.now)
         (state S.Store tx.old.conn.now) (state S.Store tx.new.conn.now) (Err e)) }
     ensures same_reference { tx.new.conn.ghost_name ≡ tx.old.conn.ghost_name }
@@ -41,17 +41,16 @@ pub fn insert<S: Alter>(
     text: &str,
     params: &[ValueRef<'_>],
 ) -> Result<bool, Error>
-    requires { HasCleanDisk (state S.Store tx.old.conn.now)
-        → IsTrue (state S.Store tx.old.conn.now).in_transaction }
-    ensures made { HasCleanDisk (state S.Store tx.new.conn.now) → result ≡ Ok true
+    requires { StandsInTransaction S.Store tx.old.conn.now }
+    ensures made { IsClean S.Store tx.new.conn.now → result ≡ Ok true
         → (count : ℕ) × Executes text.now (bound params.now) (state S.Store tx.old.conn.now)
         (state S.Store tx.new.conn.now) (Ok count) }
-    ensures refused { HasCleanDisk (state S.Store tx.new.conn.now) → result ≡ Ok false
+    ensures refused { IsClean S.Store tx.new.conn.now → result ≡ Ok false
         → IsUnchanged (state S.Store tx.old.conn.now) (state S.Store tx.new.conn.now) }
-    ensures ok { HasCleanDisk (state S.Store tx.new.conn.now)
+    ensures ok { IsClean S.Store tx.new.conn.now
         → OnOk result (Inside (state S.Store tx.old.conn.now) (state S.Store tx.new.conn.now)) }
     ensures writes { WritesInside S.Store tx.old.conn.now tx.new.conn.now result }
-    ensures why { HasCleanDisk (state S.Store tx.new.conn.now)
+    ensures why { IsClean S.Store tx.new.conn.now
         → IfErr result (λ e. ExecutesInside 0 text.now (bound params.now)
         (state S.Store tx.old.conn.now) (state S.Store tx.new.conn.now) (Err e)) }
     ensures same_reference { tx.new.conn.ghost_name ≡ tx.old.conn.ghost_name }

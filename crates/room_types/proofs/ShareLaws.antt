@@ -6,7 +6,7 @@ use Rattle.std.specs.Bool.{Decides}
 use Rattle.std.proofs.lemmas.Bool.{eqb-true, leb-true, le-leb}
 use Rattle.std.proofs.lemmas.Bool.Decides.{Decides-and, Decides-like}
 use Rattle.room_types.specs.Codes.{is_active}
-use Rattle.room_types_keyed.specs.Keyed.{IsKeyed}
+use Rattle.room_types_keyed.specs.KeyedRows.{IsKeyed}
 use Rattle.room_types.specs.Keys.{callsign_cmp, numbered_cmp, vehicle_key, turn_key, assignment_key}
 use Rattle.room_types.specs.Orders.{callsigns_total, numbered_total, exact_callsigns, exact_numbered}
 use Rattle.room_types.specs.Slices.{AreOwned, IsShare, VehicleAgrees, AssignmentAgrees, TurnAgrees, IsInTurn, are_owned}

@@ -1,4 +1,4 @@
--- How each refusal is told: by number, by status and by name.
+-- How each refusal is given: by number, by status and by name.
 use Rattle.std.specs.Prelude.{ℕ, List, codes}
 use Rattle.room_types.specs.declared.refusal_statuses.Refusal.{Refusal}
 use Rattle.room_types.specs.declared.refusal_statuses.Refusal.TheVariants.{NoSuchIncident, IncidentNotOpen}

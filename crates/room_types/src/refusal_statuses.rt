@@ -1,4 +1,4 @@
-//! Why a request is refused, and how a refusal is told: by number, by status and by name.
+//! Why a request is refused, and how a refusal is given: by number, by status and by name.
 ghost use Rattle.std.specs.Prelude.{◌≡◌, Some};
 ghost use Rattle.room_types.specs.RefusalStatuses.{refusal_number, refusal_status, refusal_name, told};
 ghost use Rattle.room_types.specs.declared.refusal_statuses.Refusal.TheVariants.{Memory};

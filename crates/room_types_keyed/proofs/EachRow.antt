@@ -9,7 +9,7 @@ use Rattle.std.specs.Cmp.{IsTotalOrder, Equal-is}
 use Rattle.std.proofs.lemmas.Bool.{and_parts}
 use Rattle.std.proofs.lemmas.Cmp.{tied_itself}
 use Rattle.std.proofs.lemmas.Map.Lookups.{CmpEqualImpliesEq}
-use Rattle.room_types_keyed.specs.Keyed.{IsBelowAll, IsKeyed, row_at}
+use Rattle.room_types_keyed.specs.KeyedRows.{IsBelowAll, IsKeyed, row_at}
 use Rattle.room_types_keyed.proofs.KeyedLaws.{row_below}
 
 module _ {R K : Type 0} (cmp : K → K → Ordering) (key : R → K) (total : IsTotalOrder cmp)

@@ -10,7 +10,7 @@ use Rattle.std.specs.Cmp.{IsTotalOrder}
 use Rattle.std.proofs.lemmas.Cmp.{tied_back, alike_right}
 use Rattle.std.proofs.lemmas.Option.{get_or_from_slice_get, slice_get_within}
 use Rattle.std.proofs.lemmas.List.Sorted.{searchable_from_sorted}
-use Rattle.room_types_keyed.specs.Keyed.{IsBelowAll, IsKeyed, row_at, put_row, drop_row, IsAt, IsGapFor}
+use Rattle.room_types_keyed.specs.KeyedRows.{IsBelowAll, IsKeyed, row_at, put_row, drop_row, IsAt, IsGapFor}
 use Rattle.room_types_keyed.proofs.KeyedLaws.{row_below, drop_below, below_from_less}
 
 module _ {R K : Type 0} (cmp : K → K → Ordering) (key : R → K) where

@@ -1,22 +1,19 @@
-use Rattle.std.proofs.Common.{List, take, ◌≡◌}
-use Rattle.sqlite.specs.Held.{state}
-use Rattle.sqlite.specs.State.{HasCleanDisk}
+use Rattle.std.proofs.Common.{List, take}
 use Rattle.room_types.specs.declared.fleet.Terminal.{Terminal}
 use Rattle.room_model.specs.Room.{Room}
 use Rattle.room_store.specs.FleetEnrolment.{room_after_rows, terminals_after_rows}
-use Rattle.room_store.specs.StoredRoom.{IsReady, IsRoom}
-use Rattle.dispatch_room_commands.specs.ListedRows.{digits_in}
+use Rattle.room_store.specs.StoredRoom.{IsRoom}
+use Rattle.dispatch_room_commands.specs.StoodRooms.{GoesOn, digits_in}
 use Rattle.dispatch_room_commands.proofs.DueLemmas.{IsUnmet}
+use Rattle.room_tables_schema.specs.FileConnections.{IsClean}
 use Rattle.dispatch_room_commands.proofs.listed_rows.enrol_rows.Given as goal
 
 abbrev pub invariant-loop-row : goal.invariant-loop-row
 invariant-loop-row g l =
     let first = take l.row-index l.rows in
     record {
-      ready : IsReady g.S.Store l.room;
-      zone : l.room.plan.zone ≡ l.fn.room.plan.zone;
-      trusted : HasCleanDisk (state g.S.Store l.room.conn) → HasCleanDisk (state g.S.Store l.fn.room.conn);
-      done : HasCleanDisk (state g.S.Store l.room.conn) → (terminals : List Terminal) (room : Room)
+      goes : GoesOn g.S.Store l.fn.room l.room;
+      done : IsClean g.S.Store l.room.conn → (terminals : List Terminal) (room : Room)
           → IsRoom g.S.Store l.fn.room terminals room
           → IsUnmet (digits_in l.fn.room) l.head l.rows terminals room l.row-index l.is_changed
           × IsRoom g.S.Store l.room (terminals_after_rows first room terminals) (room_after_rows first room terminals);

@@ -25,3 +25,24 @@ returns-in-Err-clause-leg g c before = record {
   replayed = λ no. absurd (not_both c.args.course.now.replay.now.answers c.if-not-replay.false no);
   answered = λ yes. rw c.begin.ensures at c.in-Err.ensures.answers;
 }
+
+pub returns-then-not-replay-clause-goes : goal.returns-then-not-replay-clause-goes
+returns-then-not-replay-clause-goes g c = record {
+  ready = c.replay.ensures.ready;
+  zone = c.replay.ensures.zone;
+  trusted = c.replay.ensures.trusted;
+}
+
+pub returns-in-Ok-clause-goes : goal.returns-in-Ok-clause-goes
+returns-in-Ok-clause-goes g c = record {
+  ready = c.answer_each.ensures.ready;
+  zone = c.answer_each.ensures.zone;
+  trusted = c.answer_each.ensures.trusted;
+}
+
+pub returns-in-Err-clause-goes : goal.returns-in-Err-clause-goes
+returns-in-Err-clause-goes g c = record {
+  ready = c.answer_each.ensures.ready;
+  zone = c.answer_each.ensures.zone;
+  trusted = c.answer_each.ensures.trusted;
+}

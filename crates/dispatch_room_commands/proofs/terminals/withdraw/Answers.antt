@@ -1,15 +1,14 @@
-use Rattle.std.proofs.Common.{inl, inr, refl}
+use Rattle.std.proofs.Common.{inr, refl}
 use Rattle.dispatch_room_commands.proofs.WorkLemmas.{handed_on}
 use Rattle.dispatch_room_commands.proofs.terminals.withdraw.Goals as goal
 
-pub returns-in_err-in_file-clause-undone : goal.returns-in_err-in_file-clause-undone
-returns-in_err-in_file-clause-undone g c =
-    handed_on c.from_residual.result _ c.from_residual.ensures.1
-    (λ fault is. inr (c.args.token, inl (rw is c.in_err-in_file.ensures.undone)))
+pub returns-in_err-reissue-clause-undone : goal.returns-in_err-reissue-clause-undone
+returns-in_err-reissue-clause-undone g c =
+    handed_on c.from_residual.result _ c.from_residual.ensures.1 (λ fault is. rw is c.in_err-reissue.ensures.undone)
 
 pub returns-in-Ok-clause-done : goal.returns-in-Ok-clause-done
 returns-in-Ok-clause-done g c =
-    record { between = _; is = c.in_ok-in_file.ensures.done; told = c.in-Ok.ensures.bytes; whole = refl }
+    record { between = _; is = c.in_ok-reissue.ensures.done; told = c.in-Ok.ensures.bytes; whole = refl }
 
 pub returns-in-Err-clause-undone : goal.returns-in-Err-clause-undone
-returns-in-Err-clause-undone g c = inr (c.args.token, inr (refl, (_, c.in_ok-in_file.ensures.done)))
+returns-in-Err-clause-undone g c = inr (c.args.change.token, inr (refl, (_, c.in_ok-reissue.ensures.done)))

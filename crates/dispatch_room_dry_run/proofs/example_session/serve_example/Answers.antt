@@ -22,6 +22,6 @@ returns-clause-talk g c =
         c.serve-end.ensures.run.course,
         serves machine setting _ _ _ (memory_is_clean c.serve-end.new.room.conn) _ _ _ _ IsExample
             (λ terminals room begins. rw (begins.0, begins.1) c.in_ok-store.ensures.room) c.serve-end.ensures.run.course
-            c.args.budget c.serve-end.result c.serve-end.ensures.run.talk,
+            c.args.budget c.serve-end.result (rw c.in-Ok.ensures.setting at c.serve-end.ensures.run.talk),
       ),
     )

@@ -26,7 +26,7 @@ returns-clause-turn g c =
     let refused = c.in-Err.ensures.plays in
     inl (
       refused.0,
-      inl (refuses_at g.M.Room.step c.args.setting.now
+      inl (refuses_at g.M.Room.step c.args.handler.now.setting
           (digits_of g.M.Digested.digest_of (g.M.Room.zone c.args.room.now)) _ _ _ c.args.at _ _ c.in-Err.fault
           (inl (c.args.status, refl)) refused.1),
     )

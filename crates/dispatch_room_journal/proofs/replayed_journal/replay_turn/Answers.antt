@@ -33,7 +33,7 @@ returns-in-Err-replay_message-clause-turn g c =
     let turn = (rw c.next_entry.ensures.zone at c.in-Err-replay_message.ensures.turn) in (
       turn.0,
       stops_message _ _ (digits_of g.M.Digested.digest_of (g.M.Room.zone c.args.room.now)) _ _
-          c.replay_message.ensures.trusted _ _ _ _ _ _ _ _ c.in-Message.at _ _ c.in-Message.is
+          c.replay_message.ensures.trusted _ _ _ _ _ _ _ _ c.in-Message.entry.at _ _ c.in-Message.is
           c.args.progress.now c.in-Ok.ensures.next
           true c.in-Err-replay_message.fault _ _ turn.0 turn.1,
       refl,
@@ -42,21 +42,21 @@ returns-in-Err-replay_message-clause-turn g c =
 pub returns-in-Ok-Played-clause-turn : goal.returns-in-Ok-Played-clause-turn
 returns-in-Ok-Played-clause-turn g c =
     takes_message _ _ (digits_of g.M.Digested.digest_of (g.M.Room.zone c.args.room.now)) _ _
-    c.replay_message.ensures.trusted _ _ _ _ _ _ _ _ c.in-Message.at _ _ c.in-Message.is _ c.in-Ok.ensures.next
+    c.replay_message.ensures.trusted _ _ _ _ _ _ _ _ c.in-Message.entry.at _ _ c.in-Message.is _ c.in-Ok.ensures.next
     _ _ _ Played _ refl (rw (c.in-Ok-Played.field-0-is, c.next_entry.ensures.zone) at c.in-Ok-Played.ensures.turn)
     c.note_message.ensures
 
 pub returns-in-Ok-LeftOut-clause-turn : goal.returns-in-Ok-LeftOut-clause-turn
 returns-in-Ok-LeftOut-clause-turn g c =
     takes_message _ _ (digits_of g.M.Digested.digest_of (g.M.Room.zone c.args.room.now)) _ _
-    c.replay_message.ensures.trusted _ _ _ _ _ _ _ _ c.in-Message.at _ _ c.in-Message.is _ c.in-Ok.ensures.next
+    c.replay_message.ensures.trusted _ _ _ _ _ _ _ _ c.in-Message.entry.at _ _ c.in-Message.is _ c.in-Ok.ensures.next
     _ _ _ LeftOut _ refl (rw (c.in-Ok-LeftOut.field-0-is, c.next_entry.ensures.zone) at c.in-Ok-LeftOut.ensures.turn)
     c.note_message-in-Ok-LeftOut.ensures
 
 pub returns-in-Ok-Last-clause-turn : goal.returns-in-Ok-Last-clause-turn
 returns-in-Ok-Last-clause-turn g c =
     takes_message _ _ (digits_of g.M.Digested.digest_of (g.M.Room.zone c.args.room.now)) _ _
-    c.replay_message.ensures.trusted _ _ _ _ _ _ _ _ c.in-Message.at _ _ c.in-Message.is _ c.in-Ok.ensures.next
+    c.replay_message.ensures.trusted _ _ _ _ _ _ _ _ c.in-Message.entry.at _ _ c.in-Message.is _ c.in-Ok.ensures.next
     _ _ _ Last _ refl (rw (c.in-Ok-Last.field-0-is, c.next_entry.ensures.zone) at c.in-Ok-Last.ensures.turn)
     c.note_message-in-Ok-Last.ensures
 

@@ -47,7 +47,7 @@ returns-in-Err-answer_message-clause-turn g c =
     let turn = (rw c.next_entry.ensures.zone at c.in-Err-answer_message.ensures.turn) in (
       turn.0,
       stops_message _ _ (digits_of g.M.Digested.digest_of (g.M.Room.zone c.args.room.now)) _ _
-          c.answer_message.ensures.trusted _ _ _ _ _ None _ _ c.in-Message.at _ _ c.in-Message.is
+          c.answer_message.ensures.trusted _ _ _ _ _ None _ _ c.in-Message.entry.at _ _ c.in-Message.is
           c.args.progress.now c.in-Ok.ensures.next
           false c.in-Err-answer_message.fault _ _ turn.0 turn.1,
       refl {a = c.args.progress.now},
@@ -59,7 +59,7 @@ returns-in-Err-answer_message-clause-turn g c =
 pub returns-in-Ok-answer_message-clause-turn : goal.returns-in-Ok-answer_message-clause-turn
 returns-in-Ok-answer_message-clause-turn g c =
     each_turn _ _ (digits_of g.M.Digested.digest_of (g.M.Room.zone c.args.room.now)) _ _
-    c.answer_message.ensures.trusted _ _ _ _ _ _ _ _ _ _ _ _ c.in-Message.at _ _ c.in-Message.is
+    c.answer_message.ensures.trusted _ _ _ _ _ _ _ _ _ _ _ _ c.in-Message.entry.at _ _ c.in-Message.is
     c.args.progress.now _ c.note_message.ensures
     c.in-Ok.ensures.next (rw c.next_entry.ensures.zone at c.in-Ok-answer_message.ensures.turn)
 

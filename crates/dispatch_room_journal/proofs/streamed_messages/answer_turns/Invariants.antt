@@ -9,7 +9,7 @@ use Rattle.dispatch_room_journal.proofs.streamed_messages.answer_turns.Given as 
 abbrev pub invariant-turns : goal.invariant-turns
 invariant-turns g l = record {
   going : (us : List Turn)
-      × Passes g.M.Room.step l.setting (digits_of g.M.Digested.digest_of (g.M.Room.zone l.initial.room))
+      × Passes g.M.Room.step l.handler.setting (digits_of g.M.Digested.digest_of (g.M.Room.zone l.initial.room))
       (g.M.Room.is_trusted l.room) (g.M.Room.stands l.initial.room)
       (g.M.Room.stands l.room)
       (g.R.Source.left l.initial.reader) (prepend_known l.inbox.kept (g.R.Source.left l.reader)) None IsPlayed us

@@ -3,23 +3,23 @@ use Rattle.dispatch_room_serving.proofs.ConnectionLaws.{attended_more, ends_afte
 use Rattle.dispatch_room_serving.proofs.connections.serve_each.Goals as goal
 
 pub loop-connection-init : goal.loop-connection-init
-loop-connection-init g c = record { ready = c.requires.ready; served = served_none g.S.Store c.args.setting.now _ _ _ }
+loop-connection-init g c = record { ready = c.requires.ready; served = served_none g.S.Store c.args.handler.now.setting _ _ _ }
 
 pub returns-in-Err-clause-served : goal.returns-in-Err-clause-served
 returns-in-Err-clause-served g c =
     let before = c.loop-connection.invariant.served in
     let next = c.serve_next.ensures.attended in
     let within : length before.calls
-    < c.args.terms.connections = omega (arith, before.counted, c.loop-connection-test.true) in
+    < c.args.part.now.terms.connections = omega (arith, before.counted, c.loop-connection-test.true) in
     record {
       calls = before.calls ++ next.call ∷ [];
       attended =
-          attended_more g.S.Store c.args.setting.now _ _ before.calls (next.call ∷ []) _ _ _ before.attended
+          attended_more g.S.Store c.args.handler.now.setting _ _ before.calls (next.call ∷ []) _ _ _ before.attended
           next.attended;
       ends =
-          ends_after before.calls next.call c.args.terms.renews c.args.terms.connections c.in-Err.fault before.go_on
+          ends_after before.calls next.call c.args.part.now.terms.renews c.args.part.now.terms.connections c.in-Err.fault before.go_on
           within (sym c.in-Err.is ∙ next.ends);
-      kept = kept_ending g.S.Store c.args.setting.now _ _ next.call _ _ _ _ before next.attended;
+      kept = kept_ending g.S.Store c.args.handler.now.setting _ _ next.call _ _ _ _ before next.attended;
     }
 
 pub loop-connection-preserved : goal.loop-connection-preserved

@@ -5,7 +5,7 @@ use Rattle.dispatch_room_serving.proofs.connections.serve_each.Given as goal
 abbrev pub invariant-loop-connection : goal.invariant-loop-connection
 invariant-loop-connection g l = record {
   ready : IsReady g.S.Store l.room;
-  served : HasServed g.S.Store l.setting g.N.Observer.came g.N.Observer.told
+  served : HasServed g.S.Store l.handler.setting g.N.Observer.came g.N.Observer.told
       (record {
         heard = g.P.Callers.heard l.initial.callers;
         told = g.P.Callers.told l.initial.callers;

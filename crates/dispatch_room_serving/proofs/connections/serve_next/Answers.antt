@@ -5,8 +5,8 @@ use Rattle.dispatch_room_serving.proofs.connections.serve_next.Goals as goal
 
 pub returns-in_default-clause-attended : goal.returns-in_default-clause-attended
 returns-in_default-clause-attended g c =
-    attends_next g.S.Store c.args.setting.now _ _ None _ _ _
-    (attended_nothing g.S.Store c.args.setting.now _ _ _ _ c.in_default.ensures.heard c.in_default.ensures.told refl)
+    attends_next g.S.Store c.args.handler.now.setting _ _ None _ _ _
+    (attended_nothing g.S.Store c.args.handler.now.setting _ _ _ _ c.in_default.ensures.heard c.in_default.ensures.told refl)
     refl
 
 pub returns-clause-attended : goal.returns-clause-attended
@@ -19,17 +19,17 @@ returns-clause-attended g c =
         given = g.C.Clock.given c.args.clock.now;
       };
       after = record {
-        reads = g.P.Reader.Source.reads c.serve-end.new.reader;
-        held = g.P.Writer.Sink.held c.serve-end.new.writer;
+        reads = g.P.Reader.Source.reads c.serve-end.new.connection.reader;
+        held = g.P.Writer.Sink.held c.serve-end.new.connection.writer;
         given = g.C.Clock.given c.serve-end.new.clock;
-        read_failed = g.P.Reader.Source.has_failed c.serve-end.new.reader;
-        read_ended = g.P.Reader.Source.has_ended c.serve-end.new.reader;
-        write_failed = g.P.Writer.Sink.has_failed c.serve-end.new.writer;
+        read_failed = g.P.Reader.Source.has_failed c.serve-end.new.connection.reader;
+        read_ended = g.P.Reader.Source.has_ended c.serve-end.new.connection.reader;
+        write_failed = g.P.Writer.Sink.has_failed c.serve-end.new.connection.writer;
         was_none = g.C.Clock.was_none c.serve-end.new.clock;
         observer_failed = g.N.Observer.has_failed c.serve-end.new.observer;
       };
       course = c.serve-end.ensures.run.course;
-      unread = g.P.Reader.Source.left c.serve-end.new.reader;
+      unread = g.P.Reader.Source.left c.serve-end.new.connection.reader;
       end = c.serve-end.result;
       from = c.args.room.now;
       store = c.serve-end.new.room;
@@ -37,8 +37,8 @@ returns-clause-attended g c =
       keeps = g.N.Observer.held c.serve-end.new.observer;
       had_failed = g.N.Observer.has_failed c.args.observer.now;
     } in
-    attends_next g.S.Store c.args.setting.now _ _ (Some talk) _ _ _
-    (attended_one g.S.Store c.args.setting.now _ _ talk _ _ (rw c.done.ensures.heard c.in-Some.ensures.heard)
+    attends_next g.S.Store c.args.handler.now.setting _ _ (Some talk) _ _ _
+    (attended_one g.S.Store c.args.handler.now.setting _ _ talk _ _ (rw c.done.ensures.heard c.in-Some.ensures.heard)
     (rw c.in-Some.ensures.told at c.done.ensures.told) (refl {a = stage_after talk})
     (record {
       begins = refl;

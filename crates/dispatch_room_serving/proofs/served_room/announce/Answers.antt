@@ -3,10 +3,7 @@ use Rattle.hex.specs.Hex.{encode_lower}
 use Rattle.room_http_messages.proofs.StreamLemmas.{Appends-none}
 use Rattle.room_model.specs.declared.digests.Head.{Head}
 use Rattle.room_model.specs.declared.digests.Version.TheVariants.{Second}
-use Rattle.sqlite_trees.specs.declared.store.Store.{Ghosts}
-use Rattle.room_store.specs.declared.store.Store.{Store}
-use Rattle.dispatch_room_serving.specs.ServedRoom.{Looks}
-use Rattle.dispatch_room_serving.proofs.ConnectionLaws.{leaves_kept}
+use Rattle.dispatch_room_serving.proofs.ConnectionLaws.{looks_same}
 use Rattle.dispatch_room_serving.proofs.served_room.announce.Goals as goal
 
 -- the head that is announced
@@ -24,15 +21,6 @@ where_unwanted false asked text same is = refl
 
 never_wanted : {P : Type 0} (wants asked : Bool) → asked ≡ wants → asked ≡ false → wants ≡ true → P
 never_wanted wants asked same is wanted = absurd (cc)
-
--- nothing was done
-looks_same : {S : Type 0} (g : Ghosts S) (store : Store S) → Looks g store store
-looks_same g store = record {
-  zone = refl;
-  trusted = λ clean. clean;
-  same = λ clean terminals room is. is;
-  left = λ clean kept terminals room is. leaves_kept g store terminals room is kept;
-}
 
 pub returns-then-not-wants_digest-clause-announces :
     goal.returns-then-not-wants_digest-clause-announces

@@ -1,9 +1,8 @@
 use Rattle.std.proofs.Common.{arith, sym, ◌∙◌}
 use Rattle.std.proofs.lemmas.Result.{on_ok_weaker}
-use Rattle.sqlite.specs.Held.{state}
-use Rattle.sqlite.specs.State.{HasCleanDisk}
 use Rattle.room_store_writes.specs.Houses.{config_of}
 use Rattle.dispatch_room_tasks.proofs.ReissueLemmas.{same_room}
+use Rattle.room_tables_schema.specs.FileConnections.{IsClean}
 use Rattle.dispatch_room_tasks.proofs.changed_terminals.change_in.Goals as goal
 
 pub returns-in-Ok-clause-changed : goal.returns-in-Ok-clause-changed
@@ -16,7 +15,7 @@ returns-in-Ok-clause-changed g c =
       opened = opened;
       rows = c.in-Ok.ensures.kept;
       changed = λ clean.
-          let early : HasCleanDisk (state g.S.Store opened) = omega (arith, made.survives.clean) in
+          let early : IsClean g.S.Store opened = omega (arith, made.survives.clean) in
           on_ok_weaker c.change_opened-done.result
           (λ all. same_room _ _ c.in-Ok.plan change.who change.token _ (c.in-Ok.ensures.room early) all)
           (made.changed clean);

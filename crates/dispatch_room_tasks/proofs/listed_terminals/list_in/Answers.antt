@@ -1,8 +1,7 @@
 use Rattle.std.proofs.Common.{arith}
 use Rattle.std.proofs.lemmas.Result.{on_ok_weaker}
-use Rattle.sqlite.specs.Held.{state}
-use Rattle.sqlite.specs.State.{HasCleanDisk}
 use Rattle.room_store_writes.specs.Houses.{config_of}
+use Rattle.room_tables_schema.specs.FileConnections.{IsClean}
 use Rattle.dispatch_room_tasks.proofs.listed_terminals.list_in.Goals as goal
 
 pub returns-in-Ok-clause-listed : goal.returns-in-Ok-clause-listed
@@ -15,7 +14,7 @@ returns-in-Ok-clause-listed g c =
       rows = c.in-Ok.ensures.kept;
       whole = made.whole;
       told = λ clean.
-          let early : HasCleanDisk (state g.S.Store opened) = omega (arith, made.survives.clean) in
+          let early : IsClean g.S.Store opened = omega (arith, made.survives.clean) in
           let it = c.in-Ok.ensures.room early in
           on_ok_weaker c.list_opened-done.result
           (λ told. (it.0, it.1, it.3, it.5, told (config_of c.in-Ok._plan it.0) it.1 it.5)) (made.told clean);

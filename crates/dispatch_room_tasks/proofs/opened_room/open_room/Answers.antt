@@ -1,11 +1,11 @@
-use Rattle.std.proofs.Common.{◌≡◌, ap, false, inl, inr, refl, rules, subst, sym, true, List, ℕ}
+use Rattle.std.proofs.Common.{◌≡◌, ap, arith, false, inl, inr, refl, rules, subst, sym, true, List, ℕ}
 use Rattle.std.specs.Prelude.{IsSome, IsTrue}
 use Rattle.jiff.specs.Words.{read_whole}
 use Rattle.sqlite.specs.Held.{Held, state}
 use Rattle.sqlite_trees.specs.declared.store.Store.{Ghosts}
 use Rattle.room_types.specs.declared.fleet.Terminal.{Terminal}
 use Rattle.room_model.specs.Room.{Room}
-use Rattle.room_tables.specs.Stands.{Configuration, Stands}
+use Rattle.room_tables.specs.RoomsInTables.{Configuration, Stands}
 use Rattle.room_tables_rows.proofs.OneRoom.{one_config, one_room}
 use Rattle.room_store_writes.specs.Houses.{config_of}
 use Rattle.room_store_file.proofs.FileLaws.{stands_before}
@@ -60,6 +60,9 @@ pub returns-in-Ok-read-clause-room : goal.returns-in-Ok-read-clause-room
 returns-in-Ok-read-clause-room g c clean =
     let made = c.in-Ok.ensures in
     opens g.S.Store c.args.conn c.in-Ok.room (made.room clean) (made.schema clean) (made.same clean) (made.kept clean)
+
+pub returns-in-Ok-read-clause-trusted : goal.returns-in-Ok-read-clause-trusted
+returns-in-Ok-read-clause-trusted g c clean = omega (arith, c.in-Ok.ensures.survives.clean, clean)
 
 pub returns-in-Err-clause-fault : goal.returns-in-Err-clause-fault
 returns-in-Err-clause-fault g c =

@@ -2,10 +2,10 @@ use Rattle.std.proofs.Common.{[], ap, arith, length, subst, sym, take, ◌+◌, 
 use Rattle.std.proofs.lemmas.List.{take_all, take_more}
 use Rattle.sqlite.specs.Held.{state}
 use Rattle.sqlite.specs.State.{HasCleanDisk}
-use Rattle.room_tables.specs.Stands.{Stands}
+use Rattle.room_tables.specs.RoomsInTables.{Stands}
 use Rattle.std.proofs.lemmas.List.Sums.{fold-append}
-use Rattle.room_types_keyed.specs.Keyed.{put_row}
-use Rattle.room_model.specs.Enrol.{terminal_key, token_cmp}
+use Rattle.room_types_keyed.specs.KeyedRows.{put_row}
+use Rattle.room_model.specs.FleetRows.{terminal_key, token_cmp}
 use Rattle.room_tables_schema.proofs.WriteLaws.{commits_more}
 use Rattle.room_store_writes.specs.NewRoom.{put_all}
 use Rattle.room_store_writes.proofs.CommitLaws.{put_commits}

@@ -4,7 +4,7 @@ use Rattle.sqlite.specs.State.{HasCleanDisk}
 use Rattle.room_tables_schema.specs.Outcomes.{CommitsNothing}
 use Rattle.room_model.specs.Room.{Room}
 use Rattle.room_tables_schema.specs.FileConnections.{MayWrite}
-use Rattle.room_tables.specs.Stands.{Configuration, Stands}
+use Rattle.room_tables.specs.RoomsInTables.{Configuration, Stands}
 use Rattle.room_store_writes.specs.NewRoom.{put_all}
 use Rattle.dispatch_room_tasks.proofs.replaced_terminals.put_listed.Given as goal
 

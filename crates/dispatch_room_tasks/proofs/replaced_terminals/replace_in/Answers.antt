@@ -1,9 +1,8 @@
 use Rattle.std.proofs.Common.{arith, sym, ◌∙◌}
 use Rattle.std.proofs.lemmas.Result.{on_ok_weaker}
-use Rattle.sqlite.specs.Held.{state}
-use Rattle.sqlite.specs.State.{HasCleanDisk}
 use Rattle.room_store_writes.specs.Houses.{config_of}
 use Rattle.dispatch_room_tasks.proofs.ReplacedLemmas.{keeps_room}
+use Rattle.room_tables_schema.specs.FileConnections.{IsClean}
 use Rattle.dispatch_room_tasks.proofs.replaced_terminals.replace_in.Goals as goal
 
 pub returns-in-Ok-clause-replaced : goal.returns-in-Ok-clause-replaced
@@ -15,7 +14,7 @@ returns-in-Ok-clause-replaced g c =
       opened = opened;
       rows = c.in-Ok.ensures.kept;
       replaced = λ clean.
-          let early : HasCleanDisk (state g.S.Store opened) = omega (arith, made.survives.clean) in
+          let early : IsClean g.S.Store opened = omega (arith, made.survives.clean) in
           on_ok_weaker c.replace_opened-done.result
           (λ all. keeps_room _ _ c.in-Ok.plan c.args.listed.now _ (c.in-Ok.ensures.room early) all)
           (made.replaced clean);

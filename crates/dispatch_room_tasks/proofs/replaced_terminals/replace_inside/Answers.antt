@@ -1,19 +1,19 @@
 use Rattle.std.proofs.Common.{ap, arith, subst, ◌∙◌}
 use Rattle.sqlite.specs.Held.{state}
-use Rattle.sqlite.specs.State.{HasCleanDisk}
 use Rattle.room_tables_schema.proofs.WriteLaws.{commits_more}
 use Rattle.room_tables.proofs.RoomReads.{kept}
-use Rattle.room_tables.specs.Stands.{Stands}
+use Rattle.room_tables.specs.RoomsInTables.{Stands}
 use Rattle.room_store_writes.proofs.TransactionReads.{reads_commit}
 use Rattle.room_store_writes.specs.NewRoom.{put_all}
-use Rattle.dispatch_room_tasks.proofs.RenewalLemmas.{still_in_order}
+use Rattle.dispatch_room_tasks.proofs.PutRows.{still_in_order}
+use Rattle.room_tables_schema.specs.FileConnections.{IsClean}
 use Rattle.dispatch_room_tasks.proofs.replaced_terminals.replace_inside.Goals as goal
 
 pub returns-clause-ok : goal.returns-clause-ok
 returns-clause-ok g c clean =
     let old = state g.S.Store c.args.tx.now.conn.now in
     let new = state g.S.Store c.set_terminals.new.tx.conn.now in
-    let early : HasCleanDisk (state g.S.Store c.find_others.new.tx.conn.now) = omega
+    let early : IsClean g.S.Store c.find_others.new.tx.conn.now = omega
     (arith, c.set_terminals.ensures.commits.survives.clean) in
     let others = c.in_ok-others.others.items in
     let listed = c.args.listed.now in (

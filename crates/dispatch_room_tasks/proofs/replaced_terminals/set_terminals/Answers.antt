@@ -1,16 +1,15 @@
 use Rattle.std.proofs.Common.{arith}
 use Rattle.std.proofs.lemmas.Result.{on_ok_weaker}
-use Rattle.sqlite.specs.Held.{state}
-use Rattle.sqlite.specs.State.{HasCleanDisk}
 use Rattle.room_tables_schema.proofs.WriteLaws.{commits_more}
 use Rattle.room_store_writes.proofs.CommitLaws.{put_commits}
+use Rattle.room_tables_schema.specs.FileConnections.{IsClean}
 use Rattle.dispatch_room_tasks.proofs.replaced_terminals.set_terminals.Goals as goal
 
 pub returns-clause-stands : goal.returns-clause-stands
 returns-clause-stands g c clean =
-    let second : HasCleanDisk (state g.S.Store c.put_listed.new.tx.conn.now) = omega
+    let second : IsClean g.S.Store c.put_listed.new.tx.conn.now = omega
     (arith, c.put_listed-2.ensures.commits.survives.clean) in
-    let first : HasCleanDisk (state g.S.Store c.clear_terminals.new.tx.conn.now) = omega
+    let first : IsClean g.S.Store c.clear_terminals.new.tx.conn.now = omega
     (arith, second, c.put_listed.ensures.commits.survives.clean) in
     on_ok_weaker c.put_listed-2.result
     (λ put config room h.

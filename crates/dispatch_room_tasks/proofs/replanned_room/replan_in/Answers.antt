@@ -1,9 +1,8 @@
 use Rattle.std.proofs.Common.{arith, sym, ◌∙◌}
 use Rattle.std.proofs.lemmas.Result.{on_ok_weaker}
-use Rattle.sqlite.specs.Held.{state}
-use Rattle.sqlite.specs.State.{HasCleanDisk}
 use Rattle.room_store_writes.specs.Houses.{config_of}
 use Rattle.dispatch_room_tasks.proofs.ReplannedLemmas.{has_new_plan}
+use Rattle.room_tables_schema.specs.FileConnections.{IsClean}
 use Rattle.dispatch_room_tasks.proofs.replanned_room.replan_in.Goals as goal
 
 pub returns-in-Ok-clause-replanned : goal.returns-in-Ok-clause-replanned
@@ -15,7 +14,7 @@ returns-in-Ok-clause-replanned g c =
       opened = opened;
       rows = c.in-Ok.ensures.kept;
       replanned = λ clean.
-          let early : HasCleanDisk (state g.S.Store opened) = omega (arith, made.survives.clean) in
+          let early : IsClean g.S.Store opened = omega (arith, made.survives.clean) in
           on_ok_weaker c.replan_opened-done.result
           (λ all. has_new_plan _ _ c.in-Ok.plan c.args.file.now _ (c.in-Ok.ensures.room early) all)
           (made.replanned clean);

@@ -1,16 +1,16 @@
 use Rattle.std.proofs.Common.{ap, arith, subst, sym, ◌∙◌}
 use Rattle.sqlite.specs.Held.{state}
-use Rattle.sqlite.specs.State.{HasCleanDisk}
 use Rattle.room_model.specs.Room.{apply}
 use Rattle.room_tables_schema.proofs.WriteLaws.{commits_more}
 use Rattle.room_tables.proofs.RoomReads.{kept}
-use Rattle.room_tables.specs.Stands.{Stands}
+use Rattle.room_tables.specs.RoomsInTables.{Stands}
 use Rattle.room_store_writes.proofs.TransactionReads.{reads_commit}
 use Rattle.room_store_writes.specs.Houses.{config_of}
 use Rattle.room_store_writes.specs.NewRoom.{put_all}
-use Rattle.dispatch_room_tasks.proofs.RenewalLemmas.{still_in_order}
+use Rattle.dispatch_room_tasks.proofs.PutRows.{still_in_order}
 use Rattle.dispatch_room_tasks.specs.ReplacedTerminals.{kept_beside, replaced_by}
 use Rattle.dispatch_room_tasks.specs.ReplannedRoom.{additions}
+use Rattle.room_tables_schema.specs.FileConnections.{IsClean}
 use Rattle.dispatch_room_tasks.proofs.replanned_room.replan_inside.Goals as goal
 
 pub returns-clause-ok : goal.returns-clause-ok
@@ -18,9 +18,9 @@ returns-clause-ok g c clean =
     let new = state g.S.Store c.set_terminals.new.tx.conn.now in
     let plan = c.args.file.now.plan in
     let items = c.args.file.now.terminals.items in
-    let second : HasCleanDisk (state g.S.Store c.set_plan.new.tx.conn.now) = omega
+    let second : IsClean g.S.Store c.set_plan.new.tx.conn.now = omega
     (arith, c.set_terminals.ensures.commits.survives.clean) in
-    let first : HasCleanDisk (state g.S.Store c.find_others.new.tx.conn.now) = omega
+    let first : IsClean g.S.Store c.find_others.new.tx.conn.now = omega
     (arith, second, c.set_plan.ensures.commits.survives.clean) in
     let others = c.in_ok-others.others.items in (
       c.in_ok-set_terminals.ensures.inside,

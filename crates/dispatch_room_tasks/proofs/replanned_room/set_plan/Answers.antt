@@ -2,21 +2,21 @@ use Rattle.std.proofs.Common.{ap, arith, refl, ◌∙◌}
 use Rattle.std.proofs.lemmas.Result.{on_ok_weaker}
 use Rattle.std.specs.Prelude.{OnOk}
 use Rattle.sqlite.specs.Held.{state}
-use Rattle.sqlite.specs.State.{HasCleanDisk}
 use Rattle.room_model.specs.Room.{Room, apply}
 use Rattle.room_tables_schema.proofs.WriteLaws.{commits_more}
 use Rattle.room_store_writes.proofs.CommitLaws.{put_commits}
-use Rattle.room_tables.specs.Stands.{Configuration, Stands}
+use Rattle.room_tables.specs.RoomsInTables.{Configuration, Stands}
 use Rattle.dispatch_room_tasks.specs.ReplannedRoom.{additions}
+use Rattle.room_tables_schema.specs.FileConnections.{IsClean}
 use Rattle.dispatch_room_tasks.proofs.replanned_room.set_plan.Goals as goal
 
 pub returns-clause-stands : goal.returns-clause-stands
 returns-clause-stands g c clean =
-    let cleared : HasCleanDisk (state g.S.Store c.clear_areas.new.tx.conn.now) = omega
+    let cleared : IsClean g.S.Store c.clear_areas.new.tx.conn.now = omega
     (arith, c.put_areas.ensures.commits.survives.clean) in
-    let put : HasCleanDisk (state g.S.Store c.put_each.new.tx.conn.now) = omega
+    let put : IsClean g.S.Store c.put_each.new.tx.conn.now = omega
     (arith, cleared, c.clear_areas.ensures.writes.survives.clean) in
-    let named : HasCleanDisk (state g.S.Store c.put_meta.new.tx.conn.now) = omega
+    let named : IsClean g.S.Store c.put_meta.new.tx.conn.now = omega
     (arith, put, c.put_each.ensures.commits.survives.clean) in
     let old = state g.S.Store c.args.tx.now.conn.now in
     let new = state g.S.Store c.put_areas.new.tx.conn.now in

@@ -1,7 +1,7 @@
 use Rattle.std.proofs.Common.{◌∙◌, sym, ap, refl, [], inl, inr, append-nil, ◌≡◌, ◌||◌, Bool, true, false, Ok, Err}
 use Rattle.room_http_answers.specs.ReplyMessages.{fixed_bytes}
 use Rattle.room_http.specs.Arrivals.{is_head_only}
-use Rattle.room_http.specs.Kept.{Acts, Unmoved}
+use Rattle.room_http.specs.KeptMessages.{Acts, Unmoved}
 use Rattle.room_http.specs.declared.session.ServeEnd.TheVariants.{Closed, Unkept, WriteFault}
 use Rattle.room_http_messages.proofs.StreamLemmas.{Appends-none}
 use Rattle.room_http.proofs.KeptLemmas.{kept_all, kept_cut, kept_none, kept_part, kept_want, nothing_done}
@@ -41,7 +41,7 @@ returns-in-Ok-tell-clause-answers g c o shown =
           (g.M.Room.is_trusted c.reply.new.room → g.M.Room.is_kept c.args.room.now → g.M.Room.is_kept c.reply.new.room)
           (Unmoved (g.M.Room.is_trusted c.reply.new.room) (g.M.Room.stands c.args.room.now)
           (g.M.Room.stands c.reply.new.room))
-          (Acts g.M.Room.step c.args.setting.now (g.M.Room.is_trusted c.reply.new.room)
+          (Acts g.M.Room.step c.args.handler.now.setting (g.M.Room.is_trusted c.reply.new.room)
           (g.M.Room.stands c.args.room.now)
           (g.M.Room.stands c.reply.new.room)) c.args.arrived.now o shown c.in-Some.at c.in-Some.ensures.0 _ _
           c.in-Some.ensures.1 c.as_slice-text.result.now c.in-Ok.bytes.items c.as_slice-text.ensures.value
@@ -81,7 +81,7 @@ returns-in-Ok-clause-answers g c o shown =
           (g.M.Room.is_trusted c.reply.new.room → g.M.Room.is_kept c.args.room.now → g.M.Room.is_kept c.reply.new.room)
           (Unmoved (g.M.Room.is_trusted c.reply.new.room) (g.M.Room.stands c.args.room.now)
           (g.M.Room.stands c.reply.new.room))
-          (Acts g.M.Room.step c.args.setting.now (g.M.Room.is_trusted c.reply.new.room)
+          (Acts g.M.Room.step c.args.handler.now.setting (g.M.Room.is_trusted c.reply.new.room)
           (g.M.Room.stands c.args.room.now)
           (g.M.Room.stands c.reply.new.room)) c.args.arrived.now o shown c.in-Some.at c.in-Some.ensures.0 _ _
           c.in-Some.ensures.1 c.as_slice-text.result.now c.in-Ok.bytes.items c.as_slice-text.ensures.value
@@ -123,7 +123,7 @@ returns-clause-answers g c o shown =
           (g.M.Room.is_trusted c.reply.new.room → g.M.Room.is_kept c.args.room.now → g.M.Room.is_kept c.reply.new.room)
           (Unmoved (g.M.Room.is_trusted c.reply.new.room) (g.M.Room.stands c.args.room.now)
           (g.M.Room.stands c.reply.new.room))
-          (Acts g.M.Room.step c.args.setting.now (g.M.Room.is_trusted c.reply.new.room)
+          (Acts g.M.Room.step c.args.handler.now.setting (g.M.Room.is_trusted c.reply.new.room)
           (g.M.Room.stands c.args.room.now)
           (g.M.Room.stands c.reply.new.room)) c.args.arrived.now o shown c.in-Some.at c.in-Some.ensures.0 _ _
           c.in-Some.ensures.1 WriteFault _ _ _ _ _ r cut.0
@@ -162,7 +162,7 @@ returns-in-Ok-tell-2-clause-answers g c o shown =
           (g.M.Room.is_trusted c.reply.new.room → g.M.Room.is_kept c.args.room.now → g.M.Room.is_kept c.reply.new.room)
           (Unmoved (g.M.Room.is_trusted c.reply.new.room) (g.M.Room.stands c.args.room.now)
           (g.M.Room.stands c.reply.new.room))
-          (Acts g.M.Room.step c.args.setting.now (g.M.Room.is_trusted c.reply.new.room)
+          (Acts g.M.Room.step c.args.handler.now.setting (g.M.Room.is_trusted c.reply.new.room)
           (g.M.Room.stands c.args.room.now)
           (g.M.Room.stands c.reply.new.room)) c.args.arrived.now o shown c.in-Some.at c.in-Some.ensures.0 _ _
           c.in-Some.ensures.1 Closed _ _ _ _ _ r c.fixed.result.now
@@ -179,7 +179,7 @@ returns-in_default-clause-answers g c o shown = (
   0,
   (
     c.in_default.ensures,
-    Talks-none g.M.Room.step c.args.setting.now _ _ _ _
+    Talks-none g.M.Room.step c.args.handler.now.setting _ _ _ _
         (λ terminals room stood. (stood, λ was. g.met.M.Room.leaves_it _ terminals room was stood)),
   ),
   ((λ trust was. was), (λ trust terminals room stood. stood), nothing_done _ _ _ _ _ c.in_default.ensures),
@@ -191,12 +191,12 @@ returns-in-Err-clause-answers g c o shown = (
   (
     c.in-Some.ensures,
     now_failed _ _ c.in-Err.ensures.failed,
-    inl (Talks-none g.M.Room.step c.args.setting.now _ _ _ _
+    inl (Talks-none g.M.Room.step c.args.handler.now.setting _ _ _ _
         (λ terminals room stood. (stood, λ was. g.met.M.Room.leaves_it _ terminals room was stood))),
   ),
   kept_none g.N.Observer.came g.N.Observer.told
       (g.M.Room.is_trusted c.args.room.now → g.M.Room.is_kept c.args.room.now → g.M.Room.is_kept c.args.room.now) _
-      (Acts g.M.Room.step c.args.setting.now (g.M.Room.is_trusted c.args.room.now) (g.M.Room.stands c.args.room.now)
+      (Acts g.M.Room.step c.args.handler.now.setting (g.M.Room.is_trusted c.args.room.now) (g.M.Room.stands c.args.room.now)
       (g.M.Room.stands c.args.room.now)) c.args.arrived.now o shown c.in-Some.at c.in-Some.ensures.0 _ _
       c.in-Some.ensures.1
       _ _ _ (λ trust was. was) (λ trust terminals room stood. stood) c.in-Err.ensures.kept,
@@ -234,7 +234,7 @@ returns-in-Err-answering-clause-answers g c o shown = (
       (g.M.Room.is_trusted c.reply.new.room → g.M.Room.is_kept c.args.room.now → g.M.Room.is_kept c.reply.new.room)
       (Unmoved (g.M.Room.is_trusted c.reply.new.room) (g.M.Room.stands c.args.room.now)
       (g.M.Room.stands c.reply.new.room))
-      (Acts g.M.Room.step c.args.setting.now (g.M.Room.is_trusted c.reply.new.room) (g.M.Room.stands c.args.room.now)
+      (Acts g.M.Room.step c.args.handler.now.setting (g.M.Room.is_trusted c.reply.new.room) (g.M.Room.stands c.args.room.now)
       (g.M.Room.stands c.reply.new.room)) c.args.arrived.now o shown c.in-Some.at c.in-Some.ensures.0 _ _
       c.in-Some.ensures.1 c.as_slice-text.result.now c.in-Ok.bytes.items c.as_slice-text.ensures.value
       (λ trust terminals room stood. c.in-Ok.ensures.reply.says trust terminals room stood o shown)

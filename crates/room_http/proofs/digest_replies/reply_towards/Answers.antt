@@ -58,7 +58,7 @@ returns-in-Refused-clause-reply g c = record {
   says = λ trust terminals room stood. (
     stood,
     λ is elsewhere o shown.
-        stays_elsewhere g.M.Room.step c.args.setting.now
+        stays_elsewhere g.M.Room.step c.args.handler.now.setting
         (digits_of g.M.Digested.digest_of (g.M.Room.zone c.args.room.now))
         terminals room c.args.arrived.now c.in-Refused.refusal c.in-Refused.head_only c.args.at c.args.head.now o
         c.in-Refused.is shown elsewhere,
@@ -75,7 +75,7 @@ returns-in-Ok-clause-reply g c = record {
       let asks = c.in-Ok.ensures.event.says early terminals room stood in
       let still = c.event_of.ensures.event.same early terminals room stood in
       let asked = λ (o : Arrival) (shown : IsShown c.args.arrived.now o).
-      finds c.args.setting.now terminals c.args.arrived.now c.in-Message.message c.in-Message.bytes c.args.at
+      finds c.args.handler.now.setting terminals c.args.arrived.now c.in-Message.message c.in-Message.bytes c.args.at
       (Ok c.in-Ok.event) o c.in-Message.is shown asks.0 in
       says c.act_towards.result (c.act_towards.ensures.bytes trust)
       (rw c.event_of.ensures.zone at (c.act_towards.ensures.after trust))

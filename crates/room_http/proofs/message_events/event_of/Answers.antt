@@ -2,10 +2,11 @@ use Rattle.std.proofs.Common.{◌∙◌, sym}
 use Rattle.room_http.proofs.AskLemmas.{asks_for, request_addressed}
 use Rattle.room_http.proofs.message_events.event_of.Goals as goal
 
-pub returns-in-Ok-ask-clause-event : goal.returns-in-Ok-ask-clause-event
-returns-in-Ok-ask-clause-event g c =
+pub returns-in-Ok-ask_of-clause-event : goal.returns-in-Ok-ask_of-clause-event
+returns-in-Ok-ask_of-clause-event g c =
     let terminal = c.in-Ok-terminal.ensures.terminal in
-    let asks = c.in-Ok-ask.ensures in
+    let wants = c.in-Ok-ask_of.ensures in
+    let asks = c.ask_for.ensures in
     let may = (rw c.of.ensures at (sym c.is_of.ensures ∙ c.if-not-is_of.false)) in
     record {
       trusted = terminal.trusted;
@@ -13,12 +14,12 @@ returns-in-Ok-ask-clause-event g c =
       says = λ trust terminals room stood.
           let who = terminal.says trust terminals room stood in (
             λ m shown.
-                asks_for c.args.setting.now terminals m c.args.at _ _ _ _ c.in-Ok.target c.in-Ok-terminal.who asks.0
-                c.in-Ok-ask.ask
+                asks_for c.args.handler.now.setting terminals m c.args.at _ _ _ _ c.in-Ok.target c.in-Ok-terminal.who
+                c.in-Ok-ask_of.request c.ask_for.result
                 shown.method shown.target shown.content shown.terminal (sym c.route.ensures ∙ c.in-Ok.is) who.0 may
-                asks.1 asks.2,
-            request_addressed c.args.setting.now c.in-Ok.target _ asks.0 c.in-Ok-ask.ask c.in-Ok-terminal.who room
-                asks.1 asks.2 may who.1,
+                wants asks,
+            request_addressed c.args.handler.now.setting c.in-Ok.target _ c.in-Ok-ask_of.request c.ask_for.result
+                c.in-Ok-terminal.who room wants asks may who.1,
           );
       failed = λ is. absurd (cc);
     }

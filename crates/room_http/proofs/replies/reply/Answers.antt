@@ -58,7 +58,7 @@ returns-in-Refused-clause-reply g c = record {
   says = λ trust terminals room stood. if_told c.refused.result c.refused.ensures.ok
       (λ bytes says o shown. (
         room,
-        told g.M.Room.step c.args.setting.now terminals room c.args.arrived.now c.in-Refused.refusal
+        told g.M.Room.step c.args.handler.now.setting terminals room c.args.arrived.now c.in-Refused.refusal
             c.in-Refused.head_only _ _ c.args.at bytes.items o c.in-Refused.is shown
             (c.head_only-head_only.ensures o shown) (c.is_closing-closing.ensures o shown) says,
         stood,

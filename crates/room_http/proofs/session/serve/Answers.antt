@@ -1,4 +1,4 @@
-use Rattle.std.proofs.Common.{◌≡◌, ◌∙◌, ◌<◌, refl, arith, sym, length, ◌-◌, [], ◌∷◌, ◌++◌, None, false}
+use Rattle.std.proofs.Common.{◌≡◌, ◌∙◌, ◌<◌, ap, refl, arith, subst, sym, length, ◌-◌, ℕ, List, [], ◌∷◌, ◌++◌, None, false}
 use Rattle.std.specs.Prelude.{⊤}
 use Rattle.std.specs.Io.KnownBytes.{prepend_known}
 use Rattle.room_http.specs.declared.session.ServeEnd.TheVariants.{Closed, Memory}
@@ -8,8 +8,8 @@ use Rattle.room_http.proofs.KeptLemmas.{Noted-breaks, Noted-closes, Noted-ends, 
 use Rattle.room_http.proofs.ServeLemmas.{Going-ends, Going-none, Going-kept, Going-more, closes, ends}
 use Rattle.room_http.proofs.ServeLemmas.{ends_missing_none, stops, stops_missing_none}
 use Rattle.room_http.proofs.ServedLaws.{one_course}
-use Rattle.room_http.proofs.StreamLemmas.{CountsBy-none, Passes, Keeps-prepend, read_goes_on, read_passes, read_whole}
-use Rattle.room_http.proofs.StreamLemmas.{reads_by, shown_bounded}
+use Rattle.room_http.proofs.StreamLemmas.{CountsBy-none, Passes, Keeps-prepend, open_is_message, read_goes_on, read_passes}
+use Rattle.room_http.proofs.StreamLemmas.{read_whole, reads_by, shown_bounded}
 use Rattle.room_http.proofs.session.serve.Given.{Over}
 use Rattle.room_http.proofs.session.serve.Goals.{In-Ok-arrived}
 use Rattle.room_http.proofs.session.serve.Goals as goal
@@ -22,11 +22,11 @@ messages-init g c =
         [],
         [],
         Going-kept _ _ _ _ _ _ _ _ _ _ _
-            (Going-none g.M.Room.step c.args.setting.now _ _ _ _
+            (Going-none g.M.Room.step c.args.handler.now.setting _ _ _ _
             (λ terminals room standing. (standing, λ was. g.met.M.Room.leaves_it _ terminals room was standing)))
             (Keeps-prepend _ _ c.in-Ok.ensures),
         Noted-kept _ _ _ _ _ _ _ _ _ _ _ _ _ _
-            (Noted-none g.N.Observer.came g.N.Observer.told g.M.Room.step c.args.setting.now _ _ _ _)
+            (Noted-none g.N.Observer.came g.N.Observer.told g.M.Room.step c.args.handler.now.setting _ _ _ _)
             (Keeps-prepend _ _ c.in-Ok.ensures),
       );
       trusted = λ trust. trust;
@@ -154,18 +154,33 @@ pub returns-then-is_closing-clause-failed : goal.returns-then-is_closing-clause-
 returns-then-is_closing-clause-failed g c others =
     c.in_default-answer.ensures.failed (λ is. absurd (cc)) ∙ c.messages.invariant.unfailed
 
+-- what was refused has closed
 pub messages-preserved : goal.messages-preserved
 messages-preserved g c =
+    let shown = c.in-Ok-arrived.ensures.ok in
+    let open_ = open_is_message c.read_message-read.new.inbox c.read_message-read.result shown.0 shown.1
+    (sym (c.is_closing.ensures shown.0 shown.2) ∙ c.if-is_closing.false) in
+    absurd (c.in_default-read.not-Ok open_.0 open_.1)
+
+pub messages-smaller : goal.messages-smaller
+messages-smaller g c =
+    let shown = c.in-Ok-arrived.ensures.ok in
+    let open_ = open_is_message c.read_message-read.new.inbox c.read_message-read.result shown.0 shown.1
+    (sym (c.is_closing.ensures shown.0 shown.2) ∙ c.if-is_closing.false) in
+    absurd (c.in_default-read.not-Ok open_.0 open_.1)
+
+pub messages-preserved-in-Ok-read : goal.messages-preserved-in-Ok-read
+messages-preserved-in-Ok-read g c =
     let read = c.read_message-read in
     let kept = read.new.inbox in
     let left = g.R.Source.left read.new.reader in
     let shown = c.in-Ok-arrived.ensures.ok in
-    let passes = passed g (goal.at.messages-preserved g c).In-Ok-arrived in
+    let passes = passed g (goal.at.messages-preserved-in-Ok-read g c).In-Ok-arrived in
     let goes = sym (c.is_closing.ensures shown.0 shown.2) ∙ c.if-is_closing.false in
     let answers = c.in_default-answer.ensures.answers shown.0 shown.2 in
     let run = c.messages.invariant.run in
-    let after : Passes (prepend_known kept left) (prepend_known c.pass.new.inbox left) shown.0 = rw c.pass.ensures
-    passes in
+    let after = subst (λ (x : List ℕ). Passes (prepend_known kept left) (prepend_known x left) shown.0)
+    (ap (kept_after kept) c.in-Ok-read.is ∙ sym c.remove.ensures) passes in
     let new : Finish = record {
       reads = None;
       held = g.W.Sink.held c.answer.new.writer;
@@ -205,14 +220,15 @@ messages-preserved g c =
       unfailed = c.in_default-answer.ensures.failed (λ is. absurd (cc)) ∙ c.messages.invariant.unfailed;
     }
 
-pub messages-smaller : goal.messages-smaller
-messages-smaller g c =
+pub messages-smaller-in-Ok-read : goal.messages-smaller-in-Ok-read
+messages-smaller-in-Ok-read g c =
     let read = c.read_message-read in
     let shown = c.in-Ok-arrived.ensures.ok in
     let goes = sym (c.is_closing.ensures shown.0 shown.2) ∙ c.if-is_closing.false in
-    let fewer : length c.pass.new.inbox
+    let fewer : length c.remove.new.self
     < length read.new.inbox =
-    rw c.pass.ensures
+    subst (λ (x : List ℕ). length x < length read.new.inbox)
+    (ap (kept_after read.new.inbox) c.in-Ok-read.is ∙ sym c.remove.ensures)
     (read_goes_on read.new.inbox (g.R.Source.left read.new.reader) read.new.budget _ _ read.result shown.0
     read.ensures.says shown.1 goes).1 in
     omega (arith, fewer, read.ensures.read.room)
@@ -220,22 +236,11 @@ messages-smaller g c =
 -- nothing was read
 pub returns-in_default-clause-run : goal.returns-in_default-clause-run
 returns-in_default-clause-run g c =
-    let going = Going-none g.M.Room.step c.args.setting.now _ _ _ _
+    let going = Going-none g.M.Room.step c.args.handler.now.setting _ _ _ _
     (λ terminals room standing. (standing, λ was. g.met.M.Room.leaves_it _ terminals room was standing)) in
     one_course _ _ _ _ _ (Unit {0}) _ _ _ (g.met.M.Room.fits _) (record { outs = []; answers = []; last = None }) _ _
     c.args.budget Memory
     (refl, (refl, Going-ends _ _ _ _ _ _ _ _ _ _ _ _ _ _ _ _ (λ rest. ⊤) going (λ rest known. tt)), CountsBy-none _)
     (Noted-ends _ _ _ _ _ _ _ _ _ _ _ _ _
-    (Noted-none g.N.Observer.came g.N.Observer.told g.M.Room.step c.args.setting.now _ _ _ _) Memory _
-    (λ trust was. was))
-
-pub returns-in_default-new-clause-run : goal.returns-in_default-new-clause-run
-returns-in_default-new-clause-run g c =
-    let going = Going-none g.M.Room.step c.args.setting.now _ _ _ _
-    (λ terminals room standing. (standing, λ was. g.met.M.Room.leaves_it _ terminals room was standing)) in
-    one_course _ _ _ _ _ (Unit {0}) _ _ _ (g.met.M.Room.fits _) (record { outs = []; answers = []; last = None }) _ _
-    c.args.budget Memory
-    (refl, (refl, Going-ends _ _ _ _ _ _ _ _ _ _ _ _ _ _ _ _ (λ rest. ⊤) going (λ rest known. tt)), CountsBy-none _)
-    (Noted-ends _ _ _ _ _ _ _ _ _ _ _ _ _
-    (Noted-none g.N.Observer.came g.N.Observer.told g.M.Room.step c.args.setting.now _ _ _ _) Memory _
+    (Noted-none g.N.Observer.came g.N.Observer.told g.M.Room.step c.args.handler.now.setting _ _ _ _) Memory _
     (λ trust was. was))

@@ -58,8 +58,8 @@ returns-in-Ok-2 c =
       method = refl;
       target = refl;
       content = refl;
-      terminal = c.only_field.ensures.value;
-      terminal_in = c.only_field.ensures.within;
+      terminal = c.only.ensures.value _ _ c.find_field.ensures;
+      terminal_in = c.only.ensures.within _ _ c.find_field.ensures;
       head_only = search rules;
       closing = c.is_closing.ensures;
     })

@@ -1,27 +1,26 @@
 use Rattle.std.proofs.Common.{arith, subst, ◌∙◌}
-use Rattle.sqlite.specs.Held.{state}
-use Rattle.sqlite.specs.State.{HasCleanDisk}
 use Rattle.room_model.specs.Room.{apply}
 use Rattle.room_store_cache.specs.Cache.{IsCacheOf}
 use Rattle.room_store.proofs.ActLaws.{acted, acted_survives}
 use Rattle.room_store.proofs.LookLaws.{left_failed, left_later, outside, room_read, settled_read, survives_more}
+use Rattle.room_tables_schema.specs.FileConnections.{IsClean}
 use Rattle.room_store.proofs.acted_events.act_on.Goals as goal
 
 pub returns-clause-bytes : goal.returns-clause-bytes
 returns-clause-bytes g c clean config room h =
-    let early : HasCleanDisk (state g.S.Store c.prepare.new.conn) = omega (arith, c.write.ensures.survives.clean) in
+    let early : IsClean g.S.Store c.prepare.new.conn = omega (arith, c.write.ensures.survives.clean) in
     c.in-Ok.ensures.bytes early config room h
 
 pub returns-clause-ok : goal.returns-clause-ok
 returns-clause-ok g c clean =
-    let early : HasCleanDisk (state g.S.Store c.prepare.new.conn) = omega (arith, c.write.ensures.survives.clean) in
+    let early : IsClean g.S.Store c.prepare.new.conn = omega (arith, c.write.ensures.survives.clean) in
     acted _ _ _ c.args.plan.now c.args.cache.now c.args.event.now c.as_slice.result.now c.in-Ok.ensures.reads.ok
     (λ sound config room h. c.as_slice.ensures ∙ c.in-Ok.ensures.changes sound config room h) early
     (c.in_default.ensures.ok clean)
 
 pub returns-clause-cache : goal.returns-clause-cache
 returns-clause-cache g c clean config room h =
-    let early : HasCleanDisk (state g.S.Store c.prepare.new.conn) = omega (arith, c.write.ensures.survives.clean) in
+    let early : IsClean g.S.Store c.prepare.new.conn = omega (arith, c.write.ensures.survives.clean) in
     let known = c.in-Ok.ensures.cache early config room h in
     let same = c.as_slice-2.ensures ∙ c.in-Ok.ensures.changes early config room h in
     subst (λ changes. IsCacheOf c.apply.new.self (apply room changes)) same (c.apply.ensures room h.formed.order known)
@@ -73,7 +72,7 @@ write-requires-clause-settled g c =
 
 pub returns-in-Err-write-clause-err : goal.returns-in-Err-write-clause-err
 returns-in-Err-write-clause-err g c clean =
-    let early : HasCleanDisk (state g.S.Store c.prepare.new.conn) = omega (arith, c.write.ensures.survives.clean) in
+    let early : IsClean g.S.Store c.prepare.new.conn = omega (arith, c.write.ensures.survives.clean) in
     left_later _ _ _ (c.in-Ok.ensures.reads.ok early) (c.in-Err-write.ensures.err clean)
 
 pub returns-in-Err-write-clause-ended : goal.returns-in-Err-write-clause-ended

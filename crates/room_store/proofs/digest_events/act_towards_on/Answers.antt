@@ -1,6 +1,4 @@
 use Rattle.std.proofs.Common.{arith, inr, refl, subst, sym, ◌∙◌}
-use Rattle.sqlite.specs.Held.{state}
-use Rattle.sqlite.specs.State.{HasCleanDisk}
 use Rattle.room_model.specs.Room.{apply}
 use Rattle.room_store_cache.specs.Cache.{IsCacheOf}
 use Rattle.room_store.proofs.ActLaws.{acted, acted_survives, missed, reached}
@@ -8,17 +6,18 @@ use Rattle.room_store.proofs.LookLaws.{left_failed, left_later, outside, room_re
 use Rattle.room_model.specs.Digests.{IsMiss}
 use Rattle.room_store_writes.proofs.CommitLaws.{ok_then}
 use Rattle.room_store.proofs.Misses.{miss_is, reaches_weaker, told_another}
+use Rattle.room_tables_schema.specs.FileConnections.{IsClean}
 use Rattle.room_store.proofs.digest_events.act_towards_on.Goals as goal
 
 pub returns-clause-bytes : goal.returns-clause-bytes
 returns-clause-bytes g c clean config room h =
-    let early : HasCleanDisk (state g.S.Store c.prepare.new.conn) = omega
+    let early : IsClean g.S.Store c.prepare.new.conn = omega
     (arith, c.write_towards.ensures.survives.clean) in
     c.in-Ok.ensures.bytes early config room h
 
 pub returns-clause-ok : goal.returns-clause-ok
 returns-clause-ok g c clean =
-    let early : HasCleanDisk (state g.S.Store c.prepare.new.conn) = omega
+    let early : IsClean g.S.Store c.prepare.new.conn = omega
     (arith, c.write_towards.ensures.survives.clean) in
     acted _ _ _ c.args.plan.now c.args.cache.now c.args.event.now c.as_slice.result.now c.in-Ok.ensures.reads.ok
     (λ sound config room h. c.as_slice.ensures ∙ c.in-Ok.ensures.changes sound config room h) early
@@ -26,7 +25,7 @@ returns-clause-ok g c clean =
 
 pub returns-clause-cache : goal.returns-clause-cache
 returns-clause-cache g c clean config room h =
-    let early : HasCleanDisk (state g.S.Store c.prepare.new.conn) = omega
+    let early : IsClean g.S.Store c.prepare.new.conn = omega
     (arith, c.write_towards.ensures.survives.clean) in
     let known = c.in-Ok.ensures.cache early config room h in
     let same = c.as_slice-2.ensures ∙ c.in-Ok.ensures.changes early config room h in
@@ -81,7 +80,7 @@ write_towards-requires-clause-settled g c =
 
 pub returns-in-Err-write_towards-clause-err : goal.returns-in-Err-write_towards-clause-err
 returns-in-Err-write_towards-clause-err g c clean =
-    let early : HasCleanDisk (state g.S.Store c.prepare.new.conn) = omega
+    let early : IsClean g.S.Store c.prepare.new.conn = omega
     (arith, c.write_towards.ensures.survives.clean) in
     left_later _ _ _ (c.in-Ok.ensures.reads.ok early) (c.in-Err-write_towards.ensures.err clean)
 
@@ -93,7 +92,7 @@ returns-clause-ended g c = c.write_towards.ensures.ended
 
 pub returns-clause-reaches : goal.returns-clause-reaches
 returns-clause-reaches g c clean config room h =
-    let early : HasCleanDisk (state g.S.Store c.prepare.new.conn) = omega
+    let early : IsClean g.S.Store c.prepare.new.conn = omega
     (arith, c.write_towards.ensures.survives.clean) in
     reached _ _ c.args.plan.now c.args.cache.now c.args.event.now c.as_slice.result.now c.args.head.now
     c.in-Ok.ensures.reads.ok
@@ -102,7 +101,7 @@ returns-clause-reaches g c clean config room h =
 
 pub returns-in-Err-write_towards-clause-another : goal.returns-in-Err-write_towards-clause-another
 returns-in-Err-write_towards-clause-another g c clean is config room h =
-    let early : HasCleanDisk (state g.S.Store c.prepare.new.conn) = omega
+    let early : IsClean g.S.Store c.prepare.new.conn = omega
     (arith, c.write_towards.ensures.survives.clean) in
     missed _ _ c.args.plan.now c.args.cache.now c.args.event.now c.as_slice.result.now c.args.head.now
     c.in-Ok.ensures.reads.ok

@@ -1,11 +1,10 @@
 use Rattle.std.proofs.Common.{arith, refl}
 use Rattle.std.proofs.lemmas.Result.{IfOk-weaker}
-use Rattle.sqlite.specs.Held.{state}
-use Rattle.sqlite.specs.State.{HasCleanDisk}
 use Rattle.room_tables_schema.proofs.ReadLaws.{fails, looked, then_any, wants}
 use Rattle.room_tables.proofs.RoomReads.{kept}
 use Rattle.room_store.proofs.Wants.{all_known, failed, filled, still_known, unsaid}
 use Rattle.room_store.specs.EventDecisions.{unless_out_of_memory}
+use Rattle.room_tables_schema.specs.FileConnections.{IsClean}
 use Rattle.room_store.proofs.event_decisions.decide.Goals as goal
 
 pub for_desk-requires-clause-open : goal.for_desk-requires-clause-open
@@ -16,7 +15,7 @@ for_crew-requires-clause-open g c clean = (c.in-Ok.ensures.reads.ok clean).0.is_
 
 pub returns-in-Desk-clause-decided : goal.returns-in-Desk-clause-decided
 returns-in-Desk-clause-decided g c clean =
-    let first : HasCleanDisk (state g.S.Store c.fill.new.conn) = omega
+    let first : IsClean g.S.Store c.fill.new.conn = omega
     (arith, c.for_desk.ensures.reads.survives.clean) in
     IfOk-weaker (unless_out_of_memory c.for_desk.result) _ _ (λ x told config room h.
     let fleet = c.in-Ok.ensures.known first config room h.stands h.cache.fleet in
@@ -25,7 +24,7 @@ returns-in-Desk-clause-decided g c clean =
 
 pub returns-in-Desk-clause-cache : goal.returns-in-Desk-clause-cache
 returns-in-Desk-clause-cache g c clean =
-    let first : HasCleanDisk (state g.S.Store c.fill.new.conn) = omega
+    let first : IsClean g.S.Store c.fill.new.conn = omega
     (arith, c.for_desk.ensures.reads.survives.clean) in
     IfOk-weaker (unless_out_of_memory c.for_desk.result) _ _ (λ x known config room h.
     let fleet = c.in-Ok.ensures.known first config room h.stands h.cache.fleet in
@@ -39,7 +38,7 @@ returns-in-Desk-clause-reads g c =
 
 pub returns-in-Crew-clause-decided : goal.returns-in-Crew-clause-decided
 returns-in-Crew-clause-decided g c clean =
-    let first : HasCleanDisk (state g.S.Store c.fill.new.conn) = omega
+    let first : IsClean g.S.Store c.fill.new.conn = omega
     (arith, c.for_crew.ensures.reads.survives.clean) in
     IfOk-weaker (unless_out_of_memory c.for_crew.result) _ _ (λ x told config room h.
     let fleet = c.in-Ok.ensures.known first config room h.stands h.cache.fleet in
@@ -48,7 +47,7 @@ returns-in-Crew-clause-decided g c clean =
 
 pub returns-in-Crew-clause-cache : goal.returns-in-Crew-clause-cache
 returns-in-Crew-clause-cache g c clean =
-    let first : HasCleanDisk (state g.S.Store c.fill.new.conn) = omega
+    let first : IsClean g.S.Store c.fill.new.conn = omega
     (arith, c.for_crew.ensures.reads.survives.clean) in
     IfOk-weaker (unless_out_of_memory c.for_crew.result) _ _ (λ x known config room h.
     let fleet = c.in-Ok.ensures.known first config room h.stands h.cache.fleet in
@@ -61,7 +60,7 @@ returns-in-Crew-clause-reads g c =
 
 pub returns-in-Call-clause-decided : goal.returns-in-Call-clause-decided
 returns-in-Call-clause-decided g c clean =
-    let first : HasCleanDisk (state g.S.Store c.fill.new.conn) = omega
+    let first : IsClean g.S.Store c.fill.new.conn = omega
     (arith, c.for_call.ensures.reads.survives.clean) in
     IfOk-weaker (unless_out_of_memory c.for_call.result) _ _ (λ x told config room h.
     let fleet = c.in-Ok.ensures.known first config room h.stands h.cache.fleet in
@@ -70,7 +69,7 @@ returns-in-Call-clause-decided g c clean =
 
 pub returns-in-Call-clause-cache : goal.returns-in-Call-clause-cache
 returns-in-Call-clause-cache g c clean =
-    let first : HasCleanDisk (state g.S.Store c.fill.new.conn) = omega
+    let first : IsClean g.S.Store c.fill.new.conn = omega
     (arith, c.for_call.ensures.reads.survives.clean) in
     IfOk-weaker (unless_out_of_memory c.for_call.result) _ _ (λ x now config room h.
     let fleet = c.in-Ok.ensures.known first config room h.stands h.cache.fleet in
@@ -83,7 +82,7 @@ returns-in-Call-clause-reads g c =
 
 pub returns-in-Last-clause-decided : goal.returns-in-Last-clause-decided
 returns-in-Last-clause-decided g c clean =
-    let first : HasCleanDisk (state g.S.Store c.fill.new.conn) = omega
+    let first : IsClean g.S.Store c.fill.new.conn = omega
     (arith, c.for_last.ensures.reads.survives.clean) in
     IfOk-weaker (unless_out_of_memory c.for_last.result) _ _ (λ x told config room h.
     rw (c.in-Position.is, c.in-Last.is)
@@ -92,7 +91,7 @@ returns-in-Last-clause-decided g c clean =
 
 pub returns-in-Last-clause-cache : goal.returns-in-Last-clause-cache
 returns-in-Last-clause-cache g c clean =
-    let first : HasCleanDisk (state g.S.Store c.fill.new.conn) = omega
+    let first : IsClean g.S.Store c.fill.new.conn = omega
     (arith, c.for_last.ensures.reads.survives.clean) in
     IfOk-weaker (unless_out_of_memory c.for_last.result) _ _ (λ x told config room h.
     filled _ (c.in-Ok.ensures.known first config room h.stands h.cache.fleet) h.cache)

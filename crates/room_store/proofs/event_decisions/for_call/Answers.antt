@@ -1,13 +1,12 @@
 use Rattle.std.proofs.Common.{arith, inl, refl}
 use Rattle.std.proofs.lemmas.Result.{IfOk-weaker}
-use Rattle.sqlite.specs.Held.{state}
-use Rattle.sqlite.specs.State.{HasCleanDisk}
 use Rattle.room_model.specs.Step.{decided}
 use Rattle.room_tables_schema.proofs.ReadLaws.{and, but, fails, looked, told, told_any}
 use Rattle.room_store.proofs.CallReads.{is_new, nowhere, placed_in, told_again}
 use Rattle.room_store.proofs.Wants.{all_known, failed, machines, says, still_known, unsaid}
 use Rattle.room_store.specs.EventDecisions.{unless_out_of_memory}
 use Rattle.room_tables.proofs.RoomReads.{kept}
+use Rattle.room_tables_schema.specs.FileConnections.{IsClean}
 use Rattle.room_store.proofs.event_decisions.for_call.Goals as goal
 
 pub returns-in-Some-clause-decided : goal.returns-in-Some-clause-decided
@@ -34,43 +33,43 @@ returns-in_default-division_of-clause-decided g c clean config room h formed pla
 pub returns-in_default-division_of-clause-reads : goal.returns-in_default-division_of-clause-reads
 returns-in_default-division_of-clause-reads g c = told (looked c.in-Ok.ensures.reads)
 
-pub load_slice-requires-clause-open : goal.load_slice-requires-clause-open
-load_slice-requires-clause-open g c clean = (c.in-Ok.ensures.reads.ok clean).0.is_open
+pub load_working-requires-clause-open : goal.load_working-requires-clause-open
+load_working-requires-clause-open g c clean = (c.in-Ok.ensures.reads.ok clean).0.is_open
 
 pub returns-clause-decided : goal.returns-clause-decided
 returns-clause-decided g c clean =
-    let first : HasCleanDisk (state g.S.Store c.row_at.new.conn) = omega
-    (arith, c.load_slice.ensures.reads.survives.clean) in
+    let first : IsClean g.S.Store c.row_at.new.conn = omega
+    (arith, c.load_working.ensures.reads.survives.clean) in
     IfOk-weaker (unless_out_of_memory c.decide_call-decision.result) _ _
     (λ x told config room h formed planned who ask fleet is.
     let p = c.args.position in
     let f = c.args.form.now in
     let areas = c.args.plan.now.areas in
     let row = c.in-Ok.ensures.row first config room h in
-    let rows = c.in-Ok-load_slice.ensures.rows clean config room
-    (kept _ _ (c.in-Ok.ensures.reads.ok first) config room h) formed (all_known fleet is) in
+    let rows = c.in-Ok-load_working.ensures.rows clean config room
+    (kept _ _ (c.in-Ok.ensures.reads.ok first) config room h) formed.order (all_known fleet is) in
     let new = is_new c.args.event.now p f areas room planned who ask c.in-Ok.found row c.division_of.result
     c.division_of.ensures.value c.in_default.is in
     let placed = placed_in c.args.event.now p f areas room planned who ask c.in-Ok.found row c.division_of.result
     c.division_of.ensures.value c.in-Some-division_of.division c.in-Some-division_of.is in
-    let decides = rw (c.new_call-call.ensures, c.in-Ok-load_slice.ensures.division) at
+    let decides = rw (c.new_call-call.ensures, c.in-Ok-load_working.ensures.division) at
     c.decide_call-decision.ensures.decides room f formed in
     told (decided c.args.event.now room) (rw (who, ask) (decides refl new placed (inl (rw ask at rows)))))
     (machines c.decide_call-decision.result)
 
 pub returns-clause-cache : goal.returns-clause-cache
 returns-clause-cache g c clean =
-    let first : HasCleanDisk (state g.S.Store c.row_at.new.conn) = omega
-    (arith, c.load_slice.ensures.reads.survives.clean) in
+    let first : IsClean g.S.Store c.row_at.new.conn = omega
+    (arith, c.load_working.ensures.reads.survives.clean) in
     says c.decide_call-decision.result _ (λ config room h formed ask fleet is.
     still_known fleet
-    (c.in-Ok-load_slice.ensures.known clean config room (kept _ _ (c.in-Ok.ensures.reads.ok first) config room h) formed
-    (all_known fleet is)) c.load_slice.ensures.fleet)
+    (c.in-Ok-load_working.ensures.known clean config room (kept _ _ (c.in-Ok.ensures.reads.ok first) config room h)
+    formed.order (all_known fleet is)) c.load_working.ensures.fleet)
 
 pub returns-clause-reads : goal.returns-clause-reads
 returns-clause-reads g c =
     told_any (unless_out_of_memory c.decide_call-decision.result)
-    (and (looked c.in-Ok.ensures.reads) c.in-Ok-load_slice.ensures.reads)
+    (and (looked c.in-Ok.ensures.reads) c.in-Ok-load_working.ensures.reads)
 
 pub returns-in-Err-clause-decided : goal.returns-in-Err-clause-decided
 returns-in-Err-clause-decided g c clean = unsaid c.in-Err.fault c.refusal_of.ensures _
@@ -81,15 +80,15 @@ returns-in-Err-clause-cache g c clean = unsaid c.in-Err.fault c.refusal_of.ensur
 pub returns-in-Err-clause-reads : goal.returns-in-Err-clause-reads
 returns-in-Err-clause-reads g c = fails (failed c.in-Err.fault c.refusal_of.ensures) c.in-Err.ensures.reads
 
-pub returns-in-Err-load_slice-clause-decided : goal.returns-in-Err-load_slice-clause-decided
-returns-in-Err-load_slice-clause-decided g c clean =
-    unsaid c.in-Err-load_slice.fault c.refusal_of-in-Err-load_slice.ensures _
+pub returns-in-Err-load_working-clause-decided : goal.returns-in-Err-load_working-clause-decided
+returns-in-Err-load_working-clause-decided g c clean =
+    unsaid c.in-Err-load_working.fault c.refusal_of-in-Err-load_working.ensures _
 
-pub returns-in-Err-load_slice-clause-cache : goal.returns-in-Err-load_slice-clause-cache
-returns-in-Err-load_slice-clause-cache g c clean =
-    unsaid c.in-Err-load_slice.fault c.refusal_of-in-Err-load_slice.ensures _
+pub returns-in-Err-load_working-clause-cache : goal.returns-in-Err-load_working-clause-cache
+returns-in-Err-load_working-clause-cache g c clean =
+    unsaid c.in-Err-load_working.fault c.refusal_of-in-Err-load_working.ensures _
 
-pub returns-in-Err-load_slice-clause-reads : goal.returns-in-Err-load_slice-clause-reads
-returns-in-Err-load_slice-clause-reads g c =
-    but (looked c.in-Ok.ensures.reads) (failed c.in-Err-load_slice.fault c.refusal_of-in-Err-load_slice.ensures)
-    c.in-Err-load_slice.ensures.reads
+pub returns-in-Err-load_working-clause-reads : goal.returns-in-Err-load_working-clause-reads
+returns-in-Err-load_working-clause-reads g c =
+    but (looked c.in-Ok.ensures.reads) (failed c.in-Err-load_working.fault c.refusal_of-in-Err-load_working.ensures)
+    c.in-Err-load_working.ensures.reads

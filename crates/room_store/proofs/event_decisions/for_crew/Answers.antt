@@ -1,6 +1,6 @@
 use Rattle.std.proofs.Common.{Some, ap, refl, sym, ◌∙◌, ◌≡◌}
 use Rattle.std.proofs.lemmas.Result.{IfOk-weaker}
-use Rattle.room_types_keyed.specs.Keyed.{row_at}
+use Rattle.room_types_keyed.specs.KeyedRows.{row_at}
 use Rattle.room_types.specs.Keys.{assignment_key, callsign_cmp, vehicle_key}
 use Rattle.room_model.specs.Queries.{assignment_at, vehicle_at}
 use Rattle.room_tables_schema.proofs.ReadLaws.{begins, told, wants}

@@ -9,7 +9,7 @@ use Rattle.room_store.proofs.event_decisions.for_desk.Goals as goal
 pub returns-clause-decided : goal.returns-clause-decided
 returns-clause-decided g c clean =
     IfOk-weaker (unless_out_of_memory c.decide_desk-decision.result) _ _ (λ x told config room h formed planned known.
-    let rows = c.in-Ok.ensures.rows clean config room h formed known in
+    let rows = c.in-Ok.ensures.rows clean config room h formed.order known in
     let decides = rw c.in-Ok.ensures.division at c.decide_desk-decision.ensures.decides room formed planned in
     told (desk_asks c.args.division c.args.event.now.ask c.args.event.now.at room) (decides (inl rows)))
     (machines c.decide_desk-decision.result)
@@ -17,7 +17,7 @@ returns-clause-decided g c clean =
 pub returns-clause-known : goal.returns-clause-known
 returns-clause-known g c clean =
     says c.decide_desk-decision.result _
-    (λ config room h formed known. c.in-Ok.ensures.known clean config room h formed known)
+    (λ config room h formed known. c.in-Ok.ensures.known clean config room h formed.order known)
 
 pub returns-clause-reads : goal.returns-clause-reads
 returns-clause-reads g c = told_any (unless_out_of_memory c.decide_desk-decision.result) (looked c.in-Ok.ensures.reads)

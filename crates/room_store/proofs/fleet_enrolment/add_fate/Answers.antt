@@ -1,15 +1,15 @@
 use Rattle.std.proofs.Common.{arith}
 use Rattle.sqlite.specs.Held.{state}
-use Rattle.sqlite.specs.State.{HasCleanDisk}
 use Rattle.room_tables_schema.proofs.ReadLaws.{any_err}
 use Rattle.room_store.proofs.EnrolledLaws.{row_enrolled, row_survives}
 use Rattle.room_store.proofs.LookLaws.{left_failed, left_later, left_unchanged, outside, room_read, settled_read}
 use Rattle.room_store.proofs.LookLaws.{survives_more}
+use Rattle.room_tables_schema.specs.FileConnections.{IsClean}
 use Rattle.room_store.proofs.fleet_enrolment.add_fate.Goals as goal
 
 pub returns-in-Ok-clause-ok : goal.returns-in-Ok-clause-ok
 returns-in-Ok-clause-ok g c clean =
-    let early : HasCleanDisk (state g.S.Store c.find_fate.new.conn) = omega (arith, c.write.ensures.survives.clean) in
+    let early : IsClean g.S.Store c.find_fate.new.conn = omega (arith, c.write.ensures.survives.clean) in
     row_enrolled _ _ _ c.args.plan.now c.args.row.now c.in_ok-fate.fate c.in_ok-fate.ensures.reads.ok
     c.in_ok-fate.ensures.fate early (c.in-Ok.ensures.ok clean)
 
@@ -61,5 +61,5 @@ write-requires-clause-settled g c =
 
 pub returns-in-Err-clause-err : goal.returns-in-Err-clause-err
 returns-in-Err-clause-err g c clean =
-    let early : HasCleanDisk (state g.S.Store c.find_fate.new.conn) = omega (arith, c.write.ensures.survives.clean) in
+    let early : IsClean g.S.Store c.find_fate.new.conn = omega (arith, c.write.ensures.survives.clean) in
     left_later _ _ _ (c.in_ok-fate.ensures.reads.ok early) (c.in-Err.ensures.err clean)

@@ -1,14 +1,13 @@
 use Rattle.std.proofs.Common.{arith, false, refl, sym, true, ◌∙◌, ◌≡◌}
-use Rattle.sqlite.specs.Held.{state}
-use Rattle.sqlite.specs.State.{HasCleanDisk}
 use Rattle.room_place.specs.Plans.{has_division}
 use Rattle.room_tables.proofs.RoomReads.{kept}
 use Rattle.room_tables_schema.proofs.ReadLaws.{and, but, fails, looked, told}
+use Rattle.room_tables_schema.specs.FileConnections.{IsClean}
 use Rattle.room_store.proofs.fleet_enrolment.find_fate.Goals as goal
 
 pub returns-then-has-clause-fate : goal.returns-then-has-clause-fate
 returns-then-has-clause-fate g c clean config room h =
-    let early : HasCleanDisk (state g.S.Store c.row_at.new.conn) = omega
+    let early : IsClean g.S.Store c.row_at.new.conn = omega
     (arith, c.terminal_at.ensures.reads.survives.clean) in
     let vehicle = c.in_ok-vehicle.ensures.row early config room h.stands in
     let terminal = c.in_ok-terminal.ensures.row clean config room

@@ -10,6 +10,7 @@ use Rattle.room_store.proofs.LookLaws.{left_then, survives_read}
 use Rattle.room_store.proofs.StoreLaws.{kept_stands, looked_left, ready_schema, room_left, settled_kept}
 use Rattle.room_store.proofs.store_digest.digest_of_room.Given.{Over}
 use Rattle.room_store.proofs.store_digest.digest_of_room.Goals.{After-told}
+use Rattle.room_tables_schema.specs.FileConnections.{IsClean}
 use Rattle.room_store.proofs.store_digest.digest_of_room.Goals as goal
 
 -- what is reported of what was read, where it is open
@@ -20,7 +21,7 @@ through (Ok x) (Ok y) is p open_ f = let same : y ≡ x = cc in f x (rw same at 
 through (Ok x) (Err e) is p open_ f = absurd (cc)
 through (Err e) from is p open_ f = tt
 
-left : (g : Over) (c : After-told g) → HasCleanDisk (state g.S.Store c.test_file.new.self.conn)
+left : (g : Over) (c : After-told g) → IsClean g.S.Store c.test_file.new.self.conn
     → Leaves (state g.S.Store c.args.store.now.conn) (state g.S.Store c.test_file.new.self.conn)
 left g c clean =
     let early : HasCleanDisk (state g.S.Store c.digest_in-digest.new.conn) = omega

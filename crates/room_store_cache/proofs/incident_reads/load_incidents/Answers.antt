@@ -19,7 +19,7 @@ returns-in-Nothing-clause-reads g c = told (begins c.requires.open)
 pub returns-in-Some-clause-rows : goal.returns-in-Some-clause-rows
 returns-in-Some-clause-rows g c clean =
     IfOk-weaker c.own_rows.result _ _ (λ x own config room h in_order are.
-    let kept = rw c.in-Some.is at c.get.ensures.so room are.backlogs in
+    let kept = rw c.in-Some.is at c.get.ensures.so room are.queue_views in
     let incidents = rw kept.0 at kept.1.incidents in
     rw c.in-Active.is
     (rw incidents at own ∙ filter_owned (λ i. i.division == c.args.division) (λ i. is_active i.state) room.incidents))

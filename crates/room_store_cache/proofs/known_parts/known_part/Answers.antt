@@ -19,7 +19,7 @@ unfolding incident_of
 returns-clause-part c =
     IfOk-weaker c.kept_part.result _ _ (λ part of_list room at in_order are shown.
     let d = c.args.division in
-    let list = rw c.in-Some.is at c.get.ensures room are in
+    let list = rw c.in-Some.is at c.get.ensures.so room are in
     let kept = rw list.0 at of_list in
     let all = rw list.0 at list.1 in
     let known = is_among d c.in-Some.list.now.incidents in

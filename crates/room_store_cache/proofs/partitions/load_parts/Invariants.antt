@@ -1,12 +1,12 @@
 use Rattle.std.proofs.Common.{Bool, take, ◌≡◌, ◌||◌}
 use Rattle.std.specs.Prelude.{filter}
 use Rattle.sqlite.specs.Held.{state}
-use Rattle.sqlite.specs.State.{HasCleanDisk}
 use Rattle.room_model.specs.Room.{Room}
-use Rattle.room_tables.specs.Stands.{Configuration, Stands}
+use Rattle.room_tables.specs.RoomsInTables.{Configuration, Stands}
 use Rattle.room_tables_schema.proofs.ReadLaws.{Looked}
-use Rattle.room_types_keyed.specs.Keyed.{IsKeyed}
+use Rattle.room_types_keyed.specs.KeyedRows.{IsKeyed}
 use Rattle.room_store_cache.specs.Partitions.{AreKnown, any}
+use Rattle.room_tables_schema.specs.FileConnections.{IsClean}
 use Rattle.room_store_cache.proofs.partitions.load_parts.Given as goal
 
 abbrev pub invariant-loop-part : goal.invariant-loop-part
@@ -15,7 +15,7 @@ invariant-loop-part g l =
     let seen = take l.part-index l.parts in
     record {
       looked : Looked g.S.Store l.fn.conn l.conn;
-      rows : HasCleanDisk (state g.S.Store l.conn) → (config : Configuration) (room : Room)
+      rows : IsClean g.S.Store l.conn → (config : Configuration) (room : Room)
           → Stands (state g.S.Store l.fn.conn).now.trees config room
           → (first : g.row.R.Denot → Bool) → AreKnown l.known room → IsKeyed g.R.Key.Ord.cmp g.R.Row.key_of (table room)
           → l.fn.rows ≡ filter first (table room)

@@ -26,4 +26,8 @@ returns-clause-rows c room ask in_order are selects = record {
   offers =
       (rw are.offers at c.in_ok-part_of-6.ensures.rows) in_order.offers
       ∙ filter_own _ _ _ room.offers (λ o own. sym (selects.offers o.callsign));
+  incidents = c.new.ensures;
+  calls = c.new-2.ensures;
+  turns = c.new-3.ensures;
+  reports = c.new-4.ensures;
 }

@@ -2,7 +2,7 @@ use Rattle.std.proofs.Common.{ap, refl, sym, ◌∙◌, ◌≡◌}
 use Rattle.std.proofs.lemmas.Result.{IfOk-weaker}
 use Rattle.room_types.specs.Keys.{owns_turn}
 use Rattle.room_model.specs.Queries.{held}
-use Rattle.room_model.specs.Working.{is_last_turn}
+use Rattle.room_model.specs.WorkingRows.{is_last_turn}
 use Rattle.room_tables_schema.proofs.ReadLaws.{begins, told}
 use Rattle.room_store_cache.proofs.Filters.{filter_never, filter_own}
 use Rattle.room_store_cache.proofs.working_rows.last_turn.Goals as goal

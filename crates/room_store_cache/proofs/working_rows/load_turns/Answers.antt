@@ -2,7 +2,7 @@ use Rattle.std.proofs.Common.{ap, false, refl, sym, ◌&&◌, ◌∙◌, ◌≡�
 use Rattle.std.proofs.lemmas.Result.{IfOk-weaker}
 use Rattle.std.specs.Prelude.{◌==◌}
 use Rattle.room_types.specs.declared.asks.Ask.TheVariants.{StandDown}
-use Rattle.room_model.specs.Working.{names_turn, reads_number, working}
+use Rattle.room_model.specs.WorkingRows.{names_turn, reads_number, working}
 use Rattle.room_store_cache.proofs.Selected.{own_contains}
 use Rattle.room_store_cache.proofs.Filters.{filter_as, or_none}
 use Rattle.room_store_cache.proofs.ShownLaws.{known_or_not}

@@ -1,7 +1,7 @@
 use Rattle.std.proofs.Common.{ap, not, subst, sym, ℕ, ◌&&◌, ◌∙◌, ◌≡◌, ◌||◌}
 use Rattle.std.specs.Prelude.{◌==◌}
 use Rattle.sqlite.specs.Held.{state}
-use Rattle.room_model.specs.Working.{reads_calls, reads_number}
+use Rattle.room_model.specs.WorkingRows.{reads_calls, reads_number}
 use Rattle.room_tables_schema.proofs.ReadLaws.{and, but, clean_before, fails, looked, told, wants}
 use Rattle.room_tables.proofs.RoomReads.{kept}
 use Rattle.room_store_cache.specs.IncidentNumbers.{contains}
@@ -34,7 +34,7 @@ returns-clause-rows g c clean config room h a in_order are selects =
     let still : AreKnown c.load_incidents.new.cache room = subst (λ x. AreKnown x room)
     (sym c.in_ok-incidents.ensures.others) (record {
       rows = are.rows;
-      backlogs = are.backlogs;
+      queue_views = are.queue_views;
       incident_views = are.incident_views;
       recent_incidents = c.in_ok-incidents.ensures.recent_incidents first config room h are.recent_incidents;
       shown_lists = are.shown_lists;

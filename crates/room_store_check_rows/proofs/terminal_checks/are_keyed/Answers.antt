@@ -1,7 +1,7 @@
 use Rattle.std.specs.Ordering.{is_lt}
 use Rattle.std.proofs.Common.{rules}
 use Rattle.std.proofs.lemmas.List.Sorted.{answers_always}
-use Rattle.room_model.specs.Enrol.{token_cmp}
+use Rattle.room_model.specs.FleetRows.{token_cmp}
 use Rattle.room_store_check_rows.proofs.TokenOrder.{keyed_decides}
 use Rattle.room_store_check_rows.proofs.terminal_checks.are_keyed.Goals as goal
 

@@ -12,6 +12,7 @@ use Rattle.room_store_check_tables.proofs.StreamLaws.{reads_commit}
 use Rattle.room_store_check_tables.specs.HeldRooms.{HasConfiguration, HoldsRoom, WritesNothing}
 use Rattle.room_store_check_tables.specs.ReadCauses.{FailsInFile}
 use Rattle.room_store_check_tables.specs.declared.file_faults.FileFault.TheVariants.{NotARoom, Storage}
+use Rattle.room_tables_schema.specs.FileConnections.{IsClean}
 use Rattle.room_store_check_tables.proofs.streamed_plan.config_of_file.Goals as goal
 
 pub returns-clause-found : goal.returns-clause-found
@@ -50,7 +51,7 @@ returns-clause-nothing g c =
     let commits = rw begun at (reads_commit c.read_config-config.result c.read_config-config.ensures.reads) in
     let all : WritesNothing (state g.S.Store old) (state g.S.Store end) = record {
       left = λ clean.
-          let early : HasCleanDisk (state g.S.Store last) = omega (arith, c.rollback.ensures.survives.clean) in
+          let early : IsClean g.S.Store last = omega (arith, c.rollback.ensures.survives.clean) in
           undone_leaves g.S.Store old last end (commits.kept early) (c.rollback.ensures.undone clean)
           c.requires.committed;
       survives =
@@ -65,9 +66,9 @@ returns-clause-why g c =
     let last = c.read_config-config.new.tx.conn.now in
     let end = c.rollback.new.self.0 in
     let begun = c.transaction-tx.ensures.begun in
-    let all : HasCleanDisk (state g.S.Store end)
+    let all : IsClean g.S.Store end
     → IfErr c.read_config-config.result (λ e. e ≡ Storage → FailsInFile g.S.Store old end) = λ clean.
-    let early : HasCleanDisk (state g.S.Store last) = omega (arith, c.rollback.ensures.survives.clean) in
+    let early : IsClean g.S.Store last = omega (arith, c.rollback.ensures.survives.clean) in
     IfErr-weaker c.read_config-config.result _ _ (λ e why storage. record {
       first = record old { in_transaction = true };
       last = last;

@@ -7,6 +7,7 @@ use Rattle.room_tables.proofs.Told.{told_on}
 use Rattle.room_store_check_tables.proofs.Findings.{held_numbered, none_stored}
 use Rattle.room_store_check_tables.proofs.StreamLaws.{file_fails, is_no_room, is_plan, nothing_then}
 use Rattle.room_store_check_tables.specs.HeldRooms.{HoldsRoom}
+use Rattle.room_tables_schema.specs.FileConnections.{IsClean}
 use Rattle.room_store_check_tables.proofs.streamed_plan.stream_plan.Goals as goal
 
 pub returns-in-Ok-clause-room : goal.returns-in-Ok-clause-room
@@ -59,7 +60,7 @@ returns-in-Ok-clause-why g c clean = none_stored c.plan_of_judged.result _ c.pla
 pub returns-in-Err-clause-why : goal.returns-in-Err-clause-why
 returns-in-Err-clause-why g c clean storage =
     let mid = c.config_of_file.new.conn in
-    let early : HasCleanDisk (state g.S.Store mid) = omega (arith, c.in-Err.ensures.nothing.survives.clean) in
+    let early : IsClean g.S.Store mid = omega (arith, c.in-Err.ensures.nothing.survives.clean) in
     let config = c.in_ok-config.ensures.nothing in
     file_fails g.S.Store c.args.conn.now mid _ config early c.in-Err.ensures.nothing.survives.counts c.requires.schema
     (c.in-Err.ensures.why clean storage)

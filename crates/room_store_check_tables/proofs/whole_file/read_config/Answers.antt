@@ -9,13 +9,14 @@ use Rattle.room_tables_rows.specs.MetaSql.{meta_row}
 use Rattle.room_tables_rows.specs.TerminalSql.{terminal_row}
 use Rattle.room_tables_schema.specs.Schema.{areas_table, meta_table, terminals_table}
 use Rattle.room_tables_schema.specs.TableTrees.{AreNumbered}
-use Rattle.room_tables.specs.Stands.{StandsFor, numbered}
+use Rattle.room_tables.specs.RoomsInTables.{StandsFor, numbered}
 use Rattle.room_tables.proofs.Inside.{inside_then}
 use Rattle.room_tables_schema.proofs.ReadLaws.{fails_inside, told_inside}
 use Rattle.room_tables.proofs.Told.{if_storage}
 use Rattle.room_store_check_tables.proofs.Findings.{none_found, none_stored, not_told, told_storage}
 use Rattle.room_store_check_tables.proofs.RowLaws.{fails_first, fails_then}
 use Rattle.room_store_check_tables.specs.ReadCauses.{areas_fail, meta_fails, terminals_fail}
+use Rattle.room_tables_schema.specs.FileConnections.{IsClean}
 use Rattle.room_store_check_tables.proofs.whole_file.read_config.Goals as goal
 
 pub returns-clause-found : goal.returns-clause-found
@@ -47,7 +48,7 @@ pub returns-clause-no_plan : goal.returns-clause-no_plan
 returns-clause-no_plan g c clean =
     let third = state g.S.Store c.zone.new.tx.conn.now in
     let clean_third : HasCleanDisk third = omega (arith, c.all_areas.ensures.reads.survives.clean) in
-    let clean_second : HasCleanDisk (state g.S.Store c.all_terminals.new.tx.conn.now) = omega
+    let clean_second : IsClean g.S.Store c.all_terminals.new.tx.conn.now = omega
     (arith, clean_third, c.zone.ensures.reads.survives.clean) in
     let to_second = (c.in_ok-terminals.ensures.reads.ok clean_second).0.now_is in
     let to_third = (c.in_ok-zone.ensures.reads.ok clean_third).0.now_is ∙ to_second in

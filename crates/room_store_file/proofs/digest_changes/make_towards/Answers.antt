@@ -1,17 +1,16 @@
 use Rattle.std.proofs.Common.{arith, ap, subst, sym, ◌∙◌}
 use Rattle.hex.specs.Hex.{encode_lower}
 use Rattle.sqlite.specs.Effect.{Database}
-use Rattle.sqlite.specs.Held.{state}
-use Rattle.sqlite.specs.State.{HasCleanDisk}
 use Rattle.room_model.specs.Room.{apply}
-use Rattle.room_tables.specs.Stands.{Stands}
+use Rattle.room_tables.specs.RoomsInTables.{Stands}
 use Rattle.room_tables_schema.proofs.WriteLaws.{commits_more}
 use Rattle.room_store_file.proofs.Inside.{made_seen, never_both, reads_commit}
+use Rattle.room_tables_schema.specs.FileConnections.{IsClean}
 use Rattle.room_store_file.proofs.digest_changes.make_towards.Goals as goal
 
 pub returns-then-is_written-clause-ok : goal.returns-then-is_written-clause-ok
 returns-then-is_written-clause-ok g c clean =
-    let early : HasCleanDisk (state g.S.Store c.put_each.new.tx.conn.now) = omega
+    let early : IsClean g.S.Store c.put_each.new.tx.conn.now = omega
     (arith, c.digest_inside.ensures.reads.survives.clean) in
     let made = c.in_ok-put_each.ensures.ok early in
     let seen = made_seen (c.in_ok-hash.ensures.reads.ok clean) made in (
@@ -26,7 +25,7 @@ returns-then-is_written-clause-ok g c clean =
 
 pub returns-else-is_written-clause-another : goal.returns-else-is_written-clause-another
 returns-else-is_written-clause-another g c clean is config room h same =
-    let early : HasCleanDisk (state g.S.Store c.put_each.new.tx.conn.now) = omega
+    let early : IsClean g.S.Store c.put_each.new.tx.conn.now = omega
     (arith, c.digest_inside.ensures.reads.survives.clean) in
     let made = c.in_ok-put_each.ensures.ok early in
     never_both c.is_written.result c.if-is_written.false

@@ -1,12 +1,11 @@
 use Rattle.std.proofs.Common.{arith, rules, subst, sym, ◌≡◌}
 use Rattle.std.proofs.lemmas.Result.{on_ok_weaker}
-use Rattle.sqlite.specs.Held.{state}
-use Rattle.sqlite.specs.State.{HasCleanDisk}
 use Rattle.room_store_writes.proofs.CommitLaws.{IsWhole, is_whole}
 use Rattle.room_store_file.specs.DigestChanges.{Reaches}
 use Rattle.room_store_file.proofs.Undoing.{told_another}
 use Rattle.room_store_file.proofs.digest_changes.write_towards.Given.{Over}
 use Rattle.room_store_file.proofs.digest_changes.write_towards.Goals.{After-conn-1}
+use Rattle.room_tables_schema.specs.FileConnections.{IsClean}
 use Rattle.room_store_file.proofs.digest_changes.write_towards.Goals as goal
 
 whole : (g : Over) (c : After-conn-1 g)
@@ -44,7 +43,7 @@ pub returns-clause-another : goal.returns-clause-another
 returns-clause-another g c clean =
     let done = c.make_towards-done in
     let same : c.end.new.tx.0 ≡ c.conn-1.given.0 = search rules in
-    let early : HasCleanDisk (state g.S.Store done.new.tx.conn.now) = omega
+    let early : IsClean g.S.Store done.new.tx.conn.now = omega
     (arith, (rw same at c.end.ensures.survives).clean) in
     told_another c.end.result done.result _ c.end.ensures.why
     (rw c.transaction-tx.ensures.begun at (done.ensures.another early))

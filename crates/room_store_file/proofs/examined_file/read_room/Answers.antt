@@ -1,14 +1,13 @@
 use Rattle.std.proofs.Common.{arith, inl, inr, subst}
 use Rattle.std.proofs.lemmas.Result.{IfErr-weaker}
 use Rattle.sqlite.specs.Effect.{Database}
-use Rattle.sqlite.specs.Held.{state}
-use Rattle.sqlite.specs.State.{HasCleanDisk}
 use Rattle.room_store_file.specs.ExaminedFile.{Explains}
+use Rattle.room_tables_schema.specs.FileConnections.{IsClean}
 use Rattle.room_store_file.proofs.examined_file.read_room.Goals as goal
 
 pub returns-in-Ok-false-clause-wrong : goal.returns-in-Ok-false-clause-wrong
 returns-in-Ok-false-clause-wrong g c clean =
-    let early : HasCleanDisk (state g.S.Store c.is_room_of.new.conn) = omega
+    let early : IsClean g.S.Store c.is_room_of.new.conn = omega
     (arith, c.read_tables.ensures.nothing.survives.clean) in
     IfErr-weaker c.read_tables.result _ _
     (λ e why. inl (subst (λ (db : Database). Explains db e) (c.in-Ok-false.ensures.ok early) why))
@@ -16,7 +15,7 @@ returns-in-Ok-false-clause-wrong g c clean =
 
 pub returns-in-Ok-false-clause-why : goal.returns-in-Ok-false-clause-why
 returns-in-Ok-false-clause-why g c clean =
-    let early : HasCleanDisk (state g.S.Store c.is_room_of.new.conn) = omega
+    let early : IsClean g.S.Store c.is_room_of.new.conn = omega
     (arith, c.read_tables.ensures.nothing.survives.clean) in
     IfErr-weaker c.read_tables.result _ _
     (λ e why storage.

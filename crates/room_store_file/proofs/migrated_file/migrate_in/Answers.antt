@@ -12,6 +12,7 @@ use Rattle.room_store_check_tables.proofs.StreamLaws.{nothing_then}
 use Rattle.room_store_file.proofs.TakeLaws.{any_fault, both_errs, first_is_old, none_moved, survives_less}
 use Rattle.room_store_check_tables.proofs.Findings.{none_found, none_ok}
 use Rattle.room_store_file.specs.OpenedFile.{HoldsFirstRoom, IsNewRoom, IsOldRoom, MayBeMoved}
+use Rattle.room_tables_schema.specs.FileConnections.{IsClean}
 use Rattle.room_store_file.proofs.migrated_file.migrate_in.Goals as goal
 
 pub returns-clause-moves : goal.returns-clause-moves
@@ -65,7 +66,7 @@ pub returns-clause-old_room : goal.returns-clause-old_room
 returns-clause-old_room g c clean =
     let early : HasCleanDisk (state g.S.Store c.is_room_of-2.new.conn) = omega
     (arith, c.move_tables.ensures.survives.clean) in
-    let before : HasCleanDisk (state g.S.Store c.is_room_of.new.conn) = omega
+    let before : IsClean g.S.Store c.is_room_of.new.conn = omega
     (arith, early, c.is_room_of-2.ensures.nothing.survives.clean) in
     on_ok _ _ (subst IsOldRoom (c.in_ok-is_room_of.ensures.ok before)
     ((c.in_ok-is_room_of-2.ensures.told early).0 c.if-not-branch.false))
@@ -74,7 +75,7 @@ pub returns-clause-not_old : goal.returns-clause-not_old
 returns-clause-not_old g c clean =
     let early : HasCleanDisk (state g.S.Store c.is_room_of-2.new.conn) = omega
     (arith, c.move_tables.ensures.survives.clean) in
-    let before : HasCleanDisk (state g.S.Store c.is_room_of.new.conn) = omega
+    let before : IsClean g.S.Store c.is_room_of.new.conn = omega
     (arith, early, c.is_room_of-2.ensures.nothing.survives.clean) in
     let told = c.in_ok-is_room_of.ensures.told before in
     IfErr-weaker c.move_tables.result _ _
@@ -96,14 +97,14 @@ returns-clause-untouched g c =
 
 pub returns-then-not-branch-clause-not_old : goal.returns-then-not-branch-clause-not_old
 returns-then-not-branch-clause-not_old g c clean =
-    let before : HasCleanDisk (state g.S.Store c.is_room_of.new.conn) = omega
+    let before : IsClean g.S.Store c.is_room_of.new.conn = omega
     (arith, clean, c.is_room_of-2.ensures.nothing.survives.clean) in
     let told = c.in_ok-is_room_of.ensures.told before in
     (λ is. cc, λ is new. true≢false (sym (told.1 new) ∙ c.if-branch.false))
 
 pub returns-then-not-branch-clause-no_room : goal.returns-then-not-branch-clause-no_room
 returns-then-not-branch-clause-no_room g c clean is has holds =
-    let before : HasCleanDisk (state g.S.Store c.is_room_of.new.conn) = omega
+    let before : IsClean g.S.Store c.is_room_of.new.conn = omega
     (arith, clean, c.is_room_of-2.ensures.nothing.survives.clean) in
     let told = c.in_ok-is_room_of-2.ensures.told clean in
     let was = first_is_old (state g.S.Store c.args.conn.now).now has holds in

@@ -13,6 +13,7 @@ use Rattle.room_store_file.proofs.TakeLaws.{any_fault, both_errs, hidden, none_o
 use Rattle.room_store_check_tables.proofs.Findings.{none_found, none_ok}
 use Rattle.room_store_file.specs.OpenedFile.{IsOldRoom, MayBeIndexed}
 use Rattle.room_store_check_tables.specs.HeldRooms.{HoldsRoom}
+use Rattle.room_tables_schema.specs.FileConnections.{IsClean}
 use Rattle.room_store_file.proofs.opened_file.open_in.Goals as goal
 
 pub returns-clause-schema : goal.returns-clause-schema
@@ -44,7 +45,7 @@ returns-clause-leaves g c clean =
 
 pub returns-clause-not_old : goal.returns-clause-not_old
 returns-clause-not_old g c clean =
-    let early : HasCleanDisk (state g.S.Store c.is_room_of.new.conn) = omega
+    let early : IsClean g.S.Store c.is_room_of.new.conn = omega
     (arith, c.open_tables.ensures.survives.clean) in
     let told = c.in_ok-is_room_of.ensures.told early in
     let none : ¬ IsOldRoom (state g.S.Store c.args.conn.now).now = λ old.
@@ -53,7 +54,7 @@ returns-clause-not_old g c clean =
 
 pub returns-clause-old_room : goal.returns-clause-old_room
 returns-clause-old_room g c clean =
-    let early : HasCleanDisk (state g.S.Store c.is_room_of.new.conn) = omega
+    let early : IsClean g.S.Store c.is_room_of.new.conn = omega
     (arith, c.open_tables.ensures.survives.clean) in
     let told = c.in_ok-is_room_of.ensures.told early in
     IfErr-weaker c.open_tables.result _ _
@@ -62,7 +63,7 @@ returns-clause-old_room g c clean =
 
 pub returns-clause-no_room : goal.returns-clause-no_room
 returns-clause-no_room g c clean =
-    let early : HasCleanDisk (state g.S.Store c.is_room_of.new.conn) = omega
+    let early : IsClean g.S.Store c.is_room_of.new.conn = omega
     (arith, c.open_tables.ensures.survives.clean) in
     let same = sym (c.in_ok-is_room_of.ensures.ok early) in
     IfErr-weaker c.open_tables.result _ _
@@ -72,7 +73,7 @@ returns-clause-no_room g c clean =
 
 pub returns-clause-storage : goal.returns-clause-storage
 returns-clause-storage g c clean =
-    let early : HasCleanDisk (state g.S.Store c.is_room_of.new.conn) = omega
+    let early : IsClean g.S.Store c.is_room_of.new.conn = omega
     (arith, c.open_tables.ensures.survives.clean) in
     IfErr-weaker c.open_tables.result _ _
     (λ e has is. inl (subst (λ (db : Database). HasTables db.schema) (c.in_ok-is_room_of.ensures.ok early) (has is)))
@@ -80,7 +81,7 @@ returns-clause-storage g c clean =
 
 pub returns-clause-why : goal.returns-clause-why
 returns-clause-why g c clean =
-    let early : HasCleanDisk (state g.S.Store c.is_room_of.new.conn) = omega
+    let early : IsClean g.S.Store c.is_room_of.new.conn = omega
     (arith, c.open_tables.ensures.survives.clean) in
     IfErr-weaker c.open_tables.result _ _
     (λ e why is.

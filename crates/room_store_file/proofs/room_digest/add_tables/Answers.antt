@@ -6,6 +6,7 @@ use Rattle.sqlite.specs.State.{HasCleanDisk}
 use Rattle.room_store_file.specs.WholeTableTexts.{IsKnown}
 use Rattle.room_store_file.specs.DigestTexts.{table_text}
 use Rattle.room_store_file.proofs.Tables.{Left, left_next, one_more, still_room, trees_stay}
+use Rattle.room_tables_schema.specs.FileConnections.{IsClean}
 use Rattle.room_store_file.proofs.room_digest.add_tables.Goals as goal
 
 pub add_table-requires-clause-room : goal.add_table-requires-clause-room
@@ -22,7 +23,7 @@ pub loop-text-preserved : goal.loop-text-preserved
 loop-text-preserved g c =
     let old = state g.S.Store c.args.tx.now.conn.now in
     let before = c.loop-text.invariant in
-    let early = λ (clean : HasCleanDisk (state g.S.Store c.add_table.new.tx.conn.now)).
+    let early = λ (clean : IsClean g.S.Store c.add_table.new.tx.conn.now).
     let e : HasCleanDisk (state g.S.Store c.loop-text.tx.conn.now) = omega
     (arith, c.add_table.ensures.reads.survives.clean) in
     e in

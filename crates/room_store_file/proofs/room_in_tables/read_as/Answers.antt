@@ -11,6 +11,7 @@ use Rattle.room_store_writes.specs.Houses.{config_of}
 use Rattle.room_store_file.proofs.TakeLaws.{may_write_on, not_made, ok_holds}
 use Rattle.room_store_check_tables.proofs.StreamLaws.{reads_commit}
 use Rattle.room_store_file.specs.OpenedFile.{Becomes, FailsToMake}
+use Rattle.room_tables_schema.specs.FileConnections.{IsClean}
 use Rattle.room_store_file.proofs.room_in_tables.read_as.Goals as goal
 
 pub returns-clause-stands : goal.returns-clause-stands
@@ -24,7 +25,7 @@ returns-clause-stands g c clean =
 pub returns-clause-becomes : goal.returns-clause-becomes
 returns-clause-becomes g c clean =
     let old = state g.S.Store c.args.tx.now.conn.now in
-    let early : HasCleanDisk (state g.S.Store c.make_lacking.new.tx.conn.now) = omega
+    let early : IsClean g.S.Store c.make_lacking.new.tx.conn.now = omega
     (arith, c.read_whole.ensures.reads.survives.clean) in
     ok_then c.read_whole.result _ _
     (λ same.
@@ -33,7 +34,7 @@ returns-clause-becomes g c clean =
 
 pub returns-clause-is_open : goal.returns-clause-is_open
 returns-clause-is_open g c clean =
-    let early : HasCleanDisk (state g.S.Store c.make_lacking.new.tx.conn.now) = omega
+    let early : IsClean g.S.Store c.make_lacking.new.tx.conn.now = omega
     (arith, c.read_whole.ensures.reads.survives.clean) in
     ok_then c.read_whole.result _ _ (λ same. (c.make_lacking.ensures.commits.kept early).was_open same.0.was_open)
     (c.read_whole.ensures.reads.ok clean)
@@ -57,7 +58,7 @@ returns-clause-commits g c =
 
 pub returns-clause-why : goal.returns-clause-why
 returns-clause-why g c clean =
-    let early : HasCleanDisk (state g.S.Store c.make_lacking.new.tx.conn.now) = omega
+    let early : IsClean g.S.Store c.make_lacking.new.tx.conn.now = omega
     (arith, c.read_whole.ensures.reads.survives.clean) in
     IfErr-weaker c.read_whole.result _ _
     (λ e why storage.

@@ -13,6 +13,7 @@ use Rattle.room_store_file.specs.OpeningCauses.{FailsInside}
 use Rattle.room_store_file.specs.OpenedFile.{HasNoPlanBy, StandsBy}
 use Rattle.room_store_check_tables.specs.HeldRooms.{WritesNothing}
 use Rattle.room_store_check_tables.specs.declared.file_faults.FileFault.TheVariants.{NotARoom, Storage}
+use Rattle.room_tables_schema.specs.FileConnections.{IsClean}
 use Rattle.room_store_file.proofs.room_in_tables.read_file.Goals as goal
 
 pub returns-clause-stands : goal.returns-clause-stands
@@ -52,7 +53,7 @@ returns-clause-nothing g c =
     let begun = c.transaction-tx.ensures.begun in
     let all : WritesNothing (state g.S.Store old) (state g.S.Store end) = record {
       left = λ clean.
-          let early : HasCleanDisk (state g.S.Store last) = omega (arith, c.rollback.ensures.survives.clean) in
+          let early : IsClean g.S.Store last = omega (arith, c.rollback.ensures.survives.clean) in
           undone_leaves g.S.Store old last end (rw begun at c.read_as-found.ensures.commits.kept early)
           (c.rollback.ensures.undone clean) c.requires.committed;
       survives =
@@ -67,9 +68,9 @@ returns-clause-why g c =
     let last = c.read_as-found.new.tx.conn.now in
     let end = c.rollback.new.self.0 in
     let begun = c.transaction-tx.ensures.begun in
-    let all : HasCleanDisk (state g.S.Store end)
+    let all : IsClean g.S.Store end
     → IfErr c.read_as-found.result (λ e. e ≡ Storage → FailsInside g.S.Store c.args.tables old end) = λ clean.
-    let early : HasCleanDisk (state g.S.Store last) = omega (arith, c.rollback.ensures.survives.clean) in
+    let early : IsClean g.S.Store last = omega (arith, c.rollback.ensures.survives.clean) in
     IfErr-weaker c.read_as-found.result _ _
     (λ e why storage. record {
       last = last;

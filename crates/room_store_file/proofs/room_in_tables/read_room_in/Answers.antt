@@ -11,6 +11,7 @@ use Rattle.room_store_file.specs.OpeningCauses.{FailsAtEnd, FailsInside}
 use Rattle.room_store_file.specs.OpenedFile.{Becomes, HoldsBy, IsUncommitted, MayBecome, Takes}
 use Rattle.room_store_check_tables.specs.HeldRooms.{IsPlanOf, WritesNothing}
 use Rattle.room_store_check_tables.specs.declared.file_faults.FileFault.TheVariants.{NotARoom, Storage}
+use Rattle.room_tables_schema.specs.FileConnections.{IsClean}
 use Rattle.room_store_file.proofs.room_in_tables.read_room_in.Goals as goal
 
 pub finish-requires : goal.finish-requires
@@ -71,11 +72,11 @@ returns-clause-why g c =
     let end = c.finish.new.tx.0 in
     let begun = c.transaction-tx.ensures.begun in
     let found = c.find_room-found.result in
-    let all : HasCleanDisk (state g.S.Store end)
+    let all : IsClean g.S.Store end
     → IfErr c.finish.result
     (λ e. e ≡ Storage → FailsInside g.S.Store c.args.tables old end ⊎ FailsAtEnd g.S.Store c.args.tables old end) =
     λ clean.
-    let early : HasCleanDisk (state g.S.Store last) = omega (arith, c.finish.ensures.survives.clean) in
+    let early : IsClean g.S.Store last = omega (arith, c.finish.ensures.survives.clean) in
     let why = rw begun at c.find_room-found.ensures.why early in
     both_errs c.finish.result _ _ _ (c.finish.ensures.why clean) (c.finish.ensures.err clean)
     (λ e told back storage. elim told [
@@ -101,8 +102,8 @@ returns-clause-leaves g c =
     let last = c.find_room-found.new.tx.conn.now in
     let end = c.finish.new.tx.0 in
     let begun = c.transaction-tx.ensures.begun in
-    let all = λ (clean : HasCleanDisk (state g.S.Store end)).
-    let early : HasCleanDisk (state g.S.Store last) = omega (arith, c.finish.ensures.survives.clean) in
+    let all = λ (clean : IsClean g.S.Store end).
+    let early : IsClean g.S.Store last = omega (arith, c.finish.ensures.survives.clean) in
     IfErr-weaker c.finish.result _ _
     (λ _ back.
     undone_leaves g.S.Store old last end (rw begun at c.find_room-found.ensures.commits.kept early) back
@@ -120,7 +121,7 @@ returns-clause-untouched g c =
     both_errs c.finish.result _ _ _ c.finish.ensures.no_room (under c.finish.result _ _ c.finish.ensures.err)
     (λ e told back is. record {
       left = λ clean.
-          let early : HasCleanDisk (state g.S.Store last) = omega (arith, c.finish.ensures.survives.clean) in
+          let early : IsClean g.S.Store last = omega (arith, c.finish.ensures.survives.clean) in
           undone_leaves g.S.Store old last end (rw begun at c.find_room-found.ensures.commits.kept early) (back clean)
           c.requires.committed;
       survives =

@@ -11,6 +11,7 @@ use Rattle.room_store_file.specs.OpenedFile.{HoldsBy, MayBecome, TellsNoVersion,
 use Rattle.room_store_check_tables.specs.HeldRooms.{IsPlanOf}
 use Rattle.room_store_check_tables.specs.ReadCauses.{FailsToTake}
 use Rattle.room_store_check_tables.specs.declared.file_faults.FileFault.TheVariants.{NotARoom, Storage}
+use Rattle.room_tables_schema.specs.FileConnections.{IsClean}
 use Rattle.room_store_file.proofs.room_in_tables.take.Goals as goal
 
 pub stream_plan-found-requires-clause-schema : goal.stream_plan-found-requires-clause-schema
@@ -56,7 +57,7 @@ returns-clause-why g c clean =
     let old = c.args.conn.now in
     let mid = c.stream_plan-found.new.conn in
     let new = c.if_open.new.conn in
-    let early : HasCleanDisk (state g.S.Store mid) = omega (arith, c.if_open.ensures.nothing.survives.clean) in
+    let early : IsClean g.S.Store mid = omega (arith, c.if_open.ensures.nothing.survives.clean) in
     let found = c.stream_plan-found.result in
     IfErr-weaker c.if_open.result _ _ (λ e told storage.
     let fails : FailsToTake g.S.Store old mid

@@ -1,16 +1,15 @@
 use Rattle.std.proofs.Common.{arith, refl, ◌∙◌}
 use Rattle.std.proofs.lemmas.Result.{on_ok_weaker}
-use Rattle.sqlite.specs.Held.{state}
-use Rattle.sqlite.specs.State.{HasCleanDisk}
 use Rattle.room_model.specs.Room.{apply_one}
 use Rattle.room_types.specs.declared.changes.Change.TheVariants.{PutVehicle}
 use Rattle.room_tables_schema.proofs.WriteLaws.{commits_more}
 use Rattle.room_store_writes.proofs.CommitLaws.{put_commits}
+use Rattle.room_tables_schema.specs.FileConnections.{IsClean}
 use Rattle.room_store_writes.proofs.enrolled_rows.put_row.Goals as goal
 
 pub returns-clause-ok : goal.returns-clause-ok
 returns-clause-ok g c clean =
-    let early : HasCleanDisk (state g.S.Store c.put.new.tx.conn.now) = omega
+    let early : IsClean g.S.Store c.put.new.tx.conn.now = omega
     (arith, c.put_terminal.ensures.writes.survives.clean) in
     let first = c.in_ok-put.ensures.ok early in
     on_ok_weaker c.put_terminal.result (λ last. record {

@@ -1,14 +1,13 @@
 use Rattle.std.proofs.Common.{[], arith, refl}
-use Rattle.sqlite.specs.Held.{state}
-use Rattle.sqlite.specs.State.{HasCleanDisk}
 use Rattle.sqlite_rules.proofs.ViewLemmas.{on_ok_both}
-use Rattle.room_tables.specs.Stands.{Configuration, empty_room}
+use Rattle.room_tables.specs.RoomsInTables.{Configuration, empty_room}
 use Rattle.room_model.specs.Room.{Room}
 use Rattle.room_tables_schema.specs.Outcomes.{CommitsNothing}
 use Rattle.room_tables_schema.proofs.WriteLaws.{commits_more}
 use Rattle.room_store_writes.proofs.CommitLaws.{put_commits}
 use Rattle.room_store_writes.proofs.new_room.fill.Given.{Over}
 use Rattle.room_store_writes.proofs.new_room.fill.Goals.{After-put_meta}
+use Rattle.room_tables_schema.specs.FileConnections.{IsClean}
 use Rattle.room_store_writes.proofs.new_room.fill.Goals as goal
 
 -- as the meta row leaves it, well or not
@@ -43,13 +42,13 @@ returns-clause-commits g c =
 pub returns-clause-ok : goal.returns-clause-ok
 returns-clause-ok g c clean =
     let plan = c.args.plan.now in
-    let third : HasCleanDisk (state g.S.Store c.put_terminals.new.tx.conn.now) = omega
+    let third : IsClean g.S.Store c.put_terminals.new.tx.conn.now = omega
     (arith, c.put_divisions.ensures.commits.survives.clean) in
-    let second : HasCleanDisk (state g.S.Store c.put_areas.new.tx.conn.now) = omega
+    let second : IsClean g.S.Store c.put_areas.new.tx.conn.now = omega
     (arith, c.put_terminals.ensures.commits.survives.clean) in
-    let first : HasCleanDisk (state g.S.Store c.put_meta.new.tx.conn.now) = omega
+    let first : IsClean g.S.Store c.put_meta.new.tx.conn.now = omega
     (arith, c.put_areas.ensures.commits.survives.clean) in
-    let early : HasCleanDisk (state g.S.Store c.make.new.tx.conn.now) = omega
+    let early : IsClean g.S.Store c.make.new.tx.conn.now = omega
     (arith, c.put_meta.ensures.writes.survives.clean) in
     let config : Configuration = record { zone = plan.zone; terminals = [] } in
     let room : Room = record empty_room { plan = plan.areas } in

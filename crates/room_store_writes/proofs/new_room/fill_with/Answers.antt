@@ -1,10 +1,9 @@
 use Rattle.std.proofs.Common.{arith}
 use Rattle.std.proofs.lemmas.Result.{on_ok_weaker}
-use Rattle.sqlite.specs.Held.{state}
-use Rattle.sqlite.specs.State.{HasCleanDisk}
 use Rattle.room_tables_schema.proofs.WriteLaws.{commits_more}
 use Rattle.room_store_writes.specs.Houses.{config_of}
 use Rattle.room_store_writes.specs.NewRoom.{in_order, new_room}
+use Rattle.room_tables_schema.specs.FileConnections.{IsClean}
 use Rattle.room_store_writes.proofs.new_room.fill_with.Goals as goal
 
 pub put_each-requires : goal.put_each-requires
@@ -16,7 +15,7 @@ put_each-requires g c = record {
 pub returns-clause-ok : goal.returns-clause-ok
 returns-clause-ok g c clean =
     let plan = c.args.plan.now in
-    let early : HasCleanDisk (state g.S.Store c.fill.new.tx.conn.now) = omega
+    let early : IsClean g.S.Store c.fill.new.tx.conn.now = omega
     (arith, c.put_each.ensures.commits.survives.clean) in
     on_ok_weaker c.put_each.result (λ all. (
       all.inside,

@@ -2,7 +2,7 @@ use Rattle.std.proofs.Common.{ap, arith, length, subst, suc, sym, take, ◌+◌,
 use Rattle.std.proofs.lemmas.List.{length-take-le, take_all, take_more}
 use Rattle.sqlite.specs.Held.{state}
 use Rattle.sqlite.specs.State.{HasCleanDisk}
-use Rattle.room_tables.specs.Stands.{Stands}
+use Rattle.room_tables.specs.RoomsInTables.{Stands}
 use Rattle.room_tables_schema.proofs.WriteLaws.{commits_more}
 use Rattle.room_store_writes.proofs.CommitLaws.{area_commits}
 use Rattle.room_store_writes.proofs.new_room.put_areas.Goals as goal

@@ -4,7 +4,7 @@ use Rattle.sqlite.specs.State.{HasCleanDisk}
 use Rattle.room_tables_schema.specs.Outcomes.{CommitsNothing}
 use Rattle.room_model.specs.Room.{Room}
 use Rattle.room_tables_schema.specs.FileConnections.{MayWrite}
-use Rattle.room_tables.specs.Stands.{Configuration, Stands}
+use Rattle.room_tables.specs.RoomsInTables.{Configuration, Stands}
 use Rattle.room_store_writes.proofs.new_room.put_areas.Given as goal
 
 abbrev pub invariant-loop-area : goal.invariant-loop-area

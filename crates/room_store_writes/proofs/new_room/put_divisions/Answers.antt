@@ -1,7 +1,7 @@
 use Rattle.std.proofs.Common.{ap, arith, subst, suc, ◌+◌, ◌-◌, ◌∙◌, ◌≡◌}
 use Rattle.sqlite.specs.Held.{state}
 use Rattle.sqlite.specs.State.{HasCleanDisk}
-use Rattle.room_tables.specs.Stands.{Stands}
+use Rattle.room_tables.specs.RoomsInTables.{Stands}
 use Rattle.room_place.specs.Plans.{has_division}
 use Rattle.room_tables_schema.proofs.WriteLaws.{commits_more}
 use Rattle.room_store_writes.specs.NewRoom.{new_divisions}

@@ -5,7 +5,7 @@ use Rattle.room_tables_schema.specs.Outcomes.{CommitsNothing}
 use Rattle.room_place.specs.Plans.{has_division}
 use Rattle.room_model.specs.Room.{Room}
 use Rattle.room_tables_schema.specs.FileConnections.{MayWrite}
-use Rattle.room_tables.specs.Stands.{Configuration, Stands}
+use Rattle.room_tables.specs.RoomsInTables.{Configuration, Stands}
 use Rattle.room_store_writes.proofs.CreationSteps.{divisions_to}
 use Rattle.room_store_writes.proofs.new_room.put_divisions.Given as goal
 

@@ -1,15 +1,14 @@
 use Rattle.std.proofs.Common.{arith, refl, ◌∙◌}
 use Rattle.std.proofs.lemmas.Result.{on_ok_weaker}
-use Rattle.sqlite.specs.Held.{state}
-use Rattle.sqlite.specs.State.{HasCleanDisk}
 use Rattle.room_tables_schema.proofs.WriteLaws.{commits_more}
 use Rattle.room_store_writes.proofs.CommitLaws.{put_commits}
 use Rattle.room_store_writes.specs.TerminalChanges.{config_by}
+use Rattle.room_tables_schema.specs.FileConnections.{IsClean}
 use Rattle.room_store_writes.proofs.terminal_changes.replace.Goals as goal
 
 pub returns-in-Some-clause-ok : goal.returns-in-Some-clause-ok
 returns-in-Some-clause-ok g c clean =
-    let early : HasCleanDisk (state g.S.Store c.drop_of.new.tx.conn.now) = omega
+    let early : IsClean g.S.Store c.drop_of.new.tx.conn.now = omega
     (arith, c.put_terminal.ensures.writes.survives.clean) in
     let first = c.in_ok-drop_of.ensures.ok early in
     rw c.in-Some.is (on_ok_weaker c.put_terminal.result (λ last. record {

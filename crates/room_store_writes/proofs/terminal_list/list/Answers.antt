@@ -5,11 +5,12 @@ use Rattle.sqlite.specs.Held.{state}
 use Rattle.sqlite.specs.State.{HasCleanDisk, Survives}
 use Rattle.sqlite.proofs.Callers.{survives_begin}
 use Rattle.room_model.specs.Room.{Room}
-use Rattle.room_tables_rows.specs.Stands.{Configuration, Stands}
+use Rattle.room_tables_rows.specs.RoomsInTables.{Configuration, Stands}
 use Rattle.room_tables_schema.proofs.ReadLaws.{still}
 use Rattle.room_store_writes.specs.Transactions.{Leaves}
 use Rattle.room_store_writes.proofs.CommitLaws.{undone_leaves}
 use Rattle.room_store_writes.proofs.TransactionReads.{outside, reads_commit}
+use Rattle.room_tables_schema.specs.FileConnections.{IsClean}
 use Rattle.room_store_writes.proofs.terminal_list.list.Goals as goal
 
 pub returns-clause-terminals : goal.returns-clause-terminals
@@ -34,8 +35,8 @@ returns-clause-leaves g c =
     let end = c.rollback.new.self.0 in
     let commits = rw c.transaction-tx.ensures.begun at
     (reads_commit c.all_terminals-terminals.result c.all_terminals-terminals.ensures.reads) in
-    let all : HasCleanDisk (state g.S.Store end) → Leaves (state g.S.Store old) (state g.S.Store end) = λ clean.
-    let early : HasCleanDisk (state g.S.Store last) = omega (arith, c.rollback.ensures.survives.clean) in
+    let all : IsClean g.S.Store end → Leaves (state g.S.Store old) (state g.S.Store end) = λ clean.
+    let early : IsClean g.S.Store last = omega (arith, c.rollback.ensures.survives.clean) in
     undone_leaves g.S.Store old last end (commits.kept early) (c.rollback.ensures.undone clean)
     (outside c.is_autocommit.result _ c.requires.outside c.is_autocommit.ensures.value
     c.is_autocommit.ensures.settled) in

@@ -4,7 +4,7 @@ use Rattle.std.proofs.lemmas.Result.{on_ok_weaker}
 use Rattle.sqlite_trees.specs.Tree.{Trees}
 use Rattle.room_types.specs.declared.changes.Change.{Change}
 use Rattle.room_model.specs.Room.{Room, apply}
-use Rattle.room_tables.specs.Stands.{Configuration, Stands}
+use Rattle.room_tables.specs.RoomsInTables.{Configuration, Stands}
 use Rattle.room_store_writes.proofs.CommitLaws.{IsWhole, is_whole, unchanged_survives}
 use Rattle.room_store_writes.proofs.transactions.write.Given.{Over}
 use Rattle.room_store_writes.proofs.transactions.write.Goals.{After-conn-1, Then-is_empty}

@@ -1,6 +1,6 @@
 use Rattle.std.proofs.Common.{◌≡◌, map, take, length}
 use Rattle.room_tables_rows.specs.AreaSql.{area_row}
-use Rattle.room_tables_rows.specs.Stands.{numbered}
+use Rattle.room_tables_rows.specs.RoomsInTables.{numbered}
 use Rattle.room_tables.proofs.area_table.areas_in.Given as goal
 
 abbrev pub invariant-loop-index : goal.invariant-loop-index

@@ -7,7 +7,7 @@ use Rattle.sqlite.specs.State.{HasCleanDisk}
 use Rattle.room_tables_schema.proofs.WriteLaws.{read_writes, unread}
 use Rattle.room_tables_schema.specs.Schema.{meta_table}
 use Rattle.room_tables_rows.specs.MetaSql.{version_row}
-use Rattle.room_tables_rows.specs.Stands.{StandsFor}
+use Rattle.room_tables_rows.specs.RoomsInTables.{StandsFor}
 use Rattle.room_tables.proofs.Inside.{read_renews}
 use Rattle.room_tables.proofs.meta_table.tell_version.Goals as goal
 

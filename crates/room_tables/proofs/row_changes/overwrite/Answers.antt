@@ -1,17 +1,16 @@
 -- The row was written over, or it was put.
 use Rattle.std.proofs.Common.{◌∙◌}
 use Rattle.std.proofs.lemmas.Result.{IfOk-weaker}
-use Rattle.sqlite.specs.Held.{state}
-use Rattle.sqlite.specs.State.{HasCleanDisk}
 use Rattle.room_tables_schema.proofs.WriteLaws.{commits_more, write_commits}
 use Rattle.room_tables.proofs.RoomReads.{was_clean}
 use Rattle.room_tables.proofs.Made.{makes, overwrites, overwritten, put_then}
+use Rattle.room_tables_schema.specs.FileConnections.{IsClean}
 use Rattle.room_tables.proofs.row_changes.overwrite.Goals as goal
 
 pub run-requires : goal.run-requires
 run-requires g c =
     let made = c.requires.statements in
-    let over = λ (clean : HasCleanDisk (state g.S.Store c.write.new.tx.conn.now)).
+    let over = λ (clean : IsClean g.S.Store c.write.new.tx.conn.now).
     let early = was_clean c.write.ensures.writes.survives clean in
     overwrites _ _ _ _ _ (c.requires.inside.room early) (c.in_ok-write.ensures.ok clean)
     (c.in_ok-write.ensures.ran clean) c.args.put.now made.0 made.1 in

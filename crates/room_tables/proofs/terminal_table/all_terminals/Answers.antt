@@ -5,7 +5,7 @@ use Rattle.sqlite.specs.Held.{state}
 use Rattle.sqlite.specs.State.{Shown}
 use Rattle.sqlite_exec.proofs.LoopsLemmas.{ok_both}
 use Rattle.room_tables_schema.proofs.Refusals.{plain_here}
-use Rattle.room_model.specs.Enrol.{terminal_key, token_cmp}
+use Rattle.room_model.specs.FleetRows.{terminal_key, token_cmp}
 use Rattle.room_tables_schema.specs.Schema.{room_schema}
 use Rattle.room_tables_rows.specs.TerminalSql.{is_terminal_row, terminal_row}
 use Rattle.room_tables_rows.specs.declared.terminal_sql.TheConstants.{ALL_TERMINALS}

@@ -1,6 +1,6 @@
 use Rattle.std.proofs.Common.{◌≡◌, Less}
 use Rattle.std.specs.List.{AllAdjacentBelow}
-use Rattle.room_model.specs.Enrol.{token_cmp, terminal_key}
+use Rattle.room_model.specs.FleetRows.{token_cmp, terminal_key}
 use Rattle.room_tables.proofs.terminal_table.are_in_order.Given as goal
 
 abbrev pub invariant-loop-at : goal.invariant-loop-at

@@ -1,17 +1,16 @@
 use Rattle.std.proofs.Common.{arith}
 use Rattle.std.proofs.lemmas.Result.{IfOk-weaker, IfErr-weaker}
-use Rattle.sqlite.specs.Held.{state}
-use Rattle.sqlite.specs.State.{HasCleanDisk}
 use Rattle.sqlite.specs.Values.{bound}
 use Rattle.room_tables_schema.proofs.Refusals.{query_unchanged, query_failed, query_survives}
+use Rattle.room_tables_schema.specs.FileConnections.{IsClean}
 use Rattle.room_tables_schema.proofs.queries.select.Goals as goal
 
 pub returns-clause-reads : goal.returns-clause-reads
 returns-clause-reads g c =
     let text = c.args.text.now in
     let params = bound c.args.params.now in
-    let early = λ (clean : HasCleanDisk (state g.S.Store c.query_all.new.self)).
-    let it : HasCleanDisk (state g.S.Store c.args.conn.now) = omega (arith, c.query_all.ensures.survives.clean) in it in
+    let early = λ (clean : IsClean g.S.Store c.query_all.new.self).
+    let it : IsClean g.S.Store c.args.conn.now = omega (arith, c.query_all.ensures.survives.clean) in it in
     record {
       ok =
           λ clean.

@@ -1,13 +1,13 @@
 use Rattle.std.proofs.Common.{Ok, ap, arith, refl, subst}
 use Rattle.std.specs.Fn.{FnOnceReturnsAt}
 use Rattle.sqlite.specs.Held.{state}
-use Rattle.sqlite.specs.State.{HasCleanDisk}
 use Rattle.room_model.proofs.OneStep.{decided_alike}
 use Rattle.room_model.specs.Decisions.{answer_of}
 use Rattle.room_store_writes.specs.Houses.{config_of}
 use Rattle.room_store.proofs.StoreLaws.{event_survives, for_room, ready_schema, ready_sound, room_moved, settled_kept}
 use Rattle.room_store.proofs.LookLaws.{left_same, left_then, survives_read}
 use Rattle.room_store_writes.proofs.CommitLaws.{unchanged_survives}
+use Rattle.room_tables_schema.specs.FileConnections.{IsClean}
 use Rattle.room_store.proofs.store.Store.act.Goals as goal
 
 pub returns-in-Ok-clause-bytes : goal.returns-in-Ok-clause-bytes
@@ -74,5 +74,5 @@ act_on-requires-clause-open g c _ clean = (c.requires.ready.sound c.if-not-self.
 
 pub returns-in-Err-clause-err : goal.returns-in-Err-clause-err
 returns-in-Err-clause-err g c clean =
-    let early : HasCleanDisk (state g.S.Store c.act_on.new.conn) = omega (arith, c.test_file.ensures.survives.clean) in
+    let early : IsClean g.S.Store c.act_on.new.conn = omega (arith, c.test_file.ensures.survives.clean) in
     left_then _ _ _ (c.in-Err.ensures.err early) (c.test_file.ensures.leaves clean)

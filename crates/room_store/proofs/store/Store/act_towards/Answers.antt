@@ -1,10 +1,10 @@
 use Rattle.std.proofs.Common.{arith, inr, refl}
 use Rattle.sqlite.specs.Held.{state}
-use Rattle.sqlite.specs.State.{HasCleanDisk}
 use Rattle.room_store_writes.specs.Houses.{config_of}
 use Rattle.room_store.proofs.StoreLaws.{event_survives, for_room, ready_schema, ready_sound, room_moved}
 use Rattle.room_store.proofs.LookLaws.{left_same, left_then, survives_read}
 use Rattle.room_store_writes.proofs.CommitLaws.{unchanged_survives}
+use Rattle.room_tables_schema.specs.FileConnections.{IsClean}
 use Rattle.room_store.proofs.store.Store.act_towards.Goals as goal
 
 pub returns-in-Ok-clause-bytes : goal.returns-in-Ok-clause-bytes
@@ -62,7 +62,7 @@ returns-in-Err-clause-survives g c =
 
 pub returns-in-Err-clause-err : goal.returns-in-Err-clause-err
 returns-in-Err-clause-err g c clean =
-    let early : HasCleanDisk (state g.S.Store c.act_towards_on.new.conn) = omega
+    let early : IsClean g.S.Store c.act_towards_on.new.conn = omega
     (arith, c.test_file.ensures.survives.clean) in
     left_then _ _ _ (c.in-Err.ensures.err early) (c.test_file.ensures.leaves clean)
 
@@ -73,7 +73,7 @@ returns-in-Err-clause-settled g c clean is =
 pub returns-in-Err-clause-another : goal.returns-in-Err-clause-another
 returns-in-Err-clause-another g c clean is terminals room stands addressed =
     let old = c.args.self.now in
-    let early : HasCleanDisk (state g.S.Store c.act_towards_on.new.conn) = omega
+    let early : IsClean g.S.Store c.act_towards_on.new.conn = omega
     (arith, c.test_file.ensures.survives.clean) in
     let open_ = (returns-in-Err-clause-err g c clean).was_open (returns-in-Err-clause-settled g c clean is).is_open in
     c.in-Err.ensures.another early (c.after_test.ensures.same is) (config_of old.plan terminals) room

@@ -1,6 +1,6 @@
 use Rattle.std.proofs.Common.{List, refl, subst, sym, true, ℕ}
 use Rattle.sqlite.specs.Held.{state}
-use Rattle.room_tables.specs.Stands.{Stands}
+use Rattle.room_tables.specs.RoomsInTables.{Stands}
 use Rattle.room_store_writes.specs.NewRoom.{in_order, new_room}
 use Rattle.room_store.proofs.CreationLaws.{new_room_formed, new_terminals_fit}
 use Rattle.room_store.proofs.KnownLaws.{knows_none, knows_nothing}

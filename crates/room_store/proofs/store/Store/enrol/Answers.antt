@@ -1,12 +1,12 @@
 use Rattle.std.proofs.Common.{arith, refl}
 use Rattle.sqlite.specs.Held.{state}
-use Rattle.sqlite.specs.State.{HasCleanDisk}
 use Rattle.room_store_writes.specs.Houses.{config_of}
 use Rattle.room_store.proofs.EnrolledLaws.{in_plan, room_after_row, store_survives}
 use Rattle.room_store.proofs.KnownLaws.{knows_nothing}
 use Rattle.room_store.proofs.LookLaws.{left_same, left_then, survives_read}
 use Rattle.room_store.proofs.StoreLaws.{ready_schema, ready_sound, settled_kept}
 use Rattle.room_store_writes.proofs.CommitLaws.{unchanged_survives}
+use Rattle.room_tables_schema.specs.FileConnections.{IsClean}
 use Rattle.room_store.proofs.store.Store.enrol.Goals as goal
 
 pub returns-in-Ok-clause-fate : goal.returns-in-Ok-clause-fate
@@ -63,6 +63,6 @@ add_fate-requires-clause-room g c = ready_schema g.S.Store c.args.self.now c.req
 
 pub returns-in-Err-clause-err : goal.returns-in-Err-clause-err
 returns-in-Err-clause-err g c clean =
-    let early : HasCleanDisk (state g.S.Store c.add_fate.new.conn) = omega
+    let early : IsClean g.S.Store c.add_fate.new.conn = omega
     (arith, c.test_file.ensures.survives.clean) in
     left_then _ _ _ (c.in-Err.ensures.err early) (c.test_file.ensures.leaves clean)

@@ -8,6 +8,7 @@ use Rattle.room_store.proofs.EnrolledLaws.{enrolled_more, rows_left, rows_surviv
 use Rattle.room_store.proofs.StoreLaws.{kept_stands, room_left}
 use Rattle.room_store.specs.FleetEnrolment.{room_after_rows, terminals_after_rows}
 use Rattle.room_store.specs.StoredRoom.{IsRoom}
+use Rattle.room_tables_schema.specs.FileConnections.{IsClean}
 use Rattle.room_store.proofs.store.Store.import.Goals as goal
 
 pub loop-row-preserved : goal.loop-row-preserved
@@ -21,8 +22,8 @@ loop-row-preserved g c =
     let row = c.row-item.result in
     let more : take (i + 1) rows
     ≡ take i rows ++ row ∷ [] = rw c.row-item.is (take_more rows i _ c.loop-row-test.true) in
-    let early = λ (clean : HasCleanDisk (state g.S.Store new.conn)).
-    let h : HasCleanDisk (state g.S.Store mid.conn) = omega (arith, c.enrol.ensures.survives.clean) in h in
+    let early = λ (clean : IsClean g.S.Store new.conn).
+    let h : IsClean g.S.Store mid.conn = omega (arith, c.enrol.ensures.survives.clean) in h in
     record {
       ready = c.enrol.ensures.ready;
       plan = c.enrol.ensures.plan ∙ before.plan;

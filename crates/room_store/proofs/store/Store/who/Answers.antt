@@ -1,7 +1,5 @@
 use Rattle.std.proofs.Common.{ap, arith, refl, sym, ◌∙◌}
 use Rattle.std.specs.Prelude.{option_map}
-use Rattle.sqlite.specs.Held.{state}
-use Rattle.sqlite.specs.State.{HasCleanDisk}
 use Rattle.room_types.specs.declared.fleet.Terminal.{Terminal}
 use Rattle.room_store_writes.specs.Houses.{config_of}
 use Rattle.room_store.proofs.KnownLaws.{knows_nothing, looked_up}
@@ -9,6 +7,7 @@ use Rattle.room_store.proofs.LookLaws.{left_failed, left_same, left_then, left_u
 use Rattle.room_store.proofs.LookLaws.{survives_read}
 use Rattle.room_store.proofs.StoreLaws.{ready_schema, ready_sound, room_left}
 use Rattle.room_store_writes.proofs.CommitLaws.{unchanged_survives}
+use Rattle.room_tables_schema.specs.FileConnections.{IsClean}
 use Rattle.room_store.proofs.store.Store.who.Goals as goal
 
 pub returns-then-not-self-clause-leaves : goal.returns-then-not-self-clause-leaves
@@ -97,7 +96,7 @@ test_file-requires g c = record { outside = c.terminal_at.ensures.reads.mode c.r
 
 pub returns-in-Err-clause-leaves : goal.returns-in-Err-clause-leaves
 returns-in-Err-clause-leaves g c clean =
-    let early : HasCleanDisk (state g.S.Store c.terminal_at.new.conn) = omega
+    let early : IsClean g.S.Store c.terminal_at.new.conn = omega
     (arith, c.test_file.ensures.survives.clean) in
     left_then _ _ _
     (left_failed _ _

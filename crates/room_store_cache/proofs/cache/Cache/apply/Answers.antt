@@ -22,7 +22,7 @@ loop-change-preserved c room in_order known =
     let then = in_order_apply room (take i cs) in_order in
     subst (IsCacheOf _) (sym (ap (apply room) more ∙ apply_last room (take i cs) x)) (record {
       fleet = c.apply.ensures _ then before.fleet;
-      backlogs = c.apply-in-loop-change.ensures _ then before.backlogs;
+      queue_views = c.apply-in-loop-change.ensures _ then before.queue_views;
       incident_views = c.apply-in-loop-change-2.ensures _ then before.incident_views;
       recent_incidents = c.apply-in-loop-change-3.ensures _ then before.recent_incidents;
       shown_lists = c.apply-in-loop-change-4.ensures _ then before.shown_lists;

@@ -1,6 +1,7 @@
 use Rattle.std.proofs.Common.{ap, sym, ◌∙◌}
 use Rattle.std.proofs.lemmas.Result.{IfOk-weaker}
 use Rattle.room_types.specs.Keys.{incident_key, pair_cmp}
+use Rattle.room_types_keyed.specs.KeyedRows.{row_at}
 use Rattle.room_types.specs.Orders.{pairs_total}
 use Rattle.room_tables_schema.proofs.ReadLaws.{begins, told_any}
 use Rattle.room_store_cache.proofs.Filters.{filter_as, own_pair, pair_is}
@@ -13,8 +14,8 @@ returns-in-Some-clause-rows g c clean =
     let d = c.args.division in
     let n = c.args.part.now in
     IfOk-weaker c.listed.result _ _ (λ x is config room h are keyed.
-    let kept = rw c.in-Some.is at c.get.ensures room are.incident_views in
-    let incident = rw (kept.0, kept.1) at kept.2.incident in
+    let kept = rw c.in-Some.is at c.get.ensures.so room are.incident_views in
+    let incident = kept.1.incident ∙ ap (row_at pair_cmp incident_key room.incidents) kept.0 in
     is ∙ ap list_of incident ∙ sym (at_key pair_cmp incident_key pairs_total room.incidents (d, n) keyed)
     ∙ filter_as _ _ room.incidents (λ i. pair_is d n i.division i.number)) c.listed.ensures.rows
 

@@ -1,6 +1,6 @@
 use Rattle.std.proofs.Common.{◌∙◌, ap}
 use Rattle.room_tables_rows.proofs.ReadLaws.{button_read}
-use Rattle.room_tables_rows.specs.Readable.{is_button}
+use Rattle.room_tables_rows.specs.ReadableColumns.{is_button}
 use Rattle.room_tables_rows.proofs.column_values.ButtonField.read.Goals as goal
 
 pub returns-clause-has_one : goal.returns-clause-has_one

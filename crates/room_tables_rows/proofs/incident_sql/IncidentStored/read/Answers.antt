@@ -2,7 +2,7 @@
 use Rattle.std.proofs.Common.{◌≡◌, true, rules, ap}
 use Rattle.sqlite_value.specs.Order.{Row, column}
 use Rattle.room_tables_rows.proofs.ReadLaws.{state_read}
-use Rattle.room_tables_rows.specs.Readable.{is_or_null, is_serial}
+use Rattle.room_tables_rows.specs.ReadableColumns.{is_or_null, is_serial}
 use Rattle.room_tables_rows.proofs.incident_sql.IncidentStored.read.Goals as goal
 
 pub returns-in_err-state-clause-has_one : goal.returns-in_err-state-clause-has_one

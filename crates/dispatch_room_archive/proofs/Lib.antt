@@ -1,0 +1,19 @@
+pub mod AskedAlike
+pub mod CallLaws
+mod CheckedLemmas
+pub mod DayReportLemmas
+pub mod DecidedAlike
+pub mod GoingOn
+pub mod JoinedLemmas
+pub mod LeftBehind
+pub mod LeftLaws
+pub mod MadeOfRows
+pub mod PastAsked
+pub mod PastLaws
+pub mod PutLaws
+pub mod QueueAlike
+pub mod RenewalLemmas
+pub mod RenewedAgreements
+pub mod RowsLeft
+pub mod SpareAll
+pub mod SparingChanges

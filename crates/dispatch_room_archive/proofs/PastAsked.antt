@@ -1,0 +1,271 @@
+-- What becomes of events that speak of what stayed behind.
+use Rattle.std.proofs.Common.{ap, arith, eq-eqb, inl, inr, subst, sym, ◌∙◌}
+use Rattle.std.specs.Prelude.{Bool, Err, List, None, Option, Some, [], cond, false, filter, is_some, map, max, nat_lt}
+use Rattle.std.specs.Prelude.{not, refl, true, ℕ, ℤ, ◌<◌, ◌==◌, ◌||◌, ◌∷◌, ◌≡◌, ◌⊎◌}
+use Rattle.room_place.specs.Plans.{division_of}
+use Rattle.room_types_keyed.specs.KeyedRows.{keep, put_row, row_at}
+use Rattle.room_types.specs.Codes.{is_active}
+use Rattle.room_types.specs.Keys.{callsign_cmp, numbered_cmp, report_key, vehicle_key}
+use Rattle.room_types.specs.Orders.{callsigns_total, exact_callsigns}
+use Rattle.room_types.specs.Texts.{Callsign}
+use Rattle.room_types.specs.declared.asks.Ask.{Ask}
+use Rattle.room_types.specs.declared.asks.CallForm.{CallForm}
+use Rattle.room_types.specs.declared.asks.Press.{Press}
+use Rattle.room_types.specs.declared.asks.Who.{Who}
+use Rattle.room_types.specs.declared.asks.Who.TheVariants.{Crew, Desk, Position}
+use Rattle.room_types.specs.declared.changes.Change.TheVariants.{PutReport, PutVehicle}
+use Rattle.room_types.specs.declared.codes.Outcome.TheVariants.{Late}
+use Rattle.room_types.specs.declared.tables.Call.{Call}
+use Rattle.room_types.specs.declared.tables.Incident.{Incident}
+use Rattle.room_types.specs.declared.tables.Loan.{Loan}
+use Rattle.room_types.specs.declared.tables.Report.{Report}
+use Rattle.room_types.specs.declared.tables.Turn.{Turn}
+use Rattle.room_types.specs.declared.tables.Vehicle.{Vehicle}
+use Rattle.room_model.proofs.DecisionLaws.{by_refuse}
+use Rattle.room_model.proofs.Others.{put_same}
+use Rattle.room_model.proofs.Questions.{ChangesNothing, IsQuiet, quiet_shows}
+use Rattle.room_model.proofs.Tests.{row_key}
+use Rattle.room_model.specs.Calls.{call_kept, call_somewhere, new_call}
+use Rattle.room_model.specs.DayTimes.{show_times, times_line, times_of}
+use Rattle.room_model.specs.Decisions.{Verdict, answer_of, changes_of, show, tell, where_active}
+use Rattle.room_model.specs.Events.{by_crew, by_desk, by_position}
+use Rattle.room_model.specs.Incidents.{all_served, change_needs, close, close_active, history_of, merge, merge_of}
+use Rattle.room_model.specs.Incidents.{needs_changed, show_incident}
+use Rattle.room_model.specs.Proposals.{all_proposed, propose}
+use Rattle.room_model.specs.Queries.{borrowed, calls_of, held, incident_of, incidents_opened, is_attended, kept_call}
+use Rattle.room_model.specs.Queries.{kept_report, lent, open_turn, served, turns_of, vehicle_at}
+use Rattle.room_model.specs.Reports.{report_held, report_in, report_kept, report_row, report_somewhere, with_report}
+use Rattle.room_model.specs.Room.{IsInOrder, Room, apply}
+use Rattle.room_model.specs.Step.{decided, desk_asks}
+use Rattle.room_model.specs.Vehicles.{mobilise, mobilise_held}
+use Rattle.dispatch_room_archive.proofs.RowsLeft.{call_gone, incident_gone, report_gone}
+use Rattle.dispatch_room_archive.specs.Continuation.{IsOver, IsSettled, IsTakenLate, StaysBehind, asks_back, looks_back}
+use Rattle.dispatch_room_archive.specs.Continuation.{names_behind, sends_again}
+use Rattle.dispatch_room_archive.specs.Successor.{Behind, without}
+use Rattle.room_types.specs.declared.answers.Answer.TheVariants as answer
+use Rattle.room_types.specs.declared.asks.Ask.TheVariants as ask
+use Rattle.room_types.specs.declared.refusal_statuses.Refusal.TheVariants as refusal
+
+either_true : (x y : Bool) → x || y ≡ true → (x ≡ true) ⊎ (y ≡ true)
+either_true true y e = inl e
+either_true false y e = inr e
+
+-- two filters, one way round and the other
+turned_at : {X : Type 0} (p q : X → Bool) (x : X) (us vs : List X) (y z : Bool) → p x ≡ y
+    → q x ≡ z → filter p us ≡ filter q vs
+    → filter p (cond z (x ∷ us) us) ≡ filter q (cond y (x ∷ vs) vs)
+turned_at p q x us vs true true e f h = rw (e, f) (ap (λ ws. x ∷ ws) h)
+turned_at p q x us vs true false e f h = rw f h
+turned_at p q x us vs false true e f h = rw e h
+turned_at p q x us vs false false e f h = h
+
+filters_turned : {X : Type 0} (p q : X → Bool) (xs : List X)
+    → filter p (filter q xs) ≡ filter q (filter p xs)
+filters_turned p q [] = refl
+filters_turned p q (x ∷ xs) = turned_at p q x (filter q xs) (filter p xs) (p x) (q x) refl refl (filters_turned p q xs)
+
+-- ---- what an incident that is over is asked for
+where_over : (since : ℕ) (o : Option Incident) (f : Incident → Verdict) → IsOver since o
+    → ChangesNothing (where_active o f)
+where_over since None f h = absurd h
+where_over since (Some i) f h =
+    by_refuse ChangesNothing (not (is_active i.state)) refusal.IncidentNotOpen (f i) refl
+    (λ e. let idle = h.0 in let active : not (is_active i.state) ≡ true = ap not idle in cc)
+
+merge_over : (since : ℕ) (x y : Option Incident) (attended : Bool) (calls : List Call)
+    → IsOver since x ⊎ IsOver since y → ChangesNothing (merge_of x y attended calls)
+merge_over since None y attended calls h = refl
+merge_over since (Some i) None attended calls h = refl
+merge_over since (Some i) (Some j) attended calls h =
+    by_refuse ChangesNothing _ _ _ refl (λ other.
+    by_refuse ChangesNothing _ _ _ refl
+    (λ first. by_refuse ChangesNothing _ _ _ refl (λ second. absurd (none first second))))
+  where
+    none : not (is_active i.state) ≡ false → not (is_active j.state) ≡ false → ⊥
+    none first second = elim h [
+      | inl over ↦ let idle : not (is_active i.state) ≡ true = ap not over.0 in cc
+      | inr over ↦ let idle : not (is_active j.state) ≡ true = ap not over.0 in cc
+    ]
+
+merge_none : (o : Option Incident) (attended : Bool) (calls : List Call)
+    → merge_of o None attended calls ≡ Err refusal.NoSuchIncident
+merge_none None attended calls = refl
+merge_none (Some i) attended calls = refl
+
+looks_quiet : (since d : ℕ) (a : Ask) → looks_back since a ≡ true → IsQuiet (Desk d) a
+looks_quiet since d (ask.Times from to) e = refl
+looks_quiet since d a e = cc
+
+module _ (since : ℕ) (b : Behind) (r : Room) (h : StaysBehind since b r) where
+  abbrev new : Room
+  new = without b r
+
+  -- ---- in the old room it changes nothing
+  names_nothing : (d : ℕ) (a : Ask) (at : ℕ) → names_behind b d a ≡ true
+      → ChangesNothing (desk_asks d a at r)
+  unfolding mobilise change_needs merge close
+  names_nothing d (ask.Incident n) at e = quiet_shows at r (Desk d) (ask.Incident n) refl
+  names_nothing d (ask.Propose n) at e = quiet_shows at r (Desk d) (ask.Propose n) refl
+  names_nothing d (ask.Mobilise n c) at e =
+      where_over since (incident_of d n r) (mobilise_held d (held d c r) (lent d c r) at (λ k. served d n k r))
+      (h.incidents d n e)
+  names_nothing d (ask.Needs n needs) at e =
+      where_over since (incident_of d n r) (needs_changed needs (λ k. served d n k r)) (h.incidents d n e)
+  names_nothing d (ask.Merge n m) at e =
+      merge_over since (incident_of d n r) (incident_of d m r) (is_attended d n r) (calls_of d n r)
+      (elim (either_true (b.incident d n) (b.incident d m) e) [
+        | inl f ↦ inl (h.incidents d n f)
+        | inr f ↦ inr (h.incidents d m f)
+      ])
+  names_nothing d (ask.Close n) at e =
+      where_over since (incident_of d n r) (close_active (is_attended d n r)) (h.incidents d n e)
+  names_nothing d a at e = cc
+
+  pub asks_nothing : (who : Who) (a : Ask) (at : ℕ) → asks_back since b who a ≡ true
+      → changes_of (decided (record { who = who; ask = a; at = at }) r) ≡ []
+  asks_nothing (Desk d) a at e = elim (either_true (names_behind b d a) (looks_back since a) e) [
+    | inl f ↦ names_nothing d a at f
+    | inr f ↦ quiet_shows at r (Desk d) a (looks_quiet since d a f)
+  ]
+  asks_nothing (Position p) a at e = cc
+  asks_nothing (Crew c) a at e = cc
+
+  again_call : (p : ℕ) (f : CallForm) (at : ℕ) (o : Option Call) → kept_call p f.serial r ≡ o
+      → is_some (keep (λ c. b.incident c.division c.incident) o) ≡ true
+      → changes_of (call_kept o (new_call p f at) r) ≡ []
+  again_call p f at None e g = cc
+  again_call p f at (Some k) e g = by_refuse ChangesNothing _ _ _ refl (λ x. refl)
+
+  again_report : (v : Option Vehicle) (c : Callsign) (p : Press) (at : ℕ) (o : Option Report)
+      → IsSettled v p.number o → changes_of (report_kept o c p at r) ≡ []
+  again_report v c p at None g = absurd g
+  again_report v c p at (Some k) g = by_refuse ChangesNothing _ _ _ refl (λ x. refl)
+
+  pub again_nothing : (who : Who) (a : Ask) (at : ℕ) → sends_again b who a ≡ true
+      → changes_of (decided (record { who = who; ask = a; at = at }) r) ≡ []
+  again_nothing (Position p) (ask.Call f) at e =
+      again_call p f at (kept_call p f.serial r) refl (sym (h.calls p f.serial) ∙ e)
+  again_nothing (Crew c) (ask.Report p) at e =
+      again_report (vehicle_at c r) c p at (kept_report c p.number r) (h.reports c p.number e)
+  again_nothing who a at e = cc
+
+  -- ---- in the new room what stayed behind is not there
+  module _ (order : IsInOrder r) where
+    none_there : (d n : ℕ) → b.incident d n ≡ true → incident_of d n new ≡ None
+    unfolding incident_of
+    none_there d n e = incident_gone b r order d n e
+
+    pub names_none : (d : ℕ) (a : Ask) (at : ℕ) → names_behind b d a ≡ true
+        → desk_asks d a at new ≡ Err refusal.NoSuchIncident
+    unfolding mobilise change_needs merge close show_incident propose
+    names_none d (ask.Incident n) at e =
+        ap (λ o. history_of o (all_served d n new) (calls_of d n new) (turns_of d n new)) (none_there d n e)
+    names_none d (ask.Propose n) at e =
+        ap (λ o. where_active o (λ i. show (answer.Proposals (all_proposed d i at new)))) (none_there d n e)
+    names_none d (ask.Mobilise n c) at e =
+        ap (λ o. where_active o (mobilise_held d (held d c new) (lent d c new) at (λ k. served d n k new)))
+        (none_there d n e)
+    names_none d (ask.Needs n needs) at e =
+        ap (λ o. where_active o (needs_changed needs (λ k. served d n k new))) (none_there d n e)
+    names_none d (ask.Merge n m) at e = elim (either_true (b.incident d n) (b.incident d m) e) [
+      | inl f ↦ ap (λ o. merge_of o (incident_of d m new) (is_attended d n new) (calls_of d n new)) (none_there d n f)
+      | inr f ↦
+          ap (λ o. merge_of (incident_of d n new) o (is_attended d n new) (calls_of d n new)) (none_there d m f)
+          ∙ merge_none (incident_of d n new) (is_attended d n new) (calls_of d n new)
+    ]
+    names_none d (ask.Close n) at e = ap (λ o. where_active o (close_active (is_attended d n new))) (none_there d n e)
+    names_none d a at e = cc
+
+    pub asks_none : (who : Who) (a : Ask) (at : ℕ) → asks_back since b who a ≡ true
+        → changes_of (decided (record { who = who; ask = a; at = at }) new) ≡ []
+    asks_none (Desk d) a at e = elim (either_true (names_behind b d a) (looks_back since a) e) [
+      | inl f ↦ ap changes_of (names_none d a at f)
+      | inr f ↦ quiet_shows at new (Desk d) a (looks_quiet since d a f)
+    ]
+    asks_none (Position p) a at e = cc
+    asks_none (Crew c) a at e = cc
+
+    pub call_again : (p : ℕ) (f : CallForm) (at : ℕ) → b.call p f.serial ≡ true
+        → decided (by_position p (ask.Call f) at) new
+        ≡ call_somewhere (division_of new.plan f.place) (new_call p f at) new
+    unfolding kept_call
+    call_again p f at e = ap (λ o. call_kept o (new_call p f at) new) (call_gone b r order p f.serial e)
+
+    late_is : (v : Vehicle) (t : Option Turn) (l : Option Loan) (p : Press) (at : ℕ)
+        → p.number < v.last_report → report_held (Some v) t l p at
+        ≡ tell (answer.Reported p.number Late v.status) (PutReport (report_row v p at Late v.status)
+        ∷ PutVehicle (with_report v p) ∷ [])
+    late_is v t l p at less = rw (is_below p.number v.last_report less) refl
+      where
+        is_below : (n m : ℕ) → n < m → nat_lt n m ≡ true
+        is_below n m less = grind (arith, less)
+
+    late_vehicle : (v : Vehicle) (p : Press) → p.number < v.last_report → with_report v p ≡ v
+    late_vehicle v p less =
+        let same : max v.last_report p.number ≡ v.last_report = omega (arith, less) in
+        ap (λ (n : ℕ). record v { last_report = n }) same
+
+    held_itself : (c : Callsign) (v : Vehicle) → vehicle_at c new ≡ Some v
+        → held v.holder c new ≡ Some v
+    unfolding held vehicle_at
+    held_itself c v e =
+        ap (keep (λ (x : Vehicle). x.holder == v.holder)) e
+        ∙ ap (λ (x : Bool). cond x (Some v) None) (eq-eqb v.holder v.holder refl)
+
+    late_decided : (c : Callsign) (p : Press) (at : ℕ) (v : Vehicle) → b.report c p.number ≡ true
+        → vehicle_at c new ≡ Some v → p.number < v.last_report
+        → decided (by_crew c (ask.Report p) at) new
+        ≡ tell (answer.Reported p.number Late v.status) (PutReport (report_row v p at Late v.status)
+        ∷ PutVehicle (with_report v p) ∷ [])
+    unfolding kept_report report_in
+    late_decided c p at v e there less =
+        ap (λ o. report_kept o c p at new) (report_gone b r order c p.number e)
+        ∙ (ap (λ o. report_somewhere o c p at new) there
+        ∙ (ap (λ o. report_held o (open_turn v.holder c new) (borrowed v.holder c new) p at) (held_itself c v there)
+        ∙ late_is v (open_turn v.holder c new) (borrowed v.holder c new) p at less))
+
+    late_rows : (c : Callsign) (v : Vehicle) (p : Press) (x : Report) → vehicle_at c new ≡ Some v
+        → p.number < v.last_report
+        → apply new (PutReport x ∷ PutVehicle (with_report v p) ∷ [])
+        ≡ record new { reports = put_row numbered_cmp report_key new.reports x }
+    unfolding vehicle_at
+    late_rows c v p x there less =
+        ap (λ (u : Vehicle). record new {
+          reports = put_row numbered_cmp report_key new.reports x;
+          vehicles = put_row callsign_cmp vehicle_key r.vehicles u;
+        }) (late_vehicle v p less)
+        ∙ ap
+        (λ (vs : List Vehicle). record new { reports = put_row numbered_cmp report_key new.reports x; vehicles = vs })
+        (put_same callsign_cmp vehicle_key callsigns_total r.vehicles v order.vehicles
+        (subst (λ (k : Callsign). row_at callsign_cmp vehicle_key r.vehicles k ≡ Some v)
+        (row_key callsign_cmp vehicle_key callsigns_total exact_callsigns r.vehicles c v there) there))
+
+    taken_late : (c : Callsign) (p : Press) (at : ℕ) (o : Option Vehicle) (x : Option Report)
+        → vehicle_at c new ≡ o → b.report c p.number ≡ true → IsSettled o p.number x
+        → IsTakenLate c p at new
+    taken_late c p at o None there e g = absurd g
+    taken_late c p at None (Some x) there e g = absurd g
+    taken_late c p at (Some v) (Some x) there e g =
+        let same = late_decided c p at v e there g.1 in
+        record {
+          vehicle = v;
+          there = there;
+          answer = ap answer_of same;
+          rows = ap (λ y. apply new (changes_of y)) same ∙ late_rows c v p (report_row v p at Late v.status) there g.1;
+        }
+
+    pub report_again : (c : Callsign) (p : Press) (at : ℕ) → b.report c p.number ≡ true
+        → IsTakenLate c p at new
+    unfolding vehicle_at
+    report_again c p at e =
+        taken_late c p at (vehicle_at c r) (kept_report c p.number r) refl e (h.reports c p.number e)
+
+-- ---- the times that are left
+pub times_left : (b : Behind) (r : Room) (d : ℕ) (from to : ℤ) (at : ℕ)
+    → decided (by_desk d (ask.Times from to) at) (without b r)
+    ≡ show (answer.Times (times_of from to (map times_line
+    (filter (λ i. not (b.incident i.division i.number)) (incidents_opened d from to r)))))
+unfolding show_times incidents_opened
+times_left b r d from to at =
+    ap (λ is. show (answer.Times (times_of from to (map times_line is))))
+    (filters_turned _ (λ i. not (b.incident i.division i.number)) r.incidents)

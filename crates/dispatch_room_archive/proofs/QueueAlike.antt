@@ -1,0 +1,108 @@
+-- The queue is the same without what stays behind.
+use Rattle.std.proofs.Common.{ap, eqb-true, sym, ◌∙◌}
+use Rattle.std.specs.Prelude.{Bool, None, Option, Some, cond, false, filter_map, nat_lt, not, refl, true, ℕ, ◌&&◌, ◌++◌}
+use Rattle.std.specs.Prelude.{◌==◌, ◌||◌, ◌≡◌}
+use Rattle.room_types.specs.Codes.{is_active, is_mobilised, is_normal}
+use Rattle.room_types.specs.declared.answers.Entry.{Entry}
+use Rattle.room_types.specs.declared.codes.Kind.{Kind}
+use Rattle.room_types.specs.declared.codes.Kind.TheVariants.{Ambulance, Car, Support}
+use Rattle.room_types.specs.declared.tables.Incident.{Incident}
+use Rattle.room_types.specs.declared.tables.Turn.{Turn}
+use Rattle.room_types.specs.declared.tables.Vehicle.{Vehicle}
+use Rattle.room_model.proofs.Tests.{among_filter, and_same, filter_map_among}
+use Rattle.room_model.specs.Moments.{age}
+use Rattle.room_model.specs.Queries.{holders, open_turn}
+use Rattle.room_model.specs.Queue.{entries, exception, overdue, shift_over, slow, slow_incident, slow_turn, unanswered}
+use Rattle.room_model.specs.Queue.{uncovered, unread, unread_turn, unserved}
+use Rattle.room_model.specs.Room.{Room}
+use Rattle.room_model.specs.RoomAgreements.{IsWellFormed}
+use Rattle.dispatch_room_archive.proofs.AskedAlike.{active_among, filter_map_passing, found_stays, incident_same, open_turn_same}
+use Rattle.dispatch_room_archive.proofs.AskedAlike.{report_settled, served_same}
+use Rattle.dispatch_room_archive.proofs.LeftBehind.{from_left, from_not, not_true}
+use Rattle.dispatch_room_archive.specs.Continuation.{StaysBehind}
+use Rattle.dispatch_room_archive.specs.Successor.{Behind, without}
+
+-- what is not active is not unserved
+idle_none : (mine active more : Bool) (e : Entry) → active ≡ false
+    → cond (mine && (active && more)) (Some e) None ≡ None
+idle_none true active more e f = ap (λ (b : Bool). cond (b && more) (Some e) None) f
+idle_none false active more e f = refl
+
+-- what is settled is no exception
+settled_none : (mine cleared normal : Bool) (e : Entry) → cleared || normal ≡ true
+    → cond (mine && (not normal && not cleared)) (Some e) None ≡ None
+settled_none true true true e f = refl
+settled_none true true false e f = refl
+settled_none true false true e f = refl
+settled_none true false false e f = cc
+settled_none false cleared normal e f = refl
+
+module _ (since : ℕ) (b : Behind) (r : Room) (w : IsWellFormed r) (h : StaysBehind since b r)
+    (d at : ℕ) where
+  abbrev new : Room
+  new = without b r
+
+  unserved_by : (i : Incident) → b.incident i.division i.number ≡ false
+      → unserved d at new i ≡ unserved d at r i
+  unserved_by i spared =
+      ap (λ (x : Bool). cond x (Some (record { rank = 1; since = i.opened; number = i.number; callsign = None })) None)
+      (and_same (i.division == d) _ _ (λ mine.
+      ap (λ (n : Kind → ℕ).
+      is_active i.state && ((n Ambulance == 0 && (n Car == 0 && n Support == 0)) && nat_lt 180 (age at i.opened)))
+      (λ j k.
+      served_same since b r w h d i.number (ap (λ x. b.incident x i.number) (sym (eqb-true i.division d mine)) ∙ spared)
+      k j)))
+
+  unserved_same : filter_map (unserved d at new) new.incidents
+      ≡ filter_map (unserved d at r) r.incidents
+  unserved_same =
+      filter_map_among (unserved d at new) (unserved d at r) new.incidents
+      (λ i m. unserved_by i (from_not _ (among_filter (λ i. not (b.incident i.division i.number)) r.incidents i m).1))
+      ∙ filter_map_passing (unserved d at r) (λ i. not (b.incident i.division i.number)) r.incidents
+      (λ i m e.
+      idle_none (i.division == d) (is_active i.state) _ _ (not_true (is_active i.state)
+      (λ f.
+      let spared = active_among since b r w h i m f in
+      let stayed : not (b.incident i.division i.number) ≡ true = ap not spared in cc)))
+
+  unread_same : filter_map (unread d at new) r.vehicles ≡ filter_map (unread d at r) r.vehicles
+  unread_same =
+      ap (λ (f : Vehicle → Option Entry). filter_map f r.vehicles)
+      (λ j v.
+      cond (v.holder == d && is_mobilised v.status) (unread_turn at v (open_turn_same since b r w h d v.callsign j))
+      None)
+
+  slow_turn_same : (v : Vehicle) (o : Option Turn)
+      → ((t : Turn) → o ≡ Some t → b.incident d t.incident ≡ false)
+      → slow_turn d at new v o ≡ slow_turn d at r v o
+  slow_turn_same v None f = refl
+  slow_turn_same v (Some t) f = ap (slow_incident at v) (incident_same since b r w h d t.incident (f t refl))
+
+  slow_by : (v : Vehicle) → slow d at new v ≡ slow d at r v
+  slow_by v =
+      ap (λ o. cond (v.holder == d && is_mobilised v.status) (slow_turn d at new v o) None)
+      (open_turn_same since b r w h d v.callsign)
+      ∙ ap (λ o. cond (v.holder == d && is_mobilised v.status) o None)
+      (slow_turn_same v (open_turn d v.callsign r) (found_stays since b r w h d v.callsign))
+
+  exception_same : filter_map (exception d) new.reports ≡ filter_map (exception d) r.reports
+  exception_same =
+      filter_map_passing (exception d) (λ x. not (b.report x.callsign x.number)) r.reports
+      (λ x m e.
+      settled_none (x.division == d) x.cleared (is_normal x.outcome) _
+      (report_settled since b r w h x m (from_left _ e)))
+
+  uncovered_same : filter_map (uncovered d at new) r.points ≡ filter_map (uncovered d at r) r.points
+  unfolding holders
+  uncovered_same = refl
+
+  pub entries_same : entries d at new ≡ entries d at r
+  unfolding entries
+  entries_same i =
+      unserved_same i
+      ++ (unread_same i ++ (filter_map_among (slow d at new) (slow d at r) r.vehicles (λ v m. slow_by v) i
+      ++ (exception_same i
+      ++ (filter_map (overdue d at) r.loans
+      ++ (filter_map (shift_over d at) r.vehicles
+      ++ (uncovered_same i
+      ++ filter_map (unanswered d at) r.offers))))))

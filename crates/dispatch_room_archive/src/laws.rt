@@ -1,0 +1,115 @@
+//! A room that is renewed. Each law is the contract of a function that does nothing.
+ghost use Rattle.std.specs.Prelude.{◌≡◌, ℕ, ℤ, List, Err, false, filter, map, not, true};
+ghost use Rattle.room_place.specs.Plans.{division_of};
+ghost use Rattle.room_types.specs.Texts.{Callsign};
+ghost use Rattle.room_types.specs.declared.answers.Answer.TheVariants.{Times as TimesTold};
+ghost use Rattle.room_types.specs.declared.asks.Ask.{Ask};
+ghost use Rattle.room_types.specs.declared.asks.Ask.TheVariants.{Call, Report, Times};
+ghost use Rattle.room_types.specs.declared.asks.CallForm.{CallForm};
+ghost use Rattle.room_types.specs.declared.asks.Event.{Event};
+ghost use Rattle.room_types.specs.declared.asks.Press.{Press};
+ghost use Rattle.room_types.specs.declared.fleet.Terminal.{Terminal};
+ghost use Rattle.room_types.specs.declared.refusal_statuses.Refusal.TheVariants.{NoSuchIncident};
+ghost use Rattle.room_model.specs.Calls.{call_somewhere, new_call};
+ghost use Rattle.room_model.specs.DayTimes.{times_line, times_of};
+ghost use Rattle.room_model.specs.Decisions.{show};
+ghost use Rattle.room_model.specs.FleetRows.{AreTerminals};
+ghost use Rattle.room_model.specs.Events.{AreAddressed, by_crew, by_desk, by_position};
+ghost use Rattle.room_model.specs.Queries.{incidents_opened};
+ghost use Rattle.room_model.specs.Room.{IsInOrder, Room, apply};
+ghost use Rattle.room_model.specs.Run.{room_run};
+ghost use Rattle.room_model.specs.Step.{answer_to, decided, room_after};
+ghost use Rattle.room_model.specs.RoomAgreements.{IsWellFormed};
+ghost use Rattle.dispatch_room_archive.specs.Successor.{Behind, left_behind, renewed};
+ghost use Rattle.dispatch_room_archive.specs.Composition.{IsBare, puts};
+ghost use Rattle.dispatch_room_archive.specs.Continuation.{AreAnsweredAlike, IsSuccessor, IsTakenLate, NoneRepeatsThePast, asks_of_the_past, names_behind, repeats_the_past};
+
+/// A well-formed room that is renewed is well-formed, and its terminals fit the new room.
+pub fn a_renewed_room_is_well_formed()
+    ensures room { (since : ℕ) (r : Room) → IsWellFormed r → IsWellFormed (renewed since r) }
+    ensures terminals { (since : ℕ) (r : Room) (ts : List Terminal) →
+        AreTerminals r ts →
+        AreTerminals (renewed since r) ts }
+{}
+
+/// What is left behind has no part in what goes on.
+pub fn what_is_left_is_over()
+    ensures { (since : ℕ) (r : Room) →
+        IsWellFormed r →
+        IsSuccessor since (left_behind since r) r (renewed since r) }
+{}
+
+/// An event gets the same answer in the new room as in the old one, and leads to two rooms of which
+/// one has again what the other has but for the same that stayed behind.
+pub fn a_successor_goes_on_alike()
+    // Unless a desk asks of the past, or a call or a report that stayed behind is sent again.
+    ensures answer { (since : ℕ) (b : Behind) (old new : Room) (e : Event) →
+        IsWellFormed old → IsSuccessor since b old new →
+        asks_of_the_past since b e ≡ false → repeats_the_past b e ≡ false →
+        answer_to e new ≡ answer_to e old }
+    // Where a desk asks of the past the rooms go on alike all the same.
+    ensures afterwards { (since : ℕ) (b : Behind) (old new : Room) (e : Event) →
+        IsWellFormed old → IsSuccessor since b old new →
+        repeats_the_past b e ≡ false →
+        IsSuccessor since b (room_after e old) (room_after e new) }
+{}
+
+/// Both rooms go on alike by any list of events in which nothing that stayed behind is sent again.
+pub fn rooms_go_on_alike()
+    ensures renewed { (since : ℕ) (r : Room) (es : List Event) →
+        IsWellFormed r → AreAddressed es r → NoneRepeatsThePast (left_behind since r) es →
+        AreAnsweredAlike since (left_behind since r) es r (renewed since r)
+        × IsSuccessor since (left_behind since r) (room_run es r) (room_run es (renewed since r)) }
+    ensures successors { (since : ℕ) (b : Behind) (old new : Room) (es : List Event) →
+        IsWellFormed old → IsSuccessor since b old new →
+        AreAddressed es old → NoneRepeatsThePast b es →
+        AreAnsweredAlike since b es old new
+        × IsSuccessor since b (room_run es old) (room_run es new) }
+{}
+
+/// What a desk asks of the past changes neither room. An incident that stayed behind is none in the
+/// new room; the times are those of the incidents that did not stay behind.
+pub fn the_past_is_not_found()
+    ensures incident { (since : ℕ) (b : Behind) (old new : Room) (d : ℕ) (a : Ask) (at : ℕ) →
+        IsWellFormed old → IsSuccessor since b old new →
+        names_behind b d a ≡ true →
+        answer_to (by_desk d a at) new ≡ Err NoSuchIncident }
+    ensures times { (since : ℕ) (b : Behind) (old new : Room) (d : ℕ) (from to : ℤ) (at : ℕ) →
+        IsSuccessor since b old new →
+        decided (by_desk d (Times from to) at) new
+        ≡ show (TimesTold (times_of from to (map times_line
+        (filter (λ i. not (b.incident i.division i.number)) (incidents_opened d from to old))))) }
+    ensures old { (since : ℕ) (b : Behind) (old new : Room) (e : Event) →
+        IsSuccessor since b old new →
+        asks_of_the_past since b e ≡ true →
+        room_after e old ≡ old }
+    ensures new { (since : ℕ) (b : Behind) (old new : Room) (e : Event) →
+        IsWellFormed old → IsSuccessor since b old new →
+        asks_of_the_past since b e ≡ true →
+        room_after e new ≡ new }
+{}
+
+/// What stayed behind and is sent again changes nothing in the old room. In the new room such a
+/// call is decided as one that was never sent, and such a report is late, so it acts on nothing.
+pub fn the_past_may_be_sent_again()
+    ensures old { (since : ℕ) (b : Behind) (old new : Room) (e : Event) →
+        IsSuccessor since b old new →
+        repeats_the_past b e ≡ true →
+        room_after e old ≡ old }
+    ensures call { (since : ℕ) (b : Behind) (old new : Room) (p : ℕ) (f : CallForm) (at : ℕ) →
+        IsWellFormed old → IsSuccessor since b old new →
+        repeats_the_past b (by_position p (Call f) at) ≡ true →
+        decided (by_position p (Call f) at) new
+        ≡ call_somewhere (division_of new.plan f.place) (new_call p f at) new }
+    ensures report { (since : ℕ) (b : Behind) (old new : Room) (c : Callsign) (p : Press)
+        (at : ℕ) →
+        IsWellFormed old → IsSuccessor since b old new →
+        repeats_the_past b (by_crew c (Report p) at) ≡ true →
+        IsTakenLate c p at new }
+{}
+
+/// A room is what its rows make, put one after another, of a room with only its plan and the rows
+/// of its divisions.
+pub fn a_room_is_made_of_its_rows()
+    ensures { (s r : Room) → IsInOrder s → IsInOrder r → IsBare s r → apply s (puts r) ≡ r }
+{}

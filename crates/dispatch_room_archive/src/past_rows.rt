@@ -1,0 +1,100 @@
+//! What of a room is over since a moment.
+ghost use Rattle.std.specs.Prelude.{◌≡◌, ◌&&◌, IfOk, List, nat_lt, not, option_copied};
+ghost use Rattle.room_place.specs.declared.plans.Area.{Area};
+ghost use Rattle.room_types.specs.Codes.{is_active, is_normal};
+ghost use Rattle.room_model.specs.RoomSlices.{room_of};
+ghost use Rattle.dispatch_room_archive.specs.Successor.{incident_stays, is_last_report, is_over, is_settled};
+ghost use Rattle.dispatch_room_archive.specs.CalledIncidents.{AreCalled};
+ghost use Rattle.dispatch_room_archive.specs.Leftovers.{is_report_over};
+
+use crate::called_incidents::Called;
+use room_place::plans::DivisionNumber;
+use room_types::codes::Outcome;
+use room_types::numbers::{Moment, Number};
+use room_types::slices::DivisionRows;
+use room_types::tables::{Incident, Report, Vehicle};
+use std::alloc::{AllocError, Global};
+
+/// The rows of a room, and what decides which of them stay behind when it is renewed since a
+/// moment.
+#[derive(Drop)]
+pub struct Past<'a> {
+    pub since: Moment,
+    pub rows: &'a DivisionRows,
+    called: Called,
+    pub ghost calls: { AreCalled since rows.now.calls rows.now.calls called },
+}
+
+impl<'a> Past<'a> {
+    /// Of these rows.
+    pub fn of(alloc: Global, since: Moment, rows: &'a DivisionRows) -> Result<Past<'a>, AllocError>
+        ensures { IfOk result (λ past. (past.since ≡ since) × (past.rows.now ≡ rows.now)) }
+    {
+        let called = Called::since(alloc, since, &rows.calls)?;
+        Ok(Past {
+            since,
+            rows,
+            called,
+        })
+    }
+
+    /// Whether the incident of a division and number stays behind.
+    pub fn incident_stays(&self, division: DivisionNumber, number: Number) -> bool
+        ensures { (plan : List Area) → result
+            ≡ incident_stays self.now.since (room_of plan self.now.rows.now) division number }
+    {
+        match self.rows.incidents.get(&(division, number)) {
+            Some(incident) => self.is_over(incident),
+            None => false,
+        }
+    }
+
+    /// Whether an incident is over.
+    pub fn is_over(&self, incident: &Incident) -> bool
+        ensures { (plan : List Area) → result
+            ≡ is_over self.now.since (room_of plan self.now.rows.now) incident.now }
+    {
+        let is_called = self.called.has(incident);
+        is_done_before(incident, self.since) && !is_called
+    }
+
+    /// Whether a report is over.
+    pub fn is_report_over(&self, report: &Report) -> bool
+        ensures { (plan : List Area) → result
+            ≡ is_report_over self.now.since (room_of plan self.now.rows.now) report.now }
+    {
+        let is_last = is_last(report, self.rows.vehicles.get(&report.callsign));
+        is_settled(report, self.since) && !is_last
+    }
+}
+
+// Whether an incident is not active, and was opened before a moment.
+fn is_done_before(incident: &Incident, since: Moment) -> bool
+    ensures { let i = incident.now in
+        result ≡ (not (is_active i.state) && nat_lt i.opened since) }
+{
+    !incident.state.is_active() && incident.opened < since
+}
+
+// Whether a report waits for nobody's eye, and was sent before a moment.
+fn is_settled(report: &Report, since: Moment) -> bool
+    ensures { result ≡ is_settled since report.now }
+{
+    report.at < since && (report.cleared || is_normal(report.outcome))
+}
+
+fn is_normal(outcome: Outcome) -> bool
+    ensures { result ≡ is_normal outcome }
+{
+    matches!(outcome, Outcome::Normal)
+}
+
+// Whether a report is the last of its vehicle.
+fn is_last(report: &Report, vehicle: Option<&Vehicle>) -> bool
+    ensures { result ≡ is_last_report report.now.number (option_copied vehicle.entry) }
+{
+    match vehicle {
+        Some(vehicle) => vehicle.last_report.get() == report.number.get(),
+        None => false,
+    }
+}

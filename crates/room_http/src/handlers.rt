@@ -1,0 +1,34 @@
+//! What requests are handled with.
+ghost use Rattle.std.specs.Prelude.{◌≡◌, IfErr, IfOk};
+ghost use Rattle.room_types.specs.declared.refusal_statuses.Refusal.TheVariants.{Memory};
+
+use crate::settings::Setting;
+use room_http_requests::routes::Routes;
+use room_types::refusal_statuses::Refusal;
+use std::alloc::Global;
+
+/// What every request of a service is handled with. It is made once, since to make the routes takes
+/// longer than to answer.
+#[derive(Drop)]
+pub struct Handler {
+    pub alloc: Global,
+    pub routes: Routes,
+    pub setting: Setting,
+}
+
+impl Handler {
+    /// A handler of a service that is set so. A refusal is lack of memory.
+    pub fn new(alloc: Global, setting: Setting) -> Result<Handler, Refusal>
+        ensures setting { IfOk result (λ handler. handler.setting ≡ setting) }
+        ensures refused { IfErr result (λ refusal. refusal ≡ Memory) }
+    {
+        match Routes::new(alloc) {
+            Ok(routes) => Ok(Handler {
+                alloc,
+                routes,
+                setting,
+            }),
+            Err(refusal) => Err(refusal),
+        }
+    }
+}

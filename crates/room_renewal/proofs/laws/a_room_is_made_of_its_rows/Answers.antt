@@ -1,5 +1,0 @@
-use Rattle.room_renewal.proofs.MadeOfRows.{made_of_rows}
-use Rattle.room_renewal.proofs.laws.a_room_is_made_of_its_rows.Goals as goal
-
-pub returns : goal.returns
-returns g = made_of_rows
