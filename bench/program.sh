@@ -12,7 +12,11 @@ go_beside() {
   crate=bench_$(basename "$here")
   work=$(mktemp -d)
   trap "rm -rf '$work'" EXIT
-  libraries="$1 $(sed -n "s/^$1: //p" "$top/crates.txt")"
+  # all on which it stands: a line of crates.txt, whose lowest crate is first, has those that it names itself
+  libraries=$(tac "$top/crates.txt" | awk -F: -v named="$1" '
+    BEGIN { stands[named] }
+    $1 in stands { print $1; count = split($2, below, " "); for (i = 1; i <= count; i++) stands[below[i]] }
+    END { for (name in stands) print name }' | awk '!seen[$0]++' | tac | tr '\n' ' ')
   mkdir -p "$work/crates/$crate/src"
   for library in $libraries; do
     [ -d "$top/crates/$library" ] || continue # it is the kit's

@@ -116,7 +116,7 @@ def refusals_on_page():
 
 def members_written():
     """The members that the code writes of each struct in an answer."""
-    text = specs('room_http_answers/src/answer_lines.rt')
+    text = specs('room_http/src/answer_lines.rt')
     found = re.findall(r'^impl ToJson for (\w+) \{(.*?)^\}', text, re.M | re.S)
     return {name: re.findall(r'member\(out, "(\w+)"', own) for name, own in found}
 

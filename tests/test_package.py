@@ -290,7 +290,7 @@ class Package(TestCase):
         shown = subprocess.run(['groff', '-man', '-Tascii', '-P-cbou'], input=source,
                                capture_output=True, timeout=180).stdout.decode()
         part = ' '.join(shown.partition('DIAGNOSTICS')[2].partition('\nFILES')[0].split())
-        endings = TOP / 'crates' / 'dispatch_room_exit' / 'src' / 'exit_status.rt'
+        endings = TOP / 'crates' / 'dispatch_room_cli' / 'src' / 'exit_status.rt'
         faults = re.findall(r'#\[error\("(.*)"\)\]', endings.read_text())
         self.check('there are faults', 'storage' in faults, True)
         for fault in faults:

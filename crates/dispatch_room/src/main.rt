@@ -3,9 +3,9 @@
 //! over a room's file.
 #![tactic(auto)]
 
+use dispatch_room_cli::exit_status::{Failure, end};
 use dispatch_room_commands::commands::{USAGE, command};
 use dispatch_room_dry_run::standard_streams::run;
-use dispatch_room_exit::exit_status::{Failure, end};
 use std::process::ExitCode;
 use std::{env, io};
 

@@ -19,8 +19,8 @@ use Rattle.room_store_check_rows.specs.declared.summaries.Summary.{Summary}
 use Rattle.room_store_check_tables.specs.HeldRooms.{HoldsRoom, WritesNothing}
 use Rattle.room_store_file.specs.ExaminedFile.{IsSummaryOf}
 use Rattle.dispatch_room_csv.specs.DayReport.{report_of}
-use Rattle.dispatch_room_exit.specs.declared.exit_status.Failure.{Failure}
-use Rattle.dispatch_room_exit.specs.declared.exit_status.Failure.TheVariants.{Day, Division, File, Memory}
+use Rattle.dispatch_room_cli.specs.declared.exit_status.Failure.{Failure}
+use Rattle.dispatch_room_cli.specs.declared.exit_status.Failure.TheVariants.{Day, Division, File, Memory}
 use Rattle.dispatch_room_archive.specs.Examination.{HasFault}
 use Rattle.dispatch_room_archive.specs.TimesReport.{IsAskable, IsSpanOf}
 use Rattle.dispatch_room_archive.specs.declared.division_days.DivisionDay.{DivisionDay}
@@ -53,9 +53,10 @@ abbrev pub ExplainsNoDay : Layout → ℕ → List ℕ → Failure → Type 0
 ExplainsNoDay plan division text Division = has_division plan.areas division ≡ false
 ExplainsNoDay plan division text File =
     (has_division plan.areas division ≡ true) × (¬ IsSome (read_whole plan.zone))
-ExplainsNoDay plan division text Day =
-    (has_division plan.areas division ≡ true) × (day_of text ≡ None)
-ExplainsNoDay plan division text Memory = IsAskable plan.areas division text
+ExplainsNoDay plan division text Day = (has_division plan.areas division ≡ true)
+    × IsSome (read_whole plan.zone) × (day_of text ≡ None)
+ExplainsNoDay plan division text Memory =
+    IsSome (read_whole plan.zone) × IsAskable plan.areas division text
 ExplainsNoDay plan division text other = ⊥
 
 -- The file holds a room that has no such day.

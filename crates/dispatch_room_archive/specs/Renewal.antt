@@ -27,10 +27,10 @@ use Rattle.room_store_writes.specs.Houses.{config_of}
 use Rattle.room_store_writes.specs.Transactions.{StandsSettled}
 use Rattle.room_tables.specs.RoomsInTables.{Stands}
 use Rattle.room_tables_schema.specs.Schema.{no_schema}
-use Rattle.dispatch_room_exit.specs.declared.exit_status.Done.{Done}
-use Rattle.dispatch_room_exit.specs.declared.exit_status.Done.TheVariants.{Whole}
-use Rattle.dispatch_room_exit.specs.declared.exit_status.Failure.{Failure}
-use Rattle.dispatch_room_exit.specs.declared.exit_status.Failure.TheVariants.{Day, File, Memory, Network, Storage}
+use Rattle.dispatch_room_cli.specs.declared.exit_status.Done.{Done}
+use Rattle.dispatch_room_cli.specs.declared.exit_status.Done.TheVariants.{Whole}
+use Rattle.dispatch_room_cli.specs.declared.exit_status.Failure.{Failure}
+use Rattle.dispatch_room_cli.specs.declared.exit_status.Failure.TheVariants.{Day, File, Memory, Network, Storage}
 use Rattle.dispatch_room_archive.specs.Examination.{HasFault}
 use Rattle.dispatch_room_archive.specs.TimesReport.{IsSpanOf}
 use Rattle.dispatch_room_archive.specs.declared.renewal.Successor.{Successor}

@@ -20,8 +20,8 @@ use Rattle.room_model.specs.Queries.{incidents_opened}
 use Rattle.room_model.specs.Room.{Room}
 use Rattle.room_store.specs.StoredRoom.{IsRoom}
 use Rattle.room_store.specs.declared.store.Store.{Store}
-use Rattle.dispatch_room_exit.specs.declared.exit_status.Failure.{Failure}
-use Rattle.dispatch_room_exit.specs.declared.exit_status.Failure.TheVariants.{Day, Division, Memory, Storage}
+use Rattle.dispatch_room_cli.specs.declared.exit_status.Failure.{Failure}
+use Rattle.dispatch_room_cli.specs.declared.exit_status.Failure.TheVariants.{Day, Division, Memory, Storage}
 use Rattle.dispatch_room_csv.specs.DayReport.{report_of}
 use Rattle.dispatch_room_tasks.specs.OpenedRoom.{IsOpened}
 

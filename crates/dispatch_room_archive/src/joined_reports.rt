@@ -1,22 +1,22 @@
 //! `times --and`: the report of a division's day over two rooms, of which the newer one was made of
 //! the older one.
 ghost use Rattle.std.specs.List.{list_all};
-ghost use Rattle.std.specs.Prelude.{◌≡◌, ℕ, false, filter, true, IfErr, IfOk};
+ghost use Rattle.std.specs.Prelude.{◌≡◌, ℕ, false, filter, true, IfErr, IfOk, IsOk};
 ghost use Rattle.sqlite.specs.Held.{state};
 ghost use Rattle.room_types_keyed.specs.KeyedRows.{IsKeyed};
 ghost use Rattle.room_types.specs.Keys.{incident_key, owns_incident, pair_cmp};
 ghost use Rattle.room_types.specs.declared.refusal_statuses.Refusal.TheVariants.{Memory as NoMemory};
 ghost use Rattle.room_model.specs.RoomSlices.{room_of};
 ghost use Rattle.room_store_check_tables.specs.HeldRooms.{WritesNothing};
-ghost use Rattle.dispatch_room_exit.specs.declared.exit_status.Failure.TheVariants.{Memory};
+ghost use Rattle.dispatch_room_cli.specs.declared.exit_status.Failure.TheVariants.{Memory};
 ghost use Rattle.dispatch_room_archive.specs.JoinedReports.{AreOfBoth, ExplainsNoDay, IsDayIn, IsDayOf, IsReportOfBoth, JoinsDay, JoinsNone, LacksDay};
 ghost use Rattle.room_tables_schema.specs.FileConnections.{IsClean};
 
 use crate::division_days::DivisionDay;
 use crate::examination::failure_of;
 use crate::times_report::span;
+use dispatch_room_cli::exit_status::Failure;
 use dispatch_room_csv::day_report::day_report;
-use dispatch_room_exit::exit_status::Failure;
 use dispatch_room_tasks::opened_room::TaskResult;
 use room_http_time::zones::Zone;
 use room_incident::day_times::times;
@@ -41,6 +41,7 @@ pub fn day_in<S: Alter + Drop>(
     requires outside { conn.in_transaction ≡ false }
     ensures day { IfOk result (λ worked. IsClean S.Store worked.1
         → IfOk worked.0 (IsDayIn (state S.Store conn).now.trees division day.now)) }
+    ensures found { IfOk result (λ worked. IsOk worked.0) }
     ensures nothing { IfOk result (λ worked.
         WritesNothing (state S.Store conn) (state S.Store worked.1)) }
     ensures fault { IfErr result (LacksDay S.Store conn division day.now) }
@@ -115,6 +116,7 @@ pub fn joined_report_in<S: Alter + Drop>(
     ensures report { IfOk result (λ worked. IsClean S.Store worked.1
         → IfOk worked.0 (λ report.
         JoinsDay (state S.Store conn).now.trees newer.now report.items)) }
+    ensures joined { IfOk result (λ worked. IsOk worked.0) }
     ensures nothing { IfOk result (λ worked.
         WritesNothing (state S.Store conn) (state S.Store worked.1)) }
     ensures fault { IfErr result (JoinsNone S.Store conn) }
@@ -151,7 +153,8 @@ fn joined_report(
     rows: &DivisionRows,
 ) -> Result<Vec<u8>, Failure>
     ensures report { IfOk result (λ report.
-        IsKeyed pair_cmp incident_key rows.now.incidents → IsReportOfBoth newer.now (filter (owns_incident newer.now.division) rows.now.incidents)
+        IsKeyed pair_cmp incident_key rows.now.incidents →
+        IsReportOfBoth newer.now (filter (owns_incident newer.now.division) rows.now.incidents)
         report.items) }
     ensures memory { IfErr result (λ fault. fault ≡ Memory) }
 {

@@ -1,5 +1,5 @@
 //! `renew`: what a room leaves to a new one, and the new one that is made of it.
-ghost use Rattle.std.specs.Prelude.{◌≡◌, ◌+◌, ◌<◌, ◌≤◌, false, filter, length, IfErr, IfNone, IfOk, IfSome};
+ghost use Rattle.std.specs.Prelude.{◌≡◌, ◌+◌, ◌<◌, ◌≤◌, false, filter, length, IfErr, IfNone, IfOk, IfSome, IsOk};
 ghost use Rattle.sqlite.specs.Held.{state};
 ghost use Rattle.room_http_time.specs.Days.{zone_of};
 ghost use Rattle.room_model.specs.RoomSlices.{room_of};
@@ -25,7 +25,7 @@ ghost use Rattle.room_tables_schema.specs.FileConnections.{IsClean};
 use crate::examination::failure_of;
 use crate::successor::puts_since;
 use crate::times_report::span;
-use dispatch_room_exit::exit_status::{Done, Failure};
+use dispatch_room_cli::exit_status::{Done, Failure};
 use dispatch_room_tasks::opened_room::TaskResult;
 use room_http_time::zones::Zone;
 use room_place::plans::Plan;
@@ -63,6 +63,7 @@ pub fn left_in<S: Alter + Drop>(
     requires outside { conn.in_transaction ≡ false }
     ensures left { IfOk result (λ worked. IsClean S.Store worked.1
         → IfOk worked.0 (IsLeftBy (state S.Store conn).now.trees day.now)) }
+    ensures found { IfOk result (λ worked. IsOk worked.0) }
     ensures nothing { IfOk result (λ worked.
         WritesNothing (state S.Store conn) (state S.Store worked.1)) }
     ensures fault { IfErr result (LeavesNone S.Store conn day.now) }

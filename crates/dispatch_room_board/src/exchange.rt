@@ -1,5 +1,5 @@
 //! What is said to a room, and what is heard of it.
-ghost use Rattle.std.specs.Prelude.{◌≡◌, ◌<◌, ℕ, List, Option, IfErr, IfOk, OnOk, false, true, length};
+ghost use Rattle.std.specs.Prelude.{◌≡◌, ◌<◌, ◌≤◌, ◌+◌, ℕ, List, Option, IfErr, IfOk, OnOk, false, true, length};
 ghost use Rattle.std.specs.Io.KnownBytes.{Consumes, IsAtEnd};
 ghost use Rattle.room_http_messages.specs.Streams.{WritesAll};
 ghost use Rattle.dispatch_room_board.specs.Requests.{Tells, requests};
@@ -15,7 +15,7 @@ pub const MOST: usize = 16_777_216;
 
 // How many bytes one read takes at most: what a room's inbox has, so that to the reader of a socket
 // each read is one between two messages, which may wait until the turn is over.
-const PIECE: usize = INBOX_ROOM;
+pub const PIECE: usize = INBOX_ROOM;
 
 /// Asks: the requests are written and nothing else, or the first bytes of them before a write
 /// failed. Gives whether all were written.
@@ -35,6 +35,7 @@ pub fn hear<R: Source>(alloc: Global, reader: &mut R) -> Result<Vec<u8>, AllocEr
         Consumes (R.left reader.old) (R.left reader.new) heard.items) }
     ensures all { IfOk result (λ heard. length heard.items < MOST
         → R.has_failed reader.new ≡ false → IsAtEnd (R.left reader.new)) }
+    ensures most { IfOk result (λ heard. length heard.items < MOST + PIECE) }
 {
     let mut heard = Vec::new(alloc);
     let mut piece = [0; PIECE];
@@ -62,6 +63,8 @@ fn hear_more<R: Source>(
         → R.has_failed reader.new ≡ false → IsAtEnd (R.left reader.new)) }
     ensures some { IfOk result (λ more. more ≡ true
         → length heard.old.items < length heard.new.items) }
+    ensures most { IfOk result (λ more.
+        length heard.new.items ≤ length heard.old.items + length piece.old) }
 {
     match reader.read(piece) {
         Err(_) | Ok(0) => Ok(false),

@@ -8,7 +8,7 @@ ghost use Rattle.dispatch_room_board.specs.Members.{IsRead};
 ghost use Rattle.dispatch_room_board.specs.HeardAnswers.{Announces, IsDateOf, IsDated, IsMessage, IsNoMessage};
 
 use crate::board_errors::BoardError;
-use crate::exchange::MOST;
+use crate::exchange::{MOST, PIECE};
 use httparse::Status;
 use httparse::spans::{EMPTY_HEADER_SPAN, HeaderSpan, Span, parse_response};
 use httpdate::HttpDate;
@@ -73,7 +73,7 @@ fn length_in(bytes: &[u8], fields: &[HeaderSpan]) -> Option<usize>
 }
 
 /// What stands for every length that is more than is ever read.
-const TOO_LONG: usize = MOST + 1;
+const TOO_LONG: usize = MOST + PIECE;
 
 // The number that only digits write, or `TOO_LONG` where it is above what is ever read.
 fn numeral(value: &[u8]) -> Option<usize>

@@ -1,4 +1,5 @@
-//! The command line of dispatch_room: what its words ask for, and the help that it gives.
+//! The command line of dispatch_room: what its words ask for, and the help that it gives; how much
+//! a command did, or why it fails, what it says of that, and its exit status.
 #![tactic(auto)]
 
 mod addresses;
@@ -6,5 +7,7 @@ pub mod argument_parser;
 mod builder;
 mod command_options;
 mod database_names;
+pub mod exit_status;
+pub mod explainer;
 pub mod tasks;
 pub mod who;

@@ -7,15 +7,11 @@ use Rattle.dispatch_room_board.specs.Boards.{IsBoard}
 use Rattle.dispatch_room_board.specs.declared.boards.Board.{Board}
 use Rattle.dispatch_room_board.specs.declared.boards.Reached.{Reached}
 use Rattle.dispatch_room_board.specs.declared.boards.Reached.TheVariants as reached
-use Rattle.dispatch_room_exit.specs.ExitStatus.{refused}
-use Rattle.dispatch_room_exit.specs.declared.exit_status.Done.{Done}
-use Rattle.dispatch_room_exit.specs.declared.exit_status.Done.TheVariants.{InPart, Whole}
-use Rattle.dispatch_room_exit.specs.declared.exit_status.Failure.{Failure}
-use Rattle.dispatch_room_exit.specs.declared.exit_status.Failure.TheVariants.{Differs, Memory, Network, OtherRoom}
-use Rattle.dispatch_room_exit.specs.declared.exit_status.Failure.TheVariants.{Record}
-use Rattle.dispatch_room_journal.specs.declared.replay_faults.ReplayFault.{ReplayFault}
-use Rattle.dispatch_room_journal.specs.declared.replay_faults.ReplayFault.TheVariants as replay
-use Rattle.dispatch_room_journal.specs.declared.replay_faults.Stopped.{Stopped}
+use Rattle.dispatch_room_cli.specs.ExitStatus.{refused}
+use Rattle.dispatch_room_cli.specs.declared.exit_status.Done.{Done}
+use Rattle.dispatch_room_cli.specs.declared.exit_status.Done.TheVariants.{InPart, Whole}
+use Rattle.dispatch_room_cli.specs.declared.exit_status.Failure.{Failure}
+use Rattle.dispatch_room_cli.specs.declared.exit_status.Failure.TheVariants.{Memory, Network}
 
 -- the words have a mistake: they neither ask for help nor want memory
 abbrev pub is_mistake : ErrorKind → Bool
@@ -49,15 +45,3 @@ abbrev pub IsPrinted : List ℕ → Bool → Bool → Option (List ℕ) → Opti
 IsPrinted heard proposes colour old new done =
     (board : Board) × IsBoard heard proposes colour board × Appends old new board.page.text.items
     × (end_of_board board.reached ≡ Ok done)
-
--- why a replay stopped at a record, as the program reports it
-abbrev pub failure_at : ReplayFault → ℕ → Failure
-failure_at replay.Bad number = Record number
-failure_at replay.Differs number = Differs number
-failure_at replay.Another number = OtherRoom number
-failure_at replay.ReadFailed number = Network
-failure_at replay.WriteFailed number = Network
-failure_at (replay.Want refusal) number = refused refusal
-
-abbrev pub failure_of : Stopped → Failure
-failure_of stopped = failure_at stopped.fault stopped.number

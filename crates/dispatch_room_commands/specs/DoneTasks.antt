@@ -7,11 +7,11 @@ use Rattle.clap.specs.Words.{kind_of}
 use Rattle.clap.specs.declared.error.Error.{Error}
 use Rattle.dispatch_room_disk.specs.DiskFaults.{IsFileFault}
 use Rattle.dispatch_room_disk.specs.RoomFiles.{IsDoneInFile, IsUndoneInFile}
-use Rattle.dispatch_room_exit.specs.ExitStatus.{status_after}
-use Rattle.dispatch_room_exit.specs.declared.exit_status.Done.{Done}
-use Rattle.dispatch_room_exit.specs.declared.exit_status.Done.TheVariants.{Whole}
-use Rattle.dispatch_room_exit.specs.declared.exit_status.Failure.{Failure}
-use Rattle.dispatch_room_exit.specs.declared.exit_status.Failure.TheVariants as failure
+use Rattle.dispatch_room_cli.specs.ExitStatus.{status_after}
+use Rattle.dispatch_room_cli.specs.declared.exit_status.Done.{Done}
+use Rattle.dispatch_room_cli.specs.declared.exit_status.Done.TheVariants.{Whole}
+use Rattle.dispatch_room_cli.specs.declared.exit_status.Failure.{Failure}
+use Rattle.dispatch_room_cli.specs.declared.exit_status.Failure.TheVariants as failure
 use Rattle.dispatch_room_csv.specs.declared.fleet_file.FleetLine.{FleetLine}
 use Rattle.dispatch_room_csv.specs.declared.plan_file.PlanFile.{PlanFile}
 use Rattle.room_types.specs.Texts.{Token}
@@ -19,11 +19,8 @@ use Rattle.room_types.specs.declared.asks.Who.{Who}
 use Rattle.room_types.specs.declared.asks.Who.TheVariants.{Crew, Desk, Position}
 use Rattle.room_types.specs.declared.fleet.Terminal.{Terminal}
 use Rattle.dispatch_room_archive.specs.declared.renewal.Successor.{Successor}
-use Rattle.dispatch_room_serving.specs.Callers.{Opening}
-use Rattle.dispatch_room_serving.specs.declared.served_room.Terms.{Terms}
 use Rattle.dispatch_room_cli.specs.declared.tasks.Look.{Look}
 use Rattle.dispatch_room_cli.specs.declared.tasks.Replay.{Replay as How}
-use Rattle.dispatch_room_cli.specs.declared.tasks.Service.{Service}
 use Rattle.dispatch_room_cli.specs.declared.tasks.Task.{Task}
 use Rattle.dispatch_room_cli.specs.declared.tasks.Terminals.{Terminals as Wanted}
 use Rattle.dispatch_room_cli.specs.declared.tasks.Terminals.TheVariants as wanted
@@ -34,19 +31,16 @@ use Rattle.dispatch_room_archive.specs.declared.division_days.DivisionDay.{Divis
 use Rattle.dispatch_room_commands.specs.CommandEnds.{IsPrinted, IsWordsStatus}
 use Rattle.dispatch_room_commands.specs.RoomTasks.{Begins, BeginsNone, Changes, ChangesKept, Creates, CreatesNone}
 use Rattle.dispatch_room_commands.specs.RoomTasks.{Digests, Enrols, EnrolsKept, EnrolsNone, Examines, ExaminesNone}
-use Rattle.dispatch_room_commands.specs.RoomTasks.{FindsDay, FindsNoDay}
-use Rattle.dispatch_room_commands.specs.RoomTasks.{HoldsNoRoom, LeavesNothing, LeavesRows, Lists, LosesKeptRoom}
-use Rattle.dispatch_room_commands.specs.RoomTasks.{Moves, MovesNone, OpensNone, Replays, ReplaysNone, Reports}
-use Rattle.dispatch_room_commands.specs.RoomTasks.{ReportsBoth, ReportsNone, Serves, ServesNone, is_endless, terms_of}
-use Rattle.dispatch_room_commands.specs.RoomChanges.{IsTextOf}
-use Rattle.dispatch_room_commands.specs.declared.room_changes.RoomChange.{RoomChange}
-use Rattle.dispatch_room_commands.specs.declared.room_changes.RoomChange.TheVariants as change
+use Rattle.dispatch_room_commands.specs.RoomTasks.{FindsDay, FindsNoDay, HoldsNoRoom, LeavesNothing, LeavesRows, Lists}
+use Rattle.dispatch_room_commands.specs.RoomTasks.{LosesKeptRoom, Moves, MovesNone, OpensNone, Replays, ReplaysNone}
+use Rattle.dispatch_room_commands.specs.RoomTasks.{Reports, ReportsBoth, ReportsNone}
+use Rattle.dispatch_room_tcp.specs.ServedFiles.{FailsServe, IsServe}
+use Rattle.dispatch_room_lists.specs.RoomChanges.{IsTextOf}
+use Rattle.dispatch_room_lists.specs.declared.room_changes.RoomChange.{RoomChange}
+use Rattle.dispatch_room_lists.specs.declared.room_changes.RoomChange.TheVariants as change
 use Rattle.dispatch_room_journal.specs.ListTallies.{IsVerified}
 use Rattle.dispatch_room_journal.specs.declared.list_tallies.Tally.{Tally}
 use Rattle.dispatch_room_commands.specs.VerifiedLists.{IsUnverified, tally_text}
-use Rattle.dispatch_room_commands.specs.declared.listeners.TcpAddress.{TcpAddress}
-use Rattle.dispatch_room_commands.specs.declared.serve.Served.{Served}
-use Rattle.dispatch_room_commands.specs.declared.tcp_doors.TcpDoor.{TcpDoor}
 
 -- who is the crew of a vehicle
 abbrev pub is_a_crew : Who → Bool
@@ -138,24 +132,6 @@ module _ (before after : Option (List ℕ)) (done : Done) where
     pub text : Appends between after report.items
     pub whole : done ≡ Whole
 
-  -- a room was served to those who call where something listens
-  abbrev pub IsServedAt : {L : Type 0} → (L → Option (List (Option Opening)))
-      → (L → Option (List (Option (List ℕ)))) → Bool → Terms → Type 0
-  IsServedAt {L} heard told has_journal terms =
-      (listener : L) × (served : Served L)
-      × IsDoneInFile (Serves heard told has_journal terms listener) before after served
-      × (done ≡ served.done)
-
-  -- A room was served, with a journal where one was asked for: at a door, where it goes on until it
-  -- is stopped, or to as many connections as was asked for, one after another.
-  abbrev pub IsServedBy : Bool → Bool → Terms → Type 0
-  IsServedBy true has_journal terms = IsServedAt {L = TcpDoor} (λ _. None) (λ _. None) has_journal terms
-  IsServedBy false has_journal terms =
-      IsServedAt {L = TcpAddress} (λ _. None) (λ _. None) has_journal terms
-
-  abbrev pub IsServe : Service → Type 0
-  IsServe service = IsServedBy (is_endless service) (is_some service.journal) (terms_of service)
-
   -- a list was replayed
   abbrev pub IsReplay : How → Type 0
   IsReplay how = IsDoneInFile (Replays how) before after done
@@ -224,7 +200,7 @@ module _ (before after : Option (List ℕ)) (done : Done) where
   IsTask (Check file) = IsCheck
   IsTask (Digest file) = IsDigest
   IsTask (Restore copy file) = IsRestore
-  IsTask (Serve file service) = IsServe service
+  IsTask (Serve file service) = IsServe before after done service
   IsTask (Replay file how) = IsReplay how
   IsTask (Verify list) = IsVerify
   IsTask (Board look) = IsBoardOf look
@@ -304,26 +280,6 @@ module _ (before after : Option (List ℕ)) (fault : Failure) where
       ⊎ ((fault ≡ failure.Network) × ((between : Option (List ℕ)) × (report : Vec ℕ Global)
       × IsDoneInFile (ReportsBoth newer) found between report))))
 
-  -- this became of the file of the room that was to be served to those who call where something
-  -- listens
-  abbrev pub FailsAt : {L : Type 0} → (L → Option (List (Option Opening)))
-      → (L → Option (List (Option (List ℕ)))) → Bool → Terms → Type 0
-  FailsAt {L} heard told has_journal terms =
-      (listener : L)
-      × IsUndoneInFile (Serves heard told has_journal terms listener)
-      (ServesNone heard told has_journal terms listener) before after fault
-
-  abbrev pub FailsBy : Bool → Bool → Terms → Type 0
-  FailsBy true has_journal terms = FailsAt {L = TcpDoor} (λ _. None) (λ _. None) has_journal terms
-  FailsBy false has_journal terms = FailsAt {L = TcpAddress} (λ _. None) (λ _. None) has_journal terms
-
-  -- there is no journal where one was asked for, and nothing is said; or this became of the file of
-  -- the room that was to be served
-  abbrev pub FailsServe : Service → Type 0
-  FailsServe service =
-      ((after ≡ before) × ((fault ≡ failure.Memory) ⊎ (fault ≡ failure.Journal)))
-      ⊎ FailsBy (is_endless service) (is_some service.journal) (terms_of service)
-
   -- a list was not replayed whole, and this became of the room's file
   abbrev pub FailsReplay : How → Type 0
   FailsReplay how = IsUndoneInFile (Replays how) (ReplaysNone how) before after fault
@@ -360,7 +316,8 @@ module _ (before after : Option (List ℕ)) (fault : Failure) where
 
   -- no terminals were set: no file gives any, and nothing is said; or by some list it failed
   abbrev pub FailsSetting : Bool → Type 0
-  FailsSetting kept = (after ≡ before) ⊎ ((listed : Vec Terminal Global) × FailsSettingBy kept listed)
+  FailsSetting kept = (after ≡ before)
+      ⊎ ((listed : Vec Terminal Global) × FailsSettingBy kept listed)
 
   -- terminals were not listed, or not changed
   abbrev pub FailsTerminals : Bool → Wanted → Type 0
@@ -378,7 +335,7 @@ module _ (before after : Option (List ℕ)) (fault : Failure) where
   FailsTask (Check file) = FailsCheck
   FailsTask (Digest file) = FailsDigest
   FailsTask (Restore copy file) = FailsRestore
-  FailsTask (Serve file service) = FailsServe service
+  FailsTask (Serve file service) = FailsServe before after fault service
   FailsTask (Replay file how) = FailsReplay how
   FailsTask (Verify list) = FailsVerify
   FailsTask (Board look) = FailsBoard

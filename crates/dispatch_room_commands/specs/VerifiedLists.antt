@@ -1,10 +1,10 @@
 -- What is printed of a list that was looked through.
-use Rattle.std.specs.Prelude.{◌≡◌, ◌⊎◌, ℕ, List, [], ◌∷◌, ◌++◌, codes, decimal, Bool, true, false, if◌then◌else◌}
+use Rattle.std.specs.Prelude.{◌≡◌, ◌⊎◌, ℕ, List, [], ◌∷◌, ◌++◌, codes, decimal, Bool, true, false}
 use Rattle.std.specs.Prelude.{Option, Some, None}
 use Rattle.dispatch_room_journal.specs.declared.list_tallies.Span.{Span}
 use Rattle.dispatch_room_journal.specs.declared.list_tallies.Tally.{Tally}
-use Rattle.dispatch_room_exit.specs.declared.exit_status.Failure.{Failure}
-use Rattle.dispatch_room_exit.specs.declared.exit_status.Failure.TheVariants.{Input, Memory, Network, Record}
+use Rattle.dispatch_room_cli.specs.declared.exit_status.Failure.{Failure}
+use Rattle.dispatch_room_cli.specs.declared.exit_status.Failure.TheVariants.{Input, Memory, Network, Record}
 
 -- how many messages the list has
 abbrev pub records_text : ℕ → List ℕ

@@ -3,13 +3,13 @@ ghost use Rattle.std.specs.Prelude.{◌≡◌, IfErr, IfOk};
 ghost use Rattle.dispatch_room_commands.specs.CommandEnds.{IsPrinted, end_of_board};
 ghost use Rattle.dispatch_room_commands.specs.DoneTasks.{FailsBoard, IsBoardOf};
 
-use crate::hosts::Host;
 use dispatch_room_board::boards::{Reached, board_of};
 use dispatch_room_board::exchange::{hear, tell};
 use dispatch_room_board::requests::Asker;
+use dispatch_room_cli::exit_status::{Done, Failure};
 use dispatch_room_cli::tasks::{Color, Look};
-use dispatch_room_exit::exit_status::{Done, Failure};
 use dispatch_room_sockets::client::call;
+use dispatch_room_tcp::hosts::Host;
 use room_types::token::Token;
 use std::alloc::{AllocError, Global};
 use std::io::{IsTerminal, Write};

@@ -3,11 +3,11 @@ ghost use Rattle.std.specs.Prelude.{IfErr, IfOk};
 ghost use Rattle.dispatch_room_commands.specs.DoneTasks.{FailsCheck, IsCheck};
 ghost use Rattle.dispatch_room_commands.specs.RoomTasks.{Examines, ExaminesNone};
 
-use crate::hosts::Host;
 use dispatch_room_archive::examination::check_in;
+use dispatch_room_cli::exit_status::{Done, Failure};
 use dispatch_room_disk::room_files::{RoomFile, RoomTask};
-use dispatch_room_exit::exit_status::{Done, Failure};
 use dispatch_room_tasks::opened_room::TaskResult;
+use dispatch_room_tcp::hosts::Host;
 use sqlite::{Alter, Connection};
 use std::alloc::Global;
 use std::io::Write;

@@ -1,9 +1,9 @@
 //! Files that commands name: text files read whole, and who may read a file.
 ghost use Rattle.std.specs.Prelude.{◌≡◌, ◌⊎◌, IfErr};
-ghost use Rattle.dispatch_room_exit.specs.declared.exit_status.Failure.TheVariants as failure;
+ghost use Rattle.dispatch_room_cli.specs.declared.exit_status.Failure.TheVariants as failure;
 
-use crate::hosts::Host;
-use dispatch_room_exit::exit_status::Failure;
+use dispatch_room_cli::exit_status::Failure;
+use dispatch_room_tcp::hosts::Host;
 use std::fs;
 use std::io::ErrorKind;
 use std::os::unix::fs::PermissionsExt;

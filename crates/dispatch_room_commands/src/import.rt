@@ -4,14 +4,14 @@ ghost use Rattle.dispatch_room_commands.specs.DoneTasks.{FailsImport, IsImport};
 ghost use Rattle.dispatch_room_commands.specs.RoomTasks.{Enrols, EnrolsNone};
 
 use crate::files::read_text;
-use crate::hosts::Host;
+use dispatch_room_cli::exit_status::{Done, Failure};
 use dispatch_room_csv::fleet_file::{FleetLine, read_fleet};
 use dispatch_room_csv::fleet_file_faults::explain_fleet;
 use dispatch_room_csv::sheets::Sheet;
 use dispatch_room_disk::room_files::{RoomFile, RoomTask};
-use dispatch_room_exit::exit_status::{Done, Failure};
 use dispatch_room_tasks::enrolment::enrol_in;
 use dispatch_room_tasks::opened_room::TaskResult;
+use dispatch_room_tcp::hosts::Host;
 use sqlite::{Alter, Connection};
 use std::alloc::Global;
 use std::io::Write;

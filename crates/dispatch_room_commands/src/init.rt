@@ -5,14 +5,14 @@ ghost use Rattle.dispatch_room_commands.specs.DoneTasks.{FailsInit, IsInit};
 ghost use Rattle.dispatch_room_commands.specs.RoomTasks.{Creates, CreatesNone};
 
 use crate::files::read_text;
-use crate::hosts::Host;
+use dispatch_room_cli::exit_status::{Done, Failure};
 use dispatch_room_csv::plan_file::{PlanFile, read_plan};
 use dispatch_room_csv::plan_file_faults::explain_plan;
 use dispatch_room_csv::sheets::Sheet;
 use dispatch_room_disk::room_files::{RoomFile, RoomTask};
-use dispatch_room_exit::exit_status::{Done, Failure};
 use dispatch_room_tasks::creation::create_in;
 use dispatch_room_tasks::opened_room::TaskResult;
+use dispatch_room_tcp::hosts::Host;
 use sqlite::{Alter, Connection};
 use std::alloc::Global;
 use std::io::Write;

@@ -4,13 +4,13 @@ ghost use Rattle.dispatch_room_csv.specs.PlanFile.{IsPlanText};
 ghost use Rattle.dispatch_room_commands.specs.DoneTasks.{FailsReplan, FailsReplanBy, IsReplan, IsReplanned};
 
 use crate::files::read_text;
-use crate::hosts::Host;
 use crate::init::plan_in;
 use crate::kept_changes::{ChangedFile, make_in_file};
-use crate::room_changes::RoomChange;
+use dispatch_room_cli::exit_status::{Done, Failure};
 use dispatch_room_csv::plan_file::PlanFile;
 use dispatch_room_csv::sheets::Sheet;
-use dispatch_room_exit::exit_status::{Done, Failure};
+use dispatch_room_lists::room_changes::RoomChange;
+use dispatch_room_tcp::hosts::Host;
 use std::io::Write;
 
 /// Gives a room the plan of a file and the terminals of it, and reports that.

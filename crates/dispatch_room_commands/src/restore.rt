@@ -3,9 +3,9 @@ ghost use Rattle.std.specs.Prelude.{IfErr, IfOk};
 ghost use Rattle.dispatch_room_commands.specs.DoneTasks.{FailsRestore, IsRestore};
 
 use crate::check::check;
-use crate::hosts::Host;
+use dispatch_room_cli::exit_status::{Done, Failure};
 use dispatch_room_disk::restored_files::put_in_place;
-use dispatch_room_exit::exit_status::{Done, Failure};
+use dispatch_room_tcp::hosts::Host;
 use std::io::Write;
 
 /// Puts a copy in the place of a file, where the copy is a well-formed room, of which it reports

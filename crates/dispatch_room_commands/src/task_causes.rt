@@ -1,8 +1,8 @@
 //! Why a task fails, in words, where what was asked for makes it clear.
 
+use dispatch_room_cli::exit_status::{Done, Failure};
+use dispatch_room_cli::explainer::Explainer;
 use dispatch_room_cli::tasks::{Task, Terminals};
-use dispatch_room_exit::exit_status::{Done, Failure};
-use dispatch_room_exit::explainer::Explainer;
 use room_types::asks::Who;
 
 /// Explains why a task failed, where that was not explained where it did.

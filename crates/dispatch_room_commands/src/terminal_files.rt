@@ -2,12 +2,12 @@
 ghost use Rattle.std.specs.Prelude.{◌≡◌, filter_map, IfOk};
 ghost use Rattle.dispatch_room_commands.specs.TerminalFiles.{crew_of};
 
+use dispatch_room_cli::exit_status::Failure;
 use dispatch_room_csv::fleet_file::{FleetFileFault, FleetLine, read_fleet};
 use dispatch_room_csv::fleet_file_faults::{explain_bad, explain_fleet};
 use dispatch_room_csv::plan_file::{PlanFile, read_plan};
 use dispatch_room_csv::plan_file_faults::explain_plan;
 use dispatch_room_csv::sheets::Sheet;
-use dispatch_room_exit::exit_status::Failure;
 use room_types::asks::Who;
 use room_types::fleet::Terminal;
 use std::alloc::{AllocError, Global};

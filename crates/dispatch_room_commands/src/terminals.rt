@@ -2,24 +2,24 @@
 //! file names.
 ghost use Rattle.std.specs.Prelude.{◌≡◌, ◌⊎◌, codes, is_some, IfErr, IfOk, OnOk, Some};
 ghost use Rattle.room_types.specs.Texts.{Token as TokenText};
-ghost use Rattle.dispatch_room_exit.specs.declared.exit_status.Failure.TheVariants as failure;
+ghost use Rattle.dispatch_room_cli.specs.declared.exit_status.Failure.TheVariants as failure;
 ghost use Rattle.dispatch_room_cli.specs.declared.tasks.Terminals.TheVariants as wanted;
 ghost use Rattle.dispatch_room_commands.specs.DoneTasks.{FailsReissue, FailsSetting, FailsSettingBy, FailsTerminals, IsMade, IsReissued, IsSet, IsSetting, IsTerminals, is_a_crew, reissue_of};
 ghost use Rattle.dispatch_room_commands.specs.RoomTasks.{HoldsNoRoom, Lists};
 
-use crate::change_texts::{terminals_text, token_text};
 use crate::files::read_text;
-use crate::hosts::Host;
 use crate::kept_changes::{ChangedFile, make_in_file};
-use crate::room_changes::RoomChange;
 use crate::terminal_files::terminals_in;
+use dispatch_room_cli::exit_status::{Done, Failure};
 use dispatch_room_cli::tasks::Terminals;
 use dispatch_room_csv::sheets::Sheet;
 use dispatch_room_disk::room_files::{RoomFile, RoomTask};
-use dispatch_room_exit::exit_status::{Done, Failure};
+use dispatch_room_lists::change_texts::{terminals_text, token_text};
+use dispatch_room_lists::room_changes::RoomChange;
 use dispatch_room_tasks::listed_terminals::list_in;
 use dispatch_room_tasks::opened_room::TaskResult;
 use dispatch_room_tasks::random_tokens::{RANDOM, token_of};
+use dispatch_room_tcp::hosts::Host;
 use room_store_writes::change_faults::TokenChange;
 use room_types::asks::Who;
 use room_types::fleet::Terminal;
@@ -38,7 +38,8 @@ pub fn terminals<O: Write, E: Write>(
     err: &mut E,
 ) -> Result<Done, Failure>
     ensures done { IfOk result (λ done.
-        IsTerminals (O.contents out.old) (O.contents out.new) done (is_some place.entry.list) wanted) }
+        IsTerminals (O.contents out.old) (O.contents out.new) done (is_some place.entry.list)
+        wanted) }
     ensures undone { IfErr result (λ fault. FailsTerminals (O.contents out.old)
         (O.contents out.new) fault (is_some place.entry.list) wanted) }
 {

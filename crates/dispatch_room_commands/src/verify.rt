@@ -1,20 +1,19 @@
 //! `verify`: how much a list holds, or at which record it is none.
-ghost use Rattle.std.specs.Prelude.{◌≡◌, ◌⊎◌, ℕ, List, Some, false, IfErr, IfOk, OnErr, OnOk};
+ghost use Rattle.std.specs.Prelude.{◌≡◌, Some, false, IfErr, IfOk, OnOk};
 ghost use Rattle.std.specs.Io.KnownBytes.{Appends};
-ghost use Rattle.dispatch_room_journal.specs.ListTallies.{IsVerified};
 ghost use Rattle.dispatch_room_journal.specs.ReadSteps.{left_in};
-ghost use Rattle.dispatch_room_exit.specs.declared.exit_status.Done.TheVariants.{Whole};
-ghost use Rattle.dispatch_room_exit.specs.declared.exit_status.Failure.TheVariants.{Network};
+ghost use Rattle.dispatch_room_cli.specs.declared.exit_status.Done.TheVariants.{Whole};
+ghost use Rattle.dispatch_room_cli.specs.declared.exit_status.Failure.TheVariants.{Network};
 ghost use Rattle.dispatch_room_commands.specs.DoneTasks.{FailsVerify, IsVerify, IsVerifyOf};
 ghost use Rattle.dispatch_room_commands.specs.VerifiedLists.{IsUnverified, span_text, tally_text};
 
-use crate::hosts::Host;
-use dispatch_room_exit::exit_status::{Done, Failure};
+use dispatch_room_cli::exit_status::{Done, Failure};
 use dispatch_room_journal::chain_source::Unchained;
 use dispatch_room_journal::entry_reader::EntryFault;
 use dispatch_room_journal::journal_inbox::JournalInbox;
 use dispatch_room_journal::list_tallies::{Flaw, Span, Tally};
 use dispatch_room_journal::verification::verify;
+use dispatch_room_tcp::hosts::Host;
 use room_http_messages::sources::Source;
 use room_http_messages::standard_wires::Wire;
 use std::alloc::Global;

@@ -2,7 +2,7 @@
 
 use crate::csv_records::has_names;
 use csv::{ReaderBuilder, StringRecord};
-use dispatch_room_exit::explainer::Explainer;
+use dispatch_room_cli::explainer::Explainer;
 use std::alloc::Global;
 use std::fmt::{self, Display};
 use std::str;

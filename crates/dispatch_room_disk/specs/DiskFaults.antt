@@ -1,7 +1,7 @@
 -- What the faults of a room's file are to the program.
 use Rattle.std.specs.Prelude.{◌⊎◌, ◌≡◌}
-use Rattle.dispatch_room_exit.specs.declared.exit_status.Failure.{Failure}
-use Rattle.dispatch_room_exit.specs.declared.exit_status.Failure.TheVariants.{Memory, Storage}
+use Rattle.dispatch_room_cli.specs.declared.exit_status.Failure.{Failure}
+use Rattle.dispatch_room_cli.specs.declared.exit_status.Failure.TheVariants.{Memory, Storage}
 use Rattle.sqlite.specs.declared.error.Error.{Error}
 use Rattle.sqlite.specs.declared.error.Error.TheVariants.{SqliteFailure}
 use Rattle.sqlite.specs.declared.error.ErrorCode.TheVariants.{OutOfMemory}

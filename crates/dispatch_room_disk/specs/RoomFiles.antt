@@ -16,8 +16,8 @@ use Rattle.sqlite_trees.specs.declared.store.Store.{Ghosts}
 use Rattle.sqlite_wal.specs.Reads.{AreClean}
 use Rattle.dispatch_room_disk.specs.DiskFaults.{IsFileFault, fault_of}
 use Rattle.dispatch_room_disk.specs.SystemFiles.{SystemFile, system}
-use Rattle.dispatch_room_exit.specs.declared.exit_status.Failure.{Failure}
-use Rattle.dispatch_room_exit.specs.declared.exit_status.Failure.TheVariants as failure
+use Rattle.dispatch_room_cli.specs.declared.exit_status.Failure.{Failure}
+use Rattle.dispatch_room_cli.specs.declared.exit_status.Failure.TheVariants as failure
 
 -- What is said of work: of a database before and after, over any storage, of what the output held
 -- before and after, and of what came of it.

@@ -1,11 +1,11 @@
 //! A copy of a room, put in the place of a file.
 ghost use Rattle.std.specs.Prelude.{◌≡◌, ◌⊎◌, IfErr};
-ghost use Rattle.dispatch_room_exit.specs.declared.exit_status.Failure.TheVariants as failure;
+ghost use Rattle.dispatch_room_cli.specs.declared.exit_status.Failure.TheVariants as failure;
 ghost use Rattle.dispatch_room_disk.specs.DiskFaults.{IsFileFault};
 
 use crate::file_causes::explain_unopened;
-use dispatch_room_exit::exit_status::Failure;
-use dispatch_room_exit::explainer::Explainer;
+use dispatch_room_cli::exit_status::Failure;
+use dispatch_room_cli::explainer::Explainer;
 use sqlite::{File, Files, Unknown};
 use sqlite_std_file::OpenError;
 use std::fs::{self, OpenOptions};

@@ -13,7 +13,7 @@ use Rattle.room_types.specs.declared.fleet.Terminal.{Terminal}
 use Rattle.room_types.specs.declared.refusal_statuses.Refusal.{Refusal}
 use Rattle.room_types.specs.declared.refusal_statuses.Refusal.TheVariants.{NoSuchIncident}
 use Rattle.room_model.specs.Room.{Room}
-use Rattle.room_http_answers.specs.ReplyMessages.{line, reply_bytes, status_of}
+use Rattle.room_http.specs.ReplyMessages.{line, reply_bytes, status_of}
 use Rattle.room_http.specs.declared.settings.Setting.{Setting}
 use Rattle.room_model.specs.Rooms.{Step}
 use Rattle.room_model.specs.declared.digests.Head.{Head}

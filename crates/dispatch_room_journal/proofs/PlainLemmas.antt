@@ -25,7 +25,7 @@ use Rattle.dispatch_room_journal.specs.RecordFronts.{after, body_in, comes_next,
 use Rattle.dispatch_room_journal.specs.ChainLaws.{AreBodies}
 use Rattle.dispatch_room_journal.specs.PlainTexts.{PutsKnown, StandsAt, last_ended, plain_in, plain_of, plain_says}
 use Rattle.dispatch_room_journal.specs.PlainTexts.{plain_with}
-use Rattle.dispatch_room_journal.specs.RowRuns.{PutsBody}
+use Rattle.dispatch_room_journal.specs.RowRuns.{PutsBody, PutsEntry}
 use Rattle.dispatch_room_journal.proofs.AgainLemmas.{five_digits, read_after, read_body, read_front}
 use Rattle.dispatch_room_journal.proofs.FrontLemmas.{front_short, front_sized, number_stays, sized_short}
 
@@ -375,7 +375,12 @@ module _ {W E : Type 0} (held : W → Option (List ℕ)) (failed : W → Bool) w
   failed_put _ a b (Ok u) wrote = wrote.all.1
   failed_put _ a b (Err e) wrote = wrote.part.4
 
-  -- and where it was written, that record stands there now
+  -- and where it was written, that entry stands there now, or that record
+  pub entry_put : (entry : List ℕ) (a b : W) (r : Result (Unit {0}) E)
+      → WritesAll held failed a b entry r → OnOk r (PutsEntry Plain Plain (held a) (held b) entry)
+  entry_put entry a b (Ok u) wrote = (refl, wrote.all.0)
+  entry_put entry a b (Err e) wrote = tt
+
   pub body_put : (link : Link) (body : List ℕ) (a b : W) (r : Result (Unit {0}) E)
       → WritesAll held failed a b (record_text sha256_digits link.check body) r
       → OnOk r (PutsBody (Chain link)

@@ -12,7 +12,7 @@ use Rattle.room_types.specs.declared.refusal_statuses.Refusal.{Refusal}
 use Rattle.room_model.specs.Room.{Room}
 use Rattle.room_http.specs.declared.settings.Setting.{Setting}
 use Rattle.room_http_messages.specs.Messages.{WholeMessage, HasMessage}
-use Rattle.room_http_answers.specs.ReplyMessages.{IsDateOf, reply_bytes}
+use Rattle.room_http.specs.ReplyMessages.{IsDateOf, reply_bytes}
 use Rattle.room_model.specs.Rooms.{Step}
 use Rattle.room_http.specs.Arrivals.{message as arrived, is_head_only, is_closing}
 use Rattle.room_http.specs.Talk.{Finds, replied}

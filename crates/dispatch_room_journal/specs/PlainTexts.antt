@@ -65,7 +65,8 @@ abbrev pub PutsKnown : {E : Type 0} → ListEnd → ListEnd → Option (List ℕ
     → Result (Unit {0}) E → Type 0
 PutsKnown old new None held entry result = ⊤
 PutsKnown old new (Some text) None entry result = ⊥
-PutsKnown old new (Some text) (Some more) entry result = StandsAt old text → Puts new text entry result more
+PutsKnown old new (Some text) (Some more) entry result =
+    StandsAt old text → Puts new text entry result more
 
 -- where it is known what was held, the list goes on there from here
 abbrev pub StandsKnown : ListEnd → Option (List ℕ) → Type 0

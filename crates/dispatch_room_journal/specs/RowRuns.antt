@@ -11,7 +11,7 @@ use Rattle.dispatch_room_journal.specs.declared.row_runs.Behind.TheVariants.{End
 use Rattle.dispatch_room_journal.specs.declared.row_runs.RowsFault.{RowsFault}
 use Rattle.dispatch_room_journal.specs.declared.row_runs.RowsFault.TheVariants.{Memory, Read}
 use Rattle.dispatch_room_journal.specs.Entries.{IsEntry, room, text_of}
-use Rattle.dispatch_room_journal.specs.Chains.{IsBody, is_end, is_row, next_check, record_text, row_body, row_line}
+use Rattle.dispatch_room_journal.specs.Chains.{IsBody, end_body, is_end, is_row, next_check, record_text, row_body, row_line}
 use Rattle.dispatch_room_journal.specs.Chains.{sha256_digits}
 use Rattle.dispatch_room_journal.specs.RecordFronts.{comes_next}
 use Rattle.dispatch_room_journal.specs.RecordRuns.{Runs}
@@ -41,7 +41,8 @@ BehindIs link text Other = (text ≢ [])
     × ((body : List ℕ) → IsRow body → ¬ (GoesOnWith link body text))
 
 -- the text that follows a record begins with rows, all that stand there, which have these lines
-pub record TakesRows (link : Link) (text lines rest : List ℕ) (now : Link) (behind : Behind) : Type 0 where
+pub record TakesRows (link : Link) (text lines rest : List ℕ) (now : Link) (behind : Behind)
+    : Type 0 where
   pub bodies : List (List ℕ)
   pub rows : Runs IsRow link text bodies rest now
   pub have : lines ≡ flat_map row_line bodies
@@ -70,6 +71,19 @@ PutsBody (Chain link) now before after body =
       check = next_check sha256_digits link.check body;
       has_ended = is_end body;
     }))
+
+-- an entry was put behind a list: as it is, or as a record where it is a chain
+abbrev pub PutsEntry : ListEnd → ListEnd → Option (List ℕ) → Option (List ℕ) → List ℕ → Type 0
+PutsEntry Plain now before after entry = (now ≡ Plain) × Appends before after entry
+PutsEntry (Chain link) now before after entry = PutsBody (Chain link) now before after entry
+
+-- That a list ended well was put behind it, where it is a chain that does not end so; else it is
+-- as it was.
+abbrev pub PutsEnd : ListEnd → ListEnd → Option (List ℕ) → Option (List ℕ) → Type 0
+PutsEnd Plain now before after = (now ≡ Plain) × (after ≡ before)
+PutsEnd (Chain link) now before after =
+    (link.has_ended ≡ false → PutsBody (Chain link) now before after end_body)
+    × (link.has_ended ≡ true → (now ≡ Chain link) × (after ≡ before))
 
 -- a line was put behind a chain, as a row
 abbrev pub PutsRow : ListEnd → ListEnd → Option (List ℕ) → Option (List ℕ) → List ℕ → Type 0

@@ -8,7 +8,7 @@ ghost use Rattle.dispatch_room_journal.specs.RecordFronts.{list_says};
 ghost use Rattle.dispatch_room_journal.specs.ReadSteps.{Advances, Nearer, PassesRows, done_of, ends_well, last_of, left_in};
 ghost use Rattle.dispatch_room_journal.specs.ReadSteps.{most_rows, reach_of, rest_of, rows_next, rows_of};
 ghost use Rattle.dispatch_room_journal.specs.RowRuns.{is_read};
-ghost use Rattle.dispatch_room_journal.specs.Legs.{TakesIn};
+ghost use Rattle.dispatch_room_journal.specs.Legs.{TakesIn, left_to};
 ghost use Rattle.dispatch_room_journal.specs.declared.record_inbox.TheConstants.{RECORD_ROOM};
 ghost use Rattle.dispatch_room_journal.specs.declared.read_progress.Reach.TheVariants.{Full, Leg};
 ghost use Rattle.dispatch_room_journal.specs.declared.read_progress.Mode.TheVariants.{Chain};
@@ -83,10 +83,13 @@ impl<R: Source> Unchained<R> {
     /// behind `rows`. What stands behind them is the next leg. A list that is no chain has none.
     pub fn take_rows(&mut self, rows: &mut Vec<u8>) -> Result<Behind, RowsFault>
         requires sound { (R.has_failed self.old.reader || self.old.passed == most_rows) ≡ false }
-        ensures failed { (R.has_failed self.new.reader || self.new.passed == most_rows) ≡ is_read result }
+        ensures failed { (R.has_failed self.new.reader || self.new.passed == most_rows)
+            ≡ is_read result }
         ensures same { self.new.passed ≡ self.old.passed }
         ensures reach { reach_of self.new.reel.mode ≡ reach_of self.old.reel.mode }
         ensures unread { self.old.has_ended ≡ false
+            → (result ≡ Ok Unread) × (self.new ≡ self.old) × (rows.new ≡ rows.old) }
+        ensures given { 0 < self.old.reel.vouched
             → (result ≡ Ok Unread) × (self.new ≡ self.old) × (rows.new ≡ rows.old) }
         ensures taken { self.old.has_ended ≡ true → self.old.reel.vouched ≡ 0
             → (self.new.reel.vouched ≡ 0) × IfOk result (TakesIn self.old.reel.mode
@@ -114,7 +117,8 @@ impl<R: Source> Unchained<R> {
         requires sound { (R.has_failed self.old.reader || self.old.passed == most_rows) ≡ false }
         requires none { self.old.reel.vouched ≡ 0 }
         requires mode { self.old.reel.mode ≡ Chain Leg link.now }
-        ensures failed { (R.has_failed self.new.reader || self.new.passed == most_rows) ≡ is_read result }
+        ensures failed { (R.has_failed self.new.reader || self.new.passed == most_rows)
+            ≡ is_read result }
         ensures same { self.new.passed ≡ self.old.passed }
         ensures reach { reach_of self.new.reel.mode ≡ Leg }
         ensures none { self.new.reel.vouched ≡ 0 }
@@ -143,7 +147,8 @@ impl<R: Source> Unchained<R> {
         requires room { length self.old.reel.inbox < RECORD_ROOM }
         requires last { rest_of self.old.reel.mode self.old.reel.inbox
             ≡ last_of self.old.reel.mode self.old.reel.inbox }
-        ensures failed { R.has_failed self.new.reader ≡ (R.has_failed self.old.reader || is_err result) }
+        ensures failed { R.has_failed self.new.reader
+            ≡ (R.has_failed self.old.reader || is_err result) }
         ensures ended { self.new.has_ended ≡ self.old.has_ended }
         ensures rows { rows_of result ≡ 0 }
         ensures passed { self.new.passed ≡ self.old.passed }
@@ -152,8 +157,8 @@ impl<R: Source> Unchained<R> {
             (prepend_known self.new.reel.inbox (R.left self.new.reader))
             self.old.passed self.new.passed }
         ensures step { Advances
-            (left_in self.old.reel.mode self.old.reel.vouched self.old.reel.inbox (R.left self.old.reader))
-            (left_in self.new.reel.mode self.new.reel.vouched self.new.reel.inbox (R.left self.new.reader))
+            (left_to self.old.reel (R.left self.old.reader))
+            (left_to self.new.reel (R.left self.new.reader))
             (left_in (done_of self.new.reel.mode) self.new.reel.vouched self.new.reel.inbox
             (R.left self.new.reader))
             (Nearer self.old.reel.mode self.old.reel.inbox self.new.reel.mode
@@ -170,7 +175,8 @@ impl<R: Source> Unchained<R> {
     fn advance(&mut self) -> Result<Step, ReadFailed>
         requires none { self.old.reel.vouched ≡ 0 }
         requires counts { self.old.passed < most_rows }
-        ensures failed { R.has_failed self.new.reader ≡ (R.has_failed self.old.reader || is_err result) }
+        ensures failed { R.has_failed self.new.reader
+            ≡ (R.has_failed self.old.reader || is_err result) }
         ensures ended { self.new.has_ended ≡ self.old.has_ended }
         ensures rows { rows_of result ≡ rows_next self.old.reel.mode self.old.reel.inbox }
         ensures passed { self.new.passed ≡ self.old.passed + rows_of result }
@@ -179,8 +185,8 @@ impl<R: Source> Unchained<R> {
             (prepend_known self.new.reel.inbox (R.left self.new.reader))
             self.old.passed self.new.passed }
         ensures step { Advances
-            (left_in self.old.reel.mode self.old.reel.vouched self.old.reel.inbox (R.left self.old.reader))
-            (left_in self.new.reel.mode self.new.reel.vouched self.new.reel.inbox (R.left self.new.reader))
+            (left_to self.old.reel (R.left self.old.reader))
+            (left_to self.new.reel (R.left self.new.reader))
             (left_in (done_of self.new.reel.mode) self.new.reel.vouched self.new.reel.inbox
             (R.left self.new.reader))
             (Nearer self.old.reel.mode self.old.reel.inbox self.new.reel.mode
@@ -209,8 +215,8 @@ impl<R: Source> Unchained<R> {
             (prepend_known self.new.reel.inbox (R.left self.new.reader))
             self.old.passed self.new.passed }
         ensures step { Advances
-            (left_in self.old.reel.mode self.old.reel.vouched self.old.reel.inbox (R.left self.old.reader))
-            (left_in self.new.reel.mode self.new.reel.vouched self.new.reel.inbox (R.left self.new.reader))
+            (left_to self.old.reel (R.left self.old.reader))
+            (left_to self.new.reel (R.left self.new.reader))
             (left_in (done_of self.new.reel.mode) self.new.reel.vouched self.new.reel.inbox
             (R.left self.new.reader))
             (0 < self.new.reel.vouched) result }
@@ -233,8 +239,8 @@ impl<R: Source> Unchained<R> {
     fn read_ready(&mut self, buf: &mut [u8]) -> Result<usize, ReadFailed>
         ensures bound { IfOk result (λ n. n ≤ length buf.new) }
         ensures bytes { ReadConsumes
-            (left_in self.old.reel.mode self.old.reel.vouched self.old.reel.inbox (R.left self.old.reader))
-            (left_in self.new.reel.mode self.new.reel.vouched self.new.reel.inbox (R.left self.new.reader))
+            (left_to self.old.reel (R.left self.old.reader))
+            (left_to self.new.reel (R.left self.new.reader))
             result buf.new }
         ensures failed { (R.has_failed self.new.reader || self.new.passed == most_rows)
             ≡ ((R.has_failed self.old.reader || self.old.passed == most_rows) || is_err result) }

@@ -1,7 +1,7 @@
 //! How a list goes on.
 ghost use Rattle.std.specs.Prelude.{◌≡◌, ◌≤◌, [], false, true, is_err, length, OnOk};
 ghost use Rattle.dispatch_room_journal.specs.Chains.{IsBody, is_silent, row_body, said_by};
-ghost use Rattle.dispatch_room_journal.specs.RowRuns.{PutsBody, PutsRow};
+ghost use Rattle.dispatch_room_journal.specs.RowRuns.{PutsBody, PutsEnd, PutsEntry, PutsRow};
 ghost use Rattle.dispatch_room_journal.specs.RecordFronts.{comes_next};
 ghost use Rattle.dispatch_room_journal.specs.PlainTexts.{PutsKnown};
 ghost use Rattle.dispatch_room_journal.specs.TextParts.{Lacks};
@@ -31,7 +31,10 @@ pub fn put_entry<W: Sink>(
     requires sound { W.has_failed writer.old ≡ false }
     requires is_one { IsBody entry.now }
     requires says { is_silent entry.now ≡ false }
-    ensures put { PutsKnown end.old end.new (W.held writer.old) (W.held writer.new) entry.now result }
+    ensures put { PutsKnown end.old end.new (W.held writer.old) (W.held writer.new) entry.now
+        result }
+    ensures written { OnOk result
+        (PutsEntry end.old end.new (W.held writer.old) (W.held writer.new) entry.now) }
     ensures failed { W.has_failed writer.new ≡ is_err result }
 {
     match *end {
@@ -91,6 +94,8 @@ pub fn put_row<W: Sink>(
 pub fn put_end<W: Sink>(writer: &mut W, end: &mut ListEnd) -> Result<(), WriteFailed>
     requires sound { W.has_failed writer.old ≡ false }
     ensures put { PutsKnown end.old end.new (W.held writer.old) (W.held writer.new) [] result }
+    ensures ended { OnOk result
+        (PutsEnd end.old end.new (W.held writer.old) (W.held writer.new)) }
     ensures failed { W.has_failed writer.new ≡ is_err result }
 {
     match *end {

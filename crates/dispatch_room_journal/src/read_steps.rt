@@ -181,8 +181,9 @@ impl Reel {
         ensures len { length buf.new ≡ length buf.old }
         ensures mode { self.new.mode ≡ self.old.mode }
         ensures shorter { length self.new.inbox ≤ length self.old.inbox }
-        ensures given { (more : List ℕ) → left_of self.old.mode self.old.vouched (self.old.inbox ++ more)
-            ≡ take result buf.new ++ left_of self.new.mode self.new.vouched (self.new.inbox ++ more) }
+        ensures given { (more : List ℕ) →
+            left_of self.old.mode self.old.vouched (self.old.inbox ++ more) ≡ take result buf.new
+            ++ left_of self.new.mode self.new.vouched (self.new.inbox ++ more) }
     {
         let count = self.vouched.min(buf.len());
         buf[..count].copy_from_slice(&self.inbox.bytes()[..count]);

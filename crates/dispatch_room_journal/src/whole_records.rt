@@ -121,7 +121,8 @@ fn fill_line<R: Source>(inbox: &mut RecordInbox, reader: &mut R) -> Result<bool,
     ensures failed { R.has_failed reader.new ≡ is_err result }
     ensures same { Keeps (prepend_known inbox.old (R.left reader.old))
         (prepend_known inbox.new (R.left reader.new)) }
-    ensures enough { MatchResult result (IsFull inbox.new (R.left reader.new)) (λ fault. fault ≡ Read) }
+    ensures enough { MatchResult result (IsFull inbox.new (R.left reader.new))
+        (λ fault. fault ≡ Read) }
 {
     'reads: while inbox.bytes().len() < 7 {
         if !read_more(inbox, reader)? {

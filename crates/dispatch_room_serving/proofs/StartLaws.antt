@@ -30,8 +30,8 @@ use Rattle.room_store.specs.StoredRoom.{IsKept, IsRoom, LeavesOneOf}
 use Rattle.room_store.specs.declared.store.Store.{Store}
 use Rattle.room_store_writes.specs.Houses.{config_of}
 use Rattle.room_tables.specs.RoomsInTables.{Stands}
-use Rattle.dispatch_room_exit.specs.declared.exit_status.Done.{Done}
-use Rattle.dispatch_room_exit.specs.declared.exit_status.Failure.{Failure}
+use Rattle.dispatch_room_cli.specs.declared.exit_status.Done.{Done}
+use Rattle.dispatch_room_cli.specs.declared.exit_status.Failure.{Failure}
 use Rattle.dispatch_room_tasks.specs.OpenedRoom.{IsOpened, OpensRoom}
 use Rattle.dispatch_room_serving.specs.Connections.{AreJoined, AreNext, AreServed, Conversation, EndsAs, GoOnBefore}
 use Rattle.dispatch_room_serving.specs.Connections.{GoesOn, IsNext, IsServed, Service, Stage, connected, stage_after}

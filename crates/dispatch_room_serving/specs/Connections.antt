@@ -18,10 +18,10 @@ use Rattle.room_http.specs.Session.{Finish, MissesNone, ReadsAtMost, ServeIs, Si
 use Rattle.room_http.specs.Talk.{Stays, Wants}
 use Rattle.room_http.specs.declared.session.ServeEnd.{ServeEnd}
 use Rattle.room_http.specs.declared.session.ServeEnd.TheVariants as end
-use Rattle.dispatch_room_exit.specs.declared.exit_status.Done.{Done}
-use Rattle.dispatch_room_exit.specs.declared.exit_status.Done.TheVariants.{Whole}
-use Rattle.dispatch_room_exit.specs.declared.exit_status.Failure.{Failure}
-use Rattle.dispatch_room_exit.specs.declared.exit_status.Failure.TheVariants.{Journal, Memory, Storage}
+use Rattle.dispatch_room_cli.specs.declared.exit_status.Done.{Done}
+use Rattle.dispatch_room_cli.specs.declared.exit_status.Done.TheVariants.{Whole}
+use Rattle.dispatch_room_cli.specs.declared.exit_status.Failure.{Failure}
+use Rattle.dispatch_room_cli.specs.declared.exit_status.Failure.TheVariants.{Journal, Memory, Storage}
 use Rattle.dispatch_room_serving.specs.Callers.{Grows, Opening}
 use Rattle.room_tables_schema.specs.FileConnections.{IsClean}
 

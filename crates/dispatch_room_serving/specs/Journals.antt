@@ -1,7 +1,8 @@
 -- What a journal holds, what of it lasts, and when it has failed.
-use Rattle.std.specs.Prelude.{◌≡◌, ◌⊎◌, ℕ, List, Bool, true, false, Option, None, Some, option_and_then, Result, IsErr}
-use Rattle.dispatch_room_exit.specs.declared.exit_status.Failure.{Failure}
-use Rattle.dispatch_room_exit.specs.declared.exit_status.Failure.TheVariants as failure
+use Rattle.std.specs.Prelude.{◌≡◌, ◌⊎◌, ℕ, List, Bool, true, false, Option, None, Some, option_and_then}
+use Rattle.std.specs.Prelude.{IsErr, IsNone, Result}
+use Rattle.dispatch_room_cli.specs.declared.exit_status.Failure.{Failure}
+use Rattle.dispatch_room_cli.specs.declared.exit_status.Failure.TheVariants as failure
 use Rattle.dispatch_room_journal.specs.WholeEntries.{FailsIn}
 use Rattle.dispatch_room_journal.specs.declared.entry_reader.EntryFault.{EntryFault}
 use Rattle.dispatch_room_serving.specs.declared.journals.Journal.{Journal}
@@ -17,6 +18,13 @@ known_by held journal = known_where journal.keeps_questions (held journal.out)
 -- what a journal holds, where there is one
 abbrev pub held_by : {W : Type 0} → (W → Option (List ℕ)) → Option (Journal W) → Option (List ℕ)
 held_by held journal = option_and_then (known_by held) journal
+
+-- that it ended well was kept, where there is a journal
+abbrev pub EndsBy : {W : Type 0} → (W → W → Type 0) → Option (Journal W) → Option (Journal W)
+    → Type 0
+EndsBy ends None new = IsNone new
+EndsBy ends (Some old) None = ⊥
+EndsBy ends (Some old) (Some new) = ends old.out new.out
 
 -- whether it has failed
 abbrev pub failed_by : {W : Type 0} → Option (Journal W) → Bool

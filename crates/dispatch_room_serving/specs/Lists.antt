@@ -18,8 +18,8 @@ use Rattle.room_store.specs.StoredRoom.{IsRoom}
 use Rattle.room_store.specs.declared.store.Store.{Store}
 use Rattle.room_store_file.specs.DigestTexts.{digest_of}
 use Rattle.room_tables.specs.RoomsInTables.{Configuration, Stands}
-use Rattle.dispatch_room_exit.specs.declared.exit_status.Done.{Done}
-use Rattle.dispatch_room_exit.specs.declared.exit_status.Failure.{Failure}
+use Rattle.dispatch_room_cli.specs.declared.exit_status.Done.{Done}
+use Rattle.dispatch_room_cli.specs.declared.exit_status.Failure.{Failure}
 use Rattle.dispatch_room_journal.specs.WholeEntries.{IsCutTo}
 use Rattle.dispatch_room_journal.specs.Entries.{IsEntry, texts_of}
 use Rattle.dispatch_room_journal.specs.JournalRecords.{answer_text, message_text, room_text}

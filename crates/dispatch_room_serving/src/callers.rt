@@ -1,9 +1,9 @@
 //! Who calls at a room: what gives its connections, one after another.
 ghost use Rattle.std.specs.Prelude.{◌≡◌, ℕ, List, [], ◌∷◌, Option, Some, IfErr, IfSome, false, option_map};
-ghost use Rattle.dispatch_room_exit.specs.declared.exit_status.Failure.TheVariants.{Network};
+ghost use Rattle.dispatch_room_cli.specs.declared.exit_status.Failure.TheVariants.{Network};
 ghost use Rattle.dispatch_room_serving.specs.Callers.{Grows, Opening};
 
-use dispatch_room_exit::exit_status::Failure;
+use dispatch_room_cli::exit_status::Failure;
 use room_http_messages::sinks::Sink;
 use room_http_messages::sources::Source;
 

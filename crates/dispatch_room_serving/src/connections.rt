@@ -6,7 +6,7 @@ ghost use Rattle.dispatch_room_serving.specs.Connections.{AttendsNext, Serves, d
 use crate::callers::Callers;
 use crate::list_places::{Finding, standing};
 use crate::served_room::ServedPart;
-use dispatch_room_exit::exit_status::{Done, Failure};
+use dispatch_room_cli::exit_status::{Done, Failure};
 use room_http::clocks::Clock;
 use room_http::handlers::Handler;
 use room_http::observers::Observer;

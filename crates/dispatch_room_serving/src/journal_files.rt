@@ -3,16 +3,17 @@ ghost use Rattle.std.specs.Prelude.{◌≡◌, ◌⊎◌, ◌+◌, ℕ, List, fa
 ghost use Rattle.std.specs.Option.{option_map};
 ghost use Rattle.dispatch_room_journal.specs.Chains.{sha256_digits};
 ghost use Rattle.dispatch_room_journal.specs.PlainTexts.{StandsKnown, plain_of};
+ghost use Rattle.dispatch_room_journal.specs.RowRuns.{PutsEnd};
 ghost use Rattle.dispatch_room_journal.specs.declared.list_ends.ListEnd.{ListEnd};
 ghost use Rattle.std.specs.Prelude.{Bool, Option, Some, None, IfErr, IsTrue, MatchResult, is_some, refl};
-ghost use Rattle.dispatch_room_exit.specs.declared.exit_status.Failure.TheVariants as failure;
+ghost use Rattle.dispatch_room_cli.specs.declared.exit_status.Failure.TheVariants as failure;
 ghost use Rattle.dispatch_room_journal.specs.WholeEntries.{EndsWhole};
 ghost use Rattle.dispatch_room_serving.specs.Journals.{IsUnread};
 ghost use Rattle.dispatch_room_serving.specs.declared.journal_files.WrittenFile.{WrittenFile};
 
 use crate::journals::Keeper;
-use dispatch_room_exit::exit_status::Failure;
-use dispatch_room_exit::explainer::Explainer;
+use dispatch_room_cli::exit_status::Failure;
+use dispatch_room_cli::explainer::Explainer;
 use dispatch_room_journal::entry_reader::EntryFault;
 use dispatch_room_journal::journal_inbox::JournalInbox;
 use dispatch_room_journal::list_ends::{ListEnd, put_end, put_entry};
@@ -449,6 +450,8 @@ impl<F: Lasting> Keeper for JournalFile<F> {
     ghost held = { λ journal. option_map (plain_of sha256_digits) (F.contents journal.0.file) };
 
     ghost lasting = { λ journal. option_map (plain_of sha256_digits) (F.lasting journal.0.file) };
+
+    ghost ends = { λ old new. PutsEnd old.1 new.1 (F.contents old.0.file) (F.contents new.0.file) };
 
     fn keep(&mut self, entry: &[u8]) -> Result<(), Unkept> {
         if self.out.failed {

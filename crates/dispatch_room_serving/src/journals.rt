@@ -24,6 +24,9 @@ pub trait Keeper {
     // The text of those that it keeps wherever the machine stops, where that is known.
     ghost lasting: { Self → Option (List ℕ) };
 
+    // What it is before and after it kept that the journal ended well.
+    ghost ends: { Self → Self → Type 0 };
+
     /// Keeps one entry more.
     fn keep(&mut self, entry: &[u8]) -> Result<(), Unkept>
         requires is_one { (e : Entry) × IsEntry e × (entry.now ≡ text_of e) }
@@ -31,7 +34,8 @@ pub trait Keeper {
 
     /// Keeps that the journal ended well, where it can say so.
     fn end(&mut self) -> Result<(), Unkept>
-        ensures held { KeepsAll (held self.old) (held self.new) [] result };
+        ensures held { KeepsAll (held self.old) (held self.new) [] result }
+        ensures ended { OnOk result (ends self.old self.new) };
 
     /// Makes all that was kept last, and says whether it could.
     fn sync(&mut self) -> bool
@@ -101,6 +105,7 @@ impl<W: Keeper> Journal<W> {
     /// The journal ended well, where nothing failed.
     pub fn end(&mut self) -> Result<(), Unkept>
         ensures kept { KeepsAll (W.held self.old.out) (W.held self.new.out) [] result }
+        ensures ended { OnOk result (W.ends self.old.out self.new.out) }
         ensures failed { self.new.has_failed ≡ (self.old.has_failed || is_err result) }
         ensures for_good { FailsForGood self.old self.new result }
     {

@@ -1,8 +1,8 @@
 //! Who watches over what is served: a log, and perhaps a journal.
-ghost use Rattle.std.specs.Prelude.{◌≡◌, [], is_some};
+ghost use Rattle.std.specs.Prelude.{◌≡◌, [], OnOk, is_some};
 ghost use Rattle.room_http.specs.KeptMessages.{KeepsAll};
 ghost use Rattle.dispatch_room_journal.specs.JournalRecords.{answer_text, message_text, room_text};
-ghost use Rattle.dispatch_room_serving.specs.Journals.{failed_by, held_by};
+ghost use Rattle.dispatch_room_serving.specs.Journals.{EndsBy, failed_by, held_by};
 ghost use Rattle.dispatch_room_serving.specs.LoggedLines.{Logs};
 
 use crate::journal_observers::JournalObserver;
@@ -32,8 +32,9 @@ impl<'a, E: Write, T: Clock, W: Keeper> LogAndJournal<'a, E, T, W> {
 
     /// What was kept ended well, where nothing failed.
     pub fn end(&mut self) -> Result<(), Unkept>
-        ensures { KeepsAll (held_by W.held self.old.journal) (held_by W.held self.new.journal) []
-            result }
+        ensures kept { KeepsAll (held_by W.held self.old.journal) (held_by W.held self.new.journal)
+            [] result }
+        ensures ended { OnOk result (EndsBy W.ends self.old.journal self.new.journal) }
     {
         match &mut self.journal {
             Some(journal) => journal.end(),

@@ -4,7 +4,7 @@ ghost use Rattle.dispatch_room_serving.specs.LoggedLines.{Logs, PutsAll, PutsLin
 ghost use Rattle.dispatch_room_serving.specs.Logs.{asked_by};
 
 use crate::log_lines::{Asker, LogLine, Request, Visible, path_of, utc};
-use dispatch_room_exit::explainer::Explainer;
+use dispatch_room_cli::explainer::Explainer;
 use dispatch_room_journal::answer_statuses::status_in;
 use room_http::arrivals::Arrived;
 use room_http::observers::{Asked, Observer, Unkept};

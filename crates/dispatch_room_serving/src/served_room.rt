@@ -1,6 +1,6 @@
 //! The room of a database, opened and served to those who call.
 ghost use Rattle.std.specs.Prelude.{◌≡◌, false, true, IfErr, IfOk, MatchResult, OnErr};
-ghost use Rattle.dispatch_room_exit.specs.declared.exit_status.Failure.TheVariants.{Journal};
+ghost use Rattle.dispatch_room_cli.specs.declared.exit_status.Failure.TheVariants.{Journal};
 ghost use Rattle.room_store.specs.StoredRoom.{IsReady};
 ghost use Rattle.dispatch_room_tasks.specs.OpenedRoom.{IsUnopened};
 ghost use Rattle.dispatch_room_serving.specs.ServedRoom.{Announces, Attends, ServesRoom};
@@ -9,7 +9,7 @@ use crate::callers::Callers;
 use crate::connections::serve_each;
 use crate::journal_observers::JournalObserver;
 use crate::list_places::ListPlace;
-use dispatch_room_exit::exit_status::{Done, Failure, refused};
+use dispatch_room_cli::exit_status::{Done, Failure, refused};
 use dispatch_room_journal::journal_digests::digest_of;
 use dispatch_room_tasks::opened_room::{TaskResult, open_room};
 use room_http::clocks::Clock;

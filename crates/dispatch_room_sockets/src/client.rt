@@ -4,7 +4,7 @@ ghost use Rattle.std.specs.Prelude.{◌≡◌, IfSome, false};
 use crate::socket_readers::SocketReader;
 use crate::socket_writers::SocketWriter;
 use crate::timeouts::Waits;
-use dispatch_room_exit::explainer::Explainer;
+use dispatch_room_cli::explainer::Explainer;
 use std::io::{self, Error, ErrorKind};
 use std::net::{OpenStream, TcpStream, ToSocketAddrs};
 use std::time::{Clock, Duration};

@@ -254,7 +254,8 @@ pub fn take_back<'a>(
         → waiting.new ≡ waiting.old }
     ensures back { ComesBack reader.entry.kept.number waiting.old.line.items waiting.new.line.items
         waiting.old.ready.items waiting.old.next }
-    ensures parted { reader.entry.is_paused ≡ false → waiting.new.line.items ≡ waiting.old.line.items }
+    ensures parted { reader.entry.is_paused ≡ false →
+        waiting.new.line.items ≡ waiting.old.line.items }
     ensures waits { reader.entry.is_paused ≡ true → waiting.new.leavers ≡ waiting.old.leavers }
     ensures same { (waiting.new.ready.items ≡ waiting.old.ready.items)
         × (waiting.new.next ≡ waiting.old.next) }

@@ -7,3 +7,4 @@ pub mod PutRows
 pub mod ReissueLemmas
 pub mod ReplacedLemmas
 pub mod ReplannedLemmas
+pub mod TokenLemmas

@@ -15,9 +15,9 @@ use Rattle.room_tables.specs.RoomsInTables.{Stands}
 use Rattle.room_store_writes.specs.Houses.{config_of}
 use Rattle.room_store_writes.specs.Transactions.{Leaves}
 use Rattle.room_store_file.specs.OpenedFile.{KeepsFile, MayBeIndexed}
-use Rattle.dispatch_room_exit.specs.declared.exit_status.Done.{Done}
-use Rattle.dispatch_room_exit.specs.declared.exit_status.Done.TheVariants.{Whole}
-use Rattle.dispatch_room_exit.specs.declared.exit_status.Failure.{Failure}
+use Rattle.dispatch_room_cli.specs.declared.exit_status.Done.{Done}
+use Rattle.dispatch_room_cli.specs.declared.exit_status.Done.TheVariants.{Whole}
+use Rattle.dispatch_room_cli.specs.declared.exit_status.Failure.{Failure}
 use Rattle.dispatch_room_tasks.specs.declared.listed_terminals.Listed.{Listed}
 use Rattle.dispatch_room_tasks.specs.declared.listed_terminals.Listed.TheVariants.{Crew, Desk, Position}
 use Rattle.room_tables_schema.specs.FileConnections.{IsClean}

@@ -16,7 +16,7 @@ use Rattle.room_store_file.specs.declared.migrated_file.MigrateFault.{MigrateFau
 use Rattle.room_store_file.specs.declared.migrated_file.MigrateFault.TheVariants.{NotARoom, NotOld}
 use Rattle.room_store_writes.specs.Transactions.{Leaves}
 use Rattle.dispatch_room_tasks.specs.OpeningFaults.{migrate_fault}
-use Rattle.dispatch_room_exit.specs.declared.exit_status.Failure.{Failure}
+use Rattle.dispatch_room_cli.specs.declared.exit_status.Failure.{Failure}
 use Rattle.room_tables_schema.specs.FileConnections.{IsClean}
 
 -- The tables of the first version stood for this well-formed room, in which nothing is offered, and

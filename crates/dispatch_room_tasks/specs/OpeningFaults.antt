@@ -5,8 +5,8 @@ use Rattle.room_store_file.specs.declared.migrated_file.MigrateFault.{MigrateFau
 use Rattle.room_store_file.specs.declared.migrated_file.MigrateFault.TheVariants as migrating
 use Rattle.room_store_file.specs.declared.opened_file.OpenFault.{OpenFault}
 use Rattle.room_store_file.specs.declared.opened_file.OpenFault.TheVariants as opening
-use Rattle.dispatch_room_exit.specs.declared.exit_status.Failure.{Failure}
-use Rattle.dispatch_room_exit.specs.declared.exit_status.Failure.TheVariants.{File, Input, Memory, Storage, Version}
+use Rattle.dispatch_room_cli.specs.declared.exit_status.Failure.{Failure}
+use Rattle.dispatch_room_cli.specs.declared.exit_status.Failure.TheVariants.{File, Input, Memory, Storage, Version}
 
 -- where a room is created; a plan that was read has sound terminals
 abbrev pub create_fault : CreateFault → Failure

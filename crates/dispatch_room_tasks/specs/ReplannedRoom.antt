@@ -18,8 +18,8 @@ use Rattle.room_store_file.specs.OpenedFile.{KeepsFile, MayBeIndexed}
 use Rattle.room_store_writes.specs.Houses.{config_of}
 use Rattle.room_store_writes.specs.NewRoom.{new_division}
 use Rattle.room_store_writes.specs.Transactions.{IsSettled, Leaves}
-use Rattle.dispatch_room_exit.specs.declared.exit_status.Failure.{Failure}
-use Rattle.dispatch_room_exit.specs.declared.exit_status.Failure.TheVariants as failure
+use Rattle.dispatch_room_cli.specs.declared.exit_status.Failure.{Failure}
+use Rattle.dispatch_room_cli.specs.declared.exit_status.Failure.TheVariants as failure
 use Rattle.dispatch_room_csv.specs.declared.plan_file.PlanFile.{PlanFile}
 use Rattle.dispatch_room_tasks.specs.ReplacedTerminals as terminals
 use Rattle.dispatch_room_tasks.specs.ReplacedTerminals.{AreFree, ExplainsRow, replaced_by}
@@ -86,7 +86,8 @@ pub record HasNewPlan (before after : Trees) (plan : Layout) (file : PlanFile)
   pub none_refused : AreFree file.plan.areas terminals file.terminals.items
       (length file.terminals.items)
   pub still_formed : IsWellFormed (replanned file.plan.areas room)
-  pub fit : AreTerminals (replanned file.plan.areas room) (replaced_by file.terminals.items terminals)
+  pub fit : AreTerminals (replanned file.plan.areas room)
+      (replaced_by file.terminals.items terminals)
   pub stands : Stands after (config_of file.plan (replaced_by file.terminals.items terminals))
       (replanned file.plan.areas room)
 

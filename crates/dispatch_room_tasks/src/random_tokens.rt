@@ -1,6 +1,9 @@
 //! Tokens of random bytes.
-ghost use Rattle.std.specs.Prelude.{◌≡◌, IfOk, IfSome, filter_map, length, take};
-ghost use Rattle.dispatch_room_tasks.specs.RandomTokens.{letter_of};
+ghost use Rattle.std.specs.List.{list_all};
+ghost use Rattle.std.specs.Option.{SomeIff};
+ghost use Rattle.std.specs.Prelude.{◌≡◌, ◌≤◌, IfOk, length, take, true};
+ghost use Rattle.room_types.specs.Texts.{is_token_letter};
+ghost use Rattle.dispatch_room_tasks.specs.RandomTokens.{AreEnough, first_letters, letter_of, letters_of};
 
 use room_types::token::Token;
 use std::alloc::{AllocError, Global};
@@ -15,10 +18,12 @@ const LENGTH: usize = 24;
 // So many values of a byte give letters, each letter as many: four times 62.
 const FAIR: u8 = 248;
 
-/// A token of random bytes: the first of them that give letters. There is none where too few do.
+/// A token of random bytes: the first of them that give letters. There is none exactly where too
+/// few do.
+#[tactic(auto, using(crate::proofs::TokenLemmas::are_letters))]
 pub fn token_of(alloc: Global, random: &[u8]) -> Result<Option<Token>, AllocError>
-    ensures { IfOk result (λ found. IfSome found (λ token.
-        (token ≡ take 24 (filter_map letter_of random.now)) × (length token ≡ 24))) }
+    ensures { IfOk result (λ found.
+        SomeIff found (AreEnough random.now) (first_letters random.now)) }
 {
     let letters = letters_of(alloc, random)?;
     Ok(token_in(letters.as_slice()))
@@ -26,7 +31,7 @@ pub fn token_of(alloc: Global, random: &[u8]) -> Result<Option<Token>, AllocErro
 
 // The letters that bytes give.
 fn letters_of(alloc: Global, random: &[u8]) -> Result<Vec<u8>, AllocError>
-    ensures { IfOk result (λ letters. letters.items ≡ filter_map letter_of random.now) }
+    ensures { IfOk result (λ letters. letters.items ≡ letters_of random.now) }
 {
     random
         .iter()
@@ -36,7 +41,8 @@ fn letters_of(alloc: Global, random: &[u8]) -> Result<Vec<u8>, AllocError>
 
 // The token of the first letters, where they are enough.
 fn token_in(letters: &[u8]) -> Option<Token>
-    ensures { IfSome result (λ token. (token ≡ take 24 letters.now) × (length token ≡ 24)) }
+    requires { list_all is_token_letter letters.now ≡ true }
+    ensures { SomeIff result (24 ≤ length letters.now) (take 24 letters.now) }
 {
     let text = str::from_utf8(letters.get(..LENGTH)?).ok()?;
     Token::parse(text)

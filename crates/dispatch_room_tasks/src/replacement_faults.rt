@@ -3,12 +3,13 @@
 ghost use Rattle.std.specs.List.{list_any};
 ghost use Rattle.std.specs.Prelude.{◌≡◌, length, MatchOption};
 ghost use Rattle.room_tables_schema.specs.DatabaseFaults.{fault_of};
-ghost use Rattle.room_store_writes.specs.TerminalHolders.{has_terminal, has_token, is_token_of, may_have, same_who};
+ghost use Rattle.room_store_writes.specs.TerminalHolders.{is_token_of};
 ghost use Rattle.dispatch_room_tasks.specs.declared.replacement_faults.ReplaceFault.TheVariants as why;
 ghost use Rattle.dispatch_room_tasks.specs.ReplacedTerminals.{AreFree, IsFirstFault, failure_of, is_kept, is_listed, is_second, lack_of, nobody, row_fault};
 
-use dispatch_room_exit::exit_status::Failure;
+use dispatch_room_cli::exit_status::Failure;
 use room_place::plans::Plan;
+use room_store_writes::terminal_holders::{has_token, is_same, may_have};
 use room_tables_schema::database_faults::Fault;
 use room_types::asks::Who;
 use room_types::fleet::Terminal;
@@ -119,29 +120,6 @@ fn row_fault(
     }
 }
 
-// A vehicle that is enrolled has a crew's terminal, and no other crew has one.
-fn may_have(plan: &Plan, terminals: &[Terminal], who: &Who) -> bool
-    ensures { result ≡ may_have plan.now.areas terminals.now who.now }
-{
-    match who {
-        Who::Desk(division) => plan.has(*division),
-        Who::Position(_) => true,
-        Who::Crew(_) => has_terminal(terminals, who),
-    }
-}
-
-fn has_terminal(terminals: &[Terminal], who: &Who) -> bool
-    ensures { result ≡ has_terminal who.now terminals.now }
-{
-    terminals.iter().any(|terminal| is_same(who, &terminal.who))
-}
-
-fn is_same(who: &Who, other: &Who) -> bool
-    ensures { result ≡ same_who who.now other.now }
-{
-    other == who
-}
-
 // Why who may have no terminal.
 fn nobody(who: &Who) -> RowFault
     ensures { result ≡ nobody who.now }
@@ -157,12 +135,6 @@ fn is_kept(listed: &[Terminal], terminals: &[Terminal], token: &Token) -> bool
     ensures { result ≡ is_kept listed.now terminals.now token.now }
 {
     terminals.iter().any(|terminal| *token == terminal.token && !is_listed(listed, &terminal.who))
-}
-
-fn has_token(terminals: &[Terminal], token: &Token) -> bool
-    ensures { result ≡ has_token token.now terminals.now }
-{
-    terminals.iter().any(|terminal| *token == terminal.token)
 }
 
 // Whether it is a crew that a row before names.

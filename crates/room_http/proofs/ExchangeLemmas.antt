@@ -20,7 +20,7 @@ use Rattle.room_http_requests.specs.Targets.{routed}
 use Rattle.room_http_requests.specs.declared.request_asks.Request.{Request}
 use Rattle.room_http_requests.specs.declared.request_asks.Request.TheVariants as request
 use Rattle.room_http_requests.specs.declared.targets.Target.{Target}
-use Rattle.room_http_answers.proofs.Moments.{always_there_law}
+use Rattle.room_http.proofs.DatedMoments.{always_there_law}
 use Rattle.room_http_time.specs.Days.{zone_of}
 use Rattle.room_http.specs.declared.moments.TheConstants.{LAST_MOMENT}
 use Rattle.room_http.specs.declared.settings.Setting.{Setting}

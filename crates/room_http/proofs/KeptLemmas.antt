@@ -9,7 +9,7 @@ use Rattle.std.specs.Io.KnownBytes.{Appends, Keeps}
 use Rattle.room_types.specs.declared.fleet.Terminal.{Terminal}
 use Rattle.room_types.specs.declared.refusal_statuses.Refusal.{Refusal}
 use Rattle.room_model.specs.Room.{Room}
-use Rattle.room_http_answers.specs.ReplyMessages.{fixed_bytes}
+use Rattle.room_http.specs.ReplyMessages.{fixed_bytes}
 use Rattle.room_http_messages.proofs.StreamLemmas.{Appends-more, Appends-none}
 use Rattle.room_http.specs.declared.moments.TheConstants.{LAST_MOMENT}
 use Rattle.room_http.specs.declared.settings.Setting.{Setting}

@@ -20,8 +20,8 @@ use Rattle.room_http_requests.specs.RequestAsks.{request_by}
 use Rattle.room_http_requests.specs.Roles.{is_of, role_of}
 use Rattle.room_http_requests.specs.declared.request_asks.Request.{Request}
 use Rattle.room_http_requests.specs.declared.request_asks.Request.TheVariants as request
-use Rattle.room_http_answers.specs.ReplyMessages.{IsReply}
-use Rattle.room_http_answers.proofs.Dates.{one_reply_law}
+use Rattle.room_http.specs.ReplyMessages.{IsReply}
+use Rattle.room_http.proofs.Dates.{one_reply_law}
 use Rattle.room_http_time.specs.Days.{zone_of}
 use Rattle.room_http.specs.declared.settings.Setting.{Setting}
 use Rattle.room_http_time.proofs.SpanLaws.{one_span_law}

@@ -1,3 +1,8 @@
+pub mod NoFloats
+pub mod Sending
+pub mod HeadLines
+pub mod Dates
+pub mod DatedMoments
 pub mod StreamLemmas
 pub mod TalkLemmas
 pub mod ServeLemmas

@@ -29,8 +29,8 @@ use Rattle.room_model.specs.Run.{is_desk, room_run, told}
 use Rattle.room_model.specs.Shares.{mine, own}
 use Rattle.room_model.specs.Step.{IsAddressed, answer_to, room_after}
 use Rattle.room_model.specs.RoomAgreements.{IsWellFormed}
-use Rattle.room_http_answers.proofs.Dates.{one_reply_law}
-use Rattle.room_http_answers.specs.ReplyMessages.{IsReply}
+use Rattle.room_http.proofs.Dates.{one_reply_law}
+use Rattle.room_http.specs.ReplyMessages.{IsReply}
 use Rattle.room_http.specs.declared.settings.Setting.{Setting}
 use Rattle.room_model.specs.Rooms.{machine}
 use Rattle.room_http.specs.Arrivals.{is_closing, is_head_only}

@@ -20,7 +20,7 @@ use Rattle.room_http.specs.declared.moments.TheConstants.{LAST_MOMENT}
 use Rattle.room_http.specs.declared.session.ServeEnd.{ServeEnd}
 use Rattle.room_http.specs.declared.session.ServeEnd.TheVariants.{Closed, Cut, ReadFault, WriteFault, ClockFault}
 use Rattle.room_http.specs.declared.session.ServeEnd.TheVariants.{Unkept, ReadsSpent, Memory}
-use Rattle.room_http_answers.specs.ReplyMessages.{fixed_bytes}
+use Rattle.room_http.specs.ReplyMessages.{fixed_bytes}
 use Rattle.room_http.specs.ArrivalAnswers.{Answers, EndsAnswering}
 use Rattle.room_http.specs.ClockMoments.{HasNoMoment}
 use Rattle.room_http.specs.Arrivals.{Arrival, is_closing, is_head_only, Begins, HasNext}

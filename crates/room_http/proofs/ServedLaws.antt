@@ -16,7 +16,7 @@ use Rattle.room_http.specs.declared.session.ServeEnd.{ServeEnd}
 use Rattle.room_http.specs.declared.session.ServeEnd.TheVariants.{Closed, Cut, ReadFault, WriteFault, ClockFault}
 use Rattle.room_http.specs.declared.session.ServeEnd.TheVariants.{Unkept, ReadsSpent, Memory}
 use Rattle.room_http_messages.specs.Messages.{IsCut}
-use Rattle.room_http_answers.specs.ReplyMessages.{fixed_bytes}
+use Rattle.room_http.specs.ReplyMessages.{fixed_bytes}
 use Rattle.room_http.specs.ArrivalAnswers.{Answers}
 use Rattle.room_http.specs.Arrivals.{Arrival, Begins, HasNext, is_head_only}
 use Rattle.room_http.specs.Course.{AreFirstIn, Course, OneCourse}

@@ -11,7 +11,7 @@ use Rattle.room_http.specs.declared.session.ServeEnd.TheVariants.{Unkept, ReadsS
 use Rattle.room_model.specs.Rooms.{Step}
 use Rattle.room_http.specs.Arrivals.{Arrival, is_head_only}
 use Rattle.room_http.specs.ClockMoments.{HasNoMoment}
-use Rattle.room_http_answers.specs.ReplyMessages.{fixed_bytes}
+use Rattle.room_http.specs.ReplyMessages.{fixed_bytes}
 use Rattle.room_http.specs.declared.settings.Setting.{Setting}
 use Rattle.room_http.specs.Talk.{Timed, Talks, IsCaused, IsFront, BreaksOff}
 

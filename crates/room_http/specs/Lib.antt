@@ -1,3 +1,8 @@
+pub mod JsonShapes
+pub mod Contents
+pub mod Objects
+pub mod ReplyMessages
+pub mod ReplyLaws
 pub mod Settings
 pub mod ClockMoments
 pub mod Arrivals

@@ -11,7 +11,7 @@ use Rattle.room_model.specs.Events.{AreAddressed}
 use Rattle.room_model.specs.Room.{Room}
 use Rattle.room_model.specs.Run.{is_desk, room_run}
 use Rattle.room_http_messages.specs.Messages.{terminal_of}
-use Rattle.room_http_answers.specs.ReplyMessages.{IsReply}
+use Rattle.room_http.specs.ReplyMessages.{IsReply}
 use Rattle.room_http.specs.declared.settings.Setting.{Setting}
 use Rattle.room_model.specs.Rooms.{machine}
 use Rattle.room_http.specs.Arrivals.{Arrival, is_closing, is_head_only, message, refused}

@@ -5,7 +5,7 @@ use Rattle.std.specs.Io.KnownBytes.{Appends}
 use Rattle.room_types.specs.declared.fleet.Terminal.{Terminal}
 use Rattle.room_types.specs.declared.refusal_statuses.Refusal.{Refusal}
 use Rattle.room_model.specs.Room.{Room}
-use Rattle.room_http_answers.specs.ReplyMessages.{fixed_bytes}
+use Rattle.room_http.specs.ReplyMessages.{fixed_bytes}
 use Rattle.room_http_messages.specs.Messages.{IsCut, IsPart}
 use Rattle.room_http_messages.specs.Streams.{CountsBy}
 use Rattle.room_http.specs.declared.session.ServeEnd.{ServeEnd}

@@ -7,7 +7,7 @@ use Rattle.room_types.specs.declared.fleet.Terminal.{Terminal}
 use Rattle.room_types.specs.declared.refusal_statuses.Refusal.{Refusal}
 use Rattle.room_types.specs.declared.refusal_statuses.Refusal.TheVariants.{Memory, Storage}
 use Rattle.room_model.specs.Room.{Room}
-use Rattle.room_http_answers.specs.ReplyMessages.{IsReply}
+use Rattle.room_http.specs.ReplyMessages.{IsReply}
 use Rattle.room_http.specs.MessageEvents.{AsksFor}
 use Rattle.room_http.specs.Arrivals.{Arrival, message, refused, is_head_only, is_closing}
 use Rattle.room_http.specs.declared.settings.Setting.{Setting}

@@ -11,12 +11,12 @@ ghost use Rattle.room_model.specs.Rooms.{machine};
 
 use crate::arrivals::Arrived;
 use crate::clocks::Clock;
+use crate::fixed_answers::fixed;
 use crate::handlers::Handler;
 use crate::moments::moment;
 use crate::observers::{Asked, Observer};
 use crate::replies::reply;
 use crate::session::ServeEnd;
-use room_http_answers::fixed_answers::fixed;
 use room_http_messages::sinks::{Sink, WriteFailed, write_all};
 use room_model::rooms::Room;
 

@@ -6,7 +6,7 @@ ghost use Rattle.room_http.specs.DigestReplies.{RepliesTowards};
 use crate::arrivals::Arrived;
 use crate::handlers::Handler;
 use crate::message_events::event_of;
-use room_http_answers::reply_messages::render;
+use crate::reply_messages::render;
 use room_model::digests::{Digested, Head, Miss};
 use room_types::numbers::Moment;
 use room_types::refusal_statuses::Refusal;

@@ -1,13 +1,13 @@
 //! The answer to what has arrived, and what becomes of the room.
 ghost use Rattle.std.specs.Prelude.{◌≡◌, Err, IfErr, IfOk};
 ghost use Rattle.room_types.specs.declared.refusal_statuses.Refusal.TheVariants as refusals;
-ghost use Rattle.room_http_answers.specs.ReplyMessages.{IsReply};
+ghost use Rattle.room_http.specs.ReplyMessages.{IsReply};
 ghost use Rattle.room_http.specs.Replies.{KeepsReply, Replies};
 
 use crate::arrivals::Arrived;
 use crate::handlers::Handler;
 use crate::message_events::event_of;
-use room_http_answers::reply_messages::render;
+use crate::reply_messages::render;
 use room_model::rooms::Room;
 use room_types::asks::Who;
 use room_types::numbers::Moment;

@@ -1,18 +1,16 @@
 -- A room that begins: what its tables stand for, and why it may not begin.
-use Rattle.std.specs.List.{list_all, list_any}
-use Rattle.std.specs.Ordering.{is_eq}
+use Rattle.std.specs.List.{list_all}
 use Rattle.std.specs.Prelude.{Bool, List, [], false, not, true, ◌&&◌, ◌≡◌, ◌≢◌, ◌∷◌}
 use Rattle.sqlite_schema.specs.declared.schema.Schema.{Schema}
 use Rattle.room_place.specs.Plans.{Layout, has_division}
 use Rattle.room_place.specs.declared.plans.Area.{Area}
-use Rattle.room_types.specs.Texts.{Token}
 use Rattle.room_types.specs.declared.asks.Who.{Who}
 use Rattle.room_types.specs.declared.asks.Who.TheVariants.{Crew, Desk, Position}
 use Rattle.room_types.specs.declared.fleet.Terminal.{Terminal}
-use Rattle.room_model.specs.FleetRows.{token_cmp}
 use Rattle.room_tables_schema.specs.Schema.{no_schema}
 use Rattle.room_tables_schema.specs.declared.database_faults.Fault.{Fault}
 use Rattle.room_tables_schema.specs.declared.database_faults.Fault.TheVariants as fault
+use Rattle.room_store_writes.specs.TerminalHolders.{has_token}
 use Rattle.room_store.specs.declared.store_creation.CreateFault.{CreateFault}
 use Rattle.room_store.specs.declared.store_creation.CreateFault.TheVariants.{BadTerminal, Memory, NotEmpty, Storage}
 
@@ -22,13 +20,10 @@ may_use areas (Position p) = true
 may_use areas (Desk d) = has_division areas d
 may_use areas (Crew c) = false
 
-abbrev pub is_token_of : Token → Terminal → Bool
-is_token_of k t = is_eq (token_cmp k t.token)
-
 -- no two terminals have one token
 abbrev pub have_own_tokens : List Terminal → Bool
 have_own_tokens [] = true
-have_own_tokens (t ∷ ts) = not (list_any (is_token_of t.token) ts) && have_own_tokens ts
+have_own_tokens (t ∷ ts) = not (has_token t.token ts) && have_own_tokens ts
 
 -- the terminals that a new room may have
 pub record AreNewTerminals (plan : Layout) (ts : List Terminal) : Type 0 where

@@ -19,77 +19,88 @@ ghost use Rattle.room_store.specs.StoreFaults.{miss_of};
 ghost use Rattle.room_store.specs.DigestEvents.{IsHeadAfter};
 
 use crate::acted_events::{Prepared, prepare};
+use crate::store::Store;
 use crate::store_faults::refusal_of;
 use room_model::digests::{Head, Miss};
-use room_place::plans::Plan;
-use room_store_cache::cache::Cache;
 use room_store_file::digest_changes::{Undone, write_towards};
 use room_types::answers::Answer;
 use room_types::asks::Event;
 use room_types::refusal_statuses::Refusal;
-use sqlite::{Alter, Connection};
+use sqlite::Alter;
 use std::alloc::Global;
 
-/// Acts on an event as `act_on` does, where the room comes by it to the digest of this head.
-/// Where it would come to another one, nothing is changed.
-pub(crate) fn act_towards_on<
-    S: Alter,
-    F: FnOnce(&Result<Answer, Refusal>) -> Result<Vec<u8>, Refusal>,
->(
-    alloc: Global,
-    conn: &mut Connection<S>,
-    plan: &Plan,
-    cache: &mut Cache,
-    event: &Event,
-    head: &Head,
-    render: F,
-) -> Result<Vec<u8>, Miss>
-    requires room { HasRoomSchema S.Store conn.old }
-    requires outside { conn.old.in_transaction ≡ false }
-    requires open { IsTrue cache.old.fleet.is_known → StandsOpen S.Store conn.old }
-    requires callable { F.IsAlwaysCallable render }
-    requires memory { (answer : Result Told Why) (r : _)
-        → FnOnceReturnsAt F.FnOnce render answer r → IfErr r (λ e. e ≡ Memory) }
-    ensures bytes { IsClean S.Store conn.new
-        → IfOk result (λ bytes. (config : Configuration) (room : Room)
-        → IsFor (state S.Store conn.old).now.trees plan.now cache.old event.now config room
-        → FnOnceReturnsAt F.FnOnce render (answer_to event.now room) (Ok bytes)) }
-    ensures ok { IsClean S.Store conn.new
-        → OnOk result (Commits (state S.Store conn.old) (state S.Store conn.new)
-        (IsFor (state S.Store conn.old).now.trees plan.now cache.old event.now)
-        (room_after event.now)) }
-    ensures cache { IsClean S.Store conn.new
-        → OnOk result ((config : Configuration) (room : Room)
-        → IsFor (state S.Store conn.old).now.trees plan.now cache.old event.now config room
-        → IsCacheOf cache.new (room_after event.now room)) }
-    ensures reaches { IsClean S.Store conn.new
-        → OnOk result ((config : Configuration) (room : Room)
-        → IsFor (state S.Store conn.old).now.trees plan.now cache.old event.now config room
-        → IsHeadAfter event.now config.zone config.terminals room head.now) }
-    ensures another { IsClean S.Store conn.new
-        → IfErr result (λ miss. miss ≡ Another → (config : Configuration) (room : Room)
-        → IsFor (state S.Store conn.old).now.trees plan.now cache.old event.now config room
-        → ¬ (IsHeadAfter event.now config.zone config.terminals room head.now)) }
-    ensures err { LeavesOnErr S.Store conn.old conn.new result }
-    ensures wants { IfErr result IsMiss }
-    ensures ended { conn.new.in_transaction ≡ false }
-    ensures survives { Survives (state S.Store conn.old) (state S.Store conn.new) (λ db.
-        (config : Configuration) (room : Room)
-        → IsFor (state S.Store conn.old).now.trees plan.now cache.old event.now config room
-        → Stands db config (room_after event.now room)) }
-{
-    // Outside a transaction the tables are as they were committed.
-    let _ = conn.is_autocommit();
-    let prepared = match prepare(alloc, conn, plan, cache, event, render) {
-        Ok(prepared) => prepared,
-        Err(refusal) => return Err(Miss::Want(refusal)),
-    };
-    let Prepared { changes, bytes } = prepared;
-    if let Err(undone) = write_towards(conn, changes.as_slice(), head) {
-        return Err(miss_of(undone));
+impl<S: Alter> Store<S> {
+    /// Acts on an event as `act_on` does, where the room comes by it to the digest of this head.
+    /// Where it would come to another one, nothing is changed.
+    pub(crate) fn commit_towards<F: FnOnce(&Result<Answer, Refusal>) -> Result<Vec<u8>, Refusal>>(
+        &mut self,
+        alloc: Global,
+        event: &Event,
+        head: &Head,
+        render: F,
+    ) -> Result<Vec<u8>, Miss>
+        requires room { HasRoomSchema S.Store self.old.conn }
+        requires outside { self.old.conn.in_transaction ≡ false }
+        requires open { IsTrue self.old.cache.fleet.is_known → StandsOpen S.Store self.old.conn }
+        requires callable { F.IsAlwaysCallable render }
+        requires memory { (answer : Result Told Why) (r : _)
+            → FnOnceReturnsAt F.FnOnce render answer r → IfErr r (λ e. e ≡ Memory) }
+        ensures bytes { IsClean S.Store self.new.conn
+            → IfOk result (λ bytes. (config : Configuration) (room : Room)
+            → IsFor (state S.Store self.old.conn).now.trees self.old.plan self.old.cache event.now
+            config room
+            → FnOnceReturnsAt F.FnOnce render (answer_to event.now room) (Ok bytes)) }
+        ensures ok { IsClean S.Store self.new.conn
+            → OnOk result (Commits (state S.Store self.old.conn) (state S.Store self.new.conn)
+            (IsFor (state S.Store self.old.conn).now.trees self.old.plan self.old.cache event.now)
+            (room_after event.now)) }
+        ensures cache { IsClean S.Store self.new.conn
+            → OnOk result ((config : Configuration) (room : Room)
+            → IsFor (state S.Store self.old.conn).now.trees self.old.plan self.old.cache event.now
+            config room
+            → IsCacheOf self.new.cache (room_after event.now room)) }
+        ensures reaches { IsClean S.Store self.new.conn
+            → OnOk result ((config : Configuration) (room : Room)
+            → IsFor (state S.Store self.old.conn).now.trees self.old.plan self.old.cache event.now
+            config room
+            → IsHeadAfter event.now config.zone config.terminals room head.now) }
+        ensures another { IsClean S.Store self.new.conn
+            → IfErr result (λ miss. miss ≡ Another → (config : Configuration) (room : Room)
+            → IsFor (state S.Store self.old.conn).now.trees self.old.plan self.old.cache event.now
+            config room
+            → ¬ (IsHeadAfter event.now config.zone config.terminals room head.now)) }
+        ensures err { LeavesOnErr S.Store self.old.conn self.new.conn result }
+        ensures wants { IfErr result IsMiss }
+        ensures ended { self.new.conn.in_transaction ≡ false }
+        ensures survives { Survives (state S.Store self.old.conn) (state S.Store self.new.conn)
+            (λ db. (config : Configuration) (room : Room)
+            → IsFor (state S.Store self.old.conn).now.trees self.old.plan self.old.cache event.now
+            config room
+            → Stands db config (room_after event.now room)) }
+        ensures plan { self.new.plan ≡ self.old.plan }
+        ensures known { self.new.terminals ≡ self.old.terminals }
+        ensures sound { self.new.is_sound ≡ self.old.is_sound }
+    {
+        // Outside a transaction the tables are as they were committed.
+        let _ = self.conn.is_autocommit();
+        let prepared = match prepare(
+            alloc,
+            &mut self.conn,
+            &self.plan,
+            &mut self.cache,
+            event,
+            render,
+        ) {
+            Ok(prepared) => prepared,
+            Err(refusal) => return Err(Miss::Want(refusal)),
+        };
+        let Prepared { changes, bytes } = prepared;
+        if let Err(undone) = write_towards(&mut self.conn, changes.as_slice(), head) {
+            return Err(miss_of(undone));
+        }
+        self.cache.apply(changes.as_slice());
+        Ok(bytes)
     }
-    cache.apply(changes.as_slice());
-    Ok(bytes)
 }
 
 // How it is reported that changes were undone.

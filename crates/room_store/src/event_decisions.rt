@@ -1,11 +1,11 @@
 //! What the room in the tables decides of an event. Nothing is written.
-ghost use Rattle.std.specs.Prelude.{◌≡◌, IsTrue, IfOk};
+ghost use Rattle.std.specs.Prelude.{◌≡◌, ℕ, IsTrue, IfOk};
 ghost use Rattle.sqlite.specs.Held.{state};
 ghost use Rattle.room_tables_schema.specs.FileConnections.{HasRoomSchema, IsClean, StandsOpen};
 ghost use Rattle.room_tables_schema.specs.Outcomes.{ReadsOnly};
 ghost use Rattle.room_types.specs.declared.asks.Ask.TheVariants.{Call as CallAsk};
-ghost use Rattle.room_types.specs.declared.asks.Who.TheVariants.{Position};
-ghost use Rattle.room_model.specs.Calls.{new_call, show_last_serial};
+ghost use Rattle.room_types.specs.declared.asks.CallForm.{CallForm as FormModel};
+ghost use Rattle.room_model.specs.Calls.{new_call, show_last_serial, take_call};
 ghost use Rattle.room_model.specs.Reports.{take_report};
 ghost use Rattle.room_model.specs.Room.{Room};
 ghost use Rattle.room_model.specs.Step.{crew_asks, decided, desk_asks};
@@ -79,7 +79,10 @@ pub(crate) fn decide<S: Alter>(
             )
         }
         Who::Position(position) => match &event.ask {
-            Ask::Call(form) => for_call(alloc, conn, plan, cache, *position, form, event),
+            Ask::Call(form) => {
+                let call = new_call(*position, form, event.at);
+                for_call(alloc, conn, plan, cache, &call, &event.ask)
+            }
             Ask::Last => for_last(alloc, conn, *position),
             _ => Err(Refusal::Storage),
         },
@@ -187,36 +190,35 @@ fn for_call<S: Alter>(
     conn: &mut Connection<S>,
     plan: &Plan,
     cache: &mut Cache,
-    position: PositionNumber,
-    form: &CallForm,
-    event: &Event,
+    call: &NewCall,
+    ask: &Ask,
 ) -> Result<Decision, Refusal>
     requires room { HasRoomSchema S.Store conn.old }
     ensures decided { Finds S.Store conn.old conn.new (unless_out_of_memory result) (λ room x.
-        IsWellFormed room → room.plan ≡ plan.now.areas → event.now.who ≡ Position position
-        → event.now.ask ≡ CallAsk form.now → HasFleetOf cache.old.fleet room
-        → IsCacheOf cache.old room → x ≡ decided event.now room) }
+        (position at : ℕ) (form : FormModel) → IsWellFormed room → room.plan ≡ plan.now.areas
+        → call.now ≡ new_call position form at → ask.now ≡ CallAsk form
+        → HasFleetOf cache.old.fleet room → IsCacheOf cache.old room
+        → x ≡ take_call call.now room) }
     ensures cache { Finds S.Store conn.old conn.new (unless_out_of_memory result) (λ room _.
-        IsWellFormed room → event.now.ask ≡ CallAsk form.now → HasFleetOf cache.old.fleet room
-        → IsCacheOf cache.old room → IsCacheOf cache.new room) }
+        IsWellFormed room → HasFleetOf cache.old.fleet room → IsCacheOf cache.old room
+        → IsCacheOf cache.new room) }
     ensures reads { ReadsOnly S.Store conn.old conn.new (unless_out_of_memory result) }
 {
-    let found = match row_at::<Call, S>(conn, &(position, form.serial)) {
+    let found = match row_at::<Call, S>(conn, &(call.position, call.serial)) {
         Ok(found) => found,
         Err(fault) => return Err(refusal_of(fault)),
     };
-    let call = new_call(position, form, event.at);
     if let Some(kept) = found {
-        return decide_repeated_call(alloc, &kept, &call);
+        return decide_repeated_call(alloc, &kept, call);
     }
-    let Some(division) = plan.division_of(form.place) else {
+    let Some(division) = plan.division_of(call.place) else {
         return Err(Refusal::OutsideArea);
     };
-    let slice = match load_working(alloc, conn, division, &event.ask, event.at, cache) {
+    let slice = match load_working(alloc, conn, division, ask, call.at, cache) {
         Ok(slice) => slice,
         Err(fault) => return Err(refusal_of(fault)),
     };
-    let decision = decide_call(alloc, &slice, &call);
+    let decision = decide_call(alloc, &slice, call);
     drop(slice);
     decision
 }

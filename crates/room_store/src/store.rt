@@ -24,7 +24,6 @@ ghost use Rattle.room_store.specs.DigestEvents.{IsHeadAfter};
 ghost use Rattle.room_store_writes.specs.Houses.{config_of};
 
 use crate::acted_events::{act_on, lemma_numbered};
-use crate::digest_events::act_towards_on;
 use crate::store_faults::refusal_of;
 use room_model::digests::{Head, Miss};
 use room_place::plans::Plan;
@@ -246,15 +245,7 @@ impl<S: Alter> Store<S> {
             return Err(Miss::Want(Refusal::Storage));
         }
         lemma_numbered(&event.ask);
-        match act_towards_on(
-            alloc,
-            &mut self.conn,
-            &self.plan,
-            &mut self.cache,
-            event,
-            head,
-            render,
-        ) {
+        match self.commit_towards(alloc, event, head, render) {
             Ok(bytes) => Ok(bytes),
             Err(miss) => {
                 self.test_file();

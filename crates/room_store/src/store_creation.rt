@@ -1,12 +1,11 @@
 //! A room created in an empty file.
 
 ghost use Rattle.std.specs.Prelude.{◌≡◌, ◌↔◌, IsTrue, IfErr, IfOk, OnOk};
-ghost use Rattle.std.specs.List.{list_any};
 ghost use Rattle.sqlite.specs.Held.{state};
 ghost use Rattle.sqlite.specs.State.{HasCleanDisk, Survives};
 ghost use Rattle.room_store_writes.specs.Transactions.{Leaves, StandsSettled};
 ghost use Rattle.room_store.specs.StoreCreation.{AreNewTerminals, Explains, MayBegin};
-ghost use Rattle.room_store.specs.StoreCreation.{is_token_of, may_use};
+ghost use Rattle.room_store.specs.StoreCreation.{may_use};
 ghost use Rattle.room_store_writes.specs.NewRoom.{StandsNew};
 ghost use Rattle.room_tables_schema.specs.FileConnections.{IsClean};
 
@@ -15,11 +14,11 @@ use room_place::plans::Plan;
 use room_store_cache::cache::Cache;
 use room_store_cache::known_terminals::Terminals;
 use room_store_writes::new_room::create_in;
+use room_store_writes::terminal_holders::has_token;
 use room_tables_schema::database_faults::Fault;
 use room_tables_schema::schema_tests::is_empty;
 use room_types::asks::Who;
 use room_types::fleet::Terminal;
-use room_types::token::Token;
 use sqlite::{Alter, Connection};
 use sqlite_schema::schema::Schema;
 use std::alloc::Global;
@@ -167,10 +166,4 @@ fn may_use(plan: &Plan, who: Who) -> bool
         Who::Desk(division) => plan.has(division),
         Who::Crew(_) => false,
     }
-}
-
-fn has_token(terminals: &[Terminal], token: &Token) -> bool
-    ensures { result ≡ list_any (is_token_of token.now) terminals.now }
-{
-    terminals.iter().any(|terminal| *token == terminal.token)
 }

@@ -4,7 +4,6 @@ use Rattle.std.specs.Prelude.{◌==◌}
 use Rattle.room_types.specs.Keys.{owns_report}
 use Rattle.room_types.specs.Texts.{Callsign}
 use Rattle.room_types.specs.declared.asks.Ask.{Ask}
-use Rattle.room_types.specs.declared.slices.DivisionRows.{DivisionRows}
 use Rattle.room_model.specs.Room.{Room}
 use Rattle.room_model.specs.RoomSlices.{room_of}
 use Rattle.room_model.specs.WorkingRows.{names_turn, reads_calls, reads_incident, reads_number, reads_report, working}
@@ -12,6 +11,7 @@ use Rattle.room_store_cache.proofs.Filters.{and_none, filter_never}
 use Rattle.room_store_cache.proofs.Selected.{incident_is, number_is, report_is}
 use Rattle.room_store_cache.specs.Partitions.{IsHeld, IsWork}
 use Rattle.room_store_cache.specs.RequestReads.{Selects, is_last_of, is_of_fleet, is_read, is_report, reads_turns}
+use Rattle.room_store_cache.specs.declared.fleets.FleetRows.{FleetRows}
 use Rattle.room_store_cache.specs.declared.request_reads.Incidents.{Incidents}
 use Rattle.room_store_cache.specs.declared.request_reads.Incidents.TheVariants as incidents
 use Rattle.room_store_cache.specs.declared.request_reads.Reads.{Reads}
@@ -55,12 +55,18 @@ nothing_beside d a at x room selects is =
     }
 
 -- the rows that a request reads: of the fleet, and beside it
-pub are_working : (d : ℕ) (a : Ask) (at : ℕ) (room : Room) (x : DivisionRows) (y : Work)
+pub are_working : (d : ℕ) (a : Ask) (at : ℕ) (room : Room) (x : FleetRows) (y : Work)
     → IsHeld d a room x → IsWork d a at room y
-    → room_of room.plan (record x {
+    → room_of room.plan (record {
+      divisions = x.divisions;
       incidents = y.incidents;
       calls = y.calls;
+      vehicles = x.vehicles;
       turns = y.turns;
+      assignments = x.assignments;
+      points = x.points;
+      loans = x.loans;
+      offers = x.offers;
       reports = y.reports;
     }) ≡ working d a at room
 are_working d a at room x y held work = λ i. record {
@@ -76,16 +82,3 @@ are_working d a at room x y held work = λ i. record {
   offers = held.offers i;
   reports = work.reports i;
 }
-
--- where it reads nothing beside the fleet, those of the fleet
-pub are_held : (d : ℕ) (a : Ask) (at : ℕ) (room : Room) (x : DivisionRows) → IsHeld d a room x
-    → IsWork d a at room (record { incidents = []; calls = []; turns = []; reports = [] })
-    → room_of room.plan x ≡ working d a at room
-are_held d a at room x held none = are_working d a at room x
-    (record { incidents = x.incidents; calls = x.calls; turns = x.turns; reports = x.reports }) held
-    (record {
-      incidents = held.incidents ∙ none.incidents;
-      calls = held.calls ∙ none.calls;
-      turns = held.turns ∙ none.turns;
-      reports = held.reports ∙ none.reports;
-    })

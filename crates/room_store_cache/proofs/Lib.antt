@@ -21,3 +21,5 @@ pub mod CrewReads
 pub mod ShownLaws
 -- a request that reads nothing but the fleet
 pub mod FleetReads
+-- what reads one after another leave of the connection
+pub mod StillRooms

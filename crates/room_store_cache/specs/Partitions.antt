@@ -4,7 +4,6 @@ use Rattle.std.specs.Prelude.{Bool, List, None, Option, Some, [], false, ℕ, �
 use Rattle.room_types.specs.declared.asks.Ask.{Ask}
 use Rattle.room_types.specs.Keys.{numbered_cmp, turn_key}
 use Rattle.room_types.specs.Texts.{Callsign}
-use Rattle.room_types.specs.declared.slices.DivisionRows.{DivisionRows}
 use Rattle.room_types.specs.declared.tables.Turn.{Turn}
 use Rattle.room_model.specs.Room.{Room}
 use Rattle.room_model.specs.WorkingRows.{working}
@@ -14,6 +13,7 @@ use Rattle.room_store_cache.specs.IncidentViews.{AreIncidentViewsOf}
 use Rattle.room_store_cache.specs.RecentIncidents.{AreRecent}
 use Rattle.room_store_cache.specs.ShownLists.{AreShownListsOf}
 use Rattle.room_store_cache.specs.declared.cache.Cache.{Cache}
+use Rattle.room_store_cache.specs.declared.fleets.FleetRows.{FleetRows}
 use Rattle.room_store_cache.specs.declared.working_rows.Work.{Work}
 
 -- the fleet is known, and what else is known is so in the room
@@ -34,18 +34,14 @@ abbrev pub is_turn : Option (Callsign × ℕ) → Turn → Bool
 is_turn None t = false
 is_turn (Some k) t = is_eq (numbered_cmp k (turn_key t))
 
--- what a request reads of the fleet's rows, at whatever moment, and nothing else
-pub record IsHeld (d : ℕ) (a : Ask) (room : Room) (x : DivisionRows) : Type 0 where
+-- what a request reads of the fleet's rows, at whatever moment
+pub record IsHeld (d : ℕ) (a : Ask) (room : Room) (x : FleetRows) : Type 0 where
   pub divisions : x.divisions ≡ (working d a 0 room).divisions
   pub vehicles : x.vehicles ≡ (working d a 0 room).vehicles
   pub assignments : x.assignments ≡ (working d a 0 room).assignments
   pub points : x.points ≡ (working d a 0 room).points
   pub loans : x.loans ≡ (working d a 0 room).loans
   pub offers : x.offers ≡ (working d a 0 room).offers
-  pub incidents : x.incidents ≡ []
-  pub calls : x.calls ≡ []
-  pub turns : x.turns ≡ []
-  pub reports : x.reports ≡ []
 
 -- the incidents that a request reads, with their calls and turns, and reports
 pub record IsWork (d : ℕ) (a : Ask) (at : ℕ) (room : Room) (x : Work) : Type 0 where

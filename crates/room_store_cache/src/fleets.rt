@@ -77,7 +77,7 @@ impl Fleet {
         if self.is_known {
             return Ok(());
         }
-        self.rows = read_rows(alloc, conn)?;
+        self.rows.read(alloc, conn)?;
         self.turns = Turns::new(alloc);
         self.is_known = true;
         Ok(())
@@ -130,6 +130,21 @@ impl View for Fleet {
 }
 
 impl FleetRows {
+    // Reads the tables. A fault is of memory or of storage.
+    fn read<S: Alter>(&mut self, alloc: Global, conn: &mut Connection<S>) -> Result<(), Fault>
+        requires room { HasRoomSchema S.Store conn.old }
+        ensures rows { Finds S.Store conn.old conn.new result (λ room _.
+            AreRowsOf self.new room) }
+        ensures reads { ReadsOnly S.Store conn.old conn.new result }
+    {
+        read_all(alloc, conn, &mut self.divisions)?;
+        read_all(alloc, conn, &mut self.vehicles)?;
+        read_all(alloc, conn, &mut self.assignments)?;
+        read_all(alloc, conn, &mut self.points)?;
+        read_all(alloc, conn, &mut self.loans)?;
+        read_all(alloc, conn, &mut self.offers)
+    }
+
     /// Makes a change, where it is of one of these tables. The one fault is `Memory`.
     fn apply(&mut self, change: &Change) -> Result<(), Fault>
         ensures rows { OnOk result ((room : Room) → AreRowsOf self.old room
@@ -164,8 +179,8 @@ impl FleetRows {
     }
 }
 
-// No rows yet.
-fn no_rows(alloc: Global) -> FleetRows {
+/// No rows yet.
+pub fn no_rows(alloc: Global) -> FleetRows {
     FleetRows {
         divisions: Rows::new(alloc),
         vehicles: Rows::new(alloc),
@@ -176,29 +191,18 @@ fn no_rows(alloc: Global) -> FleetRows {
     }
 }
 
-// The rows of the tables. A fault is of memory or of storage.
-fn read_rows<S: Alter>(alloc: Global, conn: &mut Connection<S>) -> Result<FleetRows, Fault>
+// Reads all rows of a table, in place of those that are there.
+fn read_all<X: Table, S: Alter>(
+    alloc: Global,
+    conn: &mut Connection<S>,
+    rows: &mut Rows<X>,
+) -> Result<(), Fault>
     requires room { HasRoomSchema S.Store conn.old }
-    ensures rows { Finds S.Store conn.old conn.new result (λ room rows. AreRowsOf rows room) }
+    ensures rows { Finds S.Store conn.old conn.new result (λ room _. rows.new ≡ X.rows room) }
     ensures reads { ReadsOnly S.Store conn.old conn.new result }
 {
-    Ok(FleetRows {
-        divisions: all_rows(alloc, conn)?,
-        vehicles: all_rows(alloc, conn)?,
-        assignments: all_rows(alloc, conn)?,
-        points: all_rows(alloc, conn)?,
-        loans: all_rows(alloc, conn)?,
-        offers: all_rows(alloc, conn)?,
-    })
-}
-
-// All rows of a table.
-fn all_rows<X: Table, S: Alter>(alloc: Global, conn: &mut Connection<S>) -> Result<Rows<X>, Fault>
-    requires room { HasRoomSchema S.Store conn.old }
-    ensures rows { Finds S.Store conn.old conn.new result (λ room rows. rows ≡ X.rows room) }
-    ensures reads { ReadsOnly S.Store conn.old conn.new result }
-{
-    each_row::<Rows<X>, S>(conn, Rows::new(alloc))
+    *rows = each_row::<Rows<X>, S>(conn, Rows::new(alloc))?;
+    Ok(())
 }
 
 // Gives a vehicle, where it is there, this holder and makes it available. The one fault is

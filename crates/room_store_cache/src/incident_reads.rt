@@ -40,7 +40,8 @@ pub fn load_incidents<S: Alter>(
         → x ≡ filter (λ i. i.division == division && is_read incidents.now at i) room.incidents) }
     ensures recent_incidents { Finds S.Store conn.old conn.new result (λ room _.
         AreRecent cache.old.recent_incidents room → AreRecent cache.new.recent_incidents room) }
-    ensures others { cache.new ≡ record cache.old { recent_incidents = cache.new.recent_incidents } }
+    ensures others { cache.new
+        ≡ record cache.old { recent_incidents = cache.new.recent_incidents } }
     ensures reads { ReadsOnly S.Store conn.old conn.new result }
 {
     match *incidents {

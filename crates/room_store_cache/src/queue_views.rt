@@ -81,7 +81,8 @@ fn queue_view_of(
     rows: &DivisionRows,
 ) -> Result<QueueView, Fault>
     ensures queue_view { IfOk result (λ queue_view. (room : Room) (at : ℕ)
-        → room_of room.plan rows.now ≡ working division Queue at room → IsQueueViewOf queue_view room) }
+        → room_of room.plan rows.now ≡ working division Queue at room
+        → IsQueueViewOf queue_view room) }
     ensures memory { IfErr result (λ e. e ≡ Memory) }
 {
     Ok(QueueView {

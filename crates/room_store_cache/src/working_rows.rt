@@ -1,5 +1,5 @@
 //! The rows of a division that a request reads: of the fleet those known, others from the tables.
-ghost use Rattle.std.specs.Prelude.{◌≡◌, ◌&&◌, ◌==◌, ℕ, Bool, filter, not, IfErr, IfOk};
+ghost use Rattle.std.specs.Prelude.{◌≡◌, ◌&&◌, ◌==◌, [], ℕ, Bool, None, filter, IfErr, IfOk, OnOk};
 ghost use Rattle.room_tables.specs.FoundRows.{Finds};
 ghost use Rattle.room_tables_schema.specs.Outcomes.{ReadsOnly};
 ghost use Rattle.room_types.specs.declared.asks.Ask.{Ask as AskModel};
@@ -7,13 +7,14 @@ ghost use Rattle.room_types.specs.declared.tables.Turn.{Turn};
 ghost use Rattle.room_model.specs.Queries.{held};
 ghost use Rattle.room_model.specs.Room.{IsInOrder, Room};
 ghost use Rattle.room_model.specs.RoomSlices.{room_of};
-ghost use Rattle.room_model.specs.WorkingRows.{is_last_turn, reads_number, working};
+ghost use Rattle.room_model.specs.WorkingRows.{is_last_turn, working};
 ghost use Rattle.room_tables_schema.specs.declared.database_faults.Fault.TheVariants.{Memory, Storage};
 ghost use Rattle.room_tables_schema.specs.FileConnections.{HasRoomSchema, StandsOpen};
 ghost use Rattle.room_store_cache.specs.QueueViews.{AreQueueViewsOf};
 ghost use Rattle.room_store_cache.specs.Cache.{AreRowsOf};
 ghost use Rattle.room_store_cache.specs.IncidentViews.{AreIncidentViewsOf};
 ghost use Rattle.room_store_cache.specs.IncidentNumbers.{contains};
+ghost use Rattle.room_store_cache.specs.KnownParts.{IsKnownPart};
 ghost use Rattle.room_store_cache.specs.RecentIncidents.{AreRecent};
 ghost use Rattle.room_store_cache.specs.ShownLists.{AreShownListsOf};
 ghost use Rattle.room_store_cache.specs.Partitions.{AreKnown, IsHeld, IsWork, is_turn};
@@ -21,7 +22,7 @@ ghost use Rattle.room_store_cache.specs.RequestReads.{Selects, is_report};
 
 use crate::cache::Cache;
 use crate::cached_rows::own_rows;
-use crate::fleets::FleetRows;
+use crate::fleets::{FleetRows, no_rows};
 use crate::incident_reads::load_incidents;
 use crate::known_parts::{KnownPart, known_part};
 use crate::partitions::load_parts;
@@ -62,18 +63,12 @@ pub fn load_working<S: Alter>(
     ensures reads { ReadsOnly S.Store conn.old conn.new result }
 {
     let reads = reads_of(division, ask);
-    let held = held_part(alloc, division, &reads, cache.fleet.get())?;
     if reads.is_of_fleet() {
-        return slice_of(division, held);
+        let rows = with_held(alloc, division, &reads, cache.fleet.get(), no_work(alloc))?;
+        return slice_of(division, rows);
     }
     let work = load_work(alloc, conn, division, &reads, at, cache)?;
-    let rows = DivisionRows {
-        incidents: work.incidents,
-        calls: work.calls,
-        turns: work.turns,
-        reports: work.reports,
-        ..held
-    };
+    let rows = with_held(alloc, division, &reads, cache.fleet.get(), work)?;
     fill_views(alloc, cache, division, &reads, &rows);
     slice_of(division, rows)
 }
@@ -131,30 +126,57 @@ fn fill_views(
     }
 }
 
-// What a request reads of the fleet's rows: the division's own, vehicles that it holds and its
-// assignments, and its points, loans and offers; no other rows. The one fault is `Memory`.
-fn held_part(
+// What a request reads: beside these rows those of the fleet. The one fault is `Memory`.
+fn with_held(
     alloc: Global,
     division: DivisionNumber,
     reads: &Reads,
     fleet: &FleetRows,
+    work: Work,
 ) -> Result<DivisionRows, Fault>
-    ensures rows { IfOk result (λ x. (room : Room) (ask : AskModel) → IsInOrder room
-        → AreRowsOf fleet.now room → Selects division ask reads.now → IsHeld division ask room x) }
+    ensures rows { IfOk result (λ x. (room : Room) (ask : AskModel) (at : ℕ) → IsInOrder room
+        → AreRowsOf fleet.now room → Selects division ask reads.now
+        → IsWork division ask at room work
+        → room_of room.plan x ≡ working division ask at room) }
     ensures memory { IfErr result (λ e. e ≡ Memory) }
 {
+    let mut held = no_rows(alloc);
+    fill_held(alloc, division, reads, fleet, &mut held)?;
     Ok(DivisionRows {
-        divisions: part_of(alloc, &fleet.divisions, division, &reads.divisions)?,
-        vehicles: part_of(alloc, &fleet.vehicles, division, &reads.vehicles)?,
-        assignments: part_of(alloc, &fleet.assignments, division, &reads.assignments)?,
-        points: part_of(alloc, &fleet.points, division, &reads.points)?,
-        loans: part_of(alloc, &fleet.loans, division, &reads.loans)?,
-        offers: part_of(alloc, &fleet.offers, division, &reads.offers)?,
-        incidents: Rows::new(alloc),
-        calls: Rows::new(alloc),
-        turns: Rows::new(alloc),
-        reports: Rows::new(alloc),
+        divisions: held.divisions,
+        incidents: work.incidents,
+        calls: work.calls,
+        vehicles: held.vehicles,
+        turns: work.turns,
+        assignments: held.assignments,
+        points: held.points,
+        loans: held.loans,
+        offers: held.offers,
+        reports: work.reports,
     })
+}
+
+// What a request reads of the fleet's rows: the division's own, vehicles that it holds and its
+// assignments, and its points, loans and offers. The one fault is `Memory`.
+fn fill_held(
+    alloc: Global,
+    division: DivisionNumber,
+    reads: &Reads,
+    fleet: &FleetRows,
+    held: &mut FleetRows,
+) -> Result<(), Fault>
+    ensures rows { OnOk result ((room : Room) (ask : AskModel) → IsInOrder room
+        → AreRowsOf fleet.now room → Selects division ask reads.now
+        → IsHeld division ask room held.new) }
+    ensures memory { IfErr result (λ e. e ≡ Memory) }
+{
+    held.divisions = part_of(alloc, &fleet.divisions, division, &reads.divisions)?;
+    held.vehicles = part_of(alloc, &fleet.vehicles, division, &reads.vehicles)?;
+    held.assignments = part_of(alloc, &fleet.assignments, division, &reads.assignments)?;
+    held.points = part_of(alloc, &fleet.points, division, &reads.points)?;
+    held.loans = part_of(alloc, &fleet.loans, division, &reads.loans)?;
+    held.offers = part_of(alloc, &fleet.offers, division, &reads.offers)?;
+    Ok(())
 }
 
 // The incidents that a request reads, with their calls and turns, and reports.
@@ -164,6 +186,18 @@ struct Work {
     calls: Rows<Call>,
     turns: Rows<Turn>,
     reports: Rows<Report>,
+}
+
+// Nothing beside the fleet.
+fn no_work(alloc: Global) -> Work
+    ensures { result ≡ record { incidents = []; calls = []; turns = []; reports = [] } }
+{
+    Work {
+        incidents: Rows::new(alloc),
+        calls: Rows::new(alloc),
+        turns: Rows::new(alloc),
+        reports: Rows::new(alloc),
+    }
 }
 
 // What a request reads beside the fleet.
@@ -182,28 +216,54 @@ fn load_work<S: Alter>(
         → IsWork division ask at room x) }
     ensures recent_incidents { Finds S.Store conn.old conn.new result (λ room _.
         AreRecent cache.old.recent_incidents room → AreRecent cache.new.recent_incidents room) }
-    ensures others { cache.new ≡ record cache.old { recent_incidents = cache.new.recent_incidents } }
+    ensures others { cache.new
+        ≡ record cache.old { recent_incidents = cache.new.recent_incidents } }
     ensures reads { ReadsOnly S.Store conn.old conn.new result }
 {
+    // A request that reads the turn of a last order reads nothing else beside the fleet.
+    if let Some(callsign) = reads.last_turn {
+        let last = last_turn(alloc, conn, division, cache.fleet.get(), &callsign)?;
+        return Ok(Work {
+            incidents: Rows::new(alloc),
+            calls: Rows::new(alloc),
+            turns: last,
+            reports: Rows::new(alloc),
+        });
+    }
     let incidents = load_incidents(alloc, conn, division, &reads.incidents, at, cache)?;
+    let part = known_part(alloc, division, reads, incidents, &cache.shown_lists)?;
+    load_missing(alloc, conn, division, reads, cache, part)
+}
+
+// What a request reads beside the fleet, where its incidents are there and the turn of no last
+// order is read: the calls and turns that aren't known, and the reports, are read.
+fn load_missing<S: Alter>(
+    alloc: Global,
+    conn: &mut Connection<S>,
+    division: DivisionNumber,
+    reads: &Reads,
+    known: &Cache,
+    part: KnownPart,
+) -> Result<Work, Fault>
+    requires room { HasRoomSchema S.Store conn.old }
+    requires open { StandsOpen S.Store conn.old }
+    ensures rows { Finds S.Store conn.old conn.new result (λ room x. (ask : AskModel) (at : ℕ)
+        (is_known : ℕ → Bool) → IsInOrder room → AreKnown known.now room
+        → Selects division ask reads.now → reads.now.last_turn ≡ None
+        → part.incidents ≡ (working division ask at room).incidents
+        → IsKnownPart division reads.now room is_known part → IsWork division ask at room x) }
+    ensures reads { ReadsOnly S.Store conn.old conn.new result }
+{
     let KnownPart {
         incidents,
         calls,
         turns,
         numbers,
-    } = known_part(alloc, division, reads, incidents, &cache.shown_lists)?;
+    } = part;
     let of_calls = numbers_if(reads.calls, numbers.as_slice());
-    let calls = load_parts::<Call, S>(alloc, conn, cache, division, of_calls, calls)?;
-    let turns = load_turns(
-        alloc,
-        conn,
-        division,
-        reads,
-        cache,
-        numbers.as_slice(),
-        turns,
-    )?;
-    let reports = load_reports(alloc, conn, division, &reads.reports, cache)?;
+    let calls = load_parts::<Call, S>(alloc, conn, known, division, of_calls, calls)?;
+    let turns = load_parts::<Turn, S>(alloc, conn, known, division, numbers.as_slice(), turns)?;
+    let reports = load_reports(alloc, conn, division, &reads.reports, known)?;
     Ok(Work {
         incidents,
         calls,
@@ -254,34 +314,6 @@ const EXCEPTIONS: [Outcome; 4] = [
     Outcome::Late,
     Outcome::Stale,
 ];
-
-// The turns of some incidents, beside those that are known, or that of the named vehicle's last
-// order.
-fn load_turns<S: Alter>(
-    alloc: Global,
-    conn: &mut Connection<S>,
-    division: DivisionNumber,
-    reads: &Reads,
-    known: &Cache,
-    numbers: &[Number],
-    turns: Rows<Turn>,
-) -> Result<Rows<Turn>, Fault>
-    requires room { HasRoomSchema S.Store conn.old }
-    requires open { StandsOpen S.Store conn.old }
-    ensures rows { Finds S.Store conn.old conn.new result (λ room x. (ask : AskModel)
-        (is_known : ℕ → Bool) → IsInOrder room → AreKnown known.now room
-        → Selects division ask reads.now
-        → turns ≡ filter (λ t. t.division == division
-        && (is_known t.incident && reads_number division ask room t.incident)) room.turns
-        → ((n : ℕ) → contains n numbers.now ≡ not (is_known n) && reads_number division ask room n)
-        → x ≡ (working division ask 0 room).turns) }
-    ensures reads { ReadsOnly S.Store conn.old conn.new result }
-{
-    match reads.last_turn {
-        Some(callsign) => last_turn(alloc, conn, division, known.fleet.get(), &callsign),
-        None => load_parts::<Turn, S>(alloc, conn, known, division, numbers, turns),
-    }
-}
 
 // The turn of a held vehicle's last order.
 fn last_turn<S: Alter>(

@@ -16,8 +16,8 @@ use Rattle.room_tables_schema.specs.Versions.{HasTables}
 use Rattle.room_tables_schema.proofs.Standing.{holds_still}
 use Rattle.room_tables_schema.specs.TableTrees.{AreNumbered}
 use Rattle.room_store_writes.specs.Houses.{config_of}
-use Rattle.room_store_file.specs.ExaminedFile.{Explains, Weighs, wrong_of}
-use Rattle.room_store_file.specs.OpenedFile.{HasNoPlanBy, StandsBy}
+use Rattle.room_store_file.specs.ExaminedFile.{Explains, IsReportedFirst, Weighs, wrong_of}
+use Rattle.room_store_file.specs.OpenedFile.{HasNoPlanBy, IsOldRoom, StandsBy}
 use Rattle.room_store_check_tables.specs.HeldRooms.{HasNoPlan}
 use Rattle.room_store_file.specs.declared.examined_file.Wrong.{Wrong}
 use Rattle.room_store_file.specs.declared.examined_file.Wrong.TheVariants as wrong
@@ -45,6 +45,16 @@ pub read_fault : (now : Database) → HasTables now.schema → (e : FileFault)
 read_fault now has NotARoom none = (has, none refl)
 read_fault now has Memory none = tt
 read_fault now has Storage none = has
+
+-- whatever is reported of what is no old room may be reported of it first
+pub not_older : (now : Database) → ¬ IsOldRoom now → (e : Wrong) → IsReportedFirst now e
+not_older now none wrong.OldRoom = tt
+not_older now none wrong.Memory = tt
+not_older now none wrong.Tables = none
+not_older now none wrong.NoPlan = none
+not_older now none (wrong.Rows x) = none
+not_older now none (wrong.Terminals x) = none
+not_older now none wrong.Storage = none
 
 -- storage is reported where it was met
 pub told_storage : (e : FileFault) → wrong_of e ≡ wrong.Storage → e ≡ Storage

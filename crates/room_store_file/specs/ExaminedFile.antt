@@ -93,9 +93,16 @@ Explains now (wrong.Terminals x) = HasTables now.schema × ((plan : Layout)
 Explains now wrong.Memory = Unit {0}
 Explains now wrong.Storage = HasTables now.schema
 
+-- of a room of the version before this one nothing else is reported, but lack of memory
+abbrev pub IsReportedFirst : Database → Wrong → Type 0
+IsReportedFirst now wrong.OldRoom = Unit {0}
+IsReportedFirst now wrong.Memory = Unit {0}
+IsReportedFirst now other = ¬ IsOldRoom now
+
 -- Or it is reported as storage, where the database failed as it was asked for the file's version.
 abbrev pub ExplainsFile : State → State → Wrong → Type 0
-ExplainsFile old new x = Explains old.now x ⊎ ((x ≡ wrong.Storage) × HidesVersion old new)
+ExplainsFile old new x =
+    (Explains old.now x × IsReportedFirst old.now x) ⊎ ((x ≡ wrong.Storage) × HidesVersion old new)
 
 -- The file's tables are read in a transaction that is undone then, and that fails.
 abbrev pub FailsToReadTables : {S : Type 0} → Ghosts S → Held S → Held S → Type 0

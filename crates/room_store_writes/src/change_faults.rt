@@ -1,10 +1,9 @@
 //! Whether one's terminals may be changed so.
 ghost use Rattle.std.specs.Prelude.{◌≡◌};
-ghost use Rattle.std.specs.List.{list_any};
 ghost use Rattle.room_tables_schema.specs.DatabaseFaults.{fault_of};
 ghost use Rattle.room_store_writes.specs.TerminalChanges.{fault_in, fault_to_give, fault_to_take, nobody, want_of};
-ghost use Rattle.room_store_writes.specs.TerminalHolders.{has_terminal, has_token, may_have, same_who};
 
+use crate::terminal_holders::{has_terminal, has_token, may_have};
 use room_place::plans::Plan;
 use room_tables_schema::database_faults::Fault;
 use room_types::asks::Who;
@@ -103,33 +102,4 @@ fn nobody(who: &Who) -> ChangeFault
         Who::Desk(_) => ChangeFault::NoDivision,
         Who::Position(_) | Who::Crew(_) => ChangeFault::NoVehicle,
     }
-}
-
-// A vehicle that is enrolled has a crew's terminal, and no other crew has one.
-fn may_have(plan: &Plan, terminals: &[Terminal], who: &Who) -> bool
-    ensures { result ≡ may_have plan.now.areas terminals.now who.now }
-{
-    match who {
-        Who::Desk(division) => plan.has(*division),
-        Who::Position(_) => true,
-        Who::Crew(_) => has_terminal(terminals, who),
-    }
-}
-
-fn has_terminal(terminals: &[Terminal], who: &Who) -> bool
-    ensures { result ≡ has_terminal who.now terminals.now }
-{
-    terminals.iter().any(|terminal| is_same(who, &terminal.who))
-}
-
-fn is_same(who: &Who, other: &Who) -> bool
-    ensures { result ≡ same_who who.now other.now }
-{
-    other == who
-}
-
-fn has_token(terminals: &[Terminal], token: &Token) -> bool
-    ensures { result ≡ has_token token.now terminals.now }
-{
-    terminals.iter().any(|terminal| *token == terminal.token)
 }

@@ -7,6 +7,7 @@ mod dropped_terminals;
 pub mod enrolled_rows;
 pub mod new_room;
 pub mod terminal_changes;
+pub mod terminal_holders;
 pub mod terminal_laws;
 pub mod terminal_list;
 pub mod transactions;

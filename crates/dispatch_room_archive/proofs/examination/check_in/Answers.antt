@@ -14,7 +14,7 @@ returns-clause-checked g c =
       | in-Err-Memory w ↦
           let text = g.O.Write.contents c.args.out.now in
           rw (w.out-is, w.done-is) (wrong_told g.S.Store c.args.conn c.examine.new.conn text text Memory _
-          (λ clean. inl tt) (λ clean storage. cc) (inl refl))
+          (λ clean. inl (tt, tt)) (λ clean storage. cc) (inl refl))
       | in-Err w ↦
           rw (w.out-is, w.done-is) (wrong_told g.S.Store c.args.conn c.examine.new.conn _ _ w.in-Err.wrong
           w.tell_wrong-done.result w.in-Err.ensures.wrong w.in-Err.ensures.why w.tell_wrong-done.ensures)

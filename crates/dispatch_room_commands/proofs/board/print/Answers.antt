@@ -2,7 +2,7 @@ use Rattle.std.proofs.Common.{◌≡◌, ◌∙◌, refl, inr, sym, Result, Ok, 
 use Rattle.std.proofs.lemmas.Result.{IfErr-weaker}
 use Rattle.dispatch_room_board.specs.declared.boards.Reached.{Reached}
 use Rattle.dispatch_room_board.specs.declared.boards.Reached.TheVariants as reached
-use Rattle.dispatch_room_exit.specs.declared.exit_status.Failure.TheVariants.{Network}
+use Rattle.dispatch_room_cli.specs.declared.exit_status.Failure.TheVariants.{Network}
 use Rattle.dispatch_room_commands.specs.CommandEnds.{end_of_board}
 use Rattle.dispatch_room_commands.proofs.board.print.Goals as goal
 

@@ -1,4 +1,4 @@
-use Rattle.dispatch_room_commands.proofs.WorkLemmas.{either_way}
+use Rattle.dispatch_room_disk.proofs.WorkLemmas.{either_way}
 use Rattle.dispatch_room_commands.proofs.commands.perform.Goals as goal
 
 pub returns-in-Init : goal.returns-in-Init

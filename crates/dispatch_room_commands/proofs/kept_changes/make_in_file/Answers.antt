@@ -1,4 +1,4 @@
-use Rattle.dispatch_room_commands.proofs.WorkLemmas.{once_done}
+use Rattle.dispatch_room_disk.proofs.WorkLemmas.{once_done}
 use Rattle.dispatch_room_commands.proofs.kept_changes.make_in_file.Goals as goal
 
 pub returns-in_ok-opened-in-Some-clause-done : goal.returns-in_ok-opened-in-Some-clause-done

@@ -1,5 +1,5 @@
 use Rattle.std.proofs.Common.{inl, inr, length, refl, rules, ◌≡◌}
-use Rattle.dispatch_room_commands.proofs.WorkLemmas.{handed_on}
+use Rattle.dispatch_room_disk.proofs.WorkLemmas.{handed_on}
 use Rattle.dispatch_room_commands.proofs.terminals.set.Goals as goal
 
 pub returns-in_err-make_in_file-clause-undone : goal.returns-in_err-make_in_file-clause-undone

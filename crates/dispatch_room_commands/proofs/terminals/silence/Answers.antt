@@ -1,6 +1,6 @@
 use Rattle.std.proofs.Common.{inl, refl}
 use Rattle.std.proofs.lemmas.Result.{IfOk-weaker}
-use Rattle.dispatch_room_commands.proofs.WorkLemmas.{handed_on}
+use Rattle.dispatch_room_disk.proofs.WorkLemmas.{handed_on}
 use Rattle.dispatch_room_commands.proofs.terminals.silence.Goals as goal
 
 pub returns-in_err-token-clause-undone : goal.returns-in_err-token-clause-undone

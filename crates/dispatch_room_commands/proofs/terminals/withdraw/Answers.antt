@@ -1,5 +1,5 @@
 use Rattle.std.proofs.Common.{inr, refl}
-use Rattle.dispatch_room_commands.proofs.WorkLemmas.{handed_on}
+use Rattle.dispatch_room_disk.proofs.WorkLemmas.{handed_on}
 use Rattle.dispatch_room_commands.proofs.terminals.withdraw.Goals as goal
 
 pub returns-in_err-reissue-clause-undone : goal.returns-in_err-reissue-clause-undone

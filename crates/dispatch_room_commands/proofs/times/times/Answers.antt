@@ -1,5 +1,5 @@
 use Rattle.std.proofs.Common.{inl, inr, refl}
-use Rattle.dispatch_room_commands.proofs.WorkLemmas.{handed_on}
+use Rattle.dispatch_room_disk.proofs.WorkLemmas.{handed_on}
 use Rattle.dispatch_room_commands.proofs.times.times.Goals as goal
 
 pub returns-in_err-report-clause-undone : goal.returns-in_err-report-clause-undone

@@ -4,7 +4,7 @@ use Rattle.sqlite.specs.Held.{Held}
 use Rattle.sqlite_disk.specs.declared.Disk.{Ghosts}
 use Rattle.sqlite_store.specs.declared.store.FileStore.{FileStore}
 use Rattle.dispatch_room_disk.specs.RoomFiles.{IsCopiedOut, IsDone, IsUnclosed, IsUndone, Refusing, Saying}
-use Rattle.dispatch_room_exit.specs.declared.exit_status.Failure.{Failure}
+use Rattle.dispatch_room_cli.specs.declared.exit_status.Failure.{Failure}
 use Rattle.dispatch_room_disk.proofs.room_files.on_disk.Goals as goal
 
 module _ {D T : Type 0} {g : Ghosts D} (says : Saying T) (conn : Held (FileStore D g))

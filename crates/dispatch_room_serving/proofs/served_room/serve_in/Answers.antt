@@ -1,5 +1,5 @@
 use Rattle.std.proofs.Common.{inl, inr, refl}
-use Rattle.dispatch_room_exit.specs.declared.exit_status.Failure.TheVariants.{Memory}
+use Rattle.dispatch_room_cli.specs.declared.exit_status.Failure.TheVariants.{Memory}
 use Rattle.dispatch_room_serving.proofs.ConnectionLaws.{looks_same}
 use Rattle.dispatch_room_serving.proofs.served_room.serve_in.Goals as goal
 

@@ -1,5 +1,5 @@
 use Rattle.std.proofs.Common.{◌∙◌, sym, ap, refl, [], inl, inr, append-nil, ◌≡◌, ◌||◌, Bool, true, false, Ok, Err}
-use Rattle.room_http_answers.specs.ReplyMessages.{fixed_bytes}
+use Rattle.room_http.specs.ReplyMessages.{fixed_bytes}
 use Rattle.room_http.specs.Arrivals.{is_head_only}
 use Rattle.room_http.specs.KeptMessages.{Acts, Unmoved}
 use Rattle.room_http.specs.declared.session.ServeEnd.TheVariants.{Closed, Unkept, WriteFault}

@@ -17,7 +17,7 @@ use Rattle.room_http.specs.declared.arrivals.Arrived.{Arrived}
 use Rattle.room_http.specs.declared.arrivals.Arrived.TheVariants.{Message, Refused}
 use Rattle.room_http.specs.Arrivals.{Arrival, IsShown, message, refused}
 use Rattle.room_http.specs.MessageEvents.{AsksFor}
-use Rattle.room_http_answers.specs.ReplyMessages.{IsReply}
+use Rattle.room_http.specs.ReplyMessages.{IsReply}
 use Rattle.room_http.specs.Talk.{Finds}
 use Rattle.room_http.specs.DigestReplies.{LeadsToAnother}
 use Rattle.room_http.proofs.digest_replies.reply_towards.Goals as goal

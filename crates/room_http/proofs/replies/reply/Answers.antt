@@ -3,7 +3,7 @@ use Rattle.std.specs.Prelude.{IfOk, MatchResult, OnErr, OnOk}
 use Rattle.room_types.specs.declared.fleet.Terminal.{Terminal}
 use Rattle.room_types.specs.declared.refusal_statuses.Refusal.{Refusal}
 use Rattle.room_model.specs.Room.{Room}
-use Rattle.room_http_answers.specs.ReplyMessages.{IsReply}
+use Rattle.room_http.specs.ReplyMessages.{IsReply}
 use Rattle.room_http.specs.declared.settings.Setting.{Setting}
 use Rattle.room_model.specs.Rooms.{Step}
 use Rattle.room_http.specs.declared.arrivals.Arrived.{Arrived}

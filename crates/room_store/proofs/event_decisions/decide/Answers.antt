@@ -1,5 +1,6 @@
-use Rattle.std.proofs.Common.{arith, refl}
+use Rattle.std.proofs.Common.{ap, arith, refl, ◌∙◌}
 use Rattle.std.proofs.lemmas.Result.{IfOk-weaker}
+use Rattle.room_model.specs.Calls.{take_call}
 use Rattle.room_tables_schema.proofs.ReadLaws.{fails, looked, then_any, wants}
 use Rattle.room_tables.proofs.RoomReads.{kept}
 use Rattle.room_store.proofs.Wants.{all_known, failed, filled, still_known, unsaid}
@@ -64,8 +65,10 @@ returns-in-Call-clause-decided g c clean =
     (arith, c.for_call.ensures.reads.survives.clean) in
     IfOk-weaker (unless_out_of_memory c.for_call.result) _ _ (λ x told config room h.
     let fleet = c.in-Ok.ensures.known first config room h.stands h.cache.fleet in
-    told config room (kept _ _ (c.in-Ok.ensures.reads.ok first) config room h.stands) h.formed h.plan c.in-Position.is
-    c.in-Call.is fleet (filled _ fleet h.cache)) (c.for_call.ensures.decided clean)
+    told config room (kept _ _ (c.in-Ok.ensures.reads.ok first) config room h.stands) _ _ _ h.formed h.plan
+    c.new_call-call.ensures c.in-Call.is fleet (filled _ fleet h.cache)
+    ∙ ap (λ call. take_call call room) c.new_call-call.ensures ∙ rw (c.in-Position.is, c.in-Call.is) refl)
+    (c.for_call.ensures.decided clean)
 
 pub returns-in-Call-clause-cache : goal.returns-in-Call-clause-cache
 returns-in-Call-clause-cache g c clean =
@@ -73,7 +76,7 @@ returns-in-Call-clause-cache g c clean =
     (arith, c.for_call.ensures.reads.survives.clean) in
     IfOk-weaker (unless_out_of_memory c.for_call.result) _ _ (λ x now config room h.
     let fleet = c.in-Ok.ensures.known first config room h.stands h.cache.fleet in
-    now config room (kept _ _ (c.in-Ok.ensures.reads.ok first) config room h.stands) h.formed c.in-Call.is fleet
+    now config room (kept _ _ (c.in-Ok.ensures.reads.ok first) config room h.stands) h.formed fleet
     (filled _ fleet h.cache)) (c.for_call.ensures.cache clean)
 
 pub returns-in-Call-clause-reads : goal.returns-in-Call-clause-reads

@@ -1,6 +1,6 @@
 use Rattle.std.proofs.Common.{arith, inl, refl}
 use Rattle.std.proofs.lemmas.Result.{IfOk-weaker}
-use Rattle.room_model.specs.Step.{decided}
+use Rattle.room_model.specs.Calls.{take_call}
 use Rattle.room_tables_schema.proofs.ReadLaws.{and, but, fails, looked, told, told_any}
 use Rattle.room_store.proofs.CallReads.{is_new, nowhere, placed_in, told_again}
 use Rattle.room_store.proofs.Wants.{all_known, failed, machines, says, still_known, unsaid}
@@ -11,23 +11,20 @@ use Rattle.room_store.proofs.event_decisions.for_call.Goals as goal
 
 pub returns-in-Some-clause-decided : goal.returns-in-Some-clause-decided
 returns-in-Some-clause-decided g c clean =
-    says c.decide_repeated_call.result _ (λ config room h formed planned who ask _ _.
-    told_again c.args.event.now c.args.position c.args.form.now c.args.plan.now.areas room planned who ask c.in-Ok.found
-    (c.in-Ok.ensures.row clean config room h)
-    c.in-Some.kept c.new_call-call.result c.decide_repeated_call.result c.in-Some.is c.new_call-call.ensures
-    c.decide_repeated_call.ensures)
+    says c.decide_repeated_call.result _ (λ config room h _ _ _ formed planned made ask _ _.
+    told_again c.args.call.now c.args.plan.now.areas room planned c.in-Ok.found (c.in-Ok.ensures.row clean config room h)
+    c.in-Some.kept c.decide_repeated_call.result c.in-Some.is c.decide_repeated_call.ensures)
 
 pub returns-in-Some-clause-cache : goal.returns-in-Some-clause-cache
-returns-in-Some-clause-cache g c clean = says c.decide_repeated_call.result _ (λ config room h formed ask fleet is. is)
+returns-in-Some-clause-cache g c clean = says c.decide_repeated_call.result _ (λ config room h formed fleet is. is)
 
 pub returns-in-Some-clause-reads : goal.returns-in-Some-clause-reads
 returns-in-Some-clause-reads g c =
     told_any (unless_out_of_memory c.decide_repeated_call.result) (looked c.in-Ok.ensures.reads)
 
 pub returns-in_default-division_of-clause-decided : goal.returns-in_default-division_of-clause-decided
-returns-in_default-division_of-clause-decided g c clean config room h formed planned who ask _ _ =
-    nowhere c.args.event.now c.args.position c.args.form.now c.args.plan.now.areas room planned who ask c.in-Ok.found
-    (c.in-Ok.ensures.row clean config room h)
+returns-in_default-division_of-clause-decided g c clean config room h _ _ _ formed planned made ask _ _ =
+    nowhere c.args.call.now c.args.plan.now.areas room planned c.in-Ok.found (c.in-Ok.ensures.row clean config room h)
     c.division_of.result c.division_of.ensures.value c.in_default.is c.in_default-division_of.is
 
 pub returns-in_default-division_of-clause-reads : goal.returns-in_default-division_of-clause-reads
@@ -41,27 +38,27 @@ returns-clause-decided g c clean =
     let first : IsClean g.S.Store c.row_at.new.conn = omega
     (arith, c.load_working.ensures.reads.survives.clean) in
     IfOk-weaker (unless_out_of_memory c.decide_call-decision.result) _ _
-    (λ x told config room h formed planned who ask fleet is.
-    let p = c.args.position in
-    let f = c.args.form.now in
+    (λ x told config room h position at form formed planned made ask fleet is.
+    let call = c.args.call.now in
     let areas = c.args.plan.now.areas in
     let row = c.in-Ok.ensures.row first config room h in
     let rows = c.in-Ok-load_working.ensures.rows clean config room
     (kept _ _ (c.in-Ok.ensures.reads.ok first) config room h) formed.order (all_known fleet is) in
-    let new = is_new c.args.event.now p f areas room planned who ask c.in-Ok.found row c.division_of.result
-    c.division_of.ensures.value c.in_default.is in
-    let placed = placed_in c.args.event.now p f areas room planned who ask c.in-Ok.found row c.division_of.result
-    c.division_of.ensures.value c.in-Some-division_of.division c.in-Some-division_of.is in
-    let decides = rw (c.new_call-call.ensures, c.in-Ok-load_working.ensures.division) at
-    c.decide_call-decision.ensures.decides room f formed in
-    told (decided c.args.event.now room) (rw (who, ask) (decides refl new placed (inl (rw ask at rows)))))
+    let new = is_new call areas room planned c.in-Ok.found row c.division_of.result c.division_of.ensures.value
+    c.in_default.is in
+    let placed = placed_in call areas room planned c.in-Ok.found row c.division_of.result c.division_of.ensures.value
+    c.in-Some-division_of.division c.in-Some-division_of.is in
+    let decides = rw (made, c.in-Ok-load_working.ensures.division) at
+    c.decide_call-decision.ensures.decides room form formed in
+    told (take_call call room)
+    (rw made (decides refl (rw made at new) (rw made at placed) (inl (rw (made, ask) at rows)))))
     (machines c.decide_call-decision.result)
 
 pub returns-clause-cache : goal.returns-clause-cache
 returns-clause-cache g c clean =
     let first : IsClean g.S.Store c.row_at.new.conn = omega
     (arith, c.load_working.ensures.reads.survives.clean) in
-    says c.decide_call-decision.result _ (λ config room h formed ask fleet is.
+    says c.decide_call-decision.result _ (λ config room h formed fleet is.
     still_known fleet
     (c.in-Ok-load_working.ensures.known clean config room (kept _ _ (c.in-Ok.ensures.reads.ok first) config room h)
     formed.order (all_known fleet is)) c.load_working.ensures.fleet)

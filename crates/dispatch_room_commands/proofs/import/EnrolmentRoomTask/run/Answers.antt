@@ -1,4 +1,4 @@
-use Rattle.dispatch_room_commands.proofs.WorkLemmas.{both}
+use Rattle.dispatch_room_disk.proofs.WorkLemmas.{both}
 use Rattle.dispatch_room_commands.proofs.import.EnrolmentRoomTask.run.Goals as goal
 
 pub returns-clause-done : goal.returns-clause-done

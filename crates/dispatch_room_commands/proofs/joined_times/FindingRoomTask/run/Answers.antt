@@ -1,6 +1,6 @@
 use Rattle.std.proofs.Common.{refl}
 use Rattle.std.proofs.lemmas.Result.{IfOk-weaker}
-use Rattle.dispatch_room_commands.proofs.WorkLemmas.{both}
+use Rattle.dispatch_room_disk.proofs.WorkLemmas.{both}
 use Rattle.dispatch_room_commands.proofs.joined_times.FindingRoomTask.run.Goals as goal
 
 pub returns-clause-done : goal.returns-clause-done

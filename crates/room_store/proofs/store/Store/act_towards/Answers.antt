@@ -1,4 +1,4 @@
-use Rattle.std.proofs.Common.{arith, inr, refl}
+use Rattle.std.proofs.Common.{arith, inr, refl, ◌∙◌}
 use Rattle.sqlite.specs.Held.{state}
 use Rattle.room_store_writes.specs.Houses.{config_of}
 use Rattle.room_store.proofs.StoreLaws.{event_survives, for_room, ready_schema, ready_sound, room_moved}
@@ -18,22 +18,21 @@ returns-in-Ok-clause-ok g c clean terminals room is addressed =
     let old = c.args.self.now in
     let it = for_room g.S.Store old old c.args.event.now terminals room is addressed
     (c.in-Ok.ensures.ok clean).was_open in (
-      room_moved g.S.Store old (record old { conn = c.act_towards_on.new.conn; cache = c.act_towards_on.new.cache })
-          c.args.event.now terminals room is addressed c.lemma_numbered.ensures refl refl
+      room_moved g.S.Store old c.commit_towards.new.self c.args.event.now terminals room is addressed
+          c.lemma_numbered.ensures c.commit_towards.ensures.plan c.commit_towards.ensures.known
           (c.in-Ok.ensures.cache clean (config_of old.plan terminals) room it) (c.in-Ok.ensures.ok clean),
       c.in-Ok.ensures.reaches clean (config_of old.plan terminals) room it,
     )
 
 pub returns-in-Ok-clause-survives : goal.returns-in-Ok-clause-survives
 returns-in-Ok-clause-survives g c =
-    event_survives g.S.Store c.args.self.now (state g.S.Store c.act_towards_on.new.conn) c.args.event.now
-    c.act_towards_on.ensures.survives
+    event_survives g.S.Store c.args.self.now (state g.S.Store c.commit_towards.new.self.conn) c.args.event.now
+    c.commit_towards.ensures.survives
 
 pub returns-in-Ok-clause-ready : goal.returns-in-Ok-clause-ready
 returns-in-Ok-clause-ready g c =
-    ready_sound g.S.Store
-    (record c.args.self.now { conn = c.act_towards_on.new.conn; cache = c.act_towards_on.new.cache })
-    c.act_towards_on.ensures.ended c.if-not-self.false
+    ready_sound g.S.Store c.commit_towards.new.self c.commit_towards.ensures.ended
+    (c.commit_towards.ensures.sound ∙ c.if-not-self.false)
     (λ clean. record { schema = (c.in-Ok.ensures.ok clean).schema; settled = (c.in-Ok.ensures.ok clean).settled })
 
 pub returns-in-Ok-clause-settled : goal.returns-in-Ok-clause-settled
@@ -48,21 +47,21 @@ returns-then-not-self-clause-survives g c = unchanged_survives g.S.Store c.args.
 pub returns-then-not-self-clause-failed : goal.returns-then-not-self-clause-failed
 returns-then-not-self-clause-failed g c = c.requires.ready.unsound c.if-not-self.true
 
-pub act_towards_on-requires-clause-room : goal.act_towards_on-requires-clause-room
-act_towards_on-requires-clause-room g c = ready_schema g.S.Store c.args.self.now c.requires.ready c.if-not-self.false
+pub commit_towards-requires-clause-room : goal.commit_towards-requires-clause-room
+commit_towards-requires-clause-room g c = ready_schema g.S.Store c.args.self.now c.requires.ready c.if-not-self.false
 
-pub act_towards_on-requires-clause-open : goal.act_towards_on-requires-clause-open
-act_towards_on-requires-clause-open g c _ clean = (c.requires.ready.sound c.if-not-self.false clean).settled.is_open
+pub commit_towards-requires-clause-open : goal.commit_towards-requires-clause-open
+commit_towards-requires-clause-open g c _ clean = (c.requires.ready.sound c.if-not-self.false clean).settled.is_open
 
 pub returns-in-Err-clause-survives : goal.returns-in-Err-clause-survives
 returns-in-Err-clause-survives g c =
     survives_read _ _ _ _
-    (event_survives g.S.Store c.args.self.now (state g.S.Store c.act_towards_on.new.conn) c.args.event.now
-    c.act_towards_on.ensures.survives) c.test_file.ensures.survives
+    (event_survives g.S.Store c.args.self.now (state g.S.Store c.commit_towards.new.self.conn) c.args.event.now
+    c.commit_towards.ensures.survives) c.test_file.ensures.survives
 
 pub returns-in-Err-clause-err : goal.returns-in-Err-clause-err
 returns-in-Err-clause-err g c clean =
-    let early : IsClean g.S.Store c.act_towards_on.new.conn = omega
+    let early : IsClean g.S.Store c.commit_towards.new.self.conn = omega
     (arith, c.test_file.ensures.survives.clean) in
     left_then _ _ _ (c.in-Err.ensures.err early) (c.test_file.ensures.leaves clean)
 
@@ -73,7 +72,7 @@ returns-in-Err-clause-settled g c clean is =
 pub returns-in-Err-clause-another : goal.returns-in-Err-clause-another
 returns-in-Err-clause-another g c clean is terminals room stands addressed =
     let old = c.args.self.now in
-    let early : IsClean g.S.Store c.act_towards_on.new.conn = omega
+    let early : IsClean g.S.Store c.commit_towards.new.self.conn = omega
     (arith, c.test_file.ensures.survives.clean) in
     let open_ = (returns-in-Err-clause-err g c clean).was_open (returns-in-Err-clause-settled g c clean is).is_open in
     c.in-Err.ensures.another early (c.after_test.ensures.same is) (config_of old.plan terminals) room

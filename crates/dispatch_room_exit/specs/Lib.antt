@@ -1,2 +1,0 @@
--- how a program ends
-pub mod ExitStatus

@@ -1,0 +1,3 @@
+pub mod DueLemmas
+pub mod LegLemmas
+pub mod LineLemmas

@@ -1,0 +1,17 @@
+use Rattle.std.proofs.Common.{[], arith, ◌++◌, ◌∷◌}
+use Rattle.dispatch_room_lists.proofs.LineLemmas.{puts_more, taken_more}
+use Rattle.dispatch_room_lists.proofs.kept_fleets.keep_rows.Goals as goal
+
+pub lines-preserved : goal.lines-preserved
+lines-preserved g c =
+    let line = c.first_line.result.0.now in
+    let kept = c.lines.invariant.kept in
+    record {
+      sound = c.in-Ok.ensures.sound;
+      kept = (
+        kept.0 ++ line ∷ [],
+        taken_more _ c.lines.left.now line c.first_line.result.1.now kept.0 kept.1 c.first_line.ensures.line
+            c.first_line.ensures.is (omega (arith, c.first_line.ensures.shorter)),
+        puts_more _ _ _ _ _ _ kept.0 line kept.2 c.in-Ok.ensures.kept,
+      );
+    }

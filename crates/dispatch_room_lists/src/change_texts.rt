@@ -1,0 +1,122 @@
+//! The text by which a list has a change of a room.
+ghost use Rattle.std.specs.Prelude.{◌≡◌, ◌++◌, flat_map, unwrap_or, IfOk, IfSome, OnOk, [], string_bytes};
+ghost use Rattle.dispatch_room_lists.specs.RoomChanges.{IsTextOf, line_of, terminal_line, terminals_text};
+
+use crate::room_changes::RoomChange;
+use dispatch_room_cli::who::who_of;
+use dispatch_room_csv::plan_file::{PlanFileFault, read_plan};
+use room_store_writes::change_faults::TokenChange;
+use room_types::asks::Who;
+use room_types::fleet::Terminal;
+use room_types::token::Token;
+use std::alloc::{AllocError, Global};
+use std::fmt::Write;
+use std::str;
+
+// The line over those of terminals.
+const HEADER: &str = "terminal,token\n";
+
+/// The text of a change of one's terminals: who it is, and its one token, if it has one.
+pub fn token_text(alloc: Global, change: &TokenChange) -> Result<Vec<u8>, AllocError>
+    ensures { IfOk result (λ text. text.items
+        ≡ terminals_text (terminal_line change.now.who (unwrap_or change.now.token []))) }
+{
+    let mut text = String::from_str(alloc, HEADER)?;
+    match &change.token {
+        Some(token) => push_line(&mut text, &change.who, token.as_str())?,
+        None => push_line(&mut text, &change.who, "")?,
+    }
+    Ok(text.into_bytes())
+}
+
+/// The text of a list that gives all that it names their terminals.
+pub fn terminals_text(alloc: Global, listed: &[Terminal]) -> Result<Vec<u8>, AllocError>
+    ensures { IfOk result (λ text.
+        text.items ≡ terminals_text (flat_map line_of listed.now)) }
+{
+    let mut text = String::from_str(alloc, HEADER)?;
+    for terminal in listed {
+        push_line(&mut text, &terminal.who, terminal.token.as_str())?;
+    }
+    Ok(text.into_bytes())
+}
+
+fn push_line(text: &mut String, who: &Who, token: &str) -> Result<(), AllocError>
+    ensures { OnOk result
+        (string_bytes text.new ≡ string_bytes text.old ++ terminal_line who.now token.now) }
+{
+    match who {
+        Who::Desk(division) => write!(text, "desk:{},{token}\n", division.get()),
+        Who::Position(position) => write!(text, "position:{},{token}\n", position.get()),
+        Who::Crew(callsign) => write!(text, "crew:{},{token}\n", callsign.as_str()),
+    }
+}
+
+/// The change whose text this is; none where it is no change's.
+pub fn change_of(alloc: Global, text: &[u8]) -> Result<Option<RoomChange>, AllocError>
+    ensures { IfOk result (λ found. IfSome found (λ change. IsTextOf change text.now)) }
+{
+    match read_plan(alloc, text) {
+        Ok(file) => Ok(Some(RoomChange::Plan(file))),
+        Err(PlanFileFault::Memory) => Err(AllocError),
+        Err(_) => match str::from_utf8(text) {
+            Ok(text) => terminals_of(alloc, text),
+            Err(_) => Ok(None),
+        },
+    }
+}
+
+// The change of terminals whose text this is.
+fn terminals_of(alloc: Global, text: &str) -> Result<Option<RoomChange>, AllocError>
+    ensures { IfOk result (λ found. IfSome found (λ change. IsTextOf change text.now)) }
+{
+    let Some(lines) = text.strip_prefix(HEADER) else {
+        return Ok(None);
+    };
+    match withdrawn_in(lines) {
+        Some(change) => of_one(alloc, text, change),
+        None => of_all(alloc, text, lines),
+    }
+}
+
+fn of_one(alloc: Global, text: &str, change: TokenChange) -> Result<Option<RoomChange>, AllocError>
+    ensures { IfOk result (λ found. IfSome found (λ change. IsTextOf change text.now)) }
+{
+    let its_text = token_text(alloc, &change)?;
+    if its_text.as_slice() == text.as_bytes() {
+        Ok(Some(RoomChange::Token(change)))
+    } else {
+        Ok(None)
+    }
+}
+
+fn of_all(alloc: Global, text: &str, lines: &str) -> Result<Option<RoomChange>, AllocError>
+    ensures { IfOk result (λ found. IfSome found (λ change. IsTextOf change text.now)) }
+{
+    let listed = listed_in(alloc, lines)?;
+    let its_text = terminals_text(alloc, listed.as_slice())?;
+    if its_text.as_slice() == text.as_bytes() {
+        Ok(Some(RoomChange::Terminals(listed)))
+    } else {
+        Ok(None)
+    }
+}
+
+// One who has no token, named by the only line; whose line that is exactly, its text says.
+fn withdrawn_in(lines: &str) -> Option<TokenChange> {
+    let who = who_of(lines.strip_suffix(",\n")?)?;
+    Some(TokenChange { who, token: None })
+}
+
+// The terminals of lines, without lines of another form; that there are none, their text says.
+fn listed_in(alloc: Global, lines: &str) -> Result<Vec<Terminal>, AllocError> {
+    lines.split('\n').filter_map(terminal_in).collect(alloc)
+}
+
+fn terminal_in(line: &str) -> Option<Terminal> {
+    let (who, token) = line.split_once(',')?;
+    Some(Terminal {
+        token: Token::parse(token)?,
+        who: who_of(who)?,
+    })
+}

@@ -1,0 +1,48 @@
+//! The digest of a room, by which it is known again, as it is printed.
+ghost use Rattle.std.specs.Prelude.{◌≡◌, IfOk, OnOk};
+ghost use Rattle.std.specs.Io.KnownBytes.{Appends};
+ghost use Rattle.dispatch_room_cli.specs.declared.exit_status.Done.TheVariants.{Whole};
+ghost use Rattle.room_store.specs.StoredRoom.{IsReady};
+ghost use Rattle.dispatch_room_lists.specs.RoomDigests.{TellsDigest, digest_line};
+
+use dispatch_room_cli::exit_status::{Done, Failure, refused};
+use dispatch_room_journal::journal_digests::digest_of;
+use room_model::digests::Version;
+use room_store::store::Store;
+use room_store::store_digest::digest_of_room;
+use sqlite::Alter;
+use std::io::{self, Write};
+
+/// Prints the digest of a store's room, which stays as it is.
+pub fn tell_digest<S: Alter, O: Write>(room: &mut Store<S>, out: &mut O) -> Result<Done, Failure>
+    requires ready { IsReady S.Store room.old }
+    ensures { TellsDigest S.Store room.old room.new (O.contents out.old) (O.contents out.new)
+        result }
+{
+    match digest_of_room(room, Version::Second) {
+        Ok(digest) => tell(digest_of(&digest).as_slice(), out),
+        Err(refusal) => Err(refused(refusal)),
+    }
+}
+
+// Prints a digest.
+fn tell<O: Write>(digits: &[u8], out: &mut O) -> Result<Done, Failure>
+    ensures whole { IfOk result (λ done. done ≡ Whole) }
+    ensures told { OnOk result
+        (Appends (O.contents out.old) (O.contents out.new) (digest_line digits.now)) }
+{
+    match put_line(digits, out) {
+        Ok(()) => Ok(Done::Whole),
+        Err(_) => Err(Failure::Network),
+    }
+}
+
+// Prints the line of a digest.
+fn put_line<O: Write>(digits: &[u8], out: &mut O) -> io::Result<()>
+    ensures { OnOk result
+        (Appends (O.contents out.old) (O.contents out.new) (digest_line digits.now)) }
+{
+    out.write_all(b"digest ")?;
+    out.write_all(digits)?;
+    out.write_all(b"\n")
+}

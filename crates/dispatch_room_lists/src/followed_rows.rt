@@ -1,0 +1,142 @@
+//! What the rows of a list say, done in the room that it is replayed to, as far as the head behind
+//! them says.
+ghost use Rattle.std.specs.Prelude.{◌≡◌, ◌⊎◌, IfErr, IfOk, Ok, OnOk};
+ghost use Rattle.room_store.specs.StoredRoom.{IsReady};
+ghost use Rattle.dispatch_room_journal.specs.ReplayFaults.{IsWanting};
+ghost use Rattle.dispatch_room_lists.specs.ListedRows.{EnrolsDue, Follows, IsMadeTowards, IsThere, IsUnfollowed, LosesStage};
+ghost use Rattle.dispatch_room_lists.specs.StoodRooms.{GoesOn, StageGoesOn};
+
+use crate::listed_changes::{ListedChange, listed_in};
+use crate::listed_rows::{enrol_rows, has_come_to};
+use crate::room_changes::{Remade, RoomChange, remake};
+use dispatch_room_cli::exit_status::Failure;
+use dispatch_room_cli::explainer::Explainer;
+use dispatch_room_journal::replay_faults::ReplayFault;
+use room_http::settings::Setting;
+use room_model::digests::Head;
+use room_store::store::Store;
+use room_types::fleet::FleetRow;
+use room_types::refusal_statuses::Refusal;
+use sqlite::Alter;
+use std::alloc::Global;
+
+/// The room that a list is replayed to, and the setting in which it answers.
+pub struct Stage<S: Alter> {
+    pub room: Store<S>,
+    pub setting: Setting,
+}
+
+/// Where the room is still open: what came of rows, and the room after them.
+pub type Followed<T, S> = Result<(Result<T, ReplayFault>, Stage<S>), Failure>;
+
+/// Does what the rows of a text say, as far as the head behind them says. Of a fleet as many are
+/// enrolled as are due. Another change is made, unless the room has the head's digest: then it was
+/// not made, or it changed nothing. Where the room doesn't allow it, the list is of another room.
+/// Rows of no change are left by a stop between the rows of one, before it was made.
+#[tactic(auto, using(crate::proofs::DueLemmas::stage_goes, crate::proofs::DueLemmas::stage_stays))]
+pub fn follow<S: Alter + Drop>(
+    alloc: Global,
+    explainer: Explainer<'_>,
+    stage: Stage<S>,
+    text: &[u8],
+    head: &Head,
+) -> Followed<(), S>
+    requires ready { IsReady S.Store stage.room }
+    ensures goes { IfOk result (λ it. StageGoesOn S.Store stage it.1) }
+    ensures followed { IfOk result (λ it.
+        OnOk it.0 (Follows S.Store stage.room it.1.room text.now head.now)) }
+    ensures fault { IfOk result (λ it. IfErr it.0 IsUnfollowed) }
+    ensures lost { IfErr result (LosesStage S.Store stage.room) }
+{
+    match listed_in(alloc, text) {
+        Ok(Some(ListedChange::Fleet(rows))) => Ok(enrol(alloc, stage, rows.as_slice(), head)),
+        Ok(Some(ListedChange::Change(change))) => {
+            make_towards(alloc, explainer, stage, &change, head)
+        }
+        Ok(None) => Ok(stay(stage, head)),
+        Err(_) => Ok((Err(ReplayFault::Want(Refusal::Memory)), stage)),
+    }
+}
+
+// Enrols as many rows as are due.
+fn enrol<S: Alter>(
+    alloc: Global,
+    stage: Stage<S>,
+    rows: &[FleetRow],
+    head: &Head,
+) -> (Result<(), ReplayFault>, Stage<S>)
+    requires ready { IsReady S.Store stage.room }
+    ensures goes { GoesOn S.Store stage.room result.1.room }
+    ensures setting { result.1.setting ≡ stage.setting }
+    ensures enrolled { OnOk result.0
+        (EnrolsDue S.Store stage.room result.1.room rows.now head.now) }
+    ensures wants { IfErr result.0 IsWanting }
+{
+    let Stage { mut room, setting } = stage;
+    let done = enrol_rows(alloc, &mut room, rows, head);
+    (done, Stage { room, setting })
+}
+
+// Does nothing, and the room has to have the digest of a head.
+fn stay<S: Alter>(stage: Stage<S>, head: &Head) -> (Result<(), ReplayFault>, Stage<S>)
+    requires ready { IsReady S.Store stage.room }
+    ensures goes { GoesOn S.Store stage.room result.1.room }
+    ensures setting { result.1.setting ≡ stage.setting }
+    ensures there { OnOk result.0 (IsThere S.Store stage.room result.1.room head.now) }
+    ensures fault { IfErr result.0 IsUnfollowed }
+{
+    let Stage { mut room, setting } = stage;
+    let met = has_come_to(&mut room, head, true);
+    match met {
+        Ok(true) => (Ok(()), Stage { room, setting }),
+        Ok(false) => (Err(ReplayFault::Bad), Stage { room, setting }),
+        Err(fault) => (Err(fault), Stage { room, setting }),
+    }
+}
+
+// Makes a change, unless the room has the digest of a head.
+#[tactic(auto, using(crate::proofs::DueLemmas::stage_goes))]
+fn make_towards<S: Alter + Drop>(
+    alloc: Global,
+    explainer: Explainer<'_>,
+    stage: Stage<S>,
+    change: &RoomChange,
+    head: &Head,
+) -> Followed<(), S>
+    requires ready { IsReady S.Store stage.room }
+    ensures goes { IfOk result (λ it. StageGoesOn S.Store stage it.1) }
+    ensures made { IfOk result (λ it. OnOk it.0
+        (IsThere S.Store stage.room it.1.room head.now
+        ⊎ IsMadeTowards S.Store stage.room it.1.room change.now head.now)) }
+    ensures fault { IfOk result (λ it. IfErr it.0 IsUnfollowed) }
+    ensures lost { IfErr result (LosesStage S.Store stage.room) }
+{
+    let Stage { mut room, setting } = stage;
+    match has_come_to(&mut room, head, true) {
+        Ok(false) => {}
+        Ok(true) => return Ok((Ok(()), Stage { room, setting })),
+        Err(fault) => return Ok((Err(fault), Stage { room, setting })),
+    }
+    let remade = remake(alloc, explainer, room, change)?;
+    Ok(followed_by(remade, setting.history))
+}
+
+// What is reported of a change that was made, or not: then the list is of another room, unless
+// memory or storage fails.
+fn followed_by<S: Alter>(remade: Remade<S>, history: bool) -> (Result<(), ReplayFault>, Stage<S>)
+    ensures room { result.1.room ≡ remade.room }
+    ensures setting { result.1.setting
+        ≡ record { zone = remade.zone; history = history } }
+    ensures made { OnOk result.0 (remade.done ≡ Ok tt) }
+    ensures fault { IfErr result.0 IsUnfollowed }
+{
+    let Remade { done, room, zone } = remade;
+    let done = match done {
+        Ok(()) => Ok(()),
+        Err(Failure::Memory) => Err(ReplayFault::Want(Refusal::Memory)),
+        Err(Failure::Storage) => Err(ReplayFault::Want(Refusal::Storage)),
+        Err(_) => Err(ReplayFault::Another),
+    };
+    let setting = Setting { zone, history };
+    (done, Stage { room, setting })
+}

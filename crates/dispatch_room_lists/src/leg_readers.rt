@@ -1,0 +1,78 @@
+//! A list that is read leg by leg, and whether a read of it failed.
+ghost use Rattle.std.specs.Prelude.{◌≡◌, ◌==◌, ◌||◌, None, IfOk, OnOk, false, is_err, true};
+ghost use Rattle.std.specs.Io.KnownBytes.{prepend_known};
+ghost use Rattle.dispatch_room_journal.specs.Legs.{TakesIn};
+ghost use Rattle.dispatch_room_journal.specs.ReadSteps.{left_in, most_rows};
+ghost use Rattle.dispatch_room_journal.specs.declared.chain_source.Unchained.{Unchained as List};
+
+use dispatch_room_journal::chain_source::Unchained;
+use dispatch_room_journal::row_runs::{Behind, RowsFault};
+use room_http_messages::sources::{ReadFailed, Source};
+use std::marker::Model;
+
+/// A list that is read leg by leg, and whether a read of it failed.
+#[derive(Drop)]
+pub struct LegReader<R: Source> {
+    list: Unchained<R>,
+    failed: bool,
+}
+
+// It knows of each read that failed.
+impl<R: Source> Model for LegReader<R> {
+    ghost Value = { List R };
+
+    ghost view = { λ reader. reader.list };
+
+    ghost invariant = { λ reader.
+        reader.failed ≡ (R.has_failed reader.list.reader || reader.list.passed == most_rows) };
+}
+
+impl<R: Source> LegReader<R> {
+    /// What a list says of which nothing was read: its first leg.
+    pub fn new(reader: R) -> LegReader<R>
+        requires { R.has_failed reader ≡ false }
+        ensures sound { (R.has_failed result.reader || result.passed == most_rows) ≡ false }
+    {
+        LegReader {
+            list: Unchained::by_legs(reader),
+            failed: false,
+        }
+    }
+
+    /// Takes the rows that stand behind a leg which was read to its end, unless a read failed.
+    pub fn take_rows(&mut self, rows: &mut Vec<u8>) -> Result<Behind, RowsFault>
+        ensures sound { OnOk result ((R.has_failed self.new.reader || self.new.passed == most_rows)
+            ≡ false) }
+        ensures taken { self.old.has_ended ≡ true → self.old.reel.vouched ≡ 0
+            → IfOk result (TakesIn self.old.reel.mode self.new.reel.mode
+            (prepend_known self.old.reel.inbox (R.left self.old.reader))
+            (prepend_known self.new.reel.inbox (R.left self.new.reader))
+            rows.old.items rows.new.items) }
+    {
+        if self.failed {
+            return Err(RowsFault::Read);
+        }
+        let taken = self.list.take_rows(rows);
+        self.failed = matches!(taken, Err(RowsFault::Read));
+        taken
+    }
+}
+
+impl<R: Source> Source for LegReader<R> {
+    ghost left = { λ list. left_in list.reel.mode list.reel.vouched list.reel.inbox
+        (R.left list.reader) };
+
+    ghost reads = { λ _. None };
+
+    ghost has_failed = { λ list. R.has_failed list.reader || list.passed == most_rows };
+
+    ghost has_ended = { λ list. list.has_ended };
+
+    fn read(&mut self, buf: &mut [u8]) -> Result<usize, ReadFailed> {
+        let read = self.list.read(buf);
+        if read.is_err() {
+            self.failed = true;
+        }
+        read
+    }
+}

@@ -1,0 +1,238 @@
+//! A list with changes among its messages, replayed leg by leg.
+ghost use Rattle.std.specs.Io.KnownBytes.{prepend_known};
+ghost use Rattle.std.specs.Prelude.{◌≡◌, ◌==◌, ◌⊎◌, ◌||◌, [], Err, List, Ok, ℕ, IfErr, IfOk, OnOk, false, true};
+ghost use Rattle.room_http.specs.Settings.{IsSetting};
+ghost use Rattle.room_store.specs.StoredRoom.{IsReady};
+ghost use Rattle.dispatch_room_journal.specs.Legs.{TakesIn};
+ghost use Rattle.dispatch_room_journal.specs.ReadSteps.{left_in, most_rows};
+ghost use Rattle.dispatch_room_journal.specs.declared.replay_faults.ReplayFault.TheVariants.{ReadFailed};
+ghost use Rattle.dispatch_room_journal.specs.declared.row_runs.Behind.{Behind as Which};
+ghost use Rattle.dispatch_room_lists.specs.ListedRows.{IsUnfollowed, LosesStage};
+ghost use Rattle.dispatch_room_lists.specs.ReplayedLegs.{FollowsBy, IsLeg, LosesLeg, ReplaysLegs, in_all, sum_of};
+ghost use Rattle.dispatch_room_lists.specs.StoodRooms.{GoesOn, StageGoesOn};
+ghost use Rattle.room_tables_schema.specs.FileConnections.{IsClean};
+
+use crate::followed_rows::{Followed, Stage, follow};
+use crate::leg_readers::LegReader;
+use crate::leg_writers::LegWriter;
+use dispatch_room_cli::exit_status::Failure;
+use dispatch_room_cli::explainer::Explainer;
+use dispatch_room_cli::tasks::Replay;
+use dispatch_room_journal::replay_faults::{ReplayFault, Stopped};
+use dispatch_room_journal::replayed_journal::{self, Replayed};
+use dispatch_room_journal::row_runs::{Behind, RowsFault};
+use dispatch_room_journal::streamed_messages::answer_each;
+use room_http_messages::sources::Source;
+use room_store::store::Store;
+use room_types::refusal_statuses::Refusal;
+use sqlite::Alter;
+use std::alloc::Global;
+use std::io::Write;
+
+/// How a list is replayed, and who explains why a change is not made.
+#[derive(Clone, Copy)]
+pub struct Course<'a> {
+    pub alloc: Global,
+    pub explainer: Explainer<'a>,
+    pub replay: &'a Replay,
+}
+
+/// Where the room is still open: what a replay came to, and the room after it.
+pub type Played<T, S> = Result<(T, Store<S>), Failure>;
+
+/// Replays the legs of a list, one after another, in a room, and makes the change that stands
+/// between two of them; or answers each record of them. Where no room is opened again for a change,
+/// or after it, that ends the replay.
+pub fn replay_legs<S: Alter + Drop, R: Source, O: Write, E: Write>(
+    course: &Course<'_>,
+    list: &mut LegReader<R>,
+    first: Stage<S>,
+    out: &mut LegWriter<O>,
+    err: &mut E,
+) -> Played<Result<Replayed, Stopped>, S>
+    requires list { (R.has_failed list.old.reader || list.old.passed == most_rows) ≡ false }
+    requires ready { IsReady S.Store first.room }
+    requires set { IsSetting first.room.plan.zone course.now.replay.now.history first.setting }
+    ensures ready { IfOk result (λ played. IsReady S.Store played.1) }
+    ensures trusted { IfOk result (λ played. IsClean S.Store played.1.conn
+        → IsClean S.Store first.room.conn) }
+    ensures legs { IfOk result (λ played. ReplaysLegs S.Store course.now.replay.now
+        (record {
+          store = first.room;
+          setting = first.setting;
+          left = left_in list.old.reel.mode list.old.reel.vouched list.old.reel.inbox
+              (R.left list.old.reader);
+          held = O.contents out.old.inner;
+          records = 0;
+        })
+        played.1 (O.contents out.new.inner) played.0) }
+    ensures lost { IfErr result (LosesLeg S.Store course.now.replay.now
+        (record {
+          store = first.room;
+          setting = first.setting;
+          left = left_in list.old.reel.mode list.old.reel.vouched list.old.reel.inbox
+              (R.left list.old.reader);
+          held = O.contents out.old.inner;
+          records = 0;
+        })) }
+{
+    let mut stage = first;
+    let mut before = 0;
+    let mut came = replay_leg(course, list, &mut stage, out);
+    for _leg in 1..u64::MAX {
+        let Ok(replayed) = came else {
+            return Ok((in_all(before, came), room_of(stage)));
+        };
+        let (goes_on, left) = follow_between(course, list, stage, err)?;
+        stage = left;
+        match goes_on {
+            Ok(true) => {}
+            Ok(false) => return Ok((in_all(before, came), room_of(stage))),
+            Err(fault) => return Ok((stopped_behind(fault, before, &replayed), room_of(stage))),
+        }
+        before = before.saturating_add(replayed.records);
+        came = replay_leg(course, list, &mut stage, out);
+    }
+    Ok((in_all(before, came), room_of(stage)))
+}
+
+fn room_of<S: Alter>(stage: Stage<S>) -> Store<S>
+    ensures { result ≡ stage.room }
+{
+    let Stage { room, setting: _ } = stage;
+    room
+}
+
+// What a replay comes to whose last leg came to this, behind so many messages.
+fn in_all(before: u64, came: Result<Replayed, Stopped>) -> Result<Replayed, Stopped>
+    ensures { result ≡ in_all before came }
+{
+    match came {
+        Ok(replayed) => Ok(Replayed {
+            records: before.saturating_add(replayed.records),
+            is_open: replayed.is_open,
+        }),
+        Err(stopped) => Err(Stopped {
+            fault: stopped.fault,
+            number: before.saturating_add(stopped.number),
+        }),
+    }
+}
+
+// It stopped behind a leg: at the next message, if there is one.
+fn stopped_behind(fault: ReplayFault, before: u64, replayed: &Replayed) -> Result<Replayed, Stopped>
+    ensures { result ≡ Err (record {
+      fault = fault;
+      number = sum_of (sum_of before replayed.now.records) 1;
+    }) }
+{
+    let records = before.saturating_add(replayed.records);
+    Err(Stopped {
+        fault,
+        number: records.saturating_add(1),
+    })
+}
+
+// Replays the next leg of a list, or answers each record of it.
+fn replay_leg<S: Alter, R: Source, O: Write>(
+    course: &Course<'_>,
+    list: &mut R,
+    stage: &mut Stage<S>,
+    out: &mut LegWriter<O>,
+) -> Result<Replayed, Stopped>
+    requires list { R.has_failed list.old ≡ false }
+    requires ready { IsReady S.Store stage.old.room }
+    ensures goes { GoesOn S.Store stage.old.room stage.new.room }
+    ensures setting { stage.new.setting ≡ stage.old.setting }
+    ensures leg { (before : ℕ) → IsLeg S.Store course.now.replay.now
+        (record {
+          store = stage.old.room;
+          setting = stage.old.setting;
+          left = R.left list.old;
+          held = O.contents out.old.inner;
+          records = before;
+        })
+        stage.new.room (O.contents out.new.inner) result }
+{
+    let replay = course.replay;
+    let setting = stage.setting;
+    let room = &mut stage.room;
+    if !replay.answers {
+        return replayed_journal::replay(course.alloc, list, room, &setting, &replay.until);
+    }
+    out.begin();
+    match answer_each(course.alloc, list, out, room, &setting) {
+        Ok(records) => Ok(Replayed {
+            records,
+            is_open: false,
+        }),
+        Err(stopped) => Err(stopped),
+    }
+}
+
+// Takes the rows behind a leg that was replayed whole, and follows them. Whether another leg does.
+#[tactic(auto, using(crate::proofs::DueLemmas::stage_stays))]
+fn follow_between<S: Alter + Drop, R: Source, E: Write>(
+    course: &Course<'_>,
+    list: &mut LegReader<R>,
+    stage: Stage<S>,
+    err: &mut E,
+) -> Followed<bool, S>
+    requires ready { IsReady S.Store stage.room }
+    ensures goes { IfOk result (λ it. StageGoesOn S.Store stage it.1) }
+    ensures sound { IfOk result (λ it. OnOk it.0 ((R.has_failed list.new.reader
+        || list.new.passed == most_rows) ≡ false)) }
+    ensures between { IfOk result (λ it. IfOk it.0 (λ goes_on.
+        (rows : List ℕ) × (behind : Which)
+        × FollowsBy S.Store stage.room it.1.room rows behind goes_on
+        × (list.old.has_ended ≡ true → list.old.reel.vouched ≡ 0
+        → TakesIn list.old.reel.mode list.new.reel.mode
+        (prepend_known list.old.reel.inbox (R.left list.old.reader))
+        (prepend_known list.new.reel.inbox (R.left list.new.reader)) [] rows behind))) }
+    ensures fault { IfOk result (λ it. IfErr it.0 (λ fault.
+        IsUnfollowed fault ⊎ (fault ≡ ReadFailed))) }
+    ensures lost { IfErr result (LosesStage S.Store stage.room) }
+{
+    let mut rows = Vec::new(course.alloc);
+    match list.take_rows(&mut rows) {
+        Ok(behind) => follow_by(course, stage, rows.as_slice(), &behind, err),
+        Err(RowsFault::Read) => Ok((Err(ReplayFault::ReadFailed), stage)),
+        Err(RowsFault::Memory) => Ok((Err(ReplayFault::Want(Refusal::Memory)), stage)),
+    }
+}
+
+// Follows rows by what stands behind them. Whether another leg does.
+#[tactic(auto, using(crate::proofs::DueLemmas::stage_stays))]
+fn follow_by<S: Alter + Drop, E: Write>(
+    course: &Course<'_>,
+    stage: Stage<S>,
+    rows: &[u8],
+    behind: &Behind,
+    err: &mut E,
+) -> Followed<bool, S>
+    requires ready { IsReady S.Store stage.room }
+    ensures goes { IfOk result (λ it. StageGoesOn S.Store stage it.1) }
+    ensures by { IfOk result (λ it. IfOk it.0
+        (FollowsBy S.Store stage.room it.1.room rows.now behind.now)) }
+    ensures fault { IfOk result (λ it. IfErr it.0 IsUnfollowed) }
+    ensures lost { IfErr result (LosesStage S.Store stage.room) }
+{
+    if rows.is_empty() {
+        return Ok((Ok(false), stage));
+    }
+    match behind {
+        Behind::Room(head) => {
+            let (done, stage) = follow(course.alloc, course.explainer, stage, rows, head)?;
+            match done {
+                Ok(()) => Ok((Ok(true), stage)),
+                Err(fault) => Ok((Err(fault), stage)),
+            }
+        }
+        Behind::End => {
+            let _ = writeln!(err, "the list ends with a change, which was left out");
+            Ok((Ok(false), stage))
+        }
+        Behind::Other => Ok((Ok(true), stage)),
+        Behind::Unread => Ok((Ok(false), stage)),
+    }
+}

@@ -1,0 +1,3 @@
+pub mod ListeningLemmas
+pub mod PartLemmas
+pub mod ServiceLemmas

@@ -1,0 +1,26 @@
+use Rattle.std.proofs.Common.{◌∙◌, ap, sym}
+use Rattle.std.proofs.lemmas.Result.{IfOk-weaker}
+use Rattle.dispatch_room_disk.proofs.WorkLemmas.{handed_on}
+use Rattle.dispatch_room_tcp.proofs.serve.serve_listened.Goals as goal
+
+pub returns-clause-served : goal.returns-clause-served
+returns-clause-served g c =
+    let is = rw c.new-callers.ensures at c.in_ok-done.ensures.served in
+    record {
+      hears = g.L.Listener.heard c.serve_parts.new.callers.listener;
+      tells = g.L.Listener.told c.serve_parts.new.callers.listener;
+      known = IfOk-weaker c.given_back.result _ _
+          (λ served same. (
+            ap g.L.Listener.heard (sym (same ∙ c.into_listener.ensures)),
+            ap g.L.Listener.told (sym (same ∙ c.into_listener.ensures)),
+          ))
+          c.given_back.ensures.listener;
+      given = _;
+      gives = _;
+      is = rw (sym c.given_back.ensures.done) at is;
+    }
+
+pub returns-in_err-done-clause-fault : goal.returns-in_err-done-clause-fault
+returns-in_err-done-clause-fault g c =
+    let told = rw c.new-callers.ensures at c.in_err-done.ensures.fault in
+    handed_on c.from_residual.result _ c.from_residual.ensures.1 (λ fault is. (_, rw (← is) at told))

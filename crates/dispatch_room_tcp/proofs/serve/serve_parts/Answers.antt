@@ -1,0 +1,63 @@
+use Rattle.std.proofs.Common.{◌∙◌, ap, inl, inr, refl, sym}
+use Rattle.dispatch_room_tcp.proofs.PartLemmas.{first_before, first_part, next_before, not_false}
+use Rattle.dispatch_room_disk.proofs.WorkLemmas.{handed_on}
+use Rattle.dispatch_room_tcp.proofs.serve.serve_parts.Goals as goal
+
+pub loop-part-init : goal.loop-part-init
+loop-part-init g c = record {
+  outside = c.in_ok-first.ensures.outside;
+  listed = refl;
+  served = λ first is. first_part _ _ _ first _ _ is;
+}
+
+pub loop-part-preserved : goal.loop-part-preserved
+loop-part-preserved g c =
+    let renews = sym (ap (λ terms. terms.renews) c.terms_of.ensures) ∙ not_false _ c.if-not-terms_of.false in
+    let well = sym c.is_err.ensures.value ∙ c.if-is_err.false in
+    let listed = c.in-Ok.ensures.list ∙ c.loop-part.invariant.listed in
+    record {
+      outside = c.in_ok-next.ensures.outside;
+      listed = listed;
+      served = λ first is. record {
+        at = _;
+        before = next_before _ _ _ first _ _ renews well (c.loop-part.invariant.served first is);
+        is = rw listed at c.in_ok-next.ensures.served;
+      };
+    }
+
+pub returns-in_err-first-clause-fault : goal.returns-in_err-first-clause-fault
+returns-in_err-first-clause-fault g c =
+    handed_on c.from_residual.result _ c.from_residual.ensures.1
+    (λ fault is. record { at = _; before = first_before _ _ _ _; unopened = rw is c.in_err-first.ensures.fault })
+
+pub returns-then-not-terms_of-clause-served : goal.returns-then-not-terms_of-clause-served
+returns-then-not-terms_of-clause-served g c = inl (first_part _ _ _ _ _ _ c.in_ok-first.ensures.served)
+
+pub returns-then-is_err-clause-served : goal.returns-then-is_err-clause-served
+returns-then-is_err-clause-served g c = inl (c.loop-part.invariant.served _ c.in_ok-first.ensures.served)
+
+pub returns-in-Err-clause-served : goal.returns-in-Err-clause-served
+returns-in-Err-clause-served g c =
+    let renews = sym (ap (λ terms. terms.renews) c.terms_of.ensures) ∙ not_false _ c.if-not-terms_of.false in
+    let well = sym c.is_err.ensures.value ∙ c.if-is_err.false in
+    inr (record {
+      renews = renews;
+      before = next_before _ _ _ _ _ _ renews well (c.loop-part.invariant.served _ c.in_ok-first.ensures.served);
+      fault = c.in-Err.fault;
+      told = refl;
+      why = c.in-Err.ensures.fault;
+    })
+
+pub returns-in_err-next-clause-fault : goal.returns-in_err-next-clause-fault
+returns-in_err-next-clause-fault g c =
+    let renews = sym (ap (λ terms. terms.renews) c.terms_of.ensures) ∙ not_false _ c.if-not-terms_of.false in
+    let well = sym c.is_err.ensures.value ∙ c.if-is_err.false in
+    handed_on c.from_residual-in_err-next.result _ c.from_residual-in_err-next.ensures.1
+    (λ fault is. record {
+      at = _;
+      before = next_before _ _ _ _ _ _ renews well (c.loop-part.invariant.served _ c.in_ok-first.ensures.served);
+      unopened = rw is c.in_err-next.ensures.fault;
+    })
+
+pub returns-clause-served : goal.returns-clause-served
+returns-clause-served g c = inl (c.loop-part.invariant.served _ c.in_ok-first.ensures.served)

@@ -1,0 +1,28 @@
+use Rattle.std.specs.Prelude.{◌≡◌, false, is_some}
+use Rattle.dispatch_room_tcp.specs.ServedFiles.{terms_of}
+use Rattle.dispatch_room_tcp.specs.ServedParts.{EndsPart, Interval, IsPart}
+use Rattle.dispatch_room_tcp.proofs.serve.serve_parts.Given as goal
+
+-- wherever the first part began
+abbrev pub invariant-loop-part : goal.invariant-loop-part
+invariant-loop-part g l = record {
+  outside : l.conn.in_transaction ≡ false;
+  listed : is_some l.list ≡ is_some l.initial.list;
+  served : (first : Interval g.row.S.Denot)
+      → IsPart g.S.Store (is_some l.initial.list) (terms_of l.run.service.now) first
+      (record {
+        conn = l.initial.conn;
+        heard = g.P.Callers.heard l.initial.callers;
+        told = g.P.Callers.told l.initial.callers;
+        given = g.C.Clock.given l.initial.clock;
+      })
+      l.initial.done
+      → EndsPart g.S.Store (is_some l.initial.list) (terms_of l.run.service.now) first
+      (record {
+        conn = l.conn;
+        heard = g.P.Callers.heard l.callers;
+        told = g.P.Callers.told l.callers;
+        given = g.C.Clock.given l.clock;
+      })
+      l.done;
+}

@@ -1,0 +1,129 @@
+-- The room of a file, served to those who call.
+use Rattle.std.specs.Prelude.{Bool, Err, IfOk, List, None, Ok, Option, Result, Some, false, is_some, true, ℕ, ◌&&◌}
+use Rattle.std.specs.Prelude.{◌==◌, ◌≡◌, ◌⊎◌}
+use Rattle.sqlite.specs.Held.{Held}
+use Rattle.sqlite_trees.specs.declared.store.Store.{Ghosts}
+use Rattle.dispatch_room_disk.specs.RoomFiles.{Refusing, Saying, IsDoneInFile, IsUndoneInFile}
+use Rattle.dispatch_room_cli.specs.declared.exit_status.Done.{Done}
+use Rattle.dispatch_room_cli.specs.declared.exit_status.Failure.{Failure}
+use Rattle.dispatch_room_cli.specs.declared.exit_status.Failure.TheVariants.{Memory}
+use Rattle.dispatch_room_cli.specs.declared.tasks.Journal.{Journal}
+use Rattle.dispatch_room_cli.specs.declared.tasks.Service.{Service}
+use Rattle.dispatch_room_tcp.specs.ServedParts.{Interval, OpensNoPart, ServesParts}
+use Rattle.dispatch_room_tcp.specs.declared.serve.Served.{Served}
+use Rattle.dispatch_room_serving.specs.Callers.{Opening}
+use Rattle.dispatch_room_serving.specs.declared.served_room.Terms.{Terms}
+use Rattle.dispatch_room_cli.specs.declared.exit_status.Failure.TheVariants as failure
+use Rattle.dispatch_room_tcp.specs.declared.listeners.TcpAddress.{TcpAddress}
+use Rattle.dispatch_room_tcp.specs.declared.tcp_doors.TcpDoor.{TcpDoor}
+
+-- a service that goes on until it is stopped
+abbrev pub is_endless : Service → Bool
+is_endless service = service.connections == 18446744073709551615
+
+-- What is served of a room, by its service. A part may end before all calls came where the service
+-- goes on until it is stopped, and keeps a journal.
+abbrev pub terms_of : Service → Terms
+terms_of service = record {
+  connections = service.connections;
+  history = service.history;
+  renews = is_endless service && is_some service.journal;
+}
+
+-- how serving ended
+abbrev pub ended : {L : Type 0} → Result (Served L) Failure → Result Done Failure
+ended (Ok served) = Ok served.done
+ended (Err fault) = Err fault
+
+-- where a service begins, by what listens for its calls
+abbrev pub begins_at : {S L : Type 0} → (L → Option (List (Option Opening)))
+    → (L → Option (List (Option (List ℕ)))) → L → Held S → Option (List ℕ) → Interval S
+begins_at heard told listener conn given = record {
+  conn = conn;
+  heard = heard listener;
+  told = told listener;
+  given = given;
+}
+
+-- The room was served to so many calls, and a journal kept of it or none. What is known of the
+-- calls is what they are to what listened for them, before and after (`heard`, `told`), where that
+-- is given back. What is known of the moments is said by who gives them.
+pub record IsServed {S L : Type 0} (heard : L → Option (List (Option Opening)))
+    (told : L → Option (List (Option (List ℕ)))) (g : Ghosts S) (old new : Held S)
+    (has_journal : Bool) (terms : Terms) (listener : L) (served : Result (Served L) Failure)
+    : Type 0 where
+  pub hears : Option (List (Option Opening))
+  pub tells : Option (List (Option (List ℕ)))
+  pub known : IfOk served (λ served. (hears ≡ heard served.listener)
+      × (tells ≡ told served.listener))
+  pub given : Option (List ℕ)
+  pub gives : Option (List ℕ)
+  pub is : ServesParts g has_journal terms (begins_at heard told listener old given)
+      (record { conn = new; heard = hears; told = tells; given = gives }) (ended served)
+
+abbrev pub Serves : {L : Type 0} → (L → Option (List (Option Opening)))
+    → (L → Option (List (Option (List ℕ)))) → Bool → Terms → L → Saying (Served L)
+Serves heard told has_journal terms listener = λ S g old new before after served.
+    IsServed heard told g old new has_journal terms listener served
+
+-- or no room is opened for one of its parts
+abbrev pub ServesNone : {L : Type 0} → (L → Option (List (Option Opening)))
+    → (L → Option (List (Option (List ℕ)))) → Bool → Terms → L → Refusing
+ServesNone heard told has_journal terms listener = λ S g conn fault.
+    (given : Option (List ℕ))
+    × OpensNoPart g has_journal terms (begins_at heard told listener conn given) fault
+
+-- whether each message lasts before the room acts on it: where a journal is asked for that is so
+abbrev pub is_synced_by : Option Journal → Bool
+is_synced_by None = false
+is_synced_by (Some journal) = journal.is_synced
+
+-- whether questions are kept in it: where a journal is asked for that is so
+abbrev pub keeps_questions_by : Option Journal → Bool
+keeps_questions_by None = true
+keeps_questions_by (Some journal) = journal.keeps_questions
+
+-- by what the output held before, what it holds after, and how much is done
+module _ (before after : Option (List ℕ)) (done : Done) where
+  -- a room was served to those who call where something listens
+  abbrev pub IsServedAt : {L : Type 0} → (L → Option (List (Option Opening)))
+      → (L → Option (List (Option (List ℕ)))) → Bool → Terms → Type 0
+  IsServedAt {L} heard told has_journal terms =
+      (listener : L) × (served : Served L)
+      × IsDoneInFile (Serves heard told has_journal terms listener) before after served
+      × (done ≡ served.done)
+
+  -- A room was served, with a journal where one was asked for: at a door, where it goes on until it
+  -- is stopped, or to as many connections as was asked for, one after another.
+  abbrev pub IsServedBy : Bool → Bool → Terms → Type 0
+  IsServedBy true has_journal terms =
+      IsServedAt {L = TcpDoor} (λ _. None) (λ _. None) has_journal terms
+  IsServedBy false has_journal terms =
+      IsServedAt {L = TcpAddress} (λ _. None) (λ _. None) has_journal terms
+
+  abbrev pub IsServe : Service → Type 0
+  IsServe service = IsServedBy (is_endless service) (is_some service.journal) (terms_of service)
+
+-- by what the output held before, what it holds after, and why the task fails
+module _ (before after : Option (List ℕ)) (fault : Failure) where
+  -- this became of the file of the room that was to be served to those who call where something
+  -- listens
+  abbrev pub FailsAt : {L : Type 0} → (L → Option (List (Option Opening)))
+      → (L → Option (List (Option (List ℕ)))) → Bool → Terms → Type 0
+  FailsAt {L} heard told has_journal terms =
+      (listener : L)
+      × IsUndoneInFile (Serves heard told has_journal terms listener)
+      (ServesNone heard told has_journal terms listener) before after fault
+
+  abbrev pub FailsBy : Bool → Bool → Terms → Type 0
+  FailsBy true has_journal terms =
+      FailsAt {L = TcpDoor} (λ _. None) (λ _. None) has_journal terms
+  FailsBy false has_journal terms =
+      FailsAt {L = TcpAddress} (λ _. None) (λ _. None) has_journal terms
+
+  -- there is no journal where one was asked for, and nothing is said; or this became of the file of
+  -- the room that was to be served
+  abbrev pub FailsServe : Service → Type 0
+  FailsServe service =
+      ((after ≡ before) × ((fault ≡ failure.Memory) ⊎ (fault ≡ failure.Journal)))
+      ⊎ FailsBy (is_endless service) (is_some service.journal) (terms_of service)

@@ -1,0 +1,192 @@
+//! What listens at an address: it gives the connections of those who call, and lets their peers go.
+ghost use Rattle.std.specs.Prelude.{◌≡◌, ℕ, List, [], ◌∷◌, Bool, None, Option, IfErr, IfSome, OnOk, false, is_some, option_map, true};
+ghost use Rattle.dispatch_room_cli.specs.declared.exit_status.Failure.TheVariants.{Network};
+ghost use Rattle.dispatch_room_serving.specs.Callers.{Grows, Opening};
+ghost use Rattle.dispatch_room_sockets.specs.LingeringClose.{Step};
+
+use dispatch_room_cli::exit_status::Failure;
+use dispatch_room_cli::explainer::Explainer;
+use dispatch_room_sockets::connection_halves::sides;
+use dispatch_room_sockets::lingering_close::{Parting, Peer};
+use dispatch_room_sockets::socket_readers::SocketReader;
+use dispatch_room_sockets::socket_writers::SocketWriter;
+use dispatch_room_sockets::timeouts::Waits;
+use room_http_messages::sinks::Sink;
+use room_http_messages::sources::Source;
+use std::io::{Error, ErrorKind};
+use std::net::{SocketAddr, TcpListener, TcpStream};
+use std::thread;
+use std::time::Duration;
+
+/// What listens: it gives the two sides of each connection, makes its peer of them once it was
+/// served, and lets that go.
+pub trait Listener: Drop {
+    /// What is read from.
+    type Reader: Source;
+
+    /// What is written to.
+    type Writer: Sink;
+
+    /// Who is parted from.
+    type Peer: Parting;
+
+    // The calls that came so far, where they are known: what each began with, or none where no
+    // connection came of it.
+    ghost heard: { Self → Option (List (Option Opening)) };
+
+    // What each writer held that was taken back, where that is known.
+    ghost told: { Self → Option (List (Option (List ℕ))) };
+
+    // Whether it listens.
+    ghost is_listening: { Self → Bool };
+
+    // What was done to part from each peer that was let go, where that is known.
+    ghost parted: { Self → Option (List (Option (List Step))) };
+
+    // The peer of two sides.
+    ghost peer_of: { Self.Reader → Self.Writer → Self.Peer };
+
+    /// Begins to listen. A failure is the network's.
+    fn listen(&mut self) -> Result<(), Failure>
+        ensures listens { OnOk result (is_listening self.new ≡ true) }
+        ensures heard { heard self.new ≡ heard self.old }
+        ensures told { told self.new ≡ told self.old }
+        ensures fault { IfErr result (λ fault. fault ≡ Network) };
+
+    /// Whether it listens.
+    fn is_listening(&self) -> bool
+        ensures { result ≡ is_listening self.now };
+
+    /// The sides of the next connection: none where it came to nothing.
+    fn accept(&mut self) -> Option<(Self::Reader, Self::Writer)>
+        ensures heard { Grows (heard self.old) (heard self.new) (option_map (λ sides. record {
+          left = Self.Reader.left sides.0;
+          held = Self.Writer.held sides.1;
+        }) result ∷ []) }
+        ensures told { told self.new ≡ told self.old }
+        ensures reader { IfSome result (λ sides. Self.Reader.has_failed sides.0 ≡ false) }
+        ensures writer { IfSome result (λ sides. Self.Writer.has_failed sides.1 ≡ false) };
+
+    /// Takes the sides of a connection back that was served, as its peer.
+    fn peer(&mut self, reader: Self::Reader, writer: Self::Writer) -> Self::Peer
+        ensures heard { heard self.new ≡ heard self.old }
+        ensures told { Grows (told self.old) (told self.new) (Self.Writer.held writer ∷ []) }
+        ensures parted { parted self.new ≡ parted self.old }
+        ensures peer { result ≡ peer_of reader writer };
+
+    /// Lets a peer go that was parted from.
+    fn let_go(&mut self, peer: Self::Peer)
+        ensures heard { heard self.new ≡ heard self.old }
+        ensures told { told self.new ≡ told self.old }
+        ensures parted { Grows (parted self.old) (parted self.new) (Self.Peer.done peer ∷ []) };
+}
+
+// How many milliseconds nobody is heard after a connection that the system could not give, as where
+// too many files are open: it would say the same again at once.
+const PAUSE: u64 = 100;
+
+/// An address of TCP at which it is listened.
+#[derive(Drop)]
+pub struct TcpAddress<'a> {
+    rt: &'a HostRuntime,
+    explainer: Explainer<'a>,
+    address: SocketAddr,
+    waits: Waits,
+    listener: Option<TcpListener>,
+}
+
+impl<'a> TcpAddress<'a> {
+    /// An address at which nobody listens yet, and how long its connections are waited for. Where
+    /// nobody can listen there, it is explained why.
+    pub fn new(
+        rt: &'a HostRuntime,
+        explainer: Explainer<'a>,
+        address: SocketAddr,
+        waits: Waits,
+    ) -> TcpAddress<'a>
+        ensures { (result.address ≡ address) × (result.waits ≡ waits) }
+    {
+        TcpAddress {
+            rt,
+            explainer,
+            address,
+            waits,
+            listener: None,
+        }
+    }
+}
+
+// What is said on a socket no contract can say.
+impl<'a> Listener for TcpAddress<'a> {
+    type Reader = SocketReader<'a, TcpStream, HostRuntime>;
+
+    type Writer = SocketWriter<'a, TcpStream, HostRuntime>;
+
+    type Peer = Peer<'a, TcpStream, HostRuntime>;
+
+    ghost heard = { λ _. None };
+
+    ghost told = { λ _. None };
+
+    ghost is_listening = { λ it. is_some it.listener };
+
+    ghost parted = { λ _. None };
+
+    ghost peer_of = { λ reader writer. record { reader = reader; writer = writer } };
+
+    fn listen(&mut self) -> Result<(), Failure> {
+        match bound(self.rt, self.explainer, self.address) {
+            Ok(listener) => {
+                self.listener = Some(listener);
+                Ok(())
+            }
+            Err(fault) => Err(fault),
+        }
+    }
+
+    fn is_listening(&self) -> bool {
+        self.listener.is_some()
+    }
+
+    fn accept(&mut self) -> Option<(Self::Reader, Self::Writer)> {
+        match self.listener.as_ref()?.accept() {
+            Ok((stream, _)) => sides(stream, self.rt, self.waits),
+            Err(error) => {
+                pause_after(self.rt, &error);
+                None
+            }
+        }
+    }
+
+    fn peer(&mut self, reader: Self::Reader, writer: Self::Writer) -> Self::Peer {
+        Peer::new(reader, writer)
+    }
+
+    fn let_go(&mut self, peer: Self::Peer) {
+        drop(peer);
+    }
+}
+
+/// What listens at an address of TCP. A failure is the network's, and is explained.
+pub(crate) fn bound(
+    rt: &HostRuntime,
+    explainer: Explainer<'_>,
+    address: SocketAddr,
+) -> Result<TcpListener, Failure>
+    ensures { IfErr result (λ fault. fault ≡ Network) }
+{
+    match TcpListener::bind(rt, address) {
+        Ok(listener) => Ok(listener),
+        Err(error) => {
+            explainer.explain(format_args!("{address}: {error}"));
+            Err(Failure::Network)
+        }
+    }
+}
+
+// Waits after a connection that was not to be had, but where it was the peer's doing.
+fn pause_after(rt: &HostRuntime, error: &Error) {
+    if error.kind() != ErrorKind::ConnectionAborted {
+        thread::sleep(rt, Duration::from_millis(PAUSE));
+    }
+}

@@ -1,0 +1,108 @@
+//! The names at which the files of a served room were opened, and whether the files still lie
+//! there. The room is served from the files that were opened, wherever these went; but a start
+//! would find what lies at the names then.
+
+use dispatch_room_cli::explainer::Explainer;
+use std::alloc::Global;
+use std::fs;
+use std::os::unix::fs::MetadataExt;
+use std::time::{Clock, Duration};
+
+// How many milliseconds pass at least between two looks. A look asks the system twice, and that
+// after each answer would cost a tenth of it.
+const BETWEEN_LOOKS: u64 = 1000;
+
+/// The names of a room's file and of its log, with what lay there once the room was opened: none
+/// where the system does not say.
+#[derive(Drop)]
+pub struct OpenedNames {
+    room: Option<OpenedName>,
+    log: Option<OpenedName>,
+    // Until when they are not looked at, by a clock that is never set back.
+    rests_until: Duration,
+}
+
+impl OpenedNames {
+    /// No names.
+    pub fn none() -> OpenedNames {
+        OpenedNames {
+            room: None,
+            log: None,
+            rests_until: Duration::ZERO,
+        }
+    }
+
+    /// Those of the room whose file was opened at a path. The log lies where the file does, to
+    /// which a link may lead.
+    pub fn of(rt: &HostRuntime, alloc: Global, path: &str) -> OpenedNames {
+        OpenedNames {
+            room: OpenedName::of(rt, format!(in alloc; "{path}").ok()),
+            log: OpenedName::of(rt, log_of(rt, alloc, path)),
+            rests_until: Duration::ZERO,
+        }
+    }
+
+    /// Looks at both, where the last look is a second old, by a question to the system for each. Of
+    /// a file that lies there no more it is explained once what became of it.
+    pub fn look(&mut self, rt: &HostRuntime, explainer: Explainer<'_>) {
+        let Ok(now) = rt.monotonic() else {
+            return;
+        };
+        if now < self.rests_until {
+            return;
+        }
+        self.rests_until = now.saturating_add(Duration::from_millis(BETWEEN_LOOKS));
+        if let Some(room) = &mut self.room {
+            room.look(rt, explainer);
+        }
+        if let Some(log) = &mut self.log {
+            log.look(rt, explainer);
+        }
+    }
+}
+
+fn log_of(rt: &HostRuntime, alloc: Global, path: &str) -> Option<String> {
+    let file = fs::canonicalize(rt, path).ok()?;
+    format!(in alloc; "{}-wal", file.as_str()).ok()
+}
+
+// A name, and the file that lay there, by its device and its number.
+#[derive(Drop)]
+struct OpenedName {
+    path: String,
+    device: u64,
+    inode: u64,
+    is_missed: bool,
+}
+
+impl OpenedName {
+    fn of(rt: &HostRuntime, path: Option<String>) -> Option<OpenedName> {
+        let path = path?;
+        let found = fs::metadata(rt, path.as_str()).ok()?;
+        Some(OpenedName {
+            path,
+            device: found.dev(),
+            inode: found.ino(),
+            is_missed: false,
+        })
+    }
+
+    fn look(&mut self, rt: &HostRuntime, explainer: Explainer<'_>) {
+        let is_missed = !self.is_there(rt);
+        if is_missed && !self.is_missed {
+            let path = self.path.as_str();
+            explainer.explain(format_args!(
+                "{path} was moved, replaced or removed: the room is served on from the file that \
+                 was opened, which a start would not find"
+            ));
+        }
+        self.is_missed = is_missed;
+    }
+
+    fn is_there(&self, rt: &HostRuntime) -> bool {
+        match fs::metadata(rt, self.path.as_str()) {
+            Ok(found) => found.dev() == self.device && found.ino() == self.inode,
+            Err(_) => false,
+        }
+    }
+}

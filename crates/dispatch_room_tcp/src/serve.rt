@@ -1,0 +1,459 @@
+//! `serve`: a room is served over TCP, to so many connections one after another, or to all who
+//! call, until it is stopped. Then it may be served in parts, each with a list of its own.
+ghost use Rattle.std.specs.Prelude.{◌≡◌, ◌⊎◌, ◌*◌, Option, false, true, is_some, IfErr, IfOk, IfSome};
+ghost use Rattle.std.specs.Duration.{as_nanos};
+ghost use Rattle.dispatch_room_cli.specs.declared.exit_status.Failure.TheVariants as failure;
+ghost use Rattle.dispatch_room_tasks.specs.OpenedRoom.{IsUnopened};
+ghost use Rattle.dispatch_room_serving.specs.Journals.{failed_by};
+ghost use Rattle.dispatch_room_tcp.specs.ServedFiles.{FailsAt, FailsBy, FailsServe, IsServe, IsServedAt, IsServedBy};
+ghost use Rattle.dispatch_room_tcp.specs.ServedFiles.{Serves, ServesNone, ended, is_endless, is_synced_by, keeps_questions_by, terms_of};
+ghost use Rattle.dispatch_room_tcp.specs.ServedParts.{IsPart, OpensNoPart, ServesParts};
+
+use crate::hosts::Host;
+use crate::listeners::{Listener, TcpAddress};
+use crate::tcp_callers::Heard;
+use crate::tcp_doors::TcpDoor;
+use dispatch_room_cli::exit_status::{Done, Failure};
+use dispatch_room_cli::explainer::Explainer;
+use dispatch_room_cli::tasks::{self, Service};
+use dispatch_room_disk::room_files::{RoomFile, RoomTask};
+use dispatch_room_serving::callers::Callers;
+use dispatch_room_serving::journal_files::{JournalFile, OpenedList, SystemFile};
+use dispatch_room_serving::journals::Journal;
+use dispatch_room_serving::list_places::{Finding, ListPlace, standing};
+use dispatch_room_serving::log_observers::LogAndJournal;
+use dispatch_room_serving::logs::Log;
+use dispatch_room_serving::served_room::{ServedPart, Terms, serve_in};
+use dispatch_room_sockets::timeouts::Waits;
+use dispatch_room_tasks::opened_room::TaskResult;
+use room_http::clocks::{Clock, MachineClock};
+use sqlite::{Alter, Connection};
+use std::alloc::Global;
+use std::io::Write;
+use std::time::Duration;
+
+/// Serves the room of a file, with a log and a journal of it where they are wanted: to so many
+/// connections, one after another, each to its end; or where it goes on until it is stopped, in
+/// pieces, so that nobody waits for who has not spoken. A connection that ends badly doesn't end
+/// it, but for lack of memory, where the journal can't be kept, and where the room's file failed so
+/// that it has to be opened again.
+pub fn serve_file<O: Write, E: Write>(
+    host: Host<'_>,
+    file: &str,
+    service: Service<'_>,
+    out: &mut O,
+    err: &mut E,
+) -> Result<Done, Failure>
+    ensures done { IfOk result (λ done.
+        IsServe (O.contents out.old) (O.contents out.new) done service.entry) }
+    ensures undone { IfErr result (λ fault.
+        FailsServe (O.contents out.old) (O.contents out.new) fault service.entry) }
+{
+    let journal = journal_file(host, &service.journal, err)?;
+    let run = ServiceRun {
+        host,
+        service: &service,
+    };
+    if is_endless(&service) {
+        serve_at_door(file, &run, journal, out, err)
+    } else {
+        serve_at_address(file, &run, journal, out, err)
+    }
+}
+
+// How a room is served: the service, and what it runs on.
+#[derive(Clone, Copy)]
+struct ServiceRun<'a> {
+    host: Host<'a>,
+    service: &'a Service<'a>,
+}
+
+// Whether a service goes on until it is stopped: without `--connections` there are 2^64 - 1. Else a
+// connection counts as soon as it is asked for, whatever becomes of it.
+fn is_endless(service: &Service<'_>) -> bool
+    ensures { result ≡ is_endless service.now }
+{
+    service.connections == u64::MAX
+}
+
+// Serves the room of a file at a door, until it is stopped.
+fn serve_at_door<O: Write, E: Write>(
+    file: &str,
+    run: &ServiceRun<'_>,
+    journal: Option<OpenedList>,
+    out: &mut O,
+    err: &mut E,
+) -> Result<Done, Failure>
+    ensures done { IfOk result (λ done. IsServedBy (O.contents out.old) (O.contents out.new) done
+        true (is_some journal) (terms_of run.now.service.now)) }
+    ensures undone { IfErr result (λ fault. FailsBy (O.contents out.old) (O.contents out.new) fault
+        true (is_some journal) (terms_of run.now.service.now)) }
+{
+    let keep = Duration::from_secs(u64::from(run.service.keep));
+    let patience = waits_of(run.service).patience;
+    let address = run.service.address;
+    let listener = TcpDoor::new(run.host, file, address, keep, patience);
+    serve_at(file, run, journal, listener, out, err)
+}
+
+// Serves the room of a file to as many connections as its service says, one after another.
+fn serve_at_address<O: Write, E: Write>(
+    file: &str,
+    run: &ServiceRun<'_>,
+    journal: Option<OpenedList>,
+    out: &mut O,
+    err: &mut E,
+) -> Result<Done, Failure>
+    ensures done { IfOk result (λ done. IsServedBy (O.contents out.old) (O.contents out.new) done
+        false (is_some journal) (terms_of run.now.service.now)) }
+    ensures undone { IfErr result (λ fault. FailsBy (O.contents out.old) (O.contents out.new) fault
+        false (is_some journal) (terms_of run.now.service.now)) }
+{
+    let address = run.service.address;
+    let listener = TcpAddress::new(
+        run.host.rt,
+        run.host.explainer,
+        address,
+        waits_of(run.service),
+    );
+    serve_at(file, run, journal, listener, out, err)
+}
+
+// Serves the room of a file to those who call where something listens.
+fn serve_at<L: Listener, O: Write, E: Write>(
+    file: &str,
+    run: &ServiceRun<'_>,
+    journal: Option<OpenedList>,
+    listener: L,
+    out: &mut O,
+    err: &mut E,
+) -> Result<Done, Failure>
+    ensures done { IfOk result (λ done. IsServedAt (O.contents out.old) (O.contents out.new) done
+        L.heard L.told (is_some journal) (terms_of run.now.service.now)) }
+    ensures undone { IfErr result (λ fault. FailsAt (O.contents out.old) (O.contents out.new) fault
+        L.heard L.told (is_some journal) (terms_of run.now.service.now)) }
+{
+    let serving = Serving {
+        run,
+        list: journal,
+        listener,
+        err,
+    };
+    match run.host.in_file(RoomFile::Kept(file), serving, out) {
+        Ok(served) => Ok(served.done),
+        Err(fault) => Err(fault),
+    }
+}
+
+// The file of a journal, where one is wanted.
+fn journal_file<E: Write>(
+    host: Host<'_>,
+    journal: &Option<tasks::Journal<'_>>,
+    err: &mut E,
+) -> Result<Option<OpenedList>, Failure>
+    ensures file { IfOk result (λ file. is_some file ≡ is_some journal.now) }
+    ensures fault { IfErr result (λ fault. (fault ≡ failure.Memory) ⊎ (fault ≡ failure.Journal)) }
+{
+    match journal {
+        Some(journal) => Ok(Some(host.open_journal(journal.list, err)?)),
+        None => Ok(None),
+    }
+}
+
+/// A room that was served, and what listened for those who called.
+#[derive(Drop)]
+pub struct Served<L> {
+    done: Done,
+    listener: L,
+}
+
+// The room is served to those who call where something listens.
+#[derive(Drop)]
+struct Serving<'a, L, E> {
+    run: &'a ServiceRun<'a>,
+    list: Option<OpenedList>,
+    listener: L,
+    err: &'a mut E,
+}
+
+impl<'a, L: Listener, E: Write> RoomTask for Serving<'a, L, E> {
+    type Done = Served<L>;
+
+    ghost says = { λ work. Serves L.heard L.told (is_some work.list)
+        (terms_of work.run.now.service.now) work.listener };
+
+    ghost refuses = { λ work. ServesNone L.heard L.told (is_some work.list)
+        (terms_of work.run.now.service.now) work.listener };
+
+    fn run<S: Alter + Drop, O: Write>(
+        self,
+        _alloc: Global,
+        conn: Connection<S>,
+        out: &mut O,
+    ) -> TaskResult<Served<L>, S> {
+        let Serving {
+            run,
+            list,
+            listener,
+            err,
+        } = self;
+        serve_listened(conn, run, list, listener, out, err)
+    }
+}
+
+// Serves the room of a database to those who call where something listens, which is given back.
+fn serve_listened<S: Alter + Drop, L: Listener, O: Write, E: Write>(
+    conn: Connection<S>,
+    run: &ServiceRun<'_>,
+    list: Option<OpenedList>,
+    listener: L,
+    out: &mut O,
+    err: &mut E,
+) -> TaskResult<Served<L>, S>
+    requires outside { conn.in_transaction ≡ false }
+    ensures served { IfOk result (λ worked. Serves L.heard L.told
+        (is_some list) (terms_of run.now.service.now)
+        listener S S.Store conn worked.1 (O.contents out.old) (O.contents out.new)
+        worked.0) }
+    ensures fault { IfErr result (ServesNone L.heard L.told (is_some list)
+        (terms_of run.now.service.now) listener S S.Store conn) }
+{
+    let mut callers = Heard::new(listener, out);
+    let mut clock = MachineClock::new(run.host.rt);
+    let (done, conn) = serve_parts(conn, run, list, &mut callers, &mut clock, err)?;
+    Ok((given_back(done, callers.into_listener()), conn))
+}
+
+// How serving ended, with what listened for it.
+fn given_back<L: Drop>(done: Result<Done, Failure>, listener: L) -> Result<Served<L>, Failure>
+    ensures done { ended result ≡ done }
+    ensures listener { IfOk result (λ served. served.listener ≡ listener) }
+{
+    match done {
+        Ok(done) => Ok(Served { done, listener }),
+        Err(fault) => Err(fault),
+    }
+}
+
+// Serves the room of a database to those who call, in parts where the service says so: as often as
+// one ends well, the next begins in a new list.
+fn serve_parts<S: Alter + Drop, P: Callers, C: Clock, E: Write>(
+    conn: Connection<S>,
+    run: &ServiceRun<'_>,
+    list: Option<OpenedList>,
+    callers: &mut P,
+    clock: &mut C,
+    err: &mut E,
+) -> TaskResult<Done, S>
+    requires outside { conn.in_transaction ≡ false }
+    ensures served { IfOk result (λ worked. ServesParts S.Store (is_some list)
+        (terms_of run.now.service.now)
+        (record {
+          conn = conn;
+          heard = P.heard callers.old;
+          told = P.told callers.old;
+          given = C.given clock.old;
+        })
+        (record {
+          conn = worked.1;
+          heard = P.heard callers.new;
+          told = P.told callers.new;
+          given = C.given clock.new;
+        })
+        worked.0) }
+    ensures fault { IfErr result (OpensNoPart S.Store (is_some list)
+        (terms_of run.now.service.now)
+        (record {
+          conn = conn;
+          heard = P.heard callers.old;
+          told = P.told callers.old;
+          given = C.given clock.old;
+        })) }
+{
+    let (first, left) = serve_part(conn, run, &list, callers, clock, err)?;
+    if !terms_of(run.service).renews {
+        return Ok((first, left));
+    }
+    let mut done = first;
+    let mut conn = left;
+    let mut list = list;
+    for _part in 1..u64::MAX {
+        if done.is_err() {
+            return Ok((done, conn));
+        }
+        list = match next_list(run, list, err) {
+            Ok(next) => next,
+            Err(fault) => return Ok((Err(fault), conn)),
+        };
+        let (next, left) = serve_part(conn, run, &list, callers, clock, err)?;
+        done = next;
+        conn = left;
+    }
+    Ok((done, conn))
+}
+
+// Lets the list of a part go, and opens that of the next, where there was one.
+fn next_list<E: Write>(
+    run: &ServiceRun<'_>,
+    list: Option<OpenedList>,
+    err: &mut E,
+) -> Result<Option<OpenedList>, Failure>
+    ensures list { IfOk result (λ next. is_some next ≡ is_some list) }
+    ensures fault { IfErr result (λ fault. (fault ≡ failure.Memory) ⊎ (fault ≡ failure.Journal)) }
+{
+    let Some(last) = list else {
+        return Ok(None);
+    };
+    drop(last);
+    match &run.service.journal {
+        Some(journal) => {
+            let next = run.host.open_journal(journal.list, err)?;
+            Ok(Some(next))
+        }
+        None => Err(Failure::Journal),
+    }
+}
+
+// Serves the room of a database to those who call, so many as the service says, or until its list
+// stands there no more, and keeps a journal where there is a list for it. Where that ended well,
+// the list says so.
+fn serve_part<S: Alter + Drop, P: Callers, C: Clock, E: Write>(
+    conn: Connection<S>,
+    run: &ServiceRun<'_>,
+    list: &Option<OpenedList>,
+    callers: &mut P,
+    clock: &mut C,
+    err: &mut E,
+) -> TaskResult<Done, S>
+    requires outside { conn.in_transaction ≡ false }
+    ensures outside { IfOk result (λ worked. worked.1.in_transaction ≡ false) }
+    ensures served { IfOk result (λ worked. IsPart S.Store (is_some list.now)
+        (terms_of run.now.service.now)
+        (record {
+          conn = conn;
+          heard = P.heard callers.old;
+          told = P.told callers.old;
+          given = C.given clock.old;
+        })
+        (record {
+          conn = worked.1;
+          heard = P.heard callers.new;
+          told = P.told callers.new;
+          given = C.given clock.new;
+        })
+        worked.0) }
+    ensures fault { IfErr result (IsUnopened S.Store conn) }
+{
+    let host = run.host;
+    let service = run.service;
+    let terms = terms_of(service);
+    let mut part = ServedPart {
+        terms,
+        place: place_of(run, list, terms.renews),
+    };
+    let log = Log::new(
+        host.alloc,
+        host.rt,
+        Explainer::new(host.rt, service.log),
+        err,
+        service.log,
+    );
+    let journal = journal_of(service, host.explainer, list);
+    let mut log_and_journal = LogAndJournal::new(log, journal);
+    let (done, conn) = serve_in(
+        host.alloc,
+        conn,
+        callers,
+        clock,
+        &mut log_and_journal,
+        &mut part,
+    )?;
+    let left = standing(&mut part.place);
+    if done.is_ok() && left != Finding::Truncated {
+        let _ = log_and_journal.end();
+    }
+    drop(log_and_journal);
+    if done.is_ok() {
+        leave(host.alloc, part.place, left, err);
+    }
+    Ok((done, conn))
+}
+
+// The place of the list of a service that may be served in parts, where the system says which file
+// stands there.
+fn place_of<'a>(
+    run: &ServiceRun<'a>,
+    list: &Option<OpenedList>,
+    renews: bool,
+) -> Option<ListPlace<'a>> {
+    match (list, run.service.journal) {
+        (Some(list), Some(journal)) if renews => {
+            ListPlace::new(run.host.rt, journal.list, &list.file).ok()
+        }
+        _ => None,
+    }
+}
+
+// Reports why a new part begins, where one does. What is left of a list that was truncated is set
+// aside: what was put behind it since goes on from records that are lost.
+fn leave<E: Write>(alloc: Global, place: Option<ListPlace<'_>>, left: Finding, err: &mut E) {
+    let Some(place) = place else {
+        return;
+    };
+    let _ = match left {
+        Finding::There => Ok(()),
+        Finding::Elsewhere => writeln!(err, "journal: the list was moved, a new one begins"),
+        Finding::Truncated if place.set_aside(alloc) => {
+            writeln!(err, "journal: the list was truncated, a new one begins")
+        }
+        Finding::Truncated => writeln!(err, "journal: the list was truncated"),
+    };
+}
+
+// What is served of a room.
+fn terms_of(service: &Service<'_>) -> Terms
+    ensures { result ≡ terms_of service.now }
+{
+    Terms {
+        connections: service.connections,
+        history: service.history,
+        renews: is_endless(service) && service.journal.is_some(),
+    }
+}
+
+// The journal of a service, in its file.
+fn journal_of<'a>(
+    service: &Service<'a>,
+    explainer: Explainer<'a>,
+    list: &'a Option<OpenedList>,
+) -> Option<Journal<JournalFile<SystemFile<'a>>>>
+    ensures kept { is_some result ≡ is_some list.now }
+    ensures synced { IfSome result (λ journal.
+        journal.is_synced ≡ is_synced_by service.now.journal) }
+    ensures of { IfSome result (λ journal.
+        journal.keeps_questions ≡ keeps_questions_by service.now.journal) }
+    ensures fresh { failed_by result ≡ false }
+{
+    let (path, is_synced, keeps_questions) = match service.journal {
+        Some(journal) => (journal.list, journal.is_synced, journal.keeps_questions),
+        None => ("", false, true),
+    };
+    match list {
+        Some(list) => {
+            let file = JournalFile::new(SystemFile::new(&list.file, explainer, path), list.end);
+            Some(Journal::new(file, is_synced, keeps_questions))
+        }
+        None => None,
+    }
+}
+
+// How long a connection of a service is waited for.
+fn waits_of(service: &Service<'_>) -> Waits
+    ensures idle { as_nanos result.idle ≡ service.now.idle * 1_000_000 }
+    ensures patience { as_nanos result.patience ≡ service.now.patience * 1_000_000_000 }
+{
+    Waits {
+        idle: Duration::from_millis(u64::from(service.idle)),
+        patience: Duration::from_secs(u64::from(service.patience)),
+    }
+}

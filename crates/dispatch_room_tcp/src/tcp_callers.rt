@@ -1,0 +1,101 @@
+//! Those who call where something listens.
+ghost use Rattle.std.specs.Io.KnownBytes.{Appends};
+ghost use Rattle.std.specs.Prelude.{◌≡◌, ◌∷◌, [], IfErr, MatchBool, OnOk, codes, true};
+ghost use Rattle.dispatch_room_cli.specs.declared.exit_status.Failure.TheVariants.{Network};
+ghost use Rattle.dispatch_room_serving.specs.Callers.{Grows};
+ghost use Rattle.dispatch_room_tcp.specs.Listeners.{PartsFrom};
+
+use crate::listeners::Listener;
+use dispatch_room_cli::exit_status::Failure;
+use dispatch_room_serving::callers::Callers;
+use dispatch_room_sockets::lingering_close::part;
+use std::io::Write;
+
+/// Those who call where something listens. That they may is said on an output, and each is parted
+/// from.
+#[derive(Drop)]
+pub struct Heard<'a, L, O> {
+    listener: L,
+    out: &'a mut O,
+}
+
+impl<'a, L: Listener, O: Write> Heard<'a, L, O> {
+    /// Those who call where this listens.
+    pub fn new(listener: L, out: &'a mut O) -> Heard<'a, L, O>
+        ensures { result.listener ≡ listener }
+    {
+        Heard { listener, out }
+    }
+
+    /// What listened for them.
+    pub fn into_listener(self) -> L
+        ensures { result ≡ self.entry.listener }
+    {
+        self.listener
+    }
+}
+
+impl<'a, L: Listener, O: Write> Callers for Heard<'a, L, O> {
+    type Reader = L::Reader;
+
+    type Writer = L::Writer;
+
+    ghost heard = { λ callers. L.heard callers.listener };
+
+    ghost told = { λ callers. L.told callers.listener };
+
+    // Beside what all callers ensure: something listens for them, and where nothing did, that is
+    // reported.
+    fn begin(&mut self) -> Result<(), Failure>
+        ensures heard { L.heard self.new.listener ≡ L.heard self.old.listener }
+        ensures told { L.told self.new.listener ≡ L.told self.old.listener }
+        ensures fault { IfErr result (λ fault. fault ≡ Network) }
+        ensures listens { OnOk result (L.is_listening self.new.listener ≡ true) }
+        ensures said { OnOk result (MatchBool (L.is_listening self.old.listener)
+            (self.new.out.now ≡ self.old.out.now)
+            (Appends (O.contents self.old.out.now) (O.contents self.new.out.now)
+            (codes "serving\n"))) }
+    {
+        if self.listener.is_listening() {
+            return Ok(());
+        }
+        if let Err(fault) = self.listener.listen() {
+            return Err(fault);
+        }
+        tell(self.out)
+    }
+
+    fn next(&mut self) -> Option<(L::Reader, L::Writer)> {
+        self.listener.accept()
+    }
+
+    // Beside what all callers ensure: the peer was parted from, and then let go.
+    #[tactic(auto, using(crate::proofs::ListeningLemmas::parts_from))]
+    fn done(&mut self, reader: L::Reader, writer: L::Writer)
+        ensures heard { L.heard self.new.listener ≡ L.heard self.old.listener }
+        ensures told { Grows (L.told self.old.listener) (L.told self.new.listener)
+            (L.Writer.held writer ∷ []) }
+        ensures parted { PartsFrom L.Peer.done L.Peer.is_open L.Peer.answered
+            (L.peer_of reader writer) (L.parted self.old.listener)
+            (L.parted self.new.listener) }
+    {
+        let mut peer = self.listener.peer(reader, writer);
+        part(&mut peer);
+        self.listener.let_go(peer);
+    }
+}
+
+// Says that a room is served.
+fn tell<O: Write>(out: &mut O) -> Result<(), Failure>
+    ensures said { OnOk result (Appends (O.contents out.old) (O.contents out.new)
+        (codes "serving\n")) }
+    ensures fault { IfErr result (λ fault. fault ≡ Network) }
+{
+    match writeln!(out, "serving") {
+        Ok(()) => match out.flush() {
+            Ok(()) => Ok(()),
+            Err(_) => Err(Failure::Network),
+        },
+        Err(_) => Err(Failure::Network),
+    }
+}

@@ -1,0 +1,160 @@
+//! A door at which nobody waits for who has not spoken: each connection is served in pieces, and
+//! between two of them it waits among the others.
+ghost use Rattle.std.specs.Prelude.{◌≡◌, IfErr, None, false, is_some};
+ghost use Rattle.dispatch_room_cli.specs.declared.exit_status.Failure.TheVariants.{Network};
+
+use crate::hosts::Host;
+use crate::listeners::{Listener, bound};
+use crate::opened_names::OpenedNames;
+use dispatch_room_cli::exit_status::Failure;
+use dispatch_room_sockets::doors::Door;
+use dispatch_room_sockets::lingering_close::Parting;
+use dispatch_room_sockets::pieces::{PieceReader, PieceWriter, next_piece, take_back};
+use dispatch_room_sockets::waiting_callers::Waiting;
+use std::net::{SocketAddr, TcpListener};
+use std::time::Duration;
+
+/// A door at an address of TCP.
+#[derive(Drop)]
+pub struct TcpDoor<'a> {
+    host: Host<'a>,
+    address: SocketAddr,
+    // The file of the room that is served here, and what lay at its names as this began to listen.
+    file: &'a str,
+    names: OpenedNames,
+    // How long a connection may be silent.
+    keep: Duration,
+    // How long a request may take to come, and its answer to be taken.
+    patience: Duration,
+    waiting: Option<Waiting<Door<'a>>>,
+}
+
+impl<'a> TcpDoor<'a> {
+    /// A door at which nobody waits yet, for the room of a file. Where nobody can listen there, it
+    /// is explained why, and where the file lies no more at its name, that it does not.
+    pub fn new(
+        host: Host<'a>,
+        file: &'a str,
+        address: SocketAddr,
+        keep: Duration,
+        patience: Duration,
+    ) -> TcpDoor<'a>
+        ensures { (result.address ≡ address) × (result.keep ≡ keep)
+            × (result.patience ≡ patience) }
+    {
+        TcpDoor {
+            host,
+            address,
+            file,
+            names: OpenedNames::none(),
+            keep,
+            patience,
+            waiting: None,
+        }
+    }
+
+    // Those who wait where this listens. A failure is the network's.
+    fn opened(&self, listener: TcpListener) -> Result<Waiting<Door<'a>>, Failure>
+        ensures fault { IfErr result (λ fault. fault ≡ Network) }
+    {
+        let host = self.host;
+        let door = match Door::new(host.rt, host.alloc, listener) {
+            Ok(door) => door,
+            Err(error) => {
+                let address = self.address;
+                host.explainer.explain(format_args!("{address}: {error}"));
+                return Err(Failure::Network);
+            }
+        };
+        match Waiting::new(host.alloc, door, self.keep, self.patience) {
+            Ok(waiting) => Ok(waiting),
+            Err(_) => Err(Failure::Network),
+        }
+    }
+}
+
+/// The peer of a piece that was served. It isn't parted from here, but among the others.
+#[derive(Drop)]
+pub struct PiecePeer<'a> {
+    reader: PieceReader<'a>,
+    writer: PieceWriter<'a>,
+}
+
+// What was done with a socket no contract can say.
+impl<'a> Parting for PiecePeer<'a> {
+    ghost left = { λ _. None };
+
+    ghost done = { λ _. None };
+
+    ghost is_open = { λ _. false };
+
+    ghost answered = { λ _. None };
+
+    fn is_open(&self) -> bool {
+        false
+    }
+
+    fn answered(&self) -> Option<Duration> {
+        None
+    }
+
+    fn shut(&mut self) -> bool {
+        false
+    }
+
+    fn throw_away(&mut self, _moment: Duration) -> bool {
+        false
+    }
+}
+
+// What is said on a socket no contract can say.
+impl<'a> Listener for TcpDoor<'a> {
+    type Reader = PieceReader<'a>;
+
+    type Writer = PieceWriter<'a>;
+
+    type Peer = PiecePeer<'a>;
+
+    ghost heard = { λ _. None };
+
+    ghost told = { λ _. None };
+
+    ghost is_listening = { λ it. is_some it.waiting };
+
+    ghost parted = { λ _. None };
+
+    ghost peer_of = { λ reader writer. record { reader = reader; writer = writer } };
+
+    fn listen(&mut self) -> Result<(), Failure> {
+        match bound(self.host.rt, self.host.explainer, self.address) {
+            Ok(listener) => match self.opened(listener) {
+                Ok(waiting) => {
+                    self.waiting = Some(waiting);
+                    self.names = OpenedNames::of(self.host.rt, self.host.alloc, self.file);
+                    Ok(())
+                }
+                Err(fault) => Err(fault),
+            },
+            Err(fault) => Err(fault),
+        }
+    }
+
+    fn is_listening(&self) -> bool {
+        self.waiting.is_some()
+    }
+
+    fn accept(&mut self) -> Option<(Self::Reader, Self::Writer)> {
+        self.names.look(self.host.rt, self.host.explainer);
+        next_piece(self.host.rt, self.waiting.as_mut()?, self.patience)
+    }
+
+    fn peer(&mut self, reader: Self::Reader, writer: Self::Writer) -> Self::Peer {
+        PiecePeer { reader, writer }
+    }
+
+    fn let_go(&mut self, peer: Self::Peer) {
+        if let Some(waiting) = &mut self.waiting {
+            take_back(waiting, peer.reader, peer.writer);
+        }
+    }
+}
