@@ -40,10 +40,10 @@ EMPTY = [answer(f'{{"{path[1:]}":[]}}') for path in PATHS]
 
 def history(calls=(), turns=(), **members):
     """The answer that has an incident's history, of which some members may be other ones."""
-    told = {'calls': list(calls), 'class': 1, 'first_order': None, 'into': None,
-            'needs': [1, 0, 0], 'number': 1, 'opened': 1795588800, 'place': [530000, 180000],
-            'served': [0, 0, 0], 'state': 0, 'turns': list(turns)} | members
-    return answer(json.dumps(told, ensure_ascii=False))
+    found = {'calls': list(calls), 'class': 1, 'first_order': None, 'into': None,
+             'needs': [1, 0, 0], 'number': 1, 'opened': 1795588800, 'place': [530000, 180000],
+             'served': [0, 0, 0], 'state': 0, 'turns': list(turns)} | members
+    return answer(json.dumps(found, ensure_ascii=False))
 
 
 @contextlib.contextmanager
@@ -72,6 +72,6 @@ def peer(speak):
             listener.shutdown(socket.SHUT_RDWR)  # where nobody has called, it is waited no more
 
 
-def told_alike(told, first=NOTHING):
+def without_tables(reason, first=NOTHING):
     """The board of which no table could be shown, each for the same reason."""
-    return ''.join([f'{first}\n', *(f'\n{title}: {told}\n' for title in TITLES)])
+    return ''.join([f'{first}\n', *(f'\n{title}: {reason}\n' for title in TITLES)])

@@ -68,8 +68,8 @@ class Browser:
             wanted = {'alwaysMatch': {'browserName': 'chrome',
                                       'goog:chromeOptions': {'args': words}}}
             try:
-                told = self.send('POST', '', capabilities=wanted)
-                self.session = f'/{told["sessionId"]}'
+                started = self.send('POST', '', capabilities=wanted)
+                self.session = f'/{started["sessionId"]}'
                 return
             except Unmet:
                 if nth:
@@ -97,15 +97,15 @@ class Browser:
         except OSError:
             return False
 
-    def send(self, method, path, **told):
-        body = json.dumps(told).encode() if method == 'POST' else None
+    def send(self, method, path, **parameters):
+        body = json.dumps(parameters).encode() if method == 'POST' else None
         request = urllib.request.Request(f'{self.address}/session{self.session}{path}', body,
                                          {'Content-Type': 'application/json'}, method=method)
         try:
             with OPENER.open(request, timeout=PATIENCE) as answer:
                 return json.load(answer)['value']
-        except urllib.error.HTTPError as told:
-            value = json.load(told)['value']
+        except urllib.error.HTTPError as error:
+            value = json.load(error)['value']
             kind = Stale if value['error'] == 'stale element reference' else Unmet
             raise kind(value['message'].split('\n')[0]) from None
 
@@ -215,9 +215,9 @@ class Browser:
 
     # ---- what is around the page
 
-    def devtools(self, command, **told):
+    def devtools(self, command, **parameters):
         """A command of the browser's DevTools protocol."""
-        return self.send('POST', '/goog/cdp/execute', cmd=command, params=told)
+        return self.send('POST', '/goog/cdp/execute', cmd=command, params=parameters)
 
     def stand_at(self, latitude, longitude, accuracy=10):
         """Gives the page leave to ask where it is, and the place."""
@@ -228,8 +228,8 @@ class Browser:
     def spent(self):
         """The seconds of a processor that the page took so far."""
         self.devtools('Performance.enable', timeDomain='threadTicks')
-        told = self.devtools('Performance.getMetrics')['metrics']
-        return next(it['value'] for it in told if it['name'] == 'TaskDuration')
+        metrics = self.devtools('Performance.getMetrics')['metrics']
+        return next(it['value'] for it in metrics if it['name'] == 'TaskDuration')
 
     def cheapest(self, times, work):
         """The least seconds of a processor that the page took for some work, done so often: neither
@@ -241,10 +241,10 @@ class Browser:
             found.append(self.spent() - before)
         return min(found)
 
-    def paper(self, **told):
+    def paper(self, **parameters):
         """The page as it is printed, in base64 of PDF; A4 by default."""
         size = {'width': 21.0, 'height': 29.7}
-        return self.send('POST', '/print', **({'page': size} | told))
+        return self.send('POST', '/print', **({'page': size} | parameters))
 
 
 def stroke(key):

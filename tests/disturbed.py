@@ -51,7 +51,7 @@ class Faults:
             self.machines.signal(it, number, signal.SIGCONT)
 
     def wrong_clock(self, number):
-        """One machine is told that it is 2099."""
+        """One machine has a clock that says 2099."""
         self.machines.shift(number, wall=TO_2099)
         time.sleep(self.away)
         self.machines.shift(number)

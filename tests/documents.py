@@ -64,7 +64,7 @@ def commands(text):
     return found
 
 
-def told(line, folder):
+def comparable(line, folder):
     """A line of the day, without what differs from one day to the next."""
     line = re.sub('[0-9]{10}', 'T', line)
     line = line.replace(str(folder), 'FOLDER')

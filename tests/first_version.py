@@ -73,14 +73,14 @@ DAY = NEW | {
 def table_statement(table):
     """What makes a table: its key is given with its column, or after all where it has two."""
     count, columns = TABLES_BEFORE[table]
-    told, key = [], []
+    parts, key = [], []
     for name, kind, is_never_null, place in columns_of(count, columns):
         of_key = ' primary key' if place and count == 1 else ''
-        told.append(f'"{name}" {kind}{of_key}{" not null" if is_never_null else ""}')
+        parts.append(f'"{name}" {kind}{of_key}{" not null" if is_never_null else ""}')
         key += [name] if place else []
     if count > 1:
-        told.append(f'primary key ({", ".join(key)})')
-    return f'create table "{table}" ({", ".join(told)}) strict'
+        parts.append(f'primary key ({", ".join(key)})')
+    return f'create table "{table}" ({", ".join(parts)}) strict'
 
 
 def index_statements():

@@ -86,20 +86,20 @@ class ThreeTestCase(TestCase):
         last = set()
 
         def are_level():
-            told = [self.machines.health(it) for it in self.machines.machines]
+            healths = [self.machines.health(it) for it in self.machines.machines]
             last.clear()
-            last.update(it.get('record') for it in told)
+            last.update(it.get('record') for it in healths)
             return len(last) == 1 and all(it.get('waiting') == it.get('behind') == 0
-                                          for it in told)
+                                          for it in healths)
         self.machines.until(are_level, 'the machines are level')
         return last.pop()
 
     def reported(self, record):
-        """Waits until each machine has told the others of its copy of a record, which is compared
+        """Waits until each machine has reported its copy of a record to the others, which compare it
         with theirs."""
         self.machines.until(
             lambda: len(upkeep.digests_told(self.machines.list()).get(record, ())) == 3,
-            f'each has told of its copy of {record}')
+            f'each has reported its copy of {record}')
 
     def last_asked(self):
         """A change by each machine at the end. Behind it nothing comes that was on its way."""
@@ -177,6 +177,6 @@ class ThreeTestCase(TestCase):
                     wanted.append([it])
         answers = replayed(self.first, messages)
         self.check('and equal to a replay', dump(self.first) == dumps[0], True)
-        told = [it for answer, asked in zip(answers, wanted) for it in asked
-                if read_answer(io.BytesIO(answer)) != (it.status, it.body)]
-        self.check('which gives the same answers', told[:3], [])
+        differing = [it for answer, asked in zip(answers, wanted) for it in asked
+                     if read_answer(io.BytesIO(answer)) != (it.status, it.body)]
+        self.check('which gives the same answers', differing[:3], [])

@@ -1,5 +1,5 @@
 """Three machines of examples/three for tests: their processes, which are killed, held and brought
-back, the clocks that they are told, and a witness of all that was ever put in their list."""
+back, the clocks that they are given, and a witness of all that was ever put in their list."""
 import base64
 import collections
 import contextlib
@@ -77,7 +77,7 @@ class Machines:
         ports, self.held = free_ports()
         self.machines = {it.number: it for it in members.machines(folder, ports, **named)}
         self.processes = {}
-        self.told = (folder / 'told').open('wb')
+        self.output = (folder / 'output').open('wb')
 
     def companion(self, number):
         """The command of a companion, whose clocks the test may set."""
@@ -104,7 +104,7 @@ class Machines:
         machine = self.machines[number]
         command = ([*machine.member(), *self.member_words] if kind == 'member'
                    else self.companion(number))
-        self.processes[kind, number] = three.start(command, stdout=self.told, stderr=self.told)
+        self.processes[kind, number] = three.start(command, stdout=self.output, stderr=self.output)
 
     def start_members(self):
         for it in self.machines:
@@ -161,7 +161,7 @@ class Machines:
         return done.returncode, done.stdout + done.stderr
 
     def said(self):
-        return (self.folder / 'told').read_text(errors='replace')
+        return (self.folder / 'output').read_text(errors='replace')
 
     def process_ids(self, kind, number):
         """Of a room they are those of its companion's children."""
@@ -200,7 +200,7 @@ class Machines:
                 end_all(it.pid)
             it.wait()
         self.held.close()
-        self.told.close()
+        self.output.close()
 
 
 class Witness(threading.Thread):

@@ -65,7 +65,7 @@ def exchange(address, sent, patience):
 
 
 class Terminal(threading.Thread):
-    """A terminal that asks until it is told to stop: at one machine, and where that gives no
+    """A terminal that asks until it is asked to stop: at one machine, and where that gives no
     answer, the same again at the next."""
 
     def __init__(self, addresses, chance, stopped, pause):

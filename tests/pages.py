@@ -157,16 +157,16 @@ def faults(browser):
     head = browser.run("return [document.documentElement.lang, document.title, "
                        "document.querySelectorAll('h1').length, "
                        "document.querySelectorAll('main').length]")
-    told = [] if all(head) and head[2:] == [1, 1] else [f'head: {head}']
+    wrong = [] if all(head) and head[2:] == [1, 1] else [f'head: {head}']
     for words, found in [('contrast', weak_texts(browser)), ('no name', nameless(browser)),
                          ('small', small_targets(browser)), ('focus', unseen_focus(browser))]:
-        told += [f'{words}: {it}' for it in found]
-    return told
+        wrong += [f'{words}: {it}' for it in found]
+    return wrong
 
 
 def faults_everywhere(browser):
     """The faults in light and dark, in a wide window and on a phone."""
-    told = []
+    wrong = []
     for scheme in ('light', 'dark'):
         browser.devtools('Emulation.setEmulatedMedia',
                          features=[{'name': 'prefers-color-scheme', 'value': scheme}])
@@ -174,7 +174,7 @@ def faults_everywhere(browser):
             browser.size(*size)
             wide = browser.run('return document.documentElement.scrollWidth')
             here = [f'wider than the window: {wide}'] if wide > size[0] else []
-            told += [f'{scheme} {size}: {it}' for it in here + faults(browser)]
+            wrong += [f'{scheme} {size}: {it}' for it in here + faults(browser)]
     browser.devtools('Emulation.setEmulatedMedia', features=[])
     browser.size(1280, 720)
-    return told
+    return wrong

@@ -37,8 +37,8 @@ class TestCase(unittest.TestCase):
 
     def assertEqual(self, got, wanted, msg=None):
         if got != wanted:
-            told = f'  wanted {wanted!r}\n  got    {got!r}'
-            self.fail(told if msg is None else f'{msg}\n{told}')
+            text = f'  wanted {wanted!r}\n  got    {got!r}'
+            self.fail(text if msg is None else f'{msg}\n{text}')
 
     def check(self, what, got, wanted):
         """One check of several in a method, which goes on where it fails."""
@@ -104,8 +104,8 @@ def drop_indexes(file):
     """Drops the indexes of a room's file, and gives their names in the order in which they were
     made."""
     names = index_names(file)
-    told = sql(file, ';'.join(f'DROP INDEX {name}' for name in names))
-    assert told == '', told
+    printed = sql(file, ';'.join(f'DROP INDEX {name}' for name in names))
+    assert printed == '', printed
     return names
 
 
@@ -134,7 +134,7 @@ def made(room, *rows):
 
 def dry_run(stdin, stdout=subprocess.PIPE, program=PROGRAM, **named):
     """Runs the dry run over a stream, or what is open; gives what it wrote, and its status with
-    what it told."""
+    what it printed."""
     given = {'input': stdin} if isinstance(stdin, bytes) else {'stdin': stdin}
     done = subprocess.run([program], **given, stdout=stdout, stderr=subprocess.PIPE, timeout=180,
                           **named)
@@ -149,11 +149,11 @@ FAULT = (4, b'network\n')
 CLOSE = 'Connection: close\r\n'
 
 
-def answer(status, content, more='', told=None):
+def answer(status, content, more='', sent=None):
     """An answer of the dry run; of the content gets what is given, or else all."""
     head = (f'HTTP/1.1 {status}\r\nDate: Thu, 01 Jan 1970 00:16:40 GMT\r\n'
             f'Content-Type: application/json\r\nContent-Length: {len(content)}\r\n')
-    return f'{head}{more}\r\n{content if told is None else told}'.encode()
+    return f'{head}{more}\r\n{content if sent is None else sent}'.encode()
 
 
 def refusal(name, number):

@@ -8,7 +8,7 @@ import traceback
 import unittest
 
 
-def told_of(err):
+def text_of(err):
     """What an assertion says, and of another exception where it was raised, too."""
     kind, value, _ = err
     is_plain = issubclass(kind, AssertionError)
@@ -35,7 +35,7 @@ class Checks(unittest.TestResult):
         if err is None:
             self.passed += 1
         else:
-            self.fail(subtest, told_of(err))
+            self.fail(subtest, text_of(err))
 
     def addSuccess(self, test):
         super().addSuccess(test)
@@ -44,21 +44,21 @@ class Checks(unittest.TestResult):
 
     def addFailure(self, test, err):
         super().addFailure(test, err)
-        self.fail(test, told_of(err))
+        self.fail(test, text_of(err))
 
     def addError(self, test, err):
         super().addError(test, err)
-        self.fail(test, told_of(err))
+        self.fail(test, text_of(err))
 
     def addSkip(self, test, reason):
         """What is skipped shows nothing, and no test here is."""
         super().addSkip(test, reason)
         self.fail(test, f'skipped: {reason}')
 
-    def fail(self, test, told):
+    def fail(self, test, text):
         """Counts what failed and reports it at once, for a later one may end the process."""
         self.failed += 1
-        print(f'failed: {test.id()}\n{told}', flush=True)
+        print(f'failed: {test.id()}\n{text}', flush=True)
 
 
 def main(name):

@@ -181,18 +181,18 @@ class Command(TestCase):
         folders = [self.folder / name for name in ('one', 'two', 'other')]
         for nth, folder in enumerate(folders):
             more = ['--set', 'seed=1'] if nth == 2 else []
-            told = play(folder, '--rates', '1', '--program', PROGRAM, *words, *more,
-                        PYTHONHASHSEED=str(nth))
-            self.check(f'{folder.name}: it ends well', told, (0, ''))
+            printed = play(folder, '--rates', '1', '--program', PROGRAM, *words, *more,
+                           PYTHONHASHSEED=str(nth))
+            self.check(f'{folder.name}: it ends well', printed, (0, ''))
         names = sorted(it.name for it in folders[0].iterdir())
         for name in names:
             one, two, other = ((it / name).read_bytes() for it in folders)
             self.check(f'{name}: the same', one == two, True)
             if name in ('day.list', 'day-1992.csv', 'day-room.csv'):
                 self.check(f'{name}: of another seed', one == other, False)
-        told = (folders[0] / 'index.html').read_text()
+        printed = (folders[0] / 'index.html').read_text()
         for it in parameters.ALL:
-            self.check(f'the page names {it}', f'<code>{it}</code>' in told, True)
+            self.check(f'the page names {it}', f'<code>{it}</code>' in printed, True)
         self.check('its pictures', {'day.svg', 'rates.svg', '1992.svg'} <= set(names), True)
 
     def test_words(self):
@@ -203,8 +203,8 @@ class Command(TestCase):
             (['--rates', 'many'], 2, 'is no list of rates'),
             (['--program', '/no/program', '--rates', '0'], 1, '/no/program: there is no'),
         ]:
-            found, told = play(self.folder / 'page', *words)
-            self.check(f'{words}', (found, wanted in told), (status, True))
+            found, printed = play(self.folder / 'page', *words)
+            self.check(f'{words}', (found, wanted in printed), (status, True))
 
     def test_links(self):
         """Each sentence that the page links is in the README."""

@@ -66,13 +66,13 @@ def catch_up():
                               "return Number(shown) >= Number(due ?? 0)"))
 
 
-def told(css):
+def words_of(css):
     """The words of an element, in one line, waited for."""
     script = "return document.querySelector(arguments[0])?.innerText.replace(/\\s+/g, ' ').trim()"
     return until(lambda: BROWSER.run(script, css)) or ''
 
 
-def told_in(css):
+def words_in(css):
     """The words of all such elements, once there is one."""
     BROWSER.find(css)
     return [' '.join(it.split()) for it in BROWSER.texts(css)]
@@ -273,9 +273,9 @@ PRINTED = ['Handover of division 1', 'in the queue: 24', 'More in the queue: 9',
 
 COUNT_TONES = """window.tones = 0;
 const { start } = AudioScheduledSourceNode.prototype;
-AudioScheduledSourceNode.prototype.start = function (...told) {
+AudioScheduledSourceNode.prototype.start = function (...given) {
   window.tones += 1;
-  return start.apply(this, told);
+  return start.apply(this, given);
 };"""
 # When each round began, in milliseconds by the page's own clock.
 STARTS = """return performance.getEntriesByType('resource')
@@ -308,10 +308,10 @@ class Played(TestCase):
              'POST /vehicles/A1/standdown': (200, {'done': True})},
             queue=[entry(1, 3), entry(1, 4)], incidents=[incident(3), incident(4)]))
         BROWSER.press('Enter')
-        self.check('proposals', told_in('.choice'), ['A1 ambulance, 312 m',
-                                                     'A2 ambulance, 5.1 km breaks cover'])
+        self.check('proposals', words_in('.choice'), ['A1 ambulance, 312 m',
+                                                      'A2 ambulance, 5.1 km breaks cover'])
         BROWSER.press('Enter')
-        self.check_comes('what was done', lambda: told('.queue .said'),
+        self.check_comes('what was done', lambda: words_of('.queue .said'),
                          'A1 is sent to incident 3: order 7. u takes it back: stand A1 down.')
         until(lambda: not BROWSER.is_shown('.drawer'))
         self.check('what was sent', posted(room), [('/incidents/3/mobilise', '{"vehicle":"A1"}')])
@@ -325,7 +325,7 @@ class Played(TestCase):
         before = len(posted(room))
         room.answer_of.answers['POST /incidents/3/close'] = (None, None)
         BROWSER.press('c', 'Enter')
-        self.check_comes('no answer', lambda: told('.queue .drawer .bad').startswith(
+        self.check_comes('no answer', lambda: words_of('.queue .drawer .bad').startswith(
             'No answer came.'), True)
         refresh(2)
         self.check('sent once', posted(room)[before:], [('/incidents/3/close', '')])
@@ -342,16 +342,16 @@ class Played(TestCase):
             del offers[0]
             until(lambda: rows('loans')[0][2] == offers[0]['vehicle'])
             BROWSER.press('a')
-            if told('.loans .said') == moved:
+            if words_of('.loans .said') == moved:
                 break
             catch_up()
-        self.check('it is said', told('.loans .said'), moved)
+        self.check('it is said', words_of('.loans .said'), moved)
         self.check('nothing was sent', len(posted(room)), before)
         time.sleep(2.1)
         BROWSER.press('a')
         name = offers[0]['vehicle']
         wanted = f'{name} is lent to this division. u takes it back: give {name} back.'
-        self.check_comes('then it is sent', lambda: told('.loans .said'), wanted)
+        self.check_comes('then it is sent', lambda: words_of('.loans .said'), wanted)
 
     # ---- refusals
 
@@ -401,10 +401,11 @@ class Played(TestCase):
         BROWSER.press('Home')
         BROWSER.click('.queue [aria-label="Queue: next page"]')
         self.check('a click turns, too', [it[2] for it in rows('queue')], pages[1])
-        selected = told('.queue [aria-selected=true] .what')
+        selected = words_of('.queue [aria-selected=true] .what')
         del lists.lists['queue'][:3]
         refresh()
-        self.check('the selected line stays', told('.queue [aria-selected=true] .what'), selected)
+        self.check('the selected line stays', words_of('.queue [aria-selected=true] .what'),
+                   selected)
 
     def test_unranked(self):
         """What no rank of the queue shows, by state."""
@@ -441,9 +442,9 @@ class Played(TestCase):
 
     def test_incident(self):
         """An incident's page: calls and turns; and without history what the lists know."""
-        told_of = history(4, 'A2', scene=NOW - 100)
-        told_of['calls'][0]['note'] = HOSTILE[1]
-        answers = {'GET /incidents/4': (200, told_of)}
+        known = history(4, 'A2', scene=NOW - 100)
+        known['calls'][0]['note'] = HOSTILE[1]
+        answers = {'GET /incidents/4': (200, known)}
         self.show(Lists(answers, incidents=[incident(4)], vehicles=[vehicle('A2', 3, incident=4)]))
         BROWSER.press('3', 'o')
         until(lambda: BROWSER.is_shown('#incident td'))
@@ -459,7 +460,7 @@ class Played(TestCase):
         BROWSER.type('4')
         BROWSER.press('Enter')
         until(lambda: BROWSER.is_shown('#incident td'))
-        self.check_comes('without history', lambda: [it in told('#incident') for it in (
+        self.check_comes('without history', lambda: [it in words_of('#incident') for it in (
             'This room does not tell calls', 'lacks 1 ambulance; A2 at scene')], 2 * [True])
         BROWSER.press('Escape')
 
@@ -476,7 +477,7 @@ class Played(TestCase):
             self.check_comes(f'{text}: which list has the keys', lambda: BROWSER.run(
                 'return document.activeElement.id'), f'{name}-list')
             self.check_comes(f'{text}: which line',
-                             lambda: told(f'.{name} [aria-selected=true] .what'), line)
+                             lambda: words_of(f'.{name} [aria-selected=true] .what'), line)
         BROWSER.press('/')
         BROWSER.type('A2')
         BROWSER.press('Enter')
@@ -496,7 +497,7 @@ class Played(TestCase):
             answers={'GET /incidents/1': (200, history(1, HOSTILE[0], note=HOSTILE[2]))}))
         self.check('names', [it[2] for it in rows('vehicles')], HOSTILE)
         BROWSER.press('s')
-        self.check('a confirmation', told('.drawer .note'),
+        self.check('a confirmation', words_of('.drawer .note'),
                    f'Stand {HOSTILE[0]} down? Its crew loses the order.')
         BROWSER.press('Enter')
         until(lambda: posted(room))
@@ -518,13 +519,13 @@ class Played(TestCase):
         self.check('served, or less urgent', BROWSER.is_shown('#alarm'), False)
         lists.lists['incidents'].append(incident(1, 1))
         self.check('it shows', until(lambda: BROWSER.is_shown('#alarm')), True)
-        self.check('which', 'incident 1 at TQ 300 800' in told('#alarm'), True)
+        self.check('which', 'incident 1 at TQ 300 800' in words_of('#alarm'), True)
         BROWSER.press('ArrowDown')
         self.check('it sounds', until(lambda: BROWSER.run('return tones') > 2), True)
         self.check('a key is no look', BROWSER.is_shown('#alarm'), True)
         BROWSER.press('v')
         self.check('somebody looks', until(lambda: not BROWSER.is_shown('#alarm')), True)
-        self.check_comes('at its proposals', lambda: told('.incidents .drawer h3'),
+        self.check_comes('at its proposals', lambda: words_of('.incidents .drawer h3'),
                          'Send to incident 1')
         BROWSER.press('Escape')
         time.sleep(1)
@@ -533,7 +534,7 @@ class Played(TestCase):
         self.check('it is silent', BROWSER.run('return tones'), before)
         lists.lists['incidents'].append(incident(2, 1))
         self.check_comes('the next one', lambda: [
-            f'incident {it}' in told('#alarm') for it in (2, 1)], [True, False])
+            f'incident {it}' in words_of('#alarm') for it in (2, 1)], [True, False])
         lists.lists['incidents'][-1]['lack'] = (0, 0, 0)
         self.check('somebody is sent', until(lambda: not BROWSER.is_shown('#alarm')), True)
 
@@ -555,7 +556,7 @@ class Played(TestCase):
         self.check('old lists say so', until(lambda: all(
             re.fullmatch('[0-9]+:[0-9]+ old', it) for it in BROWSER.texts('.old'))), True)
         self.check('and then the page', until(lambda: BROWSER.is_shown('#stale')), True)
-        self.check('in words', 'No new answer from the room since' in told('#stale'), True)
+        self.check('in words', 'No new answer from the room since' in words_of('#stale'), True)
         lists.is_silent = False
         self.check('an answer again', until(lambda: not BROWSER.is_shown('#stale')), True)
 
@@ -650,8 +651,8 @@ class Played(TestCase):
         bench/desks/run says how much."""
         self.show(many())
         self.check('less than a second of a processor', BROWSER.cheapest(3, refresh) < 1, True)
-        self.check('counts', [told(f'.{it} .count') for it in ('queue', 'incidents', 'vehicles')],
-                   ['300', '300', '200'])
+        lists = ('queue', 'incidents', 'vehicles')
+        self.check('counts', [words_of(f'.{it} .count') for it in lists], ['300', '300', '200'])
 
 
 # ---- a served room
@@ -671,9 +672,9 @@ class Served(TestCase):
                         for serial, place in ((1, 'TQ300800'), (2, 'TQ310800'))])
             process.wait(PATIENCE)
         # Both are in the queue where nobody was sent for three minutes.
-        told = sql(self.room, 'UPDATE incidents SET opened = opened - 200',
-                   'UPDATE calls SET moment = moment - 200')
-        assert told == '', told
+        output = sql(self.room, 'UPDATE incidents SET opened = opened - 200',
+                     'UPDATE calls SET moment = moment - 200')
+        assert output == '', output
 
     def rows(self, query):
         """What a query gives of the room's tables, copied while the program is held."""
@@ -701,7 +702,7 @@ class Served(TestCase):
         self.check_comes(what, lambda: self.rows(query), wanted)
         until(lambda: not BROWSER.is_shown('.drawer'))
 
-    def told(self, *words):
+    def asks(self, *words):
         (status, body), = ask(self.port, message(*words))
         assert status == 200, body
         return json.loads(body)
@@ -769,38 +770,38 @@ class Served(TestCase):
         self.does('offered again', 'l =2 Enter', offers, 'A1|1|2')
         self.does('withdrawn', 'lists Home w', offers, '')
         self.does('that is taken back, too', 'u', offers, 'A1|1|2')
-        self.told('desktwo2', 'POST /vehicles/A1/accept')
+        self.asks('desktwo2', 'POST /vehicles/A1/accept')
         refresh()
         loans = 'SELECT callsign, borrower, recalled FROM loans'
         self.does('recalled', '6 Home r Enter', loans, 'A1|2|1')
         BROWSER.press('e', 'Enter')
-        self.check_comes('a refusal', lambda: told('.loans .drawer .bad'),
+        self.check_comes('a refusal', lambda: words_of('.loans .drawer .bad'),
                          'The offer is no longer there: it was withdrawn, accepted or declined. '
                          '(22)')
         BROWSER.press('Escape')
-        self.told('desktwo2', 'POST /vehicles/A1/giveback')
+        self.asks('desktwo2', 'POST /vehicles/A1/giveback')
 
     def check_borrowing(self):
         end = self.now + 3600
-        self.told('desktwo2', 'POST /vehicles/B1/duty', f'{{"place":"TQ600800","until":{end}}}')
+        self.asks('desktwo2', 'POST /vehicles/B1/duty', f'{{"place":"TQ600800","until":{end}}}')
         offer = f'{{"to":1,"until":{end}}}'
-        self.told('desktwo2', 'POST /vehicles/B1/lend', offer)
+        self.asks('desktwo2', 'POST /vehicles/B1/lend', offer)
         refresh()
         loans = 'SELECT callsign, lender, borrower FROM loans'
         self.does('accepted', 'Home a', loans, 'B1|2|1')
         self.does('that is taken back', 'u', loans, '')
-        self.told('desktwo2', 'POST /vehicles/B1/lend', offer)
+        self.asks('desktwo2', 'POST /vehicles/B1/lend', offer)
         refresh()
         self.does('accepted again', 'Home a', loans, 'B1|2|1')
         self.does('given back', 'lists Home b Enter', loans, '')
-        self.told('desktwo2', 'POST /vehicles/B1/lend', offer)
+        self.asks('desktwo2', 'POST /vehicles/B1/lend', offer)
         refresh()
         self.does('declined', 'Home e Enter', 'SELECT count(*) FROM offers', '0')
 
     def check_reports(self):
-        self.told('crewofa2', 'POST /report',
+        self.asks('crewofa2', 'POST /report',
                   '{"button":"home","number":1,"order":0,"place":"TQ320804"}')
-        self.told('crewofa2', 'POST /report',
+        self.asks('crewofa2', 'POST /report',
                   '{"button":"leave","number":2,"order":5,"place":"TQ320804"}')
         refresh()
         BROWSER.press('1')
@@ -815,5 +816,5 @@ class Served(TestCase):
         BROWSER.press('Enter')
         wanted = ('This room does not tell calls, notes and moments of an incident. '
                   'No active incident has this number.')
-        self.check_comes('what it says', lambda: wanted in told('#incident'), True)
+        self.check_comes('what it says', lambda: wanted in words_of('#incident'), True)
         BROWSER.press('Escape')

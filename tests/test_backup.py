@@ -108,7 +108,7 @@ def all_in(room):
 
 class Open(CopiesTestCase):
     """A list that is still written."""
-    TOLD = 'the last record is cut off, and was left out\n'
+    REPORTED = 'the last record is cut off, and was left out\n'
 
     def setUp(self):
         super().setUp()
@@ -120,8 +120,8 @@ class Open(CopiesTestCase):
         """A replay over a copy of the first room, and the calls that this has then."""
         copy = shutil.copy(self.first, self.folder / 'copy.db')
         copy.with_name('copy.db-wal').unlink(missing_ok=True)
-        told = replay(copy, text, *words)
-        return told, sql(copy, 'SELECT count(*) FROM calls').strip()
+        done = replay(copy, text, *words)
+        return done, sql(copy, 'SELECT count(*) FROM calls').strip()
 
     def test_whole(self):
         """A whole list is replayed as ever, and the digest printed is that of the tables."""
@@ -139,11 +139,11 @@ class Open(CopiesTestCase):
             whole = min(max(number - 1, 0) // 2, 3)
             cuts = sorted({at + 1, at + 5, at + 70, at + 71, at + 72, end - 1} & set(range(at + 1, end)))
             for cut in cuts:
-                told, calls = self.played(self.text[:cut], '--open')
-                self.check(f'record {number} at {cut}', (told, calls),
-                           ((0, f'replayed {whole}\n', self.TOLD), str(whole)))
-                told, calls = self.played(self.text[:cut])
-                self.check(f'by default, {cut}', (told[0], told[2], calls),
+                done, calls = self.played(self.text[:cut], '--open')
+                self.check(f'record {number} at {cut}', (done, calls),
+                           ((0, f'replayed {whole}\n', self.REPORTED), str(whole)))
+                done, calls = self.played(self.text[:cut])
+                self.check(f'by default, {cut}', (done[0], done[2], calls),
                            (1, f'refused: record {whole + 1}\n', str(whole)))
 
     def test_between(self):
@@ -158,29 +158,29 @@ class Open(CopiesTestCase):
         text = b''.join(entries)
         last = len(text) - len(entries[-1])
         for cut in range(last + 1, len(text)):
-            told, calls = self.played(text[:cut], '--open')
-            self.check(f'cut at {cut}', (told, calls), ((0, 'replayed 2\n', self.TOLD), '2'))
+            done, calls = self.played(text[:cut], '--open')
+            self.check(f'cut at {cut}', (done, calls), ((0, 'replayed 2\n', self.REPORTED), '2'))
 
     def test_changed(self):
         """A byte that was changed is no cut, in the last record either, nor what stands behind it."""
         for place in [-1, -3, -40, -69, -80]:
             text = bytearray(self.text)
             text[place] ^= 1
-            told, _ = self.played(bytes(text), '--open')
-            self.check(f'byte {place}', (told[0], told[2].startswith('refused: record ')), (1, True))
+            done, _ = self.played(bytes(text), '--open')
+            self.check(f'byte {place}', (done[0], done[2].startswith('refused: record ')), (1, True))
         # A length that announces more than there is can't be distinguished from a cut.
         text = bytearray(self.text)
         text[-72] ^= 1
-        told, _ = self.played(bytes(text), '--open')
-        self.check('a longer record', told, (0, 'replayed 3\n', self.TOLD))
+        done, _ = self.played(bytes(text), '--open')
+        self.check('a longer record', done, (0, 'replayed 3\n', self.REPORTED))
         for more in [b'x' * 80, self.text[:90], b'00005 ' + b'0' * 64 + b'\nwhat\n']:
-            told, _ = self.played(self.text + more, '--open')
-            self.check(f'{more[:7]} behind it', (told[0], told[2]), (1, 'refused: record 4\n'))
+            done, _ = self.played(self.text + more, '--open')
+            self.check(f'{more[:7]} behind it', (done[0], done[2]), (1, 'refused: record 4\n'))
 
     def test_another_room(self):
         shutil.copy(self.room, self.first)
-        told, _ = self.played(self.text, '--open', '--digest')
-        self.check('another room', told, (1, '', 'refused: another room at record 1\n'))
+        done, _ = self.played(self.text, '--open', '--digest')
+        self.check('another room', done, (1, '', 'refused: another room at record 1\n'))
 
     def test_answers(self):
         """Where each message is answered, nothing is printed but the answers."""
@@ -557,8 +557,8 @@ class Units(TestCase):
                 if not (self.folder / name).exists():
                     (self.folder / name).write_text(held)
             (self.folder / file.name).write_text(text)
-            told = self.verified(file.name)
-            self.check(f'{file.name} as it is', told, '')
+            done = self.verified(file.name)
+            self.check(f'{file.name} as it is', done, '')
             (self.folder / file.name).write_text(text.replace('Description=', 'Descriptoin='))
             self.check('a word that is none', 'Unknown key' in self.verified(file.name), True)
 

@@ -9,7 +9,7 @@ import subprocess
 import time
 
 from boards import (DATE, EMPTY, PATHS, TITLES, UNHEARD, UNHURRIED, answer, history, peer,
-                    told_alike)
+                    without_tables)
 from room import (PATIENT, PROGRAM, TestCase, ask, call, dump, free_port, made, message, run,
                   serving)
 
@@ -139,14 +139,14 @@ Loans: 0
 
     def test_refused(self):
         with serving(self.room, 3, *PATIENT, '--history') as (port, _):
-            for what, token, told in [('unknown', 'nobody123', '38 NoTerminal'),
-                                      ('of a crew', 'crewofa1', '39 WrongRole')]:
+            for what, token, shown in [('unknown', 'nobody123', '38 NoTerminal'),
+                                       ('of a crew', 'crewofa1', '39 WrongRole')]:
                 status, out, err = board(f'127.0.0.1:{port}', token=token)
                 self.check(f'token {what}', (status, steady(out), err),
-                           (1, told_alike(f'refused: {told}', 'Room at ..'), ''))
+                           (1, without_tables(f'refused: {shown}', 'Room at ..'), ''))
             status, out, err = board(f'127.0.0.1:{port}', '--incident', 9)
-            told = [it for it in out.split('\n') if 'refused' in it]
-            self.check('incident', (status, told, err),
+            shown = [it for it in out.split('\n') if 'refused' in it]
+            self.check('incident', (status, shown, err),
                        (1, ['Incident: refused: 1 NoSuchIncident',
                             'Proposals: refused: 1 NoSuchIncident'], ''))
 
@@ -155,8 +155,8 @@ Loans: 0
         with serving(self.room, 2) as (port, _):
             ask(port, *self.duty, call(1))
             status, out, err = board(f'127.0.0.1:{port}', '--incident', 1)
-        told = [it for it in out.split('\n') if 'refused' in it or 'Proposals' in it]
-        self.check('incident', (status, told, err),
+        shown = [it for it in out.split('\n') if 'refused' in it or 'Proposals' in it]
+        self.check('incident', (status, shown, err),
                    (1, ['Incident: refused: 36 NoPath', 'Proposals: 1'], ''))
 
 
@@ -176,12 +176,12 @@ class Wire(TestCase):
             return board(address, *words), b''.join(heard)
 
     def test_what_is_asked(self):
-        told, heard = self.spoken(*EMPTY)
-        self.check('status', told[0::2], (0, ''))
+        shown, heard = self.spoken(*EMPTY)
+        self.check('status', shown[0::2], (0, ''))
         self.check('requests', heard, requests('deskone1', *PATHS))
-        told, heard = self.spoken(*EMPTY[:2], history(), answer('{"proposals":[]}'), *EMPTY[2:],
-                                  words=['--incident', '2147483647'])
-        self.check('status with an incident', told[0::2], (0, ''))
+        shown, heard = self.spoken(*EMPTY[:2], history(), answer('{"proposals":[]}'), *EMPTY[2:],
+                                   words=['--incident', '2147483647'])
+        self.check('status with an incident', shown[0::2], (0, ''))
         self.check('requests with an incident', heard,
                    requests('deskone1', *PATHS[:2], '/incidents/2147483647',
                             '/incidents/2147483647/propose', *PATHS[2:]))
@@ -239,29 +239,29 @@ Loans: 1
                 with open(theirs, 'wb') as out:
                     done = subprocess.run([PROGRAM, 'board', address, 'deskone1', *UNHURRIED],
                                           stdin=subprocess.DEVNULL, stdout=out, timeout=120)
-                told = os.read(terminal.fileno(), 65536)
+                shown = os.read(terminal.fileno(), 65536)
         self.check('status', done.returncode, 0)
-        self.check('a title', b'\x1b[1mQueue: 0\x1b[0m' in told, True)
+        self.check('a title', b'\x1b[1mQueue: 0\x1b[0m' in shown, True)
 
     def test_silence(self):
         for what, pieces in [('nothing', []), ('part of an answer', [EMPTY[0][:-1]])]:
-            told, _ = self.spoken(*pieces, words=['--patience', '1'], stays=True)
-            self.check(f'{what} is said', told, (4, told_alike(UNHEARD), 'network\n'))
+            shown, _ = self.spoken(*pieces, words=['--patience', '1'], stays=True)
+            self.check(f'{what} is said', shown, (4, without_tables(UNHEARD), 'network\n'))
 
     def test_parts(self):
-        told, _ = self.spoken(*EMPTY[:2], EMPTY[2][:-1])
+        shown, _ = self.spoken(*EMPTY[:2], EMPTY[2][:-1])
         wanted = ['Room at Wed, 25 Nov 2026 06:40:00 GMT', '', 'Queue: 0', '', 'Incidents: 0', '']
         wanted += [it for title in TITLES[2:] for it in (f'{title}: {UNHEARD}', '')]
-        self.assertEqual(told, (4, '\n'.join(wanted), 'network\n'))
+        self.assertEqual(shown, (4, '\n'.join(wanted), 'network\n'))
 
     def test_drips(self):
         """The time is that of all: a peer that drips doesn't hold a board."""
         said = b''.join(EMPTY)
-        told, _ = self.spoken(*(said[at:at + 1] for at in range(len(said))), pause=0.1,
-                              words=['--patience', '1'])
-        self.check('told', told, (4, told_alike(UNHEARD), 'network\n'))
-        told, _ = self.spoken(*(said[at:at + 40] for at in range(0, len(said), 40)), pause=0.01)
-        self.check('in pieces', told[0], 0)
+        shown, _ = self.spoken(*(said[at:at + 1] for at in range(len(said))), pause=0.1,
+                               words=['--patience', '1'])
+        self.check('what is shown', shown, (4, without_tables(UNHEARD), 'network\n'))
+        shown, _ = self.spoken(*(said[at:at + 40] for at in range(0, len(said), 40)), pause=0.01)
+        self.check('in pieces', shown[0], 0)
 
     # The board of an incident is given between these lines of one without any.
     BEFORE = 'Room at Wed, 25 Nov 2026 06:40:00 GMT\n\nQueue: 0\n\nIncidents: 0\n'
@@ -269,9 +269,9 @@ Loans: 1
 
     def incident(self, answered):
         """How the board of an incident ended, and what it said of it, by this answer."""
-        told = self.spoken(*EMPTY[:2], answered, answer('{"proposals":[]}'), *EMPTY[2:],
-                           words=['--incident', '1'])[0]
-        status, out, err = told
+        shown = self.spoken(*EMPTY[:2], answered, answer('{"proposals":[]}'), *EMPTY[2:],
+                            words=['--incident', '1'])[0]
+        status, out, err = shown
         self.check('what stands before it', out[:len(self.BEFORE)], self.BEFORE)
         self.check('what stands behind it', out[-len(self.AFTER):], self.AFTER)
         return status, out[len(self.BEFORE):-len(self.AFTER)], err
@@ -296,10 +296,10 @@ Loans: 1
              'vehicle': 'C1'},
             {'acknowledged': None, 'ended': now - 1, 'hospital': None, 'kind': 3, 'left': None,
              'order': 2, 'ordered': now - 10, 'scene': None, 'stood_down': True, 'vehicle': 'S1'}]
-        told = self.incident(history(
+        shown = self.incident(history(
             calls, turns, needs=[1, 1, 9], served=[10, 1, 0], opened=now - 3725,
             first_order=now - 3600))
-        self.assertEqual(told, (0, '''
+        self.assertEqual(shown, (0, '''
 Incident 1: active
  class place          needed served              age first order
      1 TQ 30000 80000 1 1 9  10 1 0          1:02:05     1:00:00
@@ -317,14 +317,14 @@ Turns: 3
  C1                1   10:00:00 9:59:59       -       -        -       -    -
  S1                2    0:00:10       -       -       -        - 0:00:09 desk
 ''', ''))
-        self.assertLessEqual(max(map(len, told[1].split('\n'))), 80)
+        self.assertLessEqual(max(map(len, shown[1].split('\n'))), 80)
 
     def test_what_became_of_an_incident(self):
-        for members, told in [({'state': 0}, 'active'), ({'state': 1}, 'closed'),
-                              ({'state': 2, 'into': 2147483647}, 'merged into 2147483647'),
-                              ({'state': 3}, 'of another kind')]:
+        for members, shown in [({'state': 0}, 'active'), ({'state': 1}, 'closed'),
+                               ({'state': 2, 'into': 2147483647}, 'merged into 2147483647'),
+                               ({'state': 3}, 'of another kind')]:
             status, out, _ = self.incident(history(number=2147483647, **members))
-            self.check(told, (status, out.split('\n')[1]), (0, f'Incident 2147483647: {told}'))
+            self.check(shown, (status, out.split('\n')[1]), (0, f'Incident 2147483647: {shown}'))
 
     def test_an_incident_that_is_none(self):
         call_of = {'class': 2, 'linked': False, 'moment': 0, 'needs': [1, 0, 0], 'note': '',
@@ -348,8 +348,8 @@ Turns: 3
                             b'HTTP/1.1 200 OK\r\nContent-Length: +2\r\n\r\n{}'),
                            ('two lengths', b'HTTP/1.1 200 OK\r\nContent-Length: 2\r\n'
                                            b'Content-Length: 2\r\n\r\n{}')]:
-            told = self.spoken(said)[0]
-            self.check(what, told, (4, told_alike(FOREIGN), 'network\n'))
+            shown = self.spoken(said)[0]
+            self.check(what, shown, (4, without_tables(FOREIGN), 'network\n'))
 
     def test_other_answers(self):
         """Whole messages that are none of a room, in place of the first."""
@@ -368,8 +368,8 @@ Turns: 3
                        (4, [f'Queue: {FOREIGN}', '', 'Incidents: 0'], False, 'network\n'))
 
     def test_nobody_listens(self):
-        told = board(f'127.0.0.1:{free_port()}')
-        self.assertEqual(told, (4, told_alike(UNHEARD), 'network\n'))
+        shown = board(f'127.0.0.1:{free_port()}')
+        self.assertEqual(shown, (4, without_tables(UNHEARD), 'network\n'))
 
     def test_words(self):
         self.check('a token that is none', board('127.0.0.1:1', token='a b'),

@@ -34,7 +34,7 @@ UNREADABLE = "a row is none of its table, or the file can't be read\n"
 OTHER_TABLES = 'its tables and indexes are not those of a room'
 
 # The first thing that is wrong where each agreement of the rows is broken.
-TOLD = {
+REPORTED = {
     'a vehicle on its way without an assignment':
         'vehicle A1 is at status 2 and has no assignment',
     'an assignment of a vehicle that waits': f'vehicle B1 is at status 1 and {WRONG_ASSIGNMENT}',
@@ -149,7 +149,7 @@ class Check(TestCase):
     def copy(self):
         return pathlib.Path(shutil.copy(self.room, self.folder / 'changed.db'))
 
-    def check_told(self, what, change, wanted):
+    def check_report(self, what, change, wanted):
         """What is reported of the room after a change, which stays as it is."""
         changed = self.copy()
         self.check(f'{what}: the change is made', sql(changed, change), '')
@@ -160,24 +160,24 @@ class Check(TestCase):
     def test_healthy(self):
         much = {it: sql(self.room, f'SELECT count(*) FROM {it}').strip()
                 for it in ('terminals', 'vehicles')}
-        self.check_told('a healthy room', '', (0, HEALTHY.format(**much), ''))
+        self.check_report('a healthy room', '', (0, HEALTHY.format(**much), ''))
 
     def test_each_agreement(self):
-        self.assertEqual(sorted(TOLD), sorted(BROKEN))
+        self.assertEqual(sorted(REPORTED), sorted(BROKEN))
         for what, change in BROKEN.items():
-            self.check_told(what, change, (1, f'{TOLD[what]}\n', 'refused: file\n'))
+            self.check_report(what, change, (1, f'{REPORTED[what]}\n', 'refused: file\n'))
 
     def test_more_agreements(self):
-        for what, (change, told) in MORE.items():
-            self.check_told(what, change, (1, f'{told}\n', 'refused: file\n'))
+        for what, (change, reported) in MORE.items():
+            self.check_report(what, change, (1, f'{reported}\n', 'refused: file\n'))
 
     def test_values_of_no_row(self):
         for what, change in WRONG.items():
-            self.check_told(what, change, (3, UNREADABLE, 'storage\n'))
+            self.check_report(what, change, (3, UNREADABLE, 'storage\n'))
 
     def test_first_version(self):
-        self.check_told('a room of version 1', 'UPDATE meta SET version = 1; DROP TABLE offers',
-                        (1, 'version 1: migrate it\n', 'refused: version\n'))
+        self.check_report('a room of version 1', 'UPDATE meta SET version = 1; DROP TABLE offers',
+                          (1, 'version 1: migrate it\n', 'refused: version\n'))
 
     def test_no_indexes(self):
         changed = self.copy()
@@ -188,12 +188,12 @@ class Check(TestCase):
 
     def test_bytes_behind_the_end(self):
         whole = run('check', self.room)
-        for count, told in [(1, whole), (511, whole), (512, (3, '', 'storage\n'))]:
+        for count, reported in [(1, whole), (511, whole), (512, (3, '', 'storage\n'))]:
             changed = self.copy()
             with changed.open('ab') as file:
                 file.write(bytes(count))
             self.check('sqlite3 reads over them', sql(changed, 'SELECT count(*) FROM areas'), '2\n')
-            self.check(f'{count} bytes behind the end', run('check', changed), told)
+            self.check(f'{count} bytes behind the end', run('check', changed), reported)
 
     def test_other_files(self):
         empty, missing = self.folder / 'empty.db', self.folder / 'missing.db'

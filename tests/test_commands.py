@@ -515,9 +515,9 @@ class Operating(Typing):
                         stdout=subprocess.PIPE))
                     stack.callback(process.kill)
                     process.stdout.readline()
-                _, told = on_terminal(*words)
+                _, output = on_terminal(*words)
             formed = lambda it: re.sub(r'process \d+', 'process N', it)
-            self.check(command, [formed(it) for it in told.splitlines()],
+            self.check(command, [formed(it) for it in output.splitlines()],
                        [formed(it) for it in shown])
 
 

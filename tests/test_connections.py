@@ -267,7 +267,7 @@ class EndlessTestCase(ServedTestCase):
 
 
 class Dripping(threading.Thread):
-    """Sends a request byte by byte, and never all of it, again and again until it is told to end.
+    """Sends a request byte by byte, and never all of it, again and again until it is asked to end.
     Notes what it gets."""
 
     def __init__(self, port):
@@ -287,7 +287,7 @@ class Dripping(threading.Thread):
 
 
 class Busy(threading.Thread):
-    """Asks without a pause on a connection that it keeps, until it is told to end. Counts its
+    """Asks without a pause on a connection that it keeps, until it is asked to end. Counts its
     requests, and those that were answered as they should be."""
 
     def __init__(self, port):
@@ -381,16 +381,16 @@ class NobodyWaits(EndlessTestCase):
         for number in [3, 0, 4, 2, 1]:
             peers[number].sendall(call(1, '')[-1:])
             answers.append(read_answer(peers[number].makefile('rb')))
-        told = [(200, f'{{"division":1,"incident":{it},"linked":false}}') for it in range(1, 6)]
-        self.check('each is the next incident', answers, told)
+        expected = [(200, f'{{"division":1,"incident":{it},"linked":false}}') for it in range(1, 6)]
+        self.check('each is the next incident', answers, expected)
 
     def test_pieces(self):
         """However a stream is cut, its messages are answered as those of one that comes whole."""
         places = [f'TQ{100 + 4 * number}800' for number in range(60)]
         stream = b''.join(call(number, place) + LOANS for number, place in enumerate(places, 1))
-        told = [one for number in range(1, 61)
-                for one in [(200, f'{{"division":1,"incident":{number},"linked":false}}'),
-                            NO_LOANS]]
+        expected = [one for number in range(1, 61)
+                    for one in [(200, f'{{"division":1,"incident":{number},"linked":false}}'),
+                                NO_LOANS]]
         choose, port = random.Random(1), self.start('--patience', '120')
         with connect(port) as peer:
             answers = []
@@ -403,7 +403,7 @@ class NobodyWaits(EndlessTestCase):
                 time.sleep(choose.choice([0, 0.001, 0.02]))
             peer.shutdown(socket.SHUT_WR)
             reads.join(PATIENCE)
-        self.check('its answers', answers, told)
+        self.check('its answers', answers, expected)
 
     def test_keep(self):
         """A connection is kept so long as it may be silent, and is then closed."""
@@ -615,11 +615,11 @@ class Addresses(ServedTestCase):
         missing = self.folder / 'no.db'
         for address in ELSEWHERE:
             for room in [self.room, missing]:
-                status, out, told = run('serve', room, address, '--connections', '1')
+                status, out, printed = run('serve', room, address, '--connections', '1')
                 self.check(f'{address} of {room.name}', (status, out), (2, ''))
                 with self.subTest(address):
-                    self.assertIn('an address of this machine only', told)
-                    self.assertIn('proxy with TLS', told)
+                    self.assertIn('an address of this machine only', printed)
+                    self.assertIn('proxy with TLS', printed)
         self.check('no file is made', missing.exists(), False)
 
     def test_here(self):
@@ -661,9 +661,9 @@ class Modes(TestCase):
         run('init', self.room, PLAN)
         for bits in [0o640, 0o620, 0o604, 0o602, 0o666]:
             self.room.chmod(bits)
-            status, _, told = run('times', self.room, 1, '2026-03-29')
-            self.check(f'{bits:o}: it warns', (status, told.startswith('warning: ')), (0, True))
+            status, _, printed = run('times', self.room, 1, '2026-03-29')
+            self.check(f'{bits:o}: it warns', (status, printed.startswith('warning: ')), (0, True))
             with self.subTest(f'{bits:o}'):
-                self.assertIn(f'chmod 600 {self.room}', told)
+                self.assertIn(f'chmod 600 {self.room}', printed)
         self.room.chmod(0o600)
         self.check('only its owner', run('times', self.room, 1, '2026-03-29')[2], '')

@@ -152,12 +152,12 @@ class Served(TestCase):
 
     def tell(self):
         """What stands of the latest press, once all are shown and it is answered."""
-        def told():
+        def line_of_last():
             shown = BROWSER.texts('#reports li')
             is_whole = (len(shown) >= min(len(self.pressed), 20)
                         and 'Not sent yet' not in shown[0])
             return shown[0].split('\n') if is_whole else None
-        return until(told)
+        return until(line_of_last)
 
     def waits(self, words):
         """Whether the page comes to say so of what is not sent yet."""

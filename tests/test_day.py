@@ -1,10 +1,10 @@
 """A day in the room, as examples/day.sh plays it: each answer is as the rules say. Moments and ages
-are told as T, minutes that are left as M, the day as DAY."""
+are written as T, minutes that are left as M, the day as DAY."""
 # needs: curl
 # builds: dispatch_room
 import subprocess
 
-from documents import told
+from documents import comparable
 from room import TOP, TestCase, free_port
 
 
@@ -20,4 +20,4 @@ class Day(TestCase):
         lines = day.read_bytes().decode().replace(f':{port}', ':8192').split('\n')
         wanted = (TOP / 'examples' / 'day.out').read_bytes().decode()
         # Where they differ, lines with '-' are what was got and lines with '+' what was wanted.
-        self.assertMultiLineEqual('\n'.join(told(it, self.folder) for it in lines), wanted)
+        self.assertMultiLineEqual('\n'.join(comparable(it, self.folder) for it in lines), wanted)

@@ -45,14 +45,14 @@ class Asked(TestCase):
         finally:
             connection.close()
 
-    def told(self, method, path, body=None, **fields):
+    def asks(self, method, path, body=None, **fields):
         status, _, content = self.ask(method, path, body, **fields)
         return status, content
 
     def heard(self, *words, **fields):
         """What the room says, asked again where a busy one gave no answer in time."""
         end = time.monotonic() + PATIENCE
-        while (found := self.told(*words, **fields))[1] == UNANSWERED and time.monotonic() < end:
+        while (found := self.asks(*words, **fields))[1] == UNANSWERED and time.monotonic() < end:
             time.sleep(0.2)
         return found
 
@@ -123,7 +123,7 @@ class Companion(Asked):
             for path in NO_PAGES:
                 self.check(f'no page: {path}', self.ask('GET', path)[0], 404)
             self.check('a file is only read', self.ask('POST', '/desks/index.html', 'x')[0], 405)
-            self.check('HEAD', self.told('HEAD', '/desks/index.html'), (200, ''))
+            self.check('HEAD', self.asks('HEAD', '/desks/index.html'), (200, ''))
             self.check_strangers()
 
     def check_strangers(self):
@@ -142,10 +142,10 @@ class Companion(Asked):
     def test_no_answer(self):
         with socket.create_server(('127.0.0.1', 0)) as silent:
             with self.over(silent.getsockname()[1]):
-                self.check('a room that is silent', self.told('POST', '/room/call', CALL, **TAKER),
+                self.check('a room that is silent', self.asks('POST', '/room/call', CALL, **TAKER),
                            (504, UNANSWERED))
         with self.over(free_port()):
-            self.check('a room that is not there', self.told('GET', '/room/queue', **DESK),
+            self.check('a room that is not there', self.asks('GET', '/room/queue', **DESK),
                        (502, UNANSWERED))
 
     def test_data(self):
@@ -157,7 +157,7 @@ class Companion(Asked):
         with self.over(9):
             for name in ('areas.json', 'places.json'):
                 self.check(name, (self.folder / 'data' / name).read_text(),
-                           self.told('GET', f'/data/{name}')[1])
+                           self.asks('GET', f'/data/{name}')[1])
         areas = json.loads((self.folder / 'data' / 'areas.json').read_text())['areas']
         self.check('the areas of the plan', areas[0], {'division': 1, 'west': 500000,
                    'south': 100000, 'east': 549999, 'north': 199999})
@@ -242,9 +242,9 @@ class Nginx(Asked):
     def test_no_answer(self):
         with socket.create_server(('127.0.0.1', 0)) as silent:
             with self.over(silent.getsockname()[1]):
-                self.check('a room that is silent', self.told('POST', '/room/call', CALL, **TAKER),
+                self.check('a room that is silent', self.asks('POST', '/room/call', CALL, **TAKER),
                            (504, UNANSWERED))
         self.port = free_port()
         with self.over(free_port()):
-            self.check('a room that is not there', self.told('GET', '/room/queue', **DESK),
+            self.check('a room that is not there', self.asks('GET', '/room/queue', **DESK),
                        (504, UNANSWERED))

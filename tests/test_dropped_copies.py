@@ -46,8 +46,8 @@ class DroppedCopies(TestCase):
         for whole, end in zip([0, *places], [*places, len(text)]):
             for left in {whole, (whole + end) // 2}:
                 self.list.write_bytes(text)
-                told = CUT if whole < left else b''
-                self.check(f'{left} bytes', self.served(left, QUEUE), ([200], 0, told))
+                reported = CUT if whole < left else b''
+                self.check(f'{left} bytes', self.served(left, QUEUE), ([200], 0, reported))
                 now = self.list.read_bytes()
                 self.check(f'{left} bytes: what stands', now[:whole], text[:whole])
                 more = [it for it in ends(now) if whole < it]

@@ -112,10 +112,10 @@ class Texts(ErrorCase):
 
     def test_no_fleets(self):
         made(self.room)
-        for text, told in NO_FLEETS:
+        for text, cause in NO_FLEETS:
             self.text.write_bytes(text)
             self.check_error(f'fleet {text}', ['import', self.room, self.text], 1,
-                             'refused: input', f'{self.text}{told}')
+                             'refused: input', f'{self.text}{cause}')
 
     def test_no_plan(self):
         self.text.write_text('what,number,a,b,c\n')
@@ -124,10 +124,10 @@ class Texts(ErrorCase):
 
     def test_bad_rows(self):
         made(self.room, 'A1,1,1,TQ303804,crewofa1')
-        for row, told in BAD_ROWS:
+        for row, cause in BAD_ROWS:
             self.text.write_text(fleet_of(row))
             self.check_error(f'row {row}', ['import', self.room, self.text], 1, '',
-                             f'{self.text}:2: {told}')
+                             f'{self.text}:2: {cause}')
 
     def test_lines(self):
         """Each bad row is reported by its line, also behind empty lines."""
@@ -139,10 +139,10 @@ class Texts(ErrorCase):
                          f'{self.text}:7: callsign "b2" is not 1 to 8 of A-Z and 0-9')
 
     def test_bad_plans(self):
-        for row, rows, told in BAD_PLANS:
+        for row, rows, cause in BAD_PLANS:
             self.text.write_text('\n'.join([HEADER, *rows]) + '\n')
             self.check_error(f'plan {rows[:4]}', ['init', self.room, self.text], 1,
-                             f'refused: plan row {row}', f'{self.text}{told}')
+                             f'refused: plan row {row}', f'{self.text}{cause}')
 
 
 class Rooms(ErrorCase):
@@ -159,15 +159,15 @@ class Rooms(ErrorCase):
 
     def test_in_use(self):
         with serving(self.room, 1) as (_, process):
-            told = f'{self.room} is in use by process {process.pid}'
+            cause = f'{self.room} is in use by process {process.pid}'
             for words in [*self.commands(self.room), ('migrate', self.room),
                           ('init', self.room, PLAN)]:
-                self.check_error(f'{words[0]} of a served room', words, 3, 'storage', told)
+                self.check_error(f'{words[0]} of a served room', words, 3, 'storage', cause)
 
     def test_no_file(self):
-        told = f'{self.other}: {os_words(errno.ENOENT)}'
+        cause = f'{self.other}: {os_words(errno.ENOENT)}'
         for words in self.commands(self.other):
-            self.check_error(f'{words[0]} of no file', words, 1, 'refused: file', told)
+            self.check_error(f'{words[0]} of no file', words, 1, 'refused: file', cause)
         self.assertFalse(self.other.exists())
 
     def test_no_folder(self):
@@ -198,12 +198,12 @@ class Rooms(ErrorCase):
                          f'{self.room} is no regular file, or has more than one name')
 
     def test_no_database(self):
-        for text, status, named, told in [
+        for text, status, named, cause in [
                 ('', 1, 'refused: file', f'{self.other} is no room: none was begun in it'),
                 ('no database' * 100, 3, 'storage',
                  f'{self.other}: file is not a database that obeys its schema')]:
             self.other.write_text(text)
-            self.check_error(f'check of {text[:11]!r}', ['check', self.other], status, named, told)
+            self.check_error(f'check of {text[:11]!r}', ['check', self.other], status, named, cause)
 
     def test_a_room_already(self):
         self.check_error('init', ['init', self.room, PLAN], 1, 'refused: file',
@@ -211,17 +211,17 @@ class Rooms(ErrorCase):
 
     def test_no_room(self):
         sql(self.other, 'CREATE TABLE vehicles (callsign TEXT)')
-        told = f'{self.other} is no room: `dispatch_room check` says what is wrong'
-        self.check_error('times', ['times', self.other, 1, '2026-03-29'], 1, 'refused: file', told)
+        cause = f'{self.other} is no room: `dispatch_room check` says what is wrong'
+        self.check_error('times', ['times', self.other, 1, '2026-03-29'], 1, 'refused: file', cause)
 
     def test_versions(self):
         self.check_error('migrate', ['migrate', self.room], 1, 'refused: version',
                          f'{self.room} is a room of this version already')
         drop_indexes(self.room)
         sql(self.room, 'UPDATE meta SET version = 1; DROP TABLE offers')
-        told = f'{self.room} is a room of version 1: `dispatch_room migrate` moves it'
+        cause = f'{self.room} is a room of version 1: `dispatch_room migrate` moves it'
         self.check_error('times', ['times', self.room, 1, '2026-03-29'], 1, 'refused: version',
-                         told)
+                         cause)
 
     def test_times(self):
         self.check_error('a division', ['times', self.room, 9, '2026-03-29'], 1,
@@ -236,9 +236,9 @@ class Journals(ErrorCase):
         self.room = made(self.folder / 'room.db')
         self.list = self.folder / 'list'
 
-    def check_list(self, what, path, told):
+    def check_list(self, what, path, cause):
         words = ['serve', self.room, f'127.0.0.1:{free_port()}', '--journal', path]
-        self.check_error(what, words, 6, 'journal', f'{path}{told}')
+        self.check_error(what, words, 6, 'journal', f'{path}{cause}')
 
     def test_no_file(self):
         self.check_list('a folder', self.folder, f': {os_words(errno.EISDIR)}')
@@ -289,11 +289,11 @@ class Network(ErrorCase):
                          'TOKEN is not 8 to 32 of A-Z, a-z and 0-9')
 
     def test_addresses(self):
-        for address, told in ADDRESSES:
+        for address, cause in ADDRESSES:
             status, _, err = run('serve', self.folder / 'room.db', address)
             self.check(f'{address}: status', status, 2)
             with self.subTest(f'{address}: what is wrong'):
-                self.assertIn(f"invalid value '{address}' for '<ADDRESS>': {told};", err)
+                self.assertIn(f"invalid value '{address}' for '<ADDRESS>': {cause};", err)
 
 
 BODIES = [
@@ -315,12 +315,12 @@ class Bodies(TestCase):
         """The answer says no more than its number; the log has the member and the fault."""
         room = made(self.folder / 'room.db')
         with serving(room, len(BODIES), *PATIENT, '--log') as (port, process):
-            for body, told in BODIES:
+            for body, cause in BODIES:
                 answers = ask(port, message('takerone', 'POST /call', body))
                 self.check(f'{body}: the answer', answers, [(400, refusal('BadBody', 40))])
                 process.stderr.readline()
                 self.check(f'{body}: the log', process.stderr.readline().decode(),
-                           f'POST /call: {told}\n')
+                           f'POST /call: {cause}\n')
 
 
 class Disks(PreloadedTestCase):
@@ -344,9 +344,10 @@ class Disks(PreloadedTestCase):
         """Each sync of a journal fails in turn: the system's words are given, and of which file."""
         room, journal = made(self.folder / 'room.db'), self.folder / 'list'
         words = '--journal', journal, '--journal-sync', 'always', '--explain'
-        told = f'{journal}: {os_words(errno.EIO)}\njournal\n'.encode()
+        cause = f'{journal}: {os_words(errno.EIO)}\njournal\n'.encode()
         sent = message('deskone1', 'GET /queue')
-        for at in range(1, 6):  # the start's, the first line's, the head's, the message's, and none
+        # the start's, the first line's, the head's, the message's, the end's, and none
+        for at in range(1, 7):
             journal.unlink(missing_ok=True)
             _, *end = self.program.serve(sync_fault(at, journal), room, sent, *words)
-            self.check(f'where sync {at} fails', end, [6, told] if at < 5 else [0, b''])
+            self.check(f'where sync {at} fails', end, [6, cause] if at < 6 else [0, b''])

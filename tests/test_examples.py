@@ -32,7 +32,7 @@ class Examples(TestCase):
         """The command in the top folder, which builds the program first."""
         done = subprocess.run([TOP / 'dispatch_room'], stdin=subprocess.DEVNULL,
                               capture_output=True)
-        self.assertEqual(done.returncode, 0, f'it told {done.stderr}')
+        self.assertEqual(done.returncode, 0, f'it printed {done.stderr}')
 
     def test_examples(self):
         names = sorted(it.stem for it in EXAMPLES.glob('*.http'))
@@ -80,7 +80,7 @@ class Refusals(TestCase):
     def test_head(self):
         """HEAD gets the head of the answer to GET."""
         head = b'HEAD /incidents HTTP/1.1\r\nHost: room\r\nX-Terminal: deskone1\r\n\r\n'
-        self.assertEqual(dry_run(head), (answer('200 OK', '{"incidents":[]}', told=''), WELL))
+        self.assertEqual(dry_run(head), (answer('200 OK', '{"incidents":[]}', sent=''), WELL))
 
 
 class Faults(TestCase):

@@ -2,7 +2,7 @@
 with all calls after it. A request gets its answer or 42. After 42 either the room is served on and
 nothing has changed, or it ends as `storage` within that connection, and its file holds the room
 before the request or after it. The request, sent again to the room opened again, gets its answer. A
-room that is told to be created stands."""
+room that is reported as created stands."""
 # needs: python3 gcc libc6-dev sqlite3
 # builds: dispatch_room
 import contextlib
@@ -22,7 +22,7 @@ FAILED = [(503, '{"error":"Storage","number":42}')]
 class Faults(PreloadedTestCase):
     def served(self, switches, room, connections=2):
         """Serves a room to connections that send one call; the answers of each, the status, and what
-        was told."""
+        was printed."""
         port, answers = free_port(), []
         words = ['serve', room, f'127.0.0.1:{port}', '--connections', connections, *PATIENT]
         with self.program.start(switches, *words) as process:

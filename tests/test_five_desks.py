@@ -143,28 +143,28 @@ class FiveDesks(TestCase):
         done = subprocess.run(words, capture_output=True, timeout=PATIENCE)
         return done.stdout.decode() or done.stderr.decode()
 
-    def told(self, *words):
+    def asks(self, *words):
         return json.loads(self.ask(*words))
 
     def check_day(self):
         """Each desk sends a vehicle to a call of its division, and its crew has the order."""
         self.check('the pages', '<html' in self.ask('desk1', 'nobody', '/desks/index.html'), True)
-        self.check('names of places', self.told('taker1', 'nobody', '/data/places.json')['places'],
+        self.check('names of places', self.asks('taker1', 'nobody', '/data/places.json')['places'],
                    [['Town Hall', 'TQ 300 800'], ['North Station', 'TQ 344 850']])
         until_then = int(time.time()) + 3600
         vehicles = ['C1', 'NW1', 'NE1', 'SW1', 'SE1']
         for nth, (token, vehicle, place) in enumerate(zip(DESK_TOKENS, vehicles, PLACES), 1):
             desk, taker = (f'desk{nth}', token), f'taker{nth % 2 + 1}'
             duty = f'{{"place":"{place}","until":{until_then}}}'
-            self.check(f'{vehicle} on duty', self.told(
+            self.check(f'{vehicle} on duty', self.asks(
                 *desk, f'/room/vehicles/{vehicle}/duty', duty), {'done': True})
             call = (f'{{"class":2,"needs":[1,0,0],"note":"","place":"{place}","serial":{nth}}}')
-            self.check(f'a call in division {nth}', self.told(
+            self.check(f'a call in division {nth}', self.asks(
                 taker, ['takerone', 'takertwo'][nth % 2], '/room/call', call),
                 {'division': nth, 'incident': 1, 'linked': False})
-            self.check(f'{vehicle} is sent', self.told(
+            self.check(f'{vehicle} is sent', self.asks(
                 *desk, '/room/incidents/1/mobilise', f'{{"vehicle":"{vehicle}"}}'),
                 {'order': 1, 'vehicle': vehicle})
-            order = self.told('crew', f'crewof{vehicle.lower()}', '/room/order')
+            order = self.asks('crew', f'crewof{vehicle.lower()}', '/room/order')
             self.check(f'the order of {vehicle}', [order['status'], order['order']['incident']],
                        [2, 1])

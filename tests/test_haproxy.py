@@ -91,8 +91,8 @@ class Proxied(TestCase):
                 it.sendall(call(4))
                 self.check('without TLS', b'200' in it.recv(100), False)
             with self.connect() as it:
-                _, told = self.answer(it, message('deskone1', 'GET /incidents'))
-                self.check('the one call was heard', len(json.loads(told)['incidents']), 1)
+                _, answered = self.answer(it, message('deskone1', 'GET /incidents'))
+                self.check('the one call was heard', len(json.loads(answered)['incidents']), 1)
 
     def test_slow_request(self):
         """(Were the room to hear of it before it is whole, it would let it go unanswered.) It's sent
@@ -124,8 +124,8 @@ class Proxied(TestCase):
             slow.sendall(message('deskone1', 'GET /vehicles'))
             time.sleep(SLOW)
             self.check_beside('beside an answer that is not read')
-            status, told = read_answer(slow.makefile('rb'))
-            count = len(json.loads(told)['vehicles'])
+            status, answered = read_answer(slow.makefile('rb'))
+            count = len(json.loads(answered)['vehicles'])
             self.check('the answer is whole', (status, count), (200, 600))
 
     def test_kept_connections(self):
@@ -138,8 +138,8 @@ class Proxied(TestCase):
             for nth in range(2):
                 for it in kept:
                     it.sendall(sent)
-                told = {read_answer(it.makefile('rb')) for it in kept}
-                self.check(f'round {nth}', told, {(200, '{"points":[]}')})
+                answered = {read_answer(it.makefile('rb')) for it in kept}
+                self.check(f'round {nth}', answered, {(200, '{"points":[]}')})
             self.check('the room had 120 connections', self.room.wait(PATIENCE), 0)
 
     def test_room_that_is_gone(self):

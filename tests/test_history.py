@@ -36,7 +36,7 @@ class History(PreloadedTestCase):
         sent = ''.join(it.text() for it in asked).encode()
         got, status, said = self.program.serve(switches, room, sent, *words, ask=talk)
         found = answers(got.decode(), asked)
-        self.assertEqual((status, len(found)), (0, len(asked)), f'it told {said!r}')
+        self.assertEqual((status, len(found)), (0, len(asked)), f'it printed {said!r}')
         return found, dump(room)
 
     def test_scripts(self):
@@ -67,12 +67,12 @@ class History(PreloadedTestCase):
             for it in elsewhere:
                 it.path = '/nowhere' if is_of_history(it) else it.path
             plain, rows = self.play(asked)
-            told, told_rows = self.play(asked, '--history')
+            answered, rows_after = self.play(asked, '--history')
             self.check(f'{path.name}: as nowhere', plain, self.play(elsewhere)[0])
             rest = [at for at, it in enumerate(asked) if not is_of_history(it)]
             self.check(f'{path.name}: all else', [plain[at] for at in rest],
-                       [told[at] for at in rest])
-            self.check(f'{path.name}: the rows', rows, told_rows)
+                       [answered[at] for at in rest])
+            self.check(f'{path.name}: the rows', rows, rows_after)
             none = {answer.content for it, answer in zip(asked, plain)
                     if is_of_history(it) and it.method != 'HEAD'}
             self.check(f'{path.name}: no path', none, {'{"error":"NoPath","number":36}'})
@@ -81,7 +81,7 @@ class History(PreloadedTestCase):
 class Replayed(PreloadedTestCase):
     def test_replay(self):
         """A list that was kept with history is replayed with it, and without it the first question
-        is told, whose answer has another status."""
+        is reported, whose answer has another status."""
         room, journal = self.folder / 'room.db', self.folder / 'room.list'
         run('init', room, PLAN)
         first = shutil.copy(room, self.folder / 'first.db')

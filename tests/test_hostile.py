@@ -12,8 +12,8 @@ from room import FLEET, TestCase, drop_indexes, dump, index_names, made, run, sq
 
 def opened(room):
     """What comes of opening the room: its status, and what it says of a failure."""
-    status, _, told = run('times', room, 1, '2026-03-29')
-    return status, told
+    status, _, printed = run('times', room, 1, '2026-03-29')
+    return status, printed
 
 
 class Hostile(TestCase):
@@ -22,7 +22,7 @@ class Hostile(TestCase):
         folder = cls.enterClassContext(tempfile.TemporaryDirectory())
         cls.room = made(pathlib.Path(folder) / 'room.db')
         run('import', cls.room, FLEET)
-        cls.told = sql(cls.room, WORK)
+        cls.printed = sql(cls.room, WORK)
 
     def copy(self):
         return pathlib.Path(shutil.copy(self.room, self.folder / 'changed.db'))
@@ -36,7 +36,7 @@ class Hostile(TestCase):
             self.check(f'{what}: nothing is changed', dump(changed), before)
 
     def test_room_is_sound(self):
-        self.check('the rows are there', self.told, '')
+        self.check('the rows are there', self.printed, '')
         self.check('the room is sound', opened(self.copy()), (0, ''))
 
     def test_broken_agreements(self):

@@ -69,8 +69,8 @@ class Kept(ImportsTestCase):
     """What is kept, and what it leads to."""
 
     def test_records(self):
-        told = self.imports(B1, C1)
-        self.check('as an import reports', told, (0, 'B1 added\nC1 added\n', ''))
+        report = self.imports(B1, C1)
+        self.check('as an import reports', report, (0, 'B1 added\nC1 added\n', ''))
         wanted = [head_of(self.before), f'row {HEADER}\n'.encode(), f'row {B1}\n'.encode(),
                   f'row {C1}\n'.encode(), head_of(self.room)]
         self.check('its records', bodies(self.list.read_bytes()), wanted)
@@ -106,8 +106,8 @@ class Kept(ImportsTestCase):
         """Bad rows, and those that are refused, are so again: they change nothing."""
         rows = ['a7,1,1,TQ303804,crewofa7', 'A1,1,2,TQ303804,crewofa1', CREW,
                 'C1,1,1,TQ303804,crewofa1', 'C2,9,1,TQ303804,crewofc2', C1, C1, B1]
-        told = self.imports(*rows)
-        self.check('in part', told[0], 1)
+        report = self.imports(*rows)
+        self.check('in part', report[0], 1)
         wanted = [f'{it}\n' for it in [HEADER, *rows]]
         self.check('its rows', rows_in(self.list.read_bytes()), wanted)
         self.leads_to_the_room('rows that are refused')
@@ -265,9 +265,9 @@ class Changed(ImportsTestCase):
         lines = [HEADER, CREW, B1, B1, 'C2,1,1,TQ303804,crewofc2']
         rows = [f'row {it}\n'.encode() for it in lines]
         for room in rooms:
-            told = replay(self.fresh(), chain([*bodies(self.text)[:self.rows[0]], *rows,
-                                               head_of(room)]))
-            self.check(f'{room.stem}', told, (0, b'replayed 1\n', ''))
+            report = replay(self.fresh(), chain([*bodies(self.text)[:self.rows[0]], *rows,
+                                                 head_of(room)]))
+            self.check(f'{room.stem}', report, (0, b'replayed 1\n', ''))
             self.check(f'{room.stem}: the room', dump(self.again), dump(room))
         status, out, err = replay(self.fresh(), chain([*bodies(self.text)[:self.rows[0]], *rows,
                                                        head_of(self.before)]))
@@ -286,12 +286,12 @@ class Changed(ImportsTestCase):
 class Unkept(ImportsTestCase):
     """Where the list can't be kept, nothing is enrolled."""
 
-    def refused(self, what, path, status=6, told='journal\n'):
+    def refused(self, what, path, status=6, report='journal\n'):
         fleet = self.folder / 'next.csv'
         fleet.write_text(fleet_of(B1))
         before = dump(self.room)
         done = run('import', self.room, fleet, '--journal', path)
-        self.check(what, done, (status, '', told))
+        self.check(what, done, (status, '', report))
         self.check(f'{what}: the room', dump(self.room), before)
 
     def test_no_list(self):
@@ -359,8 +359,8 @@ class Stopped(PreloadedTestCase):
 
     def leads_to(self, file):
         """The next start finds a room to which the copy and the list lead."""
-        _, status, told = self.program.serve({}, file, QUEUE, '--journal', self.list)
-        self.assertEqual(status, 0, told)
+        _, status, report = self.program.serve({}, file, QUEUE, '--journal', self.list)
+        self.assertEqual(status, 0, report)
         copy = shutil.copy(self.before, self.folder / 'copy.db')
         status, _, err = replay(copy, self.list.read_bytes())
         self.assertEqual((status, err), (0, ''))
@@ -384,9 +384,9 @@ class Stopped(PreloadedTestCase):
         for at in sampled(self.program.total()):
             with self.subTest(f'stopped at {at}'):
                 file, _ = self.imports(stop(at) | WRITES)
-                told = CUT if self.list.exists() and is_cut(self.list.read_bytes()) else b''
+                report = CUT if self.list.exists() and is_cut(self.list.read_bytes()) else b''
                 done = self.program.run({}, 'import', file, self.fleet, '--journal', self.list)
-                self.assertEqual((done[0], done[2]), (0, told))
+                self.assertEqual((done[0], done[2]), (0, report))
                 self.assertEqual(self.leads_to(file), ['A1', 'B1', 'C1'])
 
     def test_syncs(self):

@@ -101,11 +101,11 @@ class Joined(TestCase):
         self.assertEqual(run('renew', self.old, self.new, '--since', day(MONDAY + DAYS))[0], 0)
         self.check('what is left', [it['number'] for it in tables_of(self.new)['incidents']],
                    [1, 2, 3, 5])
-        told = play(self.new, [
+        answers = play(self.new, [
             (MONDAY + 4 * DAYS, 'deskone1', 'POST /incidents/1/mobilise', {'vehicle': 'A1'}),
             (MONDAY + 4 * DAYS, 'deskone1', 'POST /incidents/2/merge', {'into': 1}),
             (MONDAY + 4 * DAYS, 'deskone1', 'POST /incidents/3/close', None)])
-        self.check('it goes on', [status for status, _ in told], [200, 200, 200])
+        self.check('it goes on', [status for status, _ in answers], [200, 200, 200])
         self.check('the first day', self.joined(1, MONDAY), (0, HEAD + ''.join([
             f'1,{MONDAY},{4 * DAYS}\n', f'3,{MONDAY + 2},\n', f'4,{MONDAY + 3},\n']), ''))
         self.check('the fourth', self.joined(1, MONDAY + 3 * DAYS),
@@ -166,7 +166,7 @@ class Joined(TestCase):
 
     def test_explained(self):
         self.renewed(8, MONDAY)
-        for what, words, told in [
+        for what, words, reported in [
                 ('a division', [self.new, 9, day(MONDAY), '--and', self.old],
                  f'no division 9 in the plan of {self.new}'),
                 ('a day', [self.new, 1, 'today', '--and', self.old],
@@ -175,7 +175,7 @@ class Joined(TestCase):
                  'none.db')]:
             _, _, err = run('times', *words, '--explain')
             self.check(f'{what}: a line and its explanation', len(err.splitlines()), 2)
-            self.check(what, told in err.splitlines()[0], True)
+            self.check(what, reported in err.splitlines()[0], True)
 
     def test_served(self):
         self.renewed(9, MONDAY)

@@ -15,9 +15,10 @@ import subprocess
 import sys
 import time
 
-from journals import CREW, QUEUE, JournalTestCase, chain, entries, pieces, plain, replay, verify
-from preloaded import (BEFORE, HALFWAY, MACHINE, NEVER_STOPPED, WRITES, PreloadedTestCase, sampled,
-                       stop, sync_fault)
+from journals import (CREW, QUEUE, JournalTestCase, bodies, chain, entries, pieces, plain, replay,
+                      verify)
+from preloaded import (BEFORE, HALFWAY, MACHINE, NEVER_STOPPED, WRITES, PreloadedTestCase, faults,
+                       sampled, stop, sync_fault)
 from room import (PATIENT, PROGRAM, TOP, TestCase, call, dump, free_port, made, message,
                   read_dated, run, serving, sql, talk)
 
@@ -84,7 +85,7 @@ class Kept(JournalTestCase):
         for sent in [[QUEUE], [call(1)], [QUEUE]]:
             self.serve(sent)
         digests = [it[2] for it in self.entries() if it[0] == 'room']
-        self.check('as told in Python', digests[2], digest.of_file(self.room))
+        self.check('as Python has it', digests[2], digest.of_file(self.room))
         self.check('the same room', digests[0] == digests[1], True)
         self.check('another room', digests[1] == digests[2], False)
 
@@ -95,7 +96,7 @@ class Kept(JournalTestCase):
         self.serve([QUEUE])
         digests = [it[2] for it in self.entries() if it[0] == 'room']
         self.check('in another zone', digests[0] == digests[1], False)
-        self.check('as told in Python', digests[1], digest.of_file(self.room))
+        self.check('as Python has it', digests[1], digest.of_file(self.room))
 
     def test_synced(self):
         self.serve([call(1)], words=['--journal-sync', 'always'])
@@ -108,8 +109,8 @@ class Unkept(JournalTestCase):
     def refused(self, what, path, wanted=(6, '', 'journal\n')):
         before = dump(self.room)
         address = f'127.0.0.1:{free_port()}'
-        told = run('serve', self.room, address, '--connections', 1, '--journal', path)
-        self.check(what, told, wanted)
+        report = run('serve', self.room, address, '--connections', 1, '--journal', path)
+        self.check(what, report, wanted)
         self.check(f'{what}: the room', dump(self.room), before)
 
     def test_no_file(self):
@@ -139,8 +140,8 @@ class Cut(JournalTestCase):
         for length in [1, 7, 71, 72, 90]:
             part = pieces(whole)[1][:length]
             self.list.write_bytes(whole + part)
-            _, told = self.serve([QUEUE])
-            self.check(f'{length} bytes: it is reported', 'cut off' in told, True)
+            _, report = self.serve([QUEUE])
+            self.check(f'{length} bytes: it is reported', 'cut off' in report, True)
             self.check(f'{length} bytes: what stays', self.list.read_bytes()[:len(whole)], whole)
             rest = self.list.read_bytes()[len(whole):]
             self.check(f'{length} bytes: what follows', rest[71:76], b'room ')
@@ -159,8 +160,8 @@ class GoneOnWith(JournalTestCase):
         whole = plain(self.list.read_bytes())
         for part in [b'', whole[:7], whole[:40]]:
             self.list.write_bytes(whole + part)
-            _, told = self.serve([QUEUE])
-            self.check(f'{len(part)} bytes: it is reported', 'cut off' in told, part != b'')
+            _, report = self.serve([QUEUE])
+            self.check(f'{len(part)} bytes: it is reported', 'cut off' in report, part != b'')
             self.check(f'{len(part)} bytes: what stays', self.list.read_bytes()[:len(whole) + 5],
                        whole + b'room ')
             whole = self.list.read_bytes()
@@ -193,9 +194,9 @@ class GoneOnWith(JournalTestCase):
         text = bytearray(self.list.read_bytes())
         text[100] ^= 1
         self.list.write_bytes(text)
-        told = run('serve', self.room, f'127.0.0.1:{free_port()}', '--connections', 1, '--journal',
+        done = run('serve', self.room, f'127.0.0.1:{free_port()}', '--connections', 1, '--journal',
                    self.list)
-        self.check('it is refused', told, (6, '', 'journal\n'))
+        self.check('it is refused', done, (6, '', 'journal\n'))
         self.check('it stays', self.list.read_bytes(), bytes(text))
 
 
@@ -464,8 +465,8 @@ class Replayed(JournalTestCase):
         """A list of version 1 is played, whatever the zone is. Its head is refused at another room,
         and an open message before one is done where it leads to its room."""
         found = self.of_first_version()
-        told = replay(self.fresh(), written(found))
-        self.check('it is replayed', told, (0, b'replayed 6\n', ''))
+        report = replay(self.fresh(), written(found))
+        self.check('it is replayed', report, (0, b'replayed 6\n', ''))
         self.check('the room', dump(self.again), dump(self.room))
         sql(self.fresh(), "UPDATE meta SET zone = 'UTC0'")
         self.check('in another zone', replay(self.again, written(found))[:2], (0, b'replayed 6\n'))
@@ -532,8 +533,8 @@ class Replayed(JournalTestCase):
         text = written(found)
         for records in range(7):
             last = moment + 60 * (records - 1) + 59
-            told = replay(self.fresh(), text, '--until', str(last))
-            self.check(f'until {records}', told, (0, f'replayed {records}\n'.encode(), ''))
+            report = replay(self.fresh(), text, '--until', str(last))
+            self.check(f'until {records}', report, (0, f'replayed {records}\n'.encode(), ''))
             wanted = shutil.copy(self.before, self.folder / 'wanted.db')
             replay(wanted, written(found[:1 + 2 * records]))
             self.check(f'until {records}: the room', dump(self.again), dump(wanted))
@@ -568,8 +569,8 @@ class Chained(JournalTestCase):
     def test_whole(self):
         """It is played as a list of version 1 is."""
         for end in ([], [self.END]):
-            told = replay(self.fresh(), chain([*self.bodies, *end]))
-            self.check('it is replayed', told, (0, b'replayed 3\n', ''))
+            report = replay(self.fresh(), chain([*self.bodies, *end]))
+            self.check('it is replayed', report, (0, b'replayed 3\n', ''))
             self.check('the room', dump(self.again), dump(self.room))
         self.check('version 1', replay(self.fresh(), written(self.found)),
                    (0, b'replayed 3\n', ''))
@@ -639,12 +640,12 @@ class Chained(JournalTestCase):
         whole = chain([*self.bodies, self.END, *self.ROWS])
         for what, cut in [('whole', len(whole)), ('cut off', len(whole) - 5)]:
             self.list.write_bytes(whole[:cut])
-            told = self.serve([QUEUE])[1]
+            report = self.serve([QUEUE])[1]
             rows = 2 if what == 'whole' else 1
             kept = chain([*self.bodies, self.END, *self.ROWS[:rows]])
             now = self.list.read_bytes()
             self.check(f'{what}: what stood', now[:len(kept)] == kept, True)
-            self.check(f'{what}: it is reported', 'cut off' in told, what != 'whole')
+            self.check(f'{what}: it is reported', 'cut off' in report, what != 'whole')
             self.check(f'{what}: its records', [it[0] for it in entries(now)][-3:],
                        ['room', 'message', 'answer'])
             self.check(f'{what}: it is whole', verify(self.list)[0], 0)
@@ -775,8 +776,8 @@ class Stopped(PreloadedTestCase):
                 with self.subTest(f'{what}, stopped at {at}, {how}'):
                     file = self.fresh(before)
                     self.program.serve(stop(at, how) | WRITES, file, sent, *words)
-                    _, status, told = self.program.serve({}, file, QUEUE, *words)
-                    self.assertEqual(status, 0, told)
+                    _, status, report = self.program.serve({}, file, QUEUE, *words)
+                    self.assertEqual(status, 0, report)
                     copy = shutil.copy(before, self.folder / 'copy.db')
                     status, _, err = replay(copy, listed.read_bytes())
                     self.assertEqual((status, err), (0, ''))
@@ -830,8 +831,8 @@ class Unsynced(PreloadedTestCase):
         self.check('it is served', self.served(QUEUE, synced=self.lists)[1:], (0, b''))
         self.check('the folder of a new list', self.program.total(), 1)
         self.anew()
-        told = self.served(QUEUE, synced=self.lists, fails=1)
-        self.check('where it fails', told, ([], 6, b'journal\n'))
+        report = self.served(QUEUE, synced=self.lists, fails=1)
+        self.check('where it fails', report, ([], 6, b'journal\n'))
 
     def test_failing(self):
         sent, words = b''.join([call(1), DUTY, MOBILISE]), ('--journal-sync', 'always')
@@ -839,7 +840,7 @@ class Unsynced(PreloadedTestCase):
         answers, *end = self.served(sent, *words)
         self.check('where none fails', ([it[0] for it in answers], end), ([200] * 3, [0, b'']))
         total = self.program.total()
-        self.check('the start, the first line, the head and each message', total, 6)
+        self.check('the start, the first line, the head, each message and the end', total, 7)
         for at in range(1, total + 1):
             self.anew()
             answers, *end = self.served(sent, *words, fails=at)
@@ -853,3 +854,34 @@ class Unsynced(PreloadedTestCase):
             status, _, err = replay(copy, self.list.read_bytes())
             self.check(f'after {at}: the list', (status, err), (0, ''))
             self.check(f'after {at}: the room', dump(copy), dump(self.file))
+
+
+class Unwritten(PreloadedTestCase):
+    """Each call of the disk fails in turn, writes to the list too. A service that ends well has said
+    so in its list; else the program ends as `journal` or `storage`, and the next start serves."""
+
+    def test_each(self):
+        before, listed = made(self.folder / 'before.db', CREW), self.folder / 'list'
+
+        def served(switches):
+            file = self.fresh(before)
+            listed.unlink(missing_ok=True)
+            return self.program.serve(switches | WRITES, file, QUEUE, '--journal', listed), file
+
+        (_, *end), _ = served(faults(0, 0))
+        self.check('where none fails', (end, bodies(listed.read_bytes())[-1]),
+                   ([0, b''], b'end\n'))
+        whole, met = listed.read_bytes(), set()
+        for at in range(1, self.program.total() + 1):
+            (_, *end), file = served(faults(at, at))
+            kept = listed.read_bytes() if listed.exists() else b''
+            with self.subTest(f'where {at} fails'):
+                self.assertIn(end, [[0, b''], [3, b'storage\n'], [6, b'journal\n']])
+            if end[0] == 0:
+                self.check(f'where {at} fails: the list', len(kept), len(whole))
+            met.add((end[0], len(kept)))
+            again = self.program.serve({}, file, QUEUE, '--journal', listed)
+            self.check(f'after {at}', again[1], 0)
+            self.check(f'after {at}: its end', bodies(listed.read_bytes())[-1], b'end\n')
+        record = len(pieces(whole)[-1])
+        self.check('where its end fails', (6, len(whole) - record) in met, True)

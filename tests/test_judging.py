@@ -43,8 +43,8 @@ class Judging(TestCase):
         """A block that is printed follows the commands that print it, and is a part of that."""
         for (_, given), (kind, shown) in itertools.pairwise(blocks()):
             if kind == 'text':
-                told = ''.join(map(printed, given.splitlines()))
-                self.check(given.splitlines()[0], shown in told, True)
+                output = ''.join(map(printed, given.splitlines()))
+                self.check(given.splitlines()[0], shown in output, True)
 
     def test_commands(self):
         """Each command reads, or is one whose parts are looked at."""

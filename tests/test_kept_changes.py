@@ -102,17 +102,17 @@ class Kept(ChangesTestCase):
     def test_from(self):
         """The list has what a file gives, not the file."""
         fleet = fleet_of('A1,1,1,TQ303804,newofa11', '"B1",2,2,TQ600800,newofb11')
-        told = self.changes('terminals', '--from', self.file('new', fleet))
-        self.check('a fleet', told, (0, 'set: terminals 2\n', ''))
+        report = self.changes('terminals', '--from', self.file('new', fleet))
+        self.check('a fleet', report, (0, 'set: terminals 2\n', ''))
         self.kept('a fleet', HEADER, 'crew:A1,newofa11', 'crew:B1,newofb11')
         plan = text_of(PLAN_HEAD, LONDON, WEST, EAST, 'position,7,takernew,,,',
                        'desk,1,newone11,,,', 'desk,1,newone12,,,')
-        told = self.changes('terminals', '--from', self.file('new', plan))
-        self.check('a plan', told, (0, 'set: terminals 3\n', ''))
+        report = self.changes('terminals', '--from', self.file('new', plan))
+        self.check('a plan', report, (0, 'set: terminals 3\n', ''))
         self.kept('a plan', HEADER, 'position:7,takernew', 'desk:1,newone11', 'desk:1,newone12')
         plan = text_of(PLAN_HEAD, LONDON, WEST, EAST)
-        told = self.changes('terminals', '--from', self.file('new', plan))
-        self.check('nobody', told, (0, 'set: terminals 0\n', ''))
+        report = self.changes('terminals', '--from', self.file('new', plan))
+        self.check('nobody', report, (0, 'set: terminals 0\n', ''))
         self.kept('nobody', HEADER)
 
     def test_swapped(self):
@@ -139,8 +139,8 @@ class Kept(ChangesTestCase):
                             ('no division', ['terminals', '--new', 'desk:9']),
                             ('taken', ['terminals', '--from', self.file('taken', taken)]),
                             ('lacking', ['replan', self.file('plan', lacking)])]:
-            told = self.changes(*words)
-            self.check(what, (told[0], told[1], 'refused: ' in told[2]), (1, '', True))
+            report = self.changes(*words)
+            self.check(what, (report[0], report[1], 'refused: ' in report[2]), (1, '', True))
             self.check(f'{what}: the room', rows_of(self.room), before)
         self.leads_to_the_room('what is refused')
 
@@ -202,10 +202,10 @@ class Found(ChangesTestCase):
         self.serve([call(1)])
         self.first = bodies(self.list.read_bytes())[:-1]
 
-    def refused(self, what, lines, told, room=None):
+    def refused(self, what, lines, report, room=None):
         text = chain([*self.first, *map(row, lines), head_of(room or self.before)])
         status, out, err = replay(self.fresh(), text)
-        self.check(what, (status, out, told in err), (1, b'', True))
+        self.check(what, (status, out, report in err), (1, b'', True))
 
     def test_none(self):
         for what, lines in [('another header', ['terminal;token', 'desk:1,newone11']),
@@ -264,14 +264,14 @@ class Found(ChangesTestCase):
 class Unkept(ChangesTestCase):
     """Where the list can't be kept, nothing is changed."""
 
-    def refused(self, what, path, status=6, told='journal\n'):
+    def refused(self, what, path, status=6, report='journal\n'):
         plan = self.file('plan', text_of(PLAN_HEAD, TOKYO, WEST, EAST, 'desk,1,newone11,,,'))
         before = rows_of(self.room)
         for words in [('terminals', '--new', 'desk:1'), ('terminals', '--revoke', 'desk:1'),
                       ('terminals', '--from', plan), ('replan', plan)]:
             done = run(words[0], self.room, *words[1:], '--journal', path)
             it = f'{what}: {words[:2]}'
-            self.check(it, (done[0], done[1], told in done[2]), (status, '', True))
+            self.check(it, (done[0], done[1], report in done[2]), (status, '', True))
             self.check(f'{it}: the room', rows_of(self.room), before)
 
     def test_no_list(self):
@@ -339,8 +339,8 @@ class Stopped(PreloadedTestCase):
     def leads_to(self, file):
         """The next start finds a room to which the copy and the list lead; whether it is
         changed."""
-        _, status, told = self.program.serve({}, file, queue('desktwo2'), '--journal', self.list)
-        self.assertEqual(status, 0, told)
+        _, status, report = self.program.serve({}, file, queue('desktwo2'), '--journal', self.list)
+        self.assertEqual(status, 0, report)
         copy = shutil.copy(self.before, self.folder / 'copy.db')
         status, _, err = replay(copy, self.list.read_bytes())
         self.assertEqual((status, err), (0, ''))

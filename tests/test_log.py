@@ -20,7 +20,7 @@ REFUSED = 'position 1 POST /call 400'
 WRONG = 'POST /call: "serial" is missing'
 
 # Messages, and what their lines say between the moment and the time that they took.
-TOLD = [
+REPORTED = [
     (call(1), 'position 1 POST /call 200'),
     (message('deskone1', 'GET /queue'), 'desk 1 GET /queue 200'),
     (message('crewofa1', 'POST /report', REPORT), 'crew A1 POST /report 200'),
@@ -55,7 +55,7 @@ class LogTestCase(TestCase):
     def setUp(self):
         super().setUp()
         self.room = made(self.folder / 'room.db', CREW)
-        self.messages = [it for it, _ in TOLD]
+        self.messages = [it for it, _ in REPORTED]
 
     def logged(self, *words):
         """The answers to all messages on one connection, and the lines of the log."""
@@ -71,13 +71,13 @@ class Lines(LogTestCase):
         more."""
         answers, log = self.logged('--log')
         lines = log.splitlines()
-        refused = [told for _, told in TOLD].index(REFUSED)
+        refused = [entry for _, entry in REPORTED].index(REFUSED)
         self.check('what is wrong with the body', lines.pop(refused + 1), WRONG)
-        self.assertEqual((len(answers), len(lines)), (len(TOLD), len(TOLD)))
-        for (moment, status, _), line, (_, told) in zip(answers, lines, TOLD):
-            with self.subTest(told):
+        self.assertEqual((len(answers), len(lines)), (len(REPORTED), len(REPORTED)))
+        for (moment, status, _), line, (_, entry) in zip(answers, lines, REPORTED):
+            with self.subTest(entry):
                 at, said, took = LINE.fullmatch(line).groups()
-                self.assertEqual((at, said), (written(moment), told))
+                self.assertEqual((at, said), (written(moment), entry))
                 self.assertEqual(said.endswith(f' {status}'), True)
                 self.assertLess(int(took), 100_000)
 
@@ -96,7 +96,7 @@ class Lines(LogTestCase):
     def test_none(self):
         """Where none is asked for, none is written."""
         answers, log = self.logged()
-        self.check('all is answered', len(answers), len(TOLD))
+        self.check('all is answered', len(answers), len(REPORTED))
         self.check('nothing is reported', log, '')
 
 
@@ -111,7 +111,7 @@ class Unwritten(LogTestCase):
             self.check('it is served', process.stdout.readline(), b'serving\n')
             for turn in 'first', 'second':
                 statuses = [status for _, status, _ in dated(port, *self.messages)]
-                wanted = [int(told.split()[-1]) for _, told in TOLD]
+                wanted = [int(entry.split()[-1]) for _, entry in REPORTED]
                 self.check(f'the {turn} connection', statuses, wanted)
             self.check('its end', process.wait(timeout=180), 0)
 

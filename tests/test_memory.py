@@ -8,7 +8,7 @@ again."""
 import bisect
 import re
 
-from boards import EMPTY, UNHEARD, UNHURRIED, peer, told_alike
+from boards import EMPTY, UNHEARD, UNHURRIED, peer, without_tables
 from first_version import all_rows, old_room
 from preloaded import EVERY, LAST, PreloadedTestCase, clock_of, refusals
 from room import (FLEET, PATIENT, PLAN, call, dump, free_port, made, message, rows_of, run, sql,
@@ -152,8 +152,8 @@ class Memory(MemoryTestCase):
         file = self.fresh(room)
         status, out, err = self.program.run(refused, 'import', file, FLEET)
         count = out.count(b'\n')
-        told = ''.join(f'{it} added\n' for it in CALLSIGNS[:count])
-        self.check(f'{name}: what is reported', out.decode(), told)
+        printed = ''.join(f'{it} added\n' for it in CALLSIGNS[:count])
+        self.check(f'{name}: what is reported', out.decode(), printed)
         with self.subTest(f'{name}: the end, after {count}'):
             ends = [(5, b'memory\n'), (0, b'')] if count == 5 else [(5, b'memory\n')]
             self.assertIn((status, err), ends)
@@ -184,13 +184,13 @@ class Memory(MemoryTestCase):
     def test_check(self):
         room = made(self.folder / 'checked.db')
         sql(room, INCIDENT)
-        status, told, _ = ever = self.program.run(NOTHING, 'check', room)
+        status, printed, _ = ever = self.program.run(NOTHING, 'check', room)
         self.check('check', status, 0)
         before = dump(room)
         for refused, name in self.each(80):
             done = self.program.run(refused, 'check', room)
             with self.subTest(f'check without {name}'):
-                self.assertIn(done, [NO_MEMORY, (NO_MEMORY[0], told, NO_MEMORY[2]), ever])
+                self.assertIn(done, [NO_MEMORY, (NO_MEMORY[0], printed, NO_MEMORY[2]), ever])
             self.check(f'check without {name} changes nothing', dump(room), before)
         self.check('check after all', self.program.run(NOTHING, 'check', room), ever)
 
@@ -219,7 +219,7 @@ class Memory(MemoryTestCase):
         def looked(refused):
             with peer(lambda stream: stream.sendall(b''.join(EMPTY))) as (address, _):
                 return self.program.run(refused, 'board', address, 'deskone1', *UNHURRIED)
-        ever, unheard = looked(NOTHING), (4, told_alike(UNHEARD).encode(), b'network\n')
+        ever, unheard = looked(NOTHING), (4, without_tables(UNHEARD).encode(), b'network\n')
         self.check('board', (ever[0], ever[2]), (0, b''))
         for refused, name in self.each(80):
             with self.subTest(f'board without {name}'):
@@ -256,11 +256,11 @@ class Memory(MemoryTestCase):
         self.check('a call that is logged', logged(NOTHING), (line, CALLED))
         last, lines = self.program.total(), set()
         for number in range(last - 40, last + 1):
-            told, done = logged(refusals(number, number))
+            printed, done = logged(refusals(number, number))
             with self.subTest(f'a call that is logged without allocation {number}'):
                 self.assertIn(done, ENDS)
             if done == CALLED:
-                lines.add(told)
+                lines.add(printed)
         self.check('with a line and without', lines, {b'', line})
 
 

@@ -138,15 +138,15 @@ class Words(TestCase):
         desks = self.folder / 'desks'
         desks.write_text('1 deskone1\n2\n')
         address = ['--room', '127.0.0.1:9']
-        for words, told in [(['--desks', desks, *address], f'{desks}:2: a name and a token'),
-                            (['--desks', '/nowhere', *address], '/nowhere: '),
-                            (['--desks', '/dev/null/x', *address], 'Not a directory'),
-                            (['--room', 'localhost:http'], 'nonnumeric port'),
-                            (['--port', '99999'], 'port 99999')]:
+        for words, reported in [(['--desks', desks, *address], f'{desks}:2: a name and a token'),
+                                (['--desks', '/nowhere', *address], '/nowhere: '),
+                                (['--desks', '/dev/null/x', *address], 'Not a directory'),
+                                (['--room', 'localhost:http'], 'nonnumeric port'),
+                                (['--port', '99999'], 'port 99999')]:
             done = subprocess.run([sys.executable, METRICS, *words], stdin=subprocess.DEVNULL,
                                   capture_output=True, timeout=180)
             said = done.stderr.decode()
-            self.check(f'{words}', [done.returncode, told in said, 'deskone1' in said],
+            self.check(f'{words}', [done.returncode, reported in said, 'deskone1' in said],
                        [2, True, False])
 
 
@@ -297,16 +297,16 @@ class Rules(TestCase):
     def test_played(self):
         """(What Prometheus reads of a test of rules is YAML, of which JSON is a part.)"""
         for number, (name, series, values, fires) in enumerate(PLAYED):
-            told = self.played(number, name, series, values)
-            self.check(f'{name}: {series} {values}', f'alertname="{name}"' in told, fires)
+            reported = self.played(number, name, series, values)
+            self.check(f'{name}: {series} {values}', f'alertname="{name}"' in reported, fires)
 
     def played(self, number, name, series, values):
-        """What the tool says where it was told to expect no alert."""
+        """What the tool says where its test expects no alert."""
         test = {'rule_files': [str(RULES)], 'evaluation_interval': '15s', 'tests': [{
             'interval': '15s', 'input_series': [{'series': series, 'values': values}],
             'alert_rule_test': [{'eval_time': '2m', 'alertname': name, 'exp_alerts': []}]}]}
         file = self.folder / f'test{number}.yml'
         file.write_text(json.dumps(test))
-        status, told = promtool('test', 'rules', file)
-        self.assertEqual(status != 0, f'alertname="{name}"' in told)
-        return told
+        status, reported = promtool('test', 'rules', file)
+        self.assertEqual(status != 0, f'alertname="{name}"' in reported)
+        return reported

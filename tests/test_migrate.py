@@ -96,7 +96,7 @@ class GoesOn(TestCase):
     def setUp(self):
         super().setUp()
         self.file = old_room(self.folder / 'room.db')
-        self.told = run('migrate', self.file)
+        self.printed = run('migrate', self.file)
 
     def ask(self, *messages):
         with serving(self.file, 1) as (port, process):
@@ -105,7 +105,7 @@ class GoesOn(TestCase):
         return answers
 
     def test_day_stands(self):
-        self.check('migrate', self.told, MIGRATED)
+        self.check('migrate', self.printed, MIGRATED)
         vehicles, loans, *offers = self.ask(
             say('desktwo2', 'GET /vehicles'), say('desktwo2', 'GET /loans'),
             say('desktwo2', 'GET /offers'), say('deskone1', 'GET /offers'))

@@ -69,8 +69,8 @@ def table_of(incidents):
         sent = sorted(it for it in days[day] if it is not None)
         counts = [len(days[day]), len(sent), sum(it <= 180 for it in sent)]
         ranks = [math.ceil(fractions.Fraction(it, 100) * len(sent)) for it in [5, 25, 50, 75, 95]]
-        told = [*counts, *(sent[it - 1] if sent else '' for it in ranks)]
-        lines.append(f'2026-10-{day:02},{",".join(map(str, told))}')
+        cells = [*counts, *(sent[it - 1] if sent else '' for it in ranks)]
+        lines.append(f'2026-10-{day:02},{",".join(map(str, cells))}')
     return '\n'.join(lines) + '\n'
 
 
@@ -88,23 +88,23 @@ class Month(TestCase):
 
     def test_table_and_picture(self):
         picture = self.folder / 'october.svg'
-        status, told, errors = month(self.room, 1, '2026-10', picture)
+        status, text, errors = month(self.room, 1, '2026-10', picture)
         self.check('it ends well', (status, errors), (0, ''))
-        self.check('the table', told.splitlines(), table_of(self.incidents).splitlines())
+        self.check('the table', text.splitlines(), table_of(self.incidents).splitlines())
         words = ''.join(xml.etree.ElementTree.parse(picture).getroot().itertext())
         for wanted in ['Activation in division 1, 2026-10', '180 s', '% within 180 s', '31']:
             self.check(f'the picture says {wanted}', wanted in words, True)
 
     def test_days_without_incidents(self):
         empty = table_of([])
-        status, told, _ = month(self.room, 2, '2026-10')
-        self.check('division 2', (status, told), (0, empty))
+        status, text, _ = month(self.room, 2, '2026-10')
+        self.check('division 2', (status, text), (0, empty))
         picture = self.folder / 'empty.svg'
-        status, told, errors = month(self.room, 2, '2026-10', picture)
-        self.check('it has no picture', (status != 0, told, picture.exists()), (True, empty, False))
+        status, text, errors = month(self.room, 2, '2026-10', picture)
+        self.check('it has no picture', (status != 0, text, picture.exists()), (True, empty, False))
         self.check('and says why', 'no vehicle was sent in this month' in errors, True)
-        status, told, _ = month(self.room, 1, '2026-02')
-        self.check('February has 28 days', (status, told.count('\n')), (0, 29))
+        status, text, _ = month(self.room, 1, '2026-02')
+        self.check('February has 28 days', (status, text.count('\n')), (0, 29))
 
     def test_refused(self):
         """What the program refuses is reported in its words, and a table is not."""
@@ -114,5 +114,5 @@ class Month(TestCase):
             self.check(f'{words}', month(*words), wanted)
         usage = 'usage: examples/month/month.sh ROOM DIVISION MONTH [PICTURE.svg]\n'
         self.check('no month', month(self.room, 1), (2, '', usage))
-        status, told, _ = month(self.room, 1, '2026-13')
-        self.check('a month that there is not', (status != 0, told), (True, ''))
+        status, text, _ = month(self.room, 1, '2026-13')
+        self.check('a month that there is not', (status != 0, text), (True, ''))

@@ -13,7 +13,7 @@ import time
 from room import PATIENT, PROGRAM, TestCase, ask, call, free_port, made, run, sql
 
 CALLS = 'SELECT count(*) FROM calls'
-TOLD = 'was moved, replaced or removed'
+REPORTED = 'was moved, replaced or removed'
 LOOKS_AGAIN = 1.1  # seconds after which the room looks again where its files lie
 
 
@@ -45,7 +45,7 @@ class MovedFiles(TestCase):
             process.kill()
             process.communicate()
 
-    def told(self):
+    def reports(self):
         return self.errors.read_text().splitlines()
 
     def asks(self, what, port, serial):
@@ -82,13 +82,13 @@ class MovedFiles(TestCase):
                 what, file = f'the {which} is {deed}', {'room': self.room, 'log': self.log}[which]
                 with self.served(self.room, '--explain') as (port, process):
                     self.asks(what, port, 1)
-                    self.check(f'{what}: nothing is reported before', self.told(), [])
+                    self.check(f'{what}: nothing is reported before', self.reports(), [])
                     do(file)
                     time.sleep(LOOKS_AGAIN)
                     self.asks(what, port, 2)
                     self.asks(what, port, 3)
                     self.check(f'{what}: it is reported once',
-                               [(it.partition(' ')[0], TOLD in it) for it in self.told()],
+                               [(it.partition(' ')[0], REPORTED in it) for it in self.reports()],
                                [(str(file), True)])
                     copy = self.copied_out(process)
                     self.asks(what, port, 4)
@@ -107,12 +107,12 @@ class MovedFiles(TestCase):
                 time.sleep(LOOKS_AGAIN)
                 for serial in (4 * nth - 3, 4 * nth - 2):
                     self.asks('away', port, serial)
-                self.check(f'told {nth}', len(self.told()), nth)
+                self.check(f'reported {nth}', len(self.reports()), nth)
                 away.rename(self.room)
                 time.sleep(LOOKS_AGAIN)
                 for serial in (4 * nth - 1, 4 * nth):
                     self.asks('back', port, serial)
-                self.check(f'no more than {nth}', len(self.told()), nth)
+                self.check(f'no more than {nth}', len(self.reports()), nth)
         self.check('its calls', run('check', self.room)[0] or sql(self.room, CALLS), '8\n')
 
     def test_link(self):
@@ -121,12 +121,12 @@ class MovedFiles(TestCase):
         link.symlink_to(self.room)
         with self.served(link, '--explain') as (port, _):
             self.asks('a link', port, 1)
-            self.check('nothing is reported', self.told(), [])
+            self.check('nothing is reported', self.reports(), [])
             self.log.rename(f'{self.log}.away')
             time.sleep(LOOKS_AGAIN)
             for serial in (2, 3):
                 self.asks('its log is away', port, serial)
-            self.check('reported', [it.partition(' ')[0] for it in self.told()], [str(self.log)])
+            self.check('reported', [it.partition(' ')[0] for it in self.reports()], [str(self.log)])
 
     def test_not_explained(self):
         with self.served(self.room) as (port, _):
@@ -134,4 +134,4 @@ class MovedFiles(TestCase):
             time.sleep(LOOKS_AGAIN)
             for serial in (1, 2):
                 self.asks('removed', port, serial)
-            self.check('nothing is reported', self.told(), [])
+            self.check('nothing is reported', self.reports(), [])

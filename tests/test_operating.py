@@ -45,8 +45,8 @@ def call_of(serial):
 
 def calls_in(room):
     """How many calls a room has, once it has been opened by the program."""
-    status, _, told = run('times', room, 1, '2026-03-29')
-    return sql(room, CALLS).strip() if (status, told) == (0, '') else (status, told)
+    status, _, printed = run('times', room, 1, '2026-03-29')
+    return sql(room, CALLS).strip() if (status, printed) == (0, '') else (status, printed)
 
 
 class OperatingTestCase(TestCase):
@@ -213,8 +213,8 @@ class NotServed(OperatingTestCase):
         self.end()
         self.check('the pages of a room', sql(self.room, 'PRAGMA page_size'), '512\n')
         for size in [4096, 512]:
-            told = sql(self.room, f"PRAGMA page_size = {size}; VACUUM INTO '{self.copy}'")
-            self.check('what sqlite3 says', told, '')
+            printed = sql(self.room, f"PRAGMA page_size = {size}; VACUUM INTO '{self.copy}'")
+            self.check('what sqlite3 says', printed, '')
             self.check('its rows', dump(self.copy), dump(self.room))
             with serving(self.copy, 1) as (port, process):
                 self.check('it is served', ask(port, call(1), call(2)), [ANSWERED, LINKED])

@@ -12,7 +12,7 @@ import subprocess
 import tempfile
 import threading
 
-from documents import LINK, told
+from documents import LINK, comparable
 from room import TOP, TestCase, free_port
 
 DOCUMENTS = 'usr/share/doc/dispatch-room'
@@ -81,10 +81,10 @@ class Root:
 
     def dpkg(self, *words):
         # The C library is not in this root, nor is its administrator who runs this.
-        told = [f'--force-{it}' for it in ('depends', 'not-root', 'bad-path')]
-        # A small machine may be told to leave documents out.
-        told += [f'--path-include=/usr/share/{it}/*' for it in ('doc', 'man')]
-        subprocess.run(['dpkg', f'--root={self.folder}', '--log=/dev/null', *told, *words],
+        options = [f'--force-{it}' for it in ('depends', 'not-root', 'bad-path')]
+        # A small machine may be set to leave documents out.
+        options += [f'--path-include=/usr/share/{it}/*' for it in ('doc', 'man')]
+        subprocess.run(['dpkg', f'--root={self.folder}', '--log=/dev/null', *options, *words],
                        check=True, stdin=subprocess.DEVNULL, stdout=subprocess.DEVNULL,
                        stderr=subprocess.DEVNULL)
 
@@ -231,7 +231,7 @@ class Package(TestCase):
                            env={'PATH': f'{self.program.parent}:{tools}'}, cwd=self.root.folder,
                            stdin=subprocess.DEVNULL, stdout=out, stderr=subprocess.STDOUT)
         lines = day.read_text().replace(f':{port}', ':8192').split('\n')
-        self.assertMultiLineEqual('\n'.join(told(it, self.folder) for it in lines),
+        self.assertMultiLineEqual('\n'.join(comparable(it, self.folder) for it in lines),
                                   (EXAMPLES / 'day.out').read_text())
 
     def test_unit(self):
@@ -317,10 +317,10 @@ class Package(TestCase):
         lines = [f'. {self.path(COMPLETION)}\n', f'dispatch_room {typed}\t',
                  f"\x01printf '%s\\n' >&{writes} \n", 'exit\n']
         os.write(main, ''.join(lines).encode())
-        with os.fdopen(reads) as told, os.fdopen(main, 'rb', buffering=0) as screen:
+        with os.fdopen(reads) as completions, os.fdopen(main, 'rb', buffering=0) as screen:
             drains = threading.Thread(target=drain, args=[screen])
             drains.start()
-            words = told.read().splitlines()
+            words = completions.read().splitlines()
             shell.wait(timeout=180)
             drains.join()
         return words[1:]

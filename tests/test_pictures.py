@@ -129,8 +129,8 @@ class Pictures(TestCase):
         pages = [*TOP.glob('*.md'), *DOCS.glob('*.md'), *(TOP / 'examples').glob('*/*.md')]
         shown = {}
         for page in pages:
-            for told, link in SHOWN.findall(page.read_text()):
-                shown.setdefault((page.parent / link).resolve(), []).append(told)
-                self.check(f'{page.name}: {link}', len(told.split()) > 4, True)
+            for caption, link in SHOWN.findall(page.read_text()):
+                shown.setdefault((page.parent / link).resolve(), []).append(caption)
+                self.check(f'{page.name}: {link}', len(caption.split()) > 4, True)
         for name in drawings():
             self.check(f'{name} is shown', DOCS / f'{name}.svg' in shown, True)

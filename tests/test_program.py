@@ -65,16 +65,16 @@ class Usage(TestCase):
                        [status, out, err.startswith('error: ')], [2, '', True])
 
     def test_mistakes_are_named(self):
-        for words, told in NAMED_MISTAKES:
+        for words, printed in NAMED_MISTAKES:
             with self.subTest(' '.join(words)):
-                self.assertIn(told, run(*words)[2])
+                self.assertIn(printed, run(*words)[2])
 
     def test_version(self):
         self.assertEqual(run('--version'), (0, 'dispatch_room 2.0\n', ''))
 
     def test_word_that_is_no_text(self):
-        told = 'error: invalid UTF-8 was detected in one or more arguments\n'
-        self.assertEqual(run('times', '\udcff', '1', '2026-01-01'), (2, '', told))
+        printed = 'error: invalid UTF-8 was detected in one or more arguments\n'
+        self.assertEqual(run('times', '\udcff', '1', '2026-01-01'), (2, '', printed))
 
     def test_help_that_is_not_taken(self):
         with open('/dev/full', 'w') as full:
@@ -87,11 +87,11 @@ class Init(TestCase):
     def setUp(self):
         super().setUp()
         self.room = self.folder / 'room.db'
-        self.told = run('init', self.room, PLAN)
+        self.printed = run('init', self.room, PLAN)
 
     def test_init(self):
         created = 'created: divisions 2, areas 2, terminals 3\n'
-        self.check('init', self.told, (0, created, ''))
+        self.check('init', self.printed, (0, created, ''))
         self.check('the file is whole', sql(self.room, 'PRAGMA integrity_check'), 'ok\n')
         self.check('divisions', sql(self.room, 'SELECT * FROM divisions'), '1|0\n2|0\n')
 
@@ -180,7 +180,7 @@ class Import(TestCase):
     def setUp(self):
         super().setUp()
         self.room = made(self.folder / 'fleet.db')
-        self.told = run('import', self.room, FLEET)
+        self.printed = run('import', self.room, FLEET)
 
     def enrol(self, *rows):
         fleet = self.folder / 'fleet.csv'
@@ -189,7 +189,7 @@ class Import(TestCase):
 
     def test_import(self):
         added = 'A1 added\nA2 added\nA3 added\nB1 added\nC1 added\n'
-        self.check('import', self.told, (0, added, ''))
+        self.check('import', self.printed, (0, added, ''))
         self.check('vehicles', sql(self.room, 'SELECT * FROM vehicles LIMIT 1'),
                    'A1|1|1|1|530300|180400|0|0||0|0\n')
         crews = 'SELECT token, callsign FROM terminals WHERE role = 2 ORDER BY token LIMIT 2'
@@ -217,11 +217,11 @@ class Import(TestCase):
                    (1, 'A9 refused 20\n', ''))
 
     def test_bad_rows(self):
-        told = self.enrol('a1,1,1,TQ303804,crewofa1', 'A7,1,1,TQ303804,crewofa7',
-                          'A8,10,1,TQ303804,crewofa8', 'A8,1,4,TQ303804,crewofa8',
-                          'A8,1,1,TX303804,crewofa8', 'A8,1,1,TQ303804,short')
+        printed = self.enrol('a1,1,1,TQ303804,crewofa1', 'A7,1,1,TQ303804,crewofa7',
+                             'A8,10,1,TQ303804,crewofa8', 'A8,1,4,TQ303804,crewofa8',
+                             'A8,1,1,TX303804,crewofa8', 'A8,1,1,TQ303804,short')
         wanted = 'row 1 bad\nA7 added\nrow 3 bad\nrow 4 bad\nrow 5 bad\nrow 6 bad\n'
-        self.assertEqual(told, (1, wanted, ''))
+        self.assertEqual(printed, (1, wanted, ''))
 
     def test_another_header(self):
         fleet, missing = self.folder / 'other.csv', self.folder / 'missing.db'
@@ -274,7 +274,7 @@ class Versions(TestCase):
             self.check(f'a room of version 1, {what}, stays as it is', dump(room), before)
 
     def test_versions_that_are_told(self):
-        room = made(self.folder / 'told.db')
+        room = made(self.folder / 'printed.db')
         sql(room, 'UPDATE meta SET version = 1')
         self.check('a room that says it is of version 1', run('times', room, 1, '2026-03-29'),
                    (1, '', 'refused: version\n'))
@@ -296,10 +296,10 @@ class Times(TestCase):
                           f'0, {opened}, {first_order}, 0, NULL)')
             script.append(f'INSERT INTO calls VALUES (1, {number}, 1, {number}, {number}, 0, '
                           f"530000, 180000, 2, 1, 0, 0, x'', {opened})")
-        self.told = sql(self.room, ';'.join(script))
+        self.printed = sql(self.room, ';'.join(script))
 
     def test_times(self):
-        self.check('a script', self.told, '')
+        self.check('a script', self.printed, '')
         header = 'incident,opened,activation\n'
         self.check('times', run('times', self.room, 1, '2026-03-29'),
                    (0, f'{header}1,1774742400,120\n2,1774825199,\n', ''))
@@ -437,8 +437,8 @@ class Kill(TestCase):
         rows = sql(room, 'SELECT serial, incident FROM calls ORDER BY serial').split()
         found = dict(map(int, row.split('|')) for row in rows)
         self.check('no serial twice', len(rows), len(found))
-        told = {it: json.loads(body)['incident'] for it, (_, body) in answers.items()}
-        self.check('each answered call is in the file', {it: found.get(it) for it in told}, told)
+        given = {it: json.loads(body)['incident'] for it, (_, body) in answers.items()}
+        self.check('each answered call is in the file', {it: found.get(it) for it in given}, given)
         last = max(answers)
         with serving(room, 1) as (port, process):
             self.check('the last one again', ask(port, call_of(last)), [answers[last]])

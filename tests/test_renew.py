@@ -230,9 +230,9 @@ class GoesOn(RenewTestCase):
         before = tables_of(old)
         play(old, again)
         self.check('the old room is as it was', tables_of(old), before)
-        told = play(new, again)
+        answers = play(new, again)
         self.check('a new call', [it['serial'] for it in tables_of(new)['calls']], [1, 2])
-        self.check('a late report', json.loads(told[1][1])['outcome'], 'late')
+        self.check('a late report', json.loads(answers[1][1])['outcome'], 'late')
 
 
 # ---- lists
@@ -362,14 +362,14 @@ class Refused(RenewTestCase):
         self.check('no new file', self.new.exists(), False)
 
     def test_explained(self):
-        for what, words, told in [
+        for what, words, reported in [
                 ('a day', (self.old, self.new, '--since', day(MONDAY + 3 * DAYS)), '2026-03-26'),
                 ('no file', (self.folder / 'none.db', self.new, '--since', day(MONDAY)),
                  'none.db'),
                 ('a new file', (self.old, self.old, '--since', day(MONDAY)), 'is a room already')]:
             _, _, err = run('renew', *words, '--explain')
             self.check(f'{what}: a line and its explanation', len(err.splitlines()), 2)
-            self.check(what, told in err.splitlines()[0], True)
+            self.check(what, reported in err.splitlines()[0], True)
 
     def test_disk_is_full(self):
         """A disk that is full in the middle leaves no room, and the old one as it was."""

@@ -105,13 +105,13 @@ class Replanning(TestCase):
     def test_refused(self):
         before = dump(self.room)
         lacking = 'the plan has no area of division 2, which the room has'
-        for what, lines, said, told in [
+        for what, lines, said, reported in [
                 ('a division is gone', [LONDON, WEST, FAR], lacking, 'division'),
                 ("a crew's token", [LONDON, WEST, EAST, FAR, 'desk,3,crewofa1,,,'],
                  "desk 3: its token is another terminal's", 'input')]:
-            self.check(what, self.replan(*lines), (1, '', f'refused: {told}\n'))
+            self.check(what, self.replan(*lines), (1, '', f'refused: {reported}\n'))
             self.check(f'{what}, explained', self.replan(*lines, words=['--explain']),
-                       (1, '', f'{said}\nrefused: {told}\n'))
+                       (1, '', f'{said}\nrefused: {reported}\n'))
         self.check('no area', self.replan(LONDON), (1, '', 'refused: plan row 0\n'))
         self.check('no zone', self.replan('zone,0,Nowhere/None,,,', WEST, EAST),
                    (1, '', 'refused: plan row 1\n'))

@@ -30,24 +30,24 @@ class Rows(PreloadedTestCase):
         for path in paths:
             asked, got = messages(path), []
             with self.subTest(f'{path.name}: each message is answered'):
-                (status, told), got = self.play(asked)
-                self.assertEqual((status, len(got)), (0, len(asked)), f'it told {told!r}')
+                (status, reported), got = self.play(asked)
+                self.assertEqual((status, len(got)), (0, len(asked)), f'it printed {reported!r}')
             for message, answer, before in zip(asked, got, [None, *got]):
                 with self.subTest(f'{path.name}: {message.line}'):
                     self.assertTrue(message.fits(answer, before),
                                     f'  wanted {message.wanted}\n  got    {answer}')
 
-    def test_desk_1_is_told_the_same(self):
+    def test_desk_1_is_answered_the_same(self):
         paths = sorted(ROWS.glob('*.one.rows'))
         self.assertTrue(paths, 'there is no pair of scripts')
         for path in paths:
             with self.subTest(path.name):
-                one = self.told_to_desk_1(path)
-                self.assertTrue(one, 'desk 1 is told nothing')
+                one = self.answers_to_desk_1(path)
+                self.assertTrue(one, 'desk 1 gets no answer')
                 two = path.with_name(path.name.replace('.one.', '.two.'))
-                self.assertEqual(self.told_to_desk_1(two), one)
+                self.assertEqual(self.answers_to_desk_1(two), one)
 
-    def told_to_desk_1(self, path):
+    def answers_to_desk_1(self, path):
         asked = messages(path)
         _, got = self.play(asked)
         return [answer for message, answer in zip(asked, got) if message.token == DESK_1]

@@ -90,11 +90,11 @@ class Stops(PreloadedTestCase):
     def found(self, file):
         """What the next program finds: all rows of either version, but for the moments of today;
         none where it finds no room."""
-        status, _, told = run('times', file, 1, '2026-03-29')
-        if (status, told) == (1, 'refused: file\n'):
+        status, _, printed = run('times', file, 1, '2026-03-29')
+        if (status, printed) == (1, 'refused: file\n'):
             return None
         with self.subTest('a room is found'):
-            self.assertIn((status, told), [(0, ''), (1, 'refused: version\n')])
+            self.assertIn((status, printed), [(0, ''), (1, 'refused: version\n')])
         return rows_of(file)
 
     def stop_everywhere(self, what, room, deed, between=()):

@@ -91,7 +91,7 @@ class Rules(TestCase):
 # ---- one stream, in pieces and with faults
 
 MESSAGES = [call(1), message('deskone1', 'HEAD /queue'), message('deskone1', 'GET /queue')]
-ANSWERS = [answer('200 OK', CALLED), answer('200 OK', QUEUE, told=''), answer('200 OK', QUEUE)]
+ANSWERS = [answer('200 OK', CALLED), answer('200 OK', QUEUE, sent=''), answer('200 OK', QUEUE)]
 STREAM = b''.join(MESSAGES)
 TALK = b''.join(ANSWERS)
 
@@ -100,10 +100,10 @@ def answered_by(size):
     """The answers to the messages that are whole within so many bytes, and whether the last of
     them ends there."""
     talk, ends = b'', [0]
-    for message_sent, told in zip(MESSAGES, ANSWERS):
+    for message_sent, answered in zip(MESSAGES, ANSWERS):
         ends.append(ends[-1] + len(message_sent))
         if ends[-1] <= size:
-            talk += told
+            talk += answered
     return talk, size in ends
 
 
@@ -150,15 +150,15 @@ class Faults(TestCase):
 
     def test_failing_writes(self):
         """A file that may not grow past a size takes a part of a write, and then fails."""
-        told = self.folder / 'told'
+        answered = self.folder / 'answered'
         for size in range(len(TALK)):
 
             def limit():
                 resource.setrlimit(resource.RLIMIT_FSIZE, (size, size))
 
-            with told.open('wb') as out:
+            with answered.open('wb') as out:
                 _, end = dry_run(STREAM, out, restore_signals=False, preexec_fn=limit)
-            self.check(f'the write after {size} bytes fails', (told.read_bytes(), end),
+            self.check(f'the write after {size} bytes fails', (answered.read_bytes(), end),
                        (TALK[:size], FAULT))
 
     def test_lost_answer(self):

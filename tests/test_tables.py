@@ -17,7 +17,7 @@ from schema import INDEX_QUERY, INDEXES, PLAN_ROWS, TABLES, columns_of, lines
 
 class Room:
     """A room that is served, over one connection, and what it was asked: each request with what
-    was told of its answer, and what was wanted."""
+    came of its answer, and what was wanted."""
 
     def __init__(self, connection):
         self.connection, self.stream = connection, connection.makefile('rb')
@@ -32,8 +32,8 @@ class Room:
     def ask(self, token, line, answer, **members):
         """Sends a request with these members; gives the moment of its answer."""
         self.connection.sendall(message(token, line, json.dumps(members) if members else ''))
-        self.moment, *told = read_dated(self.stream) or (0,)
-        self.asked.append((line, told, [200, answer]))
+        self.moment, *answered = read_dated(self.stream) or (0,)
+        self.asked.append((line, answered, [200, answer]))
         return self.moment
 
     def do(self, desk, line, **members):
@@ -216,8 +216,8 @@ class Tables(TestCase):
             cls.status = process.wait(timeout=180)
 
     def test_day(self):
-        for line, told, wanted in self.asked:
-            self.check(line, told, wanted)
+        for line, answered, wanted in self.asked:
+            self.check(line, answered, wanted)
         self.check('the day ends', self.status, 0)
 
     def test_file_is_whole(self):

@@ -319,8 +319,8 @@ def module(name, expression, *given):
 def proj(positions):
     """Metres east and north of WGS84 positions by PROJ."""
     command = ['cs2cs', '-f', '%.4f', '+proj=longlat +datum=WGS84', '+to', NATIONAL_GRID]
-    told = ''.join(f'{longitude!r} {latitude!r} 0\n' for latitude, longitude in positions)
-    done = subprocess.run([word for it in command for word in it.split()], input=told,
+    lines = ''.join(f'{longitude!r} {latitude!r} 0\n' for latitude, longitude in positions)
+    done = subprocess.run([word for it in command for word in it.split()], input=lines,
                           capture_output=True, text=True, timeout=60, check=True)
     return [list(map(float, it.split()[:2])) for it in done.stdout.splitlines()]
 
@@ -366,13 +366,13 @@ class Modules(Served):
         bodies = [json.dumps({'class': 2, 'needs': [1, 0, 0], 'note': '', 'place': it,
                               'serial': nth}, separators=(',', ':'))
                   for nth, it in enumerate(texts, 1)]
-        told = ask(self.room_port, *(message('takerone', 'POST /call', it) for it in bodies))
-        room = [status == 400 for status, _ in told]
+        answers = ask(self.room_port, *(message('takerone', 'POST /call', it) for it in bodies))
+        room = [status == 400 for status, _ in answers]
         self.check('as many', len(room), len(texts))
         self.check('read as the room does', [it for it, fault, is_bad in zip(texts, faults, room)
                                              if bool(fault) != is_bad], [])
         self.check('of either kind', [sum(room) > 30, len(room) - sum(room) > 30], [True, True])
-        taken = [it for it, (status, _) in zip(texts, told) if status == 200]
+        taken = [it for it, (status, _) in zip(texts, answers) if status == 200]
         places = module('grid.js', 'given[0].map((text) => it.read(text).place.join("|"))', taken)
         self.check('as the same place', places, self.calls("east || '|' || north"))
 

@@ -43,9 +43,9 @@ def named(room, who):
 def answered(room, *asked):
     """How each terminal is answered that asks for a path: the status, and a refusal's number."""
     with serving(room, 1) as (port, _):
-        told = ask(port, *[message(token, f'GET {path}') for token, path in asked])
+        answers = ask(port, *[message(token, f'GET {path}') for token, path in asked])
     return [status if status == 200 else (status, json.loads(body)['number'])
-            for status, body in told]
+            for status, body in answers]
 
 
 class Listing(TestCase):
@@ -81,9 +81,9 @@ class Changing(TestCase):
 
     def test_tokens_differ(self):
         room = made(self.folder / 'room.db', A1)
-        told = [run('terminals', room, '--new', 'crew:A1')[1] for _ in range(20)]
-        self.assertEqual(len(set(told)), 20)
-        self.assertEqual(named(room, 'crew:A1'), [told[-1][:-1]])
+        tokens = [run('terminals', room, '--new', 'crew:A1')[1] for _ in range(20)]
+        self.assertEqual(len(set(tokens)), 20)
+        self.assertEqual(named(room, 'crew:A1'), [tokens[-1][:-1]])
 
     def test_several(self):
         """A desk with two terminals has one afterwards."""
@@ -203,7 +203,7 @@ class Setting(TestCase):
         room = made(self.folder / 'room.db', A1, B1)
         before = dump(room)
         good = 'A1,1,1,TQ303804,othera11'
-        for what, lines, said, told in [
+        for what, lines, said, cause in [
                 ('no vehicle', [FLEET_HEAD, good, 'Z9,1,1,TQ303804,crewofz9'],
                  'crew Z9: no vehicle has the callsign', 'input'),
                 ("another's token", [FLEET_HEAD, good, 'B1,2,1,TQ600800,deskone1'],
@@ -217,23 +217,23 @@ class Setting(TestCase):
                  'desk 3: its division is not in the plan', 'division'),
                 ("a crew's token", [PLAN_HEAD, ZONE, WEST, 'position,7,crewofa1,,,'],
                  "position 7: its token is another terminal's", 'input')]:
-            self.check(what, self.set(room, *lines), (1, '', f'refused: {told}\n'))
+            self.check(what, self.set(room, *lines), (1, '', f'refused: {cause}\n'))
             self.check(f'{what}, explained',
                        run('terminals', room, '--from', self.folder / 'new.csv', '--explain'),
-                       (1, '', f'{said}\nrefused: {told}\n'))
+                       (1, '', f'{said}\nrefused: {cause}\n'))
             self.check(f'{what}, unchanged', dump(room), before)
 
     def test_no_file(self):
         """What is neither a plan nor a fleet is refused before the room is opened."""
         room = made(self.folder / 'room.db', A1)
         before = dump(room)
-        for what, lines, told in [
+        for what, lines, cause in [
                 ('a bad row', [FLEET_HEAD, 'A1,1,1,TQ303804,short'], 'refused: input\n'),
                 ('a short row', [FLEET_HEAD, 'A1,1'], 'refused: input\n'),
                 ('another header', ['name,token', 'A1,othera11'], 'refused: input\n'),
                 ('a bad plan', [PLAN_HEAD, ZONE, WEST, 'desk,9,deskofnone,,,'],
                  'refused: plan row 3\n')]:
-            self.check(what, self.set(room, *lines), (1, '', told))
+            self.check(what, self.set(room, *lines), (1, '', cause))
         self.check('none', run('terminals', room, '--from', self.folder / 'none.csv'),
                    (1, '', 'refused: input\n'))
         self.assertEqual(dump(room), before)
@@ -243,21 +243,21 @@ class Refusing(TestCase):
     def test_refused(self):
         room = made(self.folder / 'room.db', A1)
         before = dump(room)
-        for words, told in [(['--new', 'desk:3'], 'division'), (['--new', 'crew:Z9'], 'input'),
-                            (['--revoke', 'desk:3'], 'input'), (['--revoke', 'crew:Z9'], 'input'),
-                            (['--revoke', 'position:7'], 'input')]:
+        for words, cause in [(['--new', 'desk:3'], 'division'), (['--new', 'crew:Z9'], 'input'),
+                             (['--revoke', 'desk:3'], 'input'), (['--revoke', 'crew:Z9'], 'input'),
+                             (['--revoke', 'position:7'], 'input')]:
             self.check(' '.join(words), run('terminals', room, *words),
-                       (1, '', f'refused: {told}\n'))
+                       (1, '', f'refused: {cause}\n'))
             self.check(f'unchanged by {words}', dump(room), before)
 
     def test_explained(self):
         room = made(self.folder / 'room.db', A1)
-        for words, told in [
+        for words, cause in [
                 (['--new', 'desk:3'], f'no division 3 in the plan of {room}\nrefused: division\n'),
                 (['--new', 'crew:Z9'], f'no vehicle Z9 in {room}\nrefused: input\n'),
                 (['--revoke', 'position:7'],
                  f'position 7 has no terminal in {room}\nrefused: input\n')]:
-            self.check(' '.join(words), run('terminals', room, *words, '--explain'), (1, '', told))
+            self.check(' '.join(words), run('terminals', room, *words, '--explain'), (1, '', cause))
 
     def test_usage(self):
         for who in ['desk', 'desk:', 'desk:0', 'desk:10', 'desk:01', 'desk:+1', 'position:100',
@@ -268,18 +268,18 @@ class Refusing(TestCase):
         options = {'--new': 'desk:1', '--revoke': 'desk:1', '--from': 'plan.csv'}
         for one, other in itertools.combinations(options, 2):
             status, _, err = run('terminals', 'a', one, options[one], other, options[other])
-            told = re.search(f"'{one} <[A-Z]+>' cannot be used with '{other} <[A-Z]+>'", err)
-            self.check(f'{one} {other}', [status, bool(told)], [2, True])
+            cause = re.search(f"'{one} <[A-Z]+>' cannot be used with '{other} <[A-Z]+>'", err)
+            self.check(f'{one} {other}', [status, bool(cause)], [2, True])
 
     def test_served(self):
         room = made(self.folder / 'room.db', A1)
         before = rows(room)
         with serving(room, 1) as (_, process):
-            told = f'{room} is in use by process {process.pid}\nstorage\n'
+            cause = f'{room} is in use by process {process.pid}\nstorage\n'
             for words in [[], ['--new', 'crew:A1'], ['--revoke', 'desk:1'], ['--from', PLAN]]:
                 self.check(f'served {words}', run('terminals', room, *words), (3, '', 'storage\n'))
                 self.check(f'served {words}, explained',
-                           run('terminals', room, *words, '--explain'), (3, '', told))
+                           run('terminals', room, *words, '--explain'), (3, '', cause))
         self.assertEqual(rows(room), before)
 
     def test_no_room(self):

@@ -63,7 +63,7 @@ class Quota(ThreeTestCase):
         last = self.level()
 
         def are_gone():
-            self.answered(1, AT_END)  # where a copy could not be told of, the next ones are
+            self.answered(1, AT_END)  # where a copy could not be reported, the next ones are
             return self.machines.list().ends()[0] >= last - 300
         self.machines.until(are_gone, 'records go')
         self.check('little is used', self.used() < QUOTA // 2, True)
@@ -118,7 +118,8 @@ class Quota(ThreeTestCase):
         self.machines.kill('companion', 3)
         for it in range(1, 62):
             self.answered(1, call(it))
-        self.machines.until(lambda: 'machine 3 is away for long' in self.machines.said(), 'told')
+        self.machines.until(lambda: 'machine 3 is away for long' in self.machines.said(),
+                            'reported')
         self.check('records are kept', self.machines.list().ends()[0], 0)
         self.check_comes('left out', lambda: does(1, 'leave-out', '3')[0], 0)
         for it in range(62, 123):

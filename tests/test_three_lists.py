@@ -144,8 +144,8 @@ class Lists(ThreeTestCase):
         for it in self.machines.machines:
             status = self.machines.ended(it)
             self.check(f'machine {it} stops', status, 3)
-        told = f'the list went back: it ends at record {last}, and this room has played'
-        self.check('and says so', told in self.machines.said(), True)
+        report = f'the list went back: it ends at record {last}, and this room has played'
+        self.check('and says so', report in self.machines.said(), True)
         for it in self.machines.machines:
             self.machines.start('companion', it)
         for it in self.machines.machines:
@@ -184,9 +184,9 @@ class Lists(ThreeTestCase):
             self.machines.kill('member', it)
         for it, machine in self.machines.machines.items():
             shutil.rmtree(machine.folder / 'etcd')
-            told = machine.settings()
+            values = machine.settings()
             self.etcdctl(it, 'snapshot', 'restore', saved, '--skip-hash-check=false',
-                         *(f'--{name}={told[name]}' for name in (
+                         *(f'--{name}={values[name]}' for name in (
                              'name', 'data-dir', 'initial-cluster', 'initial-cluster-token',
                              'initial-advertise-peer-urls')))
         self.machines.start_members()

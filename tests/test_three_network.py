@@ -1,5 +1,5 @@
 """Three machines as a stranger sets them up: what prepare.py makes for three addresses, and what
-the units of systemd are told, played in three network namespaces with certificates and a user of
+the units of systemd are given, played in three network namespaces with certificates and a user of
 etcd."""
 # needs: etcd-server sqlite3 iproute2 openssl curl systemd
 # builds: dispatch_room
@@ -38,8 +38,8 @@ class Namespaces:
         self.hub = f'three{os.getpid()}hub'
 
     def ip(self, *words):
-        told = done('ip', *words)
-        assert told.returncode == 0, f'no network namespace here (ip {words}): {told.stderr}'
+        output = done('ip', *words)
+        assert output.returncode == 0, f'no network namespace here (ip {words}): {output.stderr}'
 
     def make(self):
         self.ip('netns', 'add', self.hub)
@@ -70,8 +70,8 @@ class Units(unittest.TestCase):
         """systemd finds nothing wrong with the units."""
         for it in sorted(THREE.glob('*.service')):
             with self.subTest(it.name):
-                told = done('systemd-analyze', 'verify', it)
-                missing = [line for line in told.stderr.splitlines()
+                output = done('systemd-analyze', 'verify', it)
+                missing = [line for line in output.stderr.splitlines()
                            if line and 'is not executable' not in line]
                 self.assertEqual(missing, [])
 
@@ -83,7 +83,7 @@ class Network(TestCase):
         self.addCleanup(self.spaces.close)
         self.addCleanup(self.end)
         self.spaces.make()
-        self.told = self.enterContext((self.folder / 'told').open('wb'))
+        self.output = self.enterContext((self.folder / 'output').open('wb'))
         self.first = self.folder / 'first.db'
         (self.folder / 'plan.csv').write_text(PLAN)
         (self.folder / 'fleet.csv').write_text(FLEET)
@@ -127,7 +127,7 @@ class Network(TestCase):
         path = f'{self.folder}:{os.environ["PATH"]}'
         self.processes[number, name] = subprocess.Popen(
             self.spaces.inside(number, *command), env=os.environ | environment | {'PATH': path},
-            stdin=subprocess.DEVNULL, stdout=self.told, stderr=self.told)
+            stdin=subprocess.DEVNULL, stdout=self.output, stderr=self.output)
 
     def companion_does(self, number, *words):
         reach = shlex.split(self.environment(number, 'companion.env')['REACH'])
@@ -137,15 +137,15 @@ class Network(TestCase):
     def until(self, what, holds):
         until = time.monotonic() + PATIENCE
         while not holds():
-            told = pathlib.Path(self.told.name).read_text(errors='replace')[-3000:]
-            assert time.monotonic() < until, f'not within {PATIENCE} s: {what}\n{told}'
+            output = pathlib.Path(self.output.name).read_text(errors='replace')[-3000:]
+            assert time.monotonic() < until, f'not within {PATIENCE} s: {what}\n{output}'
             time.sleep(0.5)
 
     def curl(self, number, path, *words):
         """What curl gets on a machine: the body, and the status."""
-        told = done(*self.spaces.inside(number, 'curl', '-s', '-m', '30', '-w', ' %{http_code}',
-                                        f'http://127.0.0.1:8080{path}', *words))
-        return told.stdout
+        output = done(*self.spaces.inside(number, 'curl', '-s', '-m', '30', '-w', ' %{http_code}',
+                                          f'http://127.0.0.1:8080{path}', *words))
+        return output.stdout
 
     def serves(self, number):
         return self.curl(number, '/health').endswith(' 200')
@@ -177,8 +177,8 @@ class Network(TestCase):
         self.start_all()
         post = '-H', 'X-Terminal: takerat01', '-d', CALL
         ask = '-H', 'X-Terminal: deskof02'
-        told = self.answered(1, '/call', *post)
-        self.check('a call', told[-3:], '200')
+        output = self.answered(1, '/call', *post)
+        self.check('a call', output[-3:], '200')
         asked = self.answered(2, '/incidents', *ask)
         self.check('a question to another', asked, self.answered(3, '/incidents', *ask))
         self.strangers()

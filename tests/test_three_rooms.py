@@ -87,8 +87,8 @@ class Rooms(ThreeTestCase):
         self.flip(next((self.machines.machines[2].folder / 'room' / 'work').glob('run.*/room.db')))
         self.check('ten more', self.calls(10), [200] * 10)
         self.until_stopped(20)
-        status, told = self.machines.companion_does(1, 'go-on')
-        self.check('they do not go on so', (status, 'the rooms differ at record 20' in told),
+        status, printed = self.machines.companion_does(1, 'go-on')
+        self.check('they do not go on so', (status, 'the rooms differ at record 20' in printed),
                    (1, True))
         self.check('machine 2 ends well', self.machines.stop_companions(2), [0])
         self.machines.start('companion', 2)

@@ -97,14 +97,14 @@ class Wires(TestCase):
             count, late = [0], asyncio.Event()
             server = await asyncio.start_server(serve, '127.0.0.1', 0)
             by = channel.Channel(etcd.Reach(*server.sockets[0].getsockname()), 2)
-            told = []
+            printed = []
             for _ in range(2):
                 try:
-                    told.append(await by.ask('/', {}))
+                    printed.append(await by.ask('/', {}))
                 except etcd.Unreached as reason:
-                    told.append(str(reason))
+                    printed.append(str(reason))
             await asyncio.sleep(0.2)
             by.close()
             server.close()
-            return told
-        self.check('told', asyncio.run(ask()), ['etcd: timed out', {}])
+            return printed
+        self.check('what it returns', asyncio.run(ask()), ['etcd: timed out', {}])

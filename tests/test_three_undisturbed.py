@@ -86,12 +86,12 @@ def talk(address, sent):
 def five_by_one(address):
     """What is answered to one request after another on one connection."""
     with contextlib.closing(http.client.HTTPConnection(*address, timeout=PATIENCE)) as connection:
-        told = []
+        got = []
         for _ in range(5):
             connection.request('GET', '/points', headers={'X-Terminal': DESK})
             with connection.getresponse() as answer:
-                told.append((answer.status, answer.read(), answer.headers['Connection']))
-        return told
+                got.append((answer.status, answer.read(), answer.headers['Connection']))
+        return got
 
 
 def by_curl(address):
@@ -131,8 +131,8 @@ class Undisturbed(ThreeTestCase):
         for it in 2, 3:
             self.machines.kill('member', it)
         sent, queue = call_at(1, 'TQ300800'), message(DESK, 'GET /incidents')
-        number, status, told = exchange(one, sent, PATIENCE)
-        self.check('a call', (number, status, told in (NO_ANSWER % 'perhaps', NO_ANSWER % 'no')),
+        number, status, got = exchange(one, sent, PATIENCE)
+        self.check('a call', (number, status, got in (NO_ANSWER % 'perhaps', NO_ANSWER % 'no')),
                    (None, 503, True))
         for it, why in (1, 'most members of etcd are silent'), (2, 'etcd is silent'):
             self.machines.until(lambda: self.machines.health(it).get('refuses') == why, why)
@@ -141,8 +141,8 @@ class Undisturbed(ThreeTestCase):
         self.machines.start('member', 2)
         self.check('the call again', self.answered(1, sent)[1:],
                    (200, '{"division":1,"incident":1,"linked":false}'))
-        told = json.loads(self.answered(2, queue)[2])
-        self.check('it is one call', [it['calls'] for it in told['incidents']], [1])
+        got = json.loads(self.answered(2, queue)[2])
+        self.check('it is one call', [it['calls'] for it in got['incidents']], [1])
 
     def test_held(self):
         """What a terminal sent to a companion that was held, and gave up, is not kept later."""
@@ -172,8 +172,8 @@ class Undisturbed(ThreeTestCase):
         self.check('HTTP/1.0', self.answered(1, sent)[1:], (200, '{"queue":[]}'))
         head = message('deskof01', 'HEAD /queue').replace(b'room', b'room\r\nConnection: close')
         address = self.addresses()[0]
-        told = unless_silent(lambda: talk(address, head))
-        self.check('HEAD', (told[:15], told[-4:]), (b'HTTP/1.1 200 OK', b'\r\n\r\n'))
+        got = unless_silent(lambda: talk(address, head))
+        self.check('HEAD', (got[:15], got[-4:]), (b'HTTP/1.1 200 OK', b'\r\n\r\n'))
         self.check('one that does not come whole is let go', talk(address, sent[:-1]), b'')
 
 
@@ -188,12 +188,12 @@ class Connections(ThreeTestCase):
         self.check('twenty at once', unless_silent(lambda: ask(address[1], *sent)),
                    [(200, '{"points":[]}')] * 20)
         last = message(DESK, 'GET /points').replace(b'room', b'room\r\nConnection: close')
-        told = unless_silent(lambda: talk(address, last + last))
-        self.check('none behind the last', told.count(b'HTTP/1.1 200 OK'), 1)
-        self.check('which says so', told.count(b'\r\nConnection: close\r\n'), 1)
+        got = unless_silent(lambda: talk(address, last + last))
+        self.check('none behind the last', got.count(b'HTTP/1.1 200 OK'), 1)
+        self.check('which says so', got.count(b'\r\nConnection: close\r\n'), 1)
         sent = message(DESK, 'GET /points') + b'\0\0\r\n\r\n' * 3
-        told = unless_silent(lambda: talk(address, sent))
-        self.check('what can not be read ends it', (told.count(b'200 OK'), told.count(b'"BadMess')),
+        got = unless_silent(lambda: talk(address, sent))
+        self.check('what can not be read ends it', (got.count(b'200 OK'), got.count(b'"BadMess')),
                    (1, 1))
         self.check('curl keeps it', unless_silent(lambda: by_curl(address)),
                    '{"points":[]}1{"points":[]}0{"points":[]}0')
@@ -218,9 +218,9 @@ class Connections(ThreeTestCase):
         busy machine that gives no answer."""
         until = time.monotonic() + PATIENCE
         while True:
-            status, told, _ = run('board', '%s:%d' % address, DESK, '--patience', '60')
+            status, got, _ = run('board', '%s:%d' % address, DESK, '--patience', '60')
             if status != 4 or time.monotonic() > until:
-                return status, re.sub(r'Room at .*|\d+:\d\d:\d\d|\d+ *$', '-', told, flags=re.M)
+                return status, re.sub(r'Room at .*|\d+:\d\d:\d\d|\d+ *$', '-', got, flags=re.M)
 
 
 class Health(ThreeTestCase):

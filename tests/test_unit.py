@@ -57,10 +57,10 @@ class Form(TestCase):
         for unit in UNIT, OF_METRICS, OF_PAGES:
             text = unit.read_text()
             self.check(f'{unit.name} as it is', self.verified(unit, text), (0, ''))
-            told = self.verified(unit, text.replace('Restart=', 'Restrat='))[1]
-            self.check('a word that is none', re.findall("Unknown key.*'(.*)'", told), ['Restrat'])
-            told = self.verified(unit, text.replace('ExecStart=/', 'ExecStart=/nowhere/'))
-            self.check('a program that is not there', told[0] != 0, True)
+            why = self.verified(unit, text.replace('Restart=', 'Restrat='))[1]
+            self.check('a word that is none', re.findall("Unknown key.*'(.*)'", why), ['Restrat'])
+            why = self.verified(unit, text.replace('ExecStart=/', 'ExecStart=/nowhere/'))
+            self.check('a program that is not there', why[0] != 0, True)
 
     def test_exposure(self):
         """By systemd's own measure, from 0 to 10, little is left to it."""
@@ -243,8 +243,8 @@ class Orders(UnitTestCase):
                 done[place] = self.type(line)
         self.assertEqual((done, self.type(lines[3]), self.calls()),
                          (dict.fromkeys(order, True), True, 200))
-        _, told = self.asks(message('deskone1', 'GET /vehicles'))
-        self.assertEqual('"vehicle":"A1"' in told, True)
+        _, answer = self.asks(message('deskone1', 'GET /vehicles'))
+        self.assertEqual('"vehicle":"A1"' in answer, True)
         self.machine.stop()
         shutil.rmtree(self.machine.state)
 
@@ -386,8 +386,8 @@ class Health(UnitTestCase):
             with contextlib.suppress(OSError), socket.socket(socket.AF_UNIX) as it:
                 it.connect(str(control))
                 it.sendall(b'show stat\n')
-                told = it.makefile().read()
-                row = re.search('^room,room,.*$', told, re.M)
+                page = it.makefile().read()
+                row = re.search('^room,room,.*$', page, re.M)
                 if row and set(wanted) <= set(row[0].split(',')):
                     return True
             time.sleep(0.1)

@@ -55,8 +55,8 @@ def posted(token, path, body):
 
 def joined(pairs):
     """The messages of a talk as one stream, and the answers to them."""
-    sent, told = zip(*pairs)
-    return b''.join(sent), b''.join(told)
+    sent, answered = zip(*pairs)
+    return b''.join(sent), b''.join(answered)
 
 
 # ---- messages
@@ -132,9 +132,9 @@ class Messages(TestCase):
     connection is open after it."""
 
     def test_open(self):
-        for told, sent in OPEN:
+        for answered, sent in OPEN:
             with self.subTest(sent):
-                self.assertEqual(dry_run(sent * 2), (refused(*told) * 2, WELL))
+                self.assertEqual(dry_run(sent * 2), (refused(*answered) * 2, WELL))
 
     def test_closing(self):
         for sent in CLOSING:
@@ -142,21 +142,21 @@ class Messages(TestCase):
                 self.assertEqual(dry_run(sent * 2), (refused(*NO_TERMINAL, CLOSE), WELL))
 
     def test_refused(self):
-        for told, sent in REFUSED:
+        for answered, sent in REFUSED:
             with self.subTest(sent):
-                self.assertEqual(dry_run(sent * 2), (refused(*told, CLOSE), WELL))
+                self.assertEqual(dry_run(sent * 2), (refused(*answered, CLOSE), WELL))
 
     def test_terminals(self):
         queue = answer('200 OK', '{"queue":[]}')
         rows = [(it, queue) for it in SHOWN] + [(it, refused(*NO_TERMINAL)) for it in NOT_SHOWN]
-        for field, told in rows:
+        for field, answered in rows:
             sent = f'GET /queue HTTP/1.1\r\nHost: room\r\n{field}\r\n\r\n'.encode()
             with self.subTest(field):
-                self.assertEqual(dry_run(sent * 2), (told * 2, WELL))
+                self.assertEqual(dry_run(sent * 2), (answered * 2, WELL))
 
     def test_first_fault(self):
-        sent, told = joined(STEPS)
-        self.assertEqual(dry_run(sent), (told, WELL))
+        sent, answered = joined(STEPS)
+        self.assertEqual(dry_run(sent), (answered, WELL))
 
 
 # ---- bodies
@@ -213,13 +213,13 @@ BODIES = [
 
 class Bodies(TestCase):
     def test_a_call_is_read(self):
-        sent, told = joined(CALL_TALK)
-        self.assertEqual(dry_run(sent), (told, WELL))
+        sent, answered = joined(CALL_TALK)
+        self.assertEqual(dry_run(sent), (answered, WELL))
 
     def test_bodies(self):
         before, answers = joined(BEFORE)
-        for token, path, told, taken, not_taken in BODIES:
-            rows = [(it, told) for it in taken] + [(it, refused(*BAD_BODY)) for it in not_taken]
+        for token, path, answered, taken, not_taken in BODIES:
+            rows = [(it, answered) for it in taken] + [(it, refused(*BAD_BODY)) for it in not_taken]
             for body, wanted in rows:
                 with self.subTest(f'{path} {body}'):
                     got = dry_run(before + posted(token, path, body))
@@ -238,14 +238,14 @@ FOUND = [
     (message('crewofa1', 'GET /order'),
      answer('200 OK', '{"order":null,"post":null,"status":0}')),
     (message('deskone1', 'HEAD /times/2028-02-29'),
-     answer('200 OK', no_incidents(1835395200, 1835481600), told='')),
+     answer('200 OK', no_incidents(1835395200, 1835481600), sent='')),
     (message('deskone1', 'POST /points/99', '{"cover":0,"place":"TQ300800"}'), DONE),
     (message('deskone1', 'POST /queue/ABCDEFG9/2147483647/clear'),
      refused('404 Not Found', 'NoSuchException', 15)),
     # Methods have their case.
     (message('crewofa1', 'get /order'), refused(*WRONG_METHOD, GET_HEAD)),
     (message('takerone', 'HEAD /call'),
-     answer('405 Method Not Allowed', refusal('WrongMethod', 37), POST, told='')),
+     answer('405 Method Not Allowed', refusal('WrongMethod', 37), POST, sent='')),
 ]
 
 MISSED = [
@@ -258,9 +258,9 @@ MISSED = [
 
 class Paths(TestCase):
     def test_found(self):
-        for sent, told in FOUND:
+        for sent, answered in FOUND:
             with self.subTest(sent):
-                self.assertEqual(dry_run(sent * 2), (told * 2, WELL))
+                self.assertEqual(dry_run(sent * 2), (answered * 2, WELL))
 
     def test_missed(self):
         for path in MISSED:
@@ -353,9 +353,9 @@ class Moments(PreloadedTestCase):
     def test_moments(self):
         """Where the clock gives no moment of the room, nothing is answered and the connection
         ends."""
-        told = answer('200 OK', '{"queue":[]}').decode()
+        answered = answer('200 OK', '{"queue":[]}').decode()
         for moments, dates in MOMENTS.items():
-            wanted = ''.join(re.sub('Date: .*?\r', f'Date: {date}\r', told) for date in dates)
+            wanted = ''.join(re.sub('Date: .*?\r', f'Date: {date}\r', answered) for date in dates)
             with self.subTest(moments):
                 room = made(self.fresh())
                 got = self.program.serve(clock(moments.split()), room,
@@ -385,8 +385,8 @@ class Reads(TestCase):
         sender = threading.Thread(target=send, daemon=True)
         sender.start()
         with theirs:
-            told = answer('200 OK', '{"queue":[]}') * count
-            self.assertEqual(dry_run(theirs), (told, CUT))
+            answered = answer('200 OK', '{"queue":[]}') * count
+            self.assertEqual(dry_run(theirs), (answered, CUT))
         sender.join(180)
 
 
@@ -440,9 +440,9 @@ TALKS = {
 class Talks(TestCase):
     def test_talks(self):
         for what, pairs in TALKS.items():
-            sent, told = joined(pairs)
+            sent, answered = joined(pairs)
             with self.subTest(what):
-                self.assertEqual(dry_run(sent), (told, WELL))
+                self.assertEqual(dry_run(sent), (answered, WELL))
 
 
 # ---- refusals
@@ -492,7 +492,7 @@ STORAGE = (b'HTTP/1.1 503 Service Unavailable\r\nContent-Type: application/json\
            b'Content-Length: 31\r\nConnection: close\r\n\r\n{"error":"Storage","number":42}')
 
 
-def told_in(page):
+def listed_in(page):
     """The refusals that a page of docs/ has in its tables: number, status and name."""
     text = (TOP / 'docs' / page).read_text()
     found = re.findall(r'\| (\d+) \| (\w+) \| (\d{3}) (?=\|)', text)
@@ -523,14 +523,14 @@ class Refusals(TestCase):
         """HTTP.md has those that are sent in its table, RULES.md names those of a fleet, and no
         number that is none."""
         rows = [it[:3] for it in REFUSALS]
-        self.assertEqual(told_in('HTTP.md'), [it for it in rows if it[0] not in OF_A_FLEET])
+        self.assertEqual(listed_in('HTTP.md'), [it for it in rows if it[0] not in OF_A_FLEET])
         rules = (TOP / 'docs' / 'RULES.md').read_text()
         named = re.findall(r'\b(\d+)\s+([A-Z][a-z]+[A-Z]\w+)', rules)
         self.assertEqual(named, [(str(it[0]), it[2]) for it in rows if it[0] in OF_A_FLEET])
-        told = {int(it) for told in re.findall(r'\(((?:\d+(?:, )?)+)\)', rules)
-                for it in told.split(', ') if len(it) < 3}
-        self.assertLessEqual(told, {it[0] for it in rows})
-        self.assertGreaterEqual(told, {it[0] for it in rows if it[0] < 23})
+        numbers = {int(it) for several in re.findall(r'\(((?:\d+(?:, )?)+)\)', rules)
+                   for it in several.split(', ') if len(it) < 3}
+        self.assertLessEqual(numbers, {it[0] for it in rows})
+        self.assertGreaterEqual(numbers, {it[0] for it in rows if it[0] < 23})
 
     def test_each_is_met(self):
         for number, _, name, file in REFUSALS:
@@ -733,8 +733,8 @@ class SmallRoom(TestCase):
         """What comes of opening the room after a change of its file."""
         file = self.copied()
         self.assertEqual(sql(file, change), '')
-        status, _, told = run('times', file, 1, '2026-03-29')
-        return status, told
+        status, _, printed = run('times', file, 1, '2026-03-29')
+        return status, printed
 
     def test_requests(self):
         before = dump(self.room)

@@ -134,7 +134,7 @@ class Served(TestCase):
             process.kill()
             process.communicate()
 
-    def told(self, *words):
+    def asks(self, *words):
         """The body of the answer to one message."""
         (status, body), = ask(self.port, message(*words))
         assert status == 200, body
@@ -154,10 +154,10 @@ class Served(TestCase):
                 warning()[it] for it in ('shown', 'filter')], [False, 'none'])
         for other, why in others:
             BROWSER.turn_to(other)
-            self.check_comes(why, lambda: self.told_of(warning()), [True, why, True])
+            self.check_comes(why, lambda: self.seen_of(warning()), [True, why, True])
             BROWSER.close(other, then=tab)
 
-    def told_of(self, seen):
+    def seen_of(self, seen):
         return [seen['shown'], seen['why'], seen['marks'] > 0]
 
     def other_pages(self):
@@ -167,11 +167,11 @@ class Served(TestCase):
             until(pictures)
         is_broken = []
 
-        def told_of(token, what):
-            told = small_room(token, what)
-            return [None] if is_broken and what == 'vehicles' else told
+        def answer_of(token, what):
+            given = small_room(token, what)
+            return [None] if is_broken and what == 'vehicles' else given
 
-        address = self.enterContext(wall(played(self, told_of).port, self.plan, 'deskone1'))
+        address = self.enterContext(wall(played(self, answer_of).port, self.plan, 'deskone1'))
         broken = BROWSER.tab(address)
         until(pictures)
         is_broken.append(True)
@@ -180,7 +180,7 @@ class Served(TestCase):
 
     def check_proposed(self):
         """A vehicle on duty and a call, as the page first shows them; gives its tab."""
-        self.told('deskone1', 'POST /vehicles/A1/duty',
+        self.asks('deskone1', 'POST /vehicles/A1/duty',
                   f'{{"place":"TQ303804","until":{int(time.time()) + 3600}}}')
         ask(self.port, call(1, 'TQ400600'))
         address = self.enterContext(wall(self.port, self.plan, 'deskone1', 'desktwo2'))
@@ -198,8 +198,8 @@ class Served(TestCase):
         return tab
 
     def check_mobilised(self):
-        proposed = self.told('deskone1', 'GET /incidents/1/propose')['proposals'][0]['vehicle']
-        self.told('deskone1', 'POST /incidents/1/mobilise', f'{{"vehicle":"{proposed}"}}')
+        proposed = self.asks('deskone1', 'GET /incidents/1/propose')['proposals'][0]['vehicle']
+        self.asks('deskone1', 'POST /incidents/1/mobilise', f'{{"vehicle":"{proposed}"}}')
         self.check_comes('a mobilised vehicle', lambda: BROWSER.run(MARK, 'vehicles A1')[:3],
                          ['mark vehicle status-2', 'M', 'A1'])
         self.check('it is sent', BROWSER.run(LINES), [['vehicles A1', 'incidents 1/1']])
@@ -208,11 +208,11 @@ class Served(TestCase):
 
     def check_reported(self):
         self.reported = time.time()
-        self.told('desktwo2', 'POST /points/7', '{"cover":2,"place":"TQ700500"}')
-        self.told('crewofb1', 'POST /report',
+        self.asks('desktwo2', 'POST /points/7', '{"cover":2,"place":"TQ700500"}')
+        self.asks('crewofb1', 'POST /report',
                   '{"button":"home","number":4,"order":0,"place":"TQ600800"}')
         for number, button, place in [(1, 'mobile', 'TQ350700'), (2, 'scene', 'TQ401602')]:
-            self.told('crewofa1', 'POST /report', f'{{"button":"{button}","number":{number},'
+            self.asks('crewofa1', 'POST /report', f'{{"button":"{button}","number":{number},'
                                                   f'"order":1,"place":"{place}"}}')
         self.check_comes('a vehicle at the scene', lambda: BROWSER.run(MARK, 'vehicles A1')[:3],
                          ['mark vehicle status-3', 'S', 'A1'])
@@ -242,7 +242,7 @@ class Served(TestCase):
 
     def check_stopped(self, stopped):
         before = warning()['marks']
-        self.check_comes('a stopped room is shown, and why', lambda: self.told_of(warning()),
+        self.check_comes('a stopped room is shown, and why', lambda: self.seen_of(warning()),
                          [True, 'It takes no connection.', True])
         seen = warning()
         found = re.fullmatch('NO ANSWER FROM THE ROOM SINCE ([0-9:]{8})',
@@ -284,9 +284,9 @@ def small_room(token, what):
 
 
 class Played(TestCase):
-    def show(self, told_of, *tokens):
+    def show(self, answer_of, *tokens):
         """A played room on the page."""
-        room = played(self, told_of)
+        room = played(self, answer_of)
         address = self.enterContext(wall(room.port, plan_in(self.folder), *tokens))
         return room, address
 
@@ -373,12 +373,12 @@ class Played(TestCase):
         paths = ['', 'picture', *files]
         others = ['wall.py', 'README.md', 'wall.cfg', 'vehicles', '../plan.csv',
                   'picture?token=deskone1', 'http://127.0.0.1/queue']
-        told = {it: fetch(address + it) for it in paths + others}
-        self.check('what is there', [it for it in told if told[it][0] == 200], paths)
-        self.check('what is not', {told[it][0] for it in others}, {404})
-        whole = ''.join(f'{head}{body}' for _, head, body in told.values())
+        fetched = {it: fetch(address + it) for it in paths + others}
+        self.check('what is there', [it for it in fetched if fetched[it][0] == 200], paths)
+        self.check('what is not', {fetched[it][0] for it in others}, {404})
+        whole = ''.join(f'{head}{body}' for _, head, body in fetched.values())
         self.check('no token leaves', [it for it in TOKENS if it in whole], [])
-        self.check('only its own scripts', [it for it, (_, head, _) in told.items()
+        self.check('only its own scripts', [it for it, (_, head, _) in fetched.items()
                                             if "default-src 'none'; script-src 'self'" not in head],
                    [])
         self.check('another host', fetch(address, {'Host': 'room.example'})[0], 403)

@@ -72,9 +72,9 @@ class Fronted(TestCase):
         for path in files:
             self.check(path, self.ask('GET', path, own)[0], 200)
         self.check_comes('a picture', lambda: self.divisions(own), [200, [1]])
-        _, told = self.ask('GET', '/picture', own)
+        _, answered = self.ask('GET', '/picture', own)
         self.check('only looks', self.ask('POST', '/picture', own)[0], 403)
-        self.check('no token', 'desknumber1' in told, False)
+        self.check('no token', 'desknumber1' in answered, False)
         other = self.folder / 'other'
         self.certify(other)
         for certificate in (None, other / 'screen1.pem'):
@@ -83,8 +83,8 @@ class Fronted(TestCase):
 
     def divisions(self, own):
         """The divisions of a picture, none before the room was read."""
-        status, told = self.ask('GET', '/picture', own)
-        return [status, [it['division'] for it in json.loads(told)['desks'] or ()]]
+        status, answered = self.ask('GET', '/picture', own)
+        return [status, [it['division'] for it in json.loads(answered)['desks'] or ()]]
 
     def test_recipe(self):
         """The commands of the README are those that are tried here."""

@@ -77,7 +77,7 @@ def large_room():
     vehicles move, an eighth of them has another status, half of the incidents lack others."""
     readings = []
 
-    def told_of(token, what):
+    def answer_of(token, what):
         readings.append(what)
         west, name = (500000, 'A') if token == 'desknumber1' else (530000, 'B')
         turn = len(readings) // 8
@@ -97,7 +97,7 @@ def large_room():
             'queue': [entry(1, it + 1, age=1000 - it) for it in range(300)],
         }[what]
 
-    return told_of
+    return answer_of
 
 
 # ---- what is seen
@@ -157,8 +157,8 @@ def page():
 
 
 class Walls(TestCase):
-    def show(self, told_of, divisions, size=SMALL):
-        room = played(self, told_of, 0)
+    def show(self, answer_of, divisions, size=SMALL):
+        room = played(self, answer_of, 0)
         tokens = [f'desknumber{it}' for it in range(1, divisions + 1)]
         address = self.enterContext(wall(room.port, plan_of(self.folder, divisions), *tokens))
         BROWSER.size(*size)
@@ -190,10 +190,10 @@ class Pages(Walls):
     def all_pages(self):
         found = [page()]
         while len(found) < 60:
-            told = self.turned('ArrowRight')
-            if told['label'].startswith('stopped:\n1\u2013'):
+            one = self.turned('ArrowRight')
+            if one['label'].startswith('stopped:\n1\u2013'):
                 break
-            found.append(told)
+            found.append(one)
         return found
 
     def check_pages(self, divisions, size):
@@ -204,10 +204,10 @@ class Pages(Walls):
         wanted = [[division, it['rank'], who_of(it)] for division in range(1, divisions + 1)
                   for it in queue_of(division)]
         self.check(f'{what}: each entry once, in the order of the room',
-                   [it for told in found for it in told['rows']], wanted)
-        self.check(f'{what}: each division', sorted({it for told in found for it in told['heads']}),
+                   [it for one in found for it in one['rows']], wanted)
+        self.check(f'{what}: each division', sorted({it for one in found for it in one['heads']}),
                    list(range(1, divisions + 1)))
-        self.check(f'{what}: nothing is cut off', [it for told in found for it in told['cut']], [])
+        self.check(f'{what}: nothing is cut off', [it for one in found for it in one['cut']], [])
         self.check(f'{what}: pages', len(found) > 1, True)
         self.check(f'{what}: which are shown', found[0]['label'],
                    f'stopped:\n1\u2013{len(found[0]["rows"])} of {len(wanted)}')

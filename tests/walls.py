@@ -65,9 +65,9 @@ class PlayedRoom(threading.Thread):
     heads that it was sent, and counts connections that came while another was open, or that were
     not closed."""
 
-    def __init__(self, told_of, waits=0.01):
+    def __init__(self, answer_of, waits=0.01):
         super().__init__(daemon=True)
-        self.told_of, self.waits = told_of, waits
+        self.answer_of, self.waits = answer_of, waits
         self.listener = socket.create_server(('127.0.0.1', 0))
         self.port = self.listener.getsockname()[1]
         self.heads, self.overlaps = [], 0
@@ -91,7 +91,7 @@ class PlayedRoom(threading.Thread):
         line, *fields = head.decode().split('\r\n')
         token = next(it for it in fields if it.startswith('X-Terminal: ')).split(' ')[1]
         what = line.split(' ')[1].removeprefix('/')
-        body = json.dumps({what: self.told_of(token, what)}).encode()
+        body = json.dumps({what: self.answer_of(token, what)}).encode()
         self.overlaps += self.is_called(self.waits) and not has_ended(connection)
         connection.sendall(b'HTTP/1.1 200 OK\r\nDate: Wed, 25 Nov 2026 12:00:00 GMT\r\n'
                            b'Content-Type: application/json\r\nConnection: close\r\n'
@@ -111,9 +111,9 @@ def has_ended(connection):
         return False
 
 
-def played(test, told_of, *waits):
+def played(test, answer_of, *waits):
     """A played room, which ends with the test."""
-    room = PlayedRoom(told_of, *waits)
+    room = PlayedRoom(answer_of, *waits)
     test.addCleanup(room.listener.close)
     return room
 

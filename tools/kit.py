@@ -92,10 +92,10 @@ def is_proved(crate, work):
 def judged(crate, edit, kept=None):
     """Whether the prover refuses an edit of a crate for what it means, by the toolchain's own judge, and what is said of
     it. What was proved of the crate as it stands may be kept in a folder."""
-    outcome, told = rt().must_fail(crate, str(edit), ['--jobs', '1'], kept)
+    outcome, report = rt().must_fail(crate, str(edit), ['--jobs', '1'], kept)
     # some kits name the outcome, others say whether the edit was refused
     is_refused = outcome in [getattr(rt(), it, True) for it in ('REFUSED', 'AT_LIMIT')]
-    return is_refused and 'only because a proof file names' not in told, told
+    return is_refused and 'only because a proof file names' not in report, report
 
 
 def build(library, jobs):

@@ -43,8 +43,8 @@ def components():
     terminal = {'type': 'apiKey', 'in': 'header', 'name': 'X-Terminal'}
     return {'schemas': {**schemas.shared(), **schemas.answers(), **refusal_schemas()},
             'headers': responses.header_fields(), 'responses': responses.shared(requests),
-            'securitySchemes': {role: {**terminal, 'description': told}
-                                for role, told in ROLES.items()}}
+            'securitySchemes': {role: {**terminal, 'description': description}
+                                for role, description in ROLES.items()}}
 
 
 def document():

@@ -16,9 +16,12 @@ static bool is_file(int file) {
 
 ssize_t write(int file, const void *bytes, size_t size) {
   if (file == STDOUT_FILENO) hear(bytes, size);
-  if (switches.counts_writes && is_file(file) && stops()) {
-    if (switches.how == HALFWAY) NEXT(write)(file, bytes, size / 2);
-    _exit(STOPPED);
+  if (switches.counts_writes && is_file(file)) {
+    if (fails()) return -1;
+    if (stops()) {
+      if (switches.how == HALFWAY) NEXT(write)(file, bytes, size / 2);
+      _exit(STOPPED);
+    }
   }
   return NEXT(write)(file, bytes, size);
 }

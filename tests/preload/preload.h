@@ -28,8 +28,8 @@
 //                            that it serves.
 //   SYNCED=PATH              With FAULTS: only syncs are counted, of the file or folder of this
 //                            path.
-//   WRITES=1                 With STOPS: writes to a file that are no changes of the room, but its
-//                            journal, are counted too.
+//   WRITES=1                 With FAULTS or STOPS: writes to a file that are no changes of the room,
+//                            but its journal, are counted too.
 //   NAMES=1                  With STOPS: the calls that move or remove a file are counted too.
 //   COUNTED=FILE             A program that comes to its end writes to this file how many calls
 //                            were counted.

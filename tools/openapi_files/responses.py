@@ -50,7 +50,7 @@ def content(options, example=None):
     return {'application/json': it if example is None else {**it, 'example': example}}
 
 
-def told(name):
+def described(name):
     number, _, meaning = sources.refusals()[name]
     closes = ' The connection closes.' if name in CLOSING else ''
     return f'{number} {name}: {meaning}{closes}'
@@ -58,7 +58,7 @@ def told(name):
 
 def refused(status, names, has_content=True):
     """The answer of a status, which gives one of these refusals."""
-    text = '\n'.join([MEANINGS[status], *map(told, names)])
+    text = '\n'.join([MEANINGS[status], *map(described, names)])
     it = {'description': text, 'headers': headers(status, names)}
     return {**it, 'content': content(names)} if has_content else it
 

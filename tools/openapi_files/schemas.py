@@ -75,8 +75,8 @@ def code(kind):
 def place():
     """A place as it is answered."""
     bounds = [*sources.ranges()['Easting'], *sources.ranges()['Northing']]
-    told = 'Metres of easting and of northing on the National Grid, {} to {} and {} to {}.'
-    return {**listed(whole(min(bounds), max(bounds)), 2), 'description': told.format(*bounds)}
+    text = 'Metres of easting and of northing on the National Grid, {} to {} and {} to {}.'
+    return {**listed(whole(min(bounds), max(bounds)), 2), 'description': text.format(*bounds)}
 
 
 def counts():

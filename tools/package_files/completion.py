@@ -23,13 +23,13 @@ def case(pattern, words, is_file=False):
     return f'        {pattern}) words="{" ".join(words)}"{OR_A_FILE if is_file else ""} ;;\n'
 
 
-def cases(name, told):
+def cases(name, help_text):
     """The cases of a command: first the values of its options, then all that may follow it."""
-    found = list(options(told))
+    found = list(options(help_text))
     for it in found:
         if it.value:
             yield case(f'*:{name}:{it.name}', it.values, it.value in FILES)
-    yield case(f'*:{name}:*', [it.name for it in found], any(it in usage(told) for it in FILES))
+    yield case(f'*:{name}:*', [it.name for it in found], any(it in usage(help_text) for it in FILES))
 
 
 def script(help_of):

@@ -40,9 +40,9 @@ def errors(document):
         yield cells
 
 
-def diagnostic(status, told, means, does):
+def diagnostic(status, printed, means, does):
     """An entry for what the program reports."""
-    return item(f'{told or "nothing"} (status {status})', f'{means}. To do: {does}.')
+    return item(f'{printed or "nothing"} (status {status})', f'{means}. To do: {does}.')
 
 
 def page(help_of, operating, places, moment):
@@ -56,7 +56,7 @@ def page(help_of, operating, places, moment):
              f'.SH NAME\ndispatch_room \\- {roff(about[0].lower() + about[1:])}\n',
              f'.SH SYNOPSIS\n{verbatim(synopsis)}',
              f'.SH DESCRIPTION\n{verbatim(help_of.whole)}.SH COMMANDS\n',
-             *(f'.SS {name}\n{verbatim(told)}' for name, told in help_of.commands.items()),
+             *(f'.SS {name}\n{verbatim(help_text)}' for name, help_text in help_of.commands.items()),
              '.SH "EXIT STATUS"\n',
              *(item(*it) for it in re.findall(r'(\d) ([^,]+)', statuses)),
              f'.SH DIAGNOSTICS\n{roff(DIAGNOSTICS)}\n',

@@ -21,9 +21,9 @@ class Help:
         self.commands = {it: output(program, it, '--help') for it in names}
 
 
-def usage(told):
+def usage(help_text):
     """How a command is called, by its help."""
-    return re.search('^Usage: (.*)$', told, re.M)[1]
+    return re.search('^Usage: (.*)$', help_text, re.M)[1]
 
 
 @dataclasses.dataclass
@@ -35,9 +35,9 @@ class Option:
     values: list[str]
 
 
-def options(told):
+def options(help_text):
     """The options of a command, by its help."""
-    for line in re.findall(r'^ +(?:-\w, )?(--.*)$', told, re.M):
+    for line in re.findall(r'^ +(?:-\w, )?(--.*)$', help_text, re.M):
         name, value = re.match(r'(--[\w-]+)(?: <(\w+)>)?', line).groups()
         listed = re.search(r'\[possible values: (.*?)\]', line)
         yield Option(name, value, listed[1].split(', ') if listed else [])

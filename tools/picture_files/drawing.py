@@ -87,12 +87,12 @@ class Drawing:
         self.title = rest
 
     def on_box(self, rest):
-        where, _, told = rest.partition(' : ')
+        where, _, caption = rest.partition(' : ')
         kind, name, *sides = where.split()
         x, y, width, height = map(float, sides)
         self.boxes[name] = x, y, width, height
         self.rect(self.front, kind, x, y, width, height)
-        rows = told.split(' | ') if told else []
+        rows = caption.split(' | ') if caption else []
         kinds = ['' if at == 0 else 'small' for at in range(len(rows))]
         if 'small' in kind.split('.'):
             kinds = ['small'] * len(rows)
@@ -102,17 +102,17 @@ class Drawing:
             self.write(text, it, x + width / 2, top - 5, 'middle')
 
     def on_frame(self, rest):
-        where, _, told = rest.partition(' : ')
+        where, _, caption = rest.partition(' : ')
         kind, *sides = where.split()
         x, y, width, height = map(float, sides)
         self.rect(self.behind, kind, x, y, width, height)
-        if told:
-            self.write(told, 'heading', x + 12, y + 22, 'start')
+        if caption:
+            self.write(caption, 'heading', x + 12, y + 22, 'start')
 
     def on_text(self, rest):
-        where, _, told = rest.partition(' : ')
+        where, _, caption = rest.partition(' : ')
         kind, x, y, anchor = where.split()
-        for at, text in enumerate(told.split(' | ')):
+        for at, text in enumerate(caption.split(' | ')):
             self.write(text, kind, float(x), float(y) + at * (size_of(kind) + 4), anchor)
 
     def on_line(self, rest):
@@ -127,16 +127,16 @@ class Drawing:
         self.path(kind, [*points[:-1], (x - 5 * across, y - 5 * down)])
         ends = [(x, y)] + [(x - 9 * across + side * 4.5 * down, y - 9 * down - side * 4.5 * across)
                            for side in (1, -1)]
-        told = ' '.join(f'{number(a)},{number(b)}' for a, b in ends)
-        self.lines.append(f'<path class="head {kind}" d="M {told} z"/>')
+        corners = ' '.join(f'{number(a)},{number(b)}' for a, b in ends)
+        self.lines.append(f'<path class="head {kind}" d="M {corners} z"/>')
 
     def on_curve(self, rest):
         kind, points = self.places(rest)
-        told = 'M {},{}'.format(*map(number, points[0]))
+        data = 'M {},{}'.format(*map(number, points[0]))
         for (x, y), (to_x, to_y) in zip(points, points[1:]):
             middle = number((y + to_y) / 2)
-            told += f' C {number(x)},{middle} {number(to_x)},{middle} {number(to_x)},{number(to_y)}'
-        self.lines.append(f'<path class="{kind}" d="{told}"/>')
+            data += f' C {number(x)},{middle} {number(to_x)},{middle} {number(to_x)},{number(to_y)}'
+        self.lines.append(f'<path class="{kind}" d="{data}"/>')
 
     def on_join(self, rest):
         kind, points = self.places(rest.rpartition(' ')[0])
@@ -158,8 +158,8 @@ class Drawing:
                           f'y="{number(y)}" text-anchor="{anchor}">{html.escape(text)}</text>')
 
     def path(self, kind, points):
-        told = ' L '.join(f'{number(x)},{number(y)}' for x, y in points)
-        self.lines.append(f'<path class="{kind}" d="M {told}"/>')
+        data = ' L '.join(f'{number(x)},{number(y)}' for x, y in points)
+        self.lines.append(f'<path class="{kind}" d="M {data}"/>')
 
     def places(self, rest):
         """The kind, and the points that the words after it lead by."""

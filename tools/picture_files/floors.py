@@ -209,9 +209,9 @@ def drawing(text):
         ends = port(layout, chain[0], chain[1], 's'), port(layout, chain[-1], chain[-2], 'n')
         yield ' '.join(['curve thin', ends[0], *bends, ends[1]])
     width = (WIDTH - 2 * MARGIN + GAP) / len(LEGEND) - GAP
-    for at, (kind, told) in enumerate(LEGEND.items()):
+    for at, (kind, caption) in enumerate(LEGEND.items()):
         x = MARGIN + at * (width + GAP)
-        yield f'box {kind}.small {kind} {x:.1f} {foot} {width:.1f} {HEIGHT} : {told}'
+        yield f'box {kind}.small {kind} {x:.1f} {foot} {width:.1f} {HEIGHT} : {caption}'
 
 
 def port(layout, box, other, side):

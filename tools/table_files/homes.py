@@ -36,7 +36,7 @@ OF_ALL = {
     f'{SCHEMA}.proofs.Standing': 'holds_still holds_none',
     f'{SCHEMA}.proofs.StoredRows': 'stores_row covers_row stores_rowid',
     'Rattle.room_place.specs.declared.plans.Area': 'Area',
-    'Rattle.room_types_keyed.specs.KeyedRows': 'put_row row_at',
+    'Rattle.room_types.specs.KeyedRows': 'put_row row_at',
     f'{TYPES}.Codes': 'outcome_number state_number is_active',
     f'{TYPES}.Keys': 'callsign_cmp pair_cmp numbered_cmp',
     f'{TYPES}.Texts': 'Callsign Token',

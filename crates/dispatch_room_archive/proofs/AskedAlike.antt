@@ -1,4 +1,4 @@
--- What a decision asks of a room, it is told alike without what stays behind.
+-- What a decision asks of a room, it is answered alike without what stays behind.
 use Rattle.std.proofs.Common.{ap, arith, eqb-true, inl, inr, subst, sym, ◌∙◌}
 use Rattle.std.specs.List.{cons_option}
 use Rattle.std.specs.Prelude.{Bool, List, None, Option, Some, [], cond, false, filter, filter_map, int_le, int_lt}

@@ -14,7 +14,7 @@ use Rattle.std.specs.Prelude.{option_copied, refl, slice_get, suc, take, true, z
 use Rattle.std.specs.Prelude.{◌||◌, ◌∷◌, ◌≡◌, ◌≤◌, ◌⊎◌}
 use Rattle.std.specs.declared.cmp.Ordering.{Ordering}
 use Rattle.std.specs.declared.cmp.Ordering.TheVariants.{Equal, Greater, Less}
-use Rattle.room_types_keyed.specs.KeyedRows.{IsBelowAll, IsKeyed}
+use Rattle.room_types.specs.KeyedRows.{IsBelowAll, IsKeyed}
 use Rattle.room_types.specs.Keys.{call_key, pair_cmp}
 use Rattle.room_types.specs.declared.tables.Call.{Call}
 use Rattle.room_model.specs.Queries.{greatest_serial}
@@ -206,7 +206,7 @@ item_is xs i (Some x) h = sym (at_index xs i x.now x.now h.3.0 h.1)
 
 module _ (since : ℕ) (calls : List Call) (at : ℕ) (c : Call) (inside : at < length calls)
     (here : c ≡ get_or calls at c) where
-  -- the next call tells whether this one is recent
+  -- the next call shows whether this one is recent
   pub end_tells : (next : Option (Bor Call)) → IsKeyed pair_cmp call_key calls
       → IsItemAt calls (at + 1) next
       → is_end c (option_copied next) ≡ (c.serial == greatest_of c.position calls)

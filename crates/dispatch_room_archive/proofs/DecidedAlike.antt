@@ -2,7 +2,7 @@
 use Rattle.std.proofs.Common.{ap, sym, ◌∙◌}
 use Rattle.std.specs.Prelude.{Bool, Err, None, Option, Some, cond, false, refl, true, ℕ, ◌==◌, ◌||◌, ◌≡◌}
 use Rattle.room_place.specs.Plans.{division_of}
-use Rattle.room_types_keyed.specs.KeyedRows.{keep, row_at}
+use Rattle.room_types.specs.KeyedRows.{keep, row_at}
 use Rattle.room_types.specs.Keys.{numbered_cmp, report_key}
 use Rattle.room_types.specs.Texts.{Callsign}
 use Rattle.room_types.specs.declared.asks.Ask.{Ask}

@@ -10,8 +10,8 @@ use Rattle.std.specs.Ordering.{is_eq, match_ordering}
 use Rattle.std.specs.Prelude.{Bool, List, Option, Some, [], cond, false, filter, true, ◌&&◌, ◌∷◌, ◌≡◌}
 use Rattle.std.specs.declared.cmp.Ordering.{Ordering}
 use Rattle.std.specs.declared.cmp.Ordering.TheVariants.{Equal, Greater, Less}
-use Rattle.room_types_keyed.proofs.KeyedLaws.{keyed_put, row_below, row_put}
-use Rattle.room_types_keyed.specs.KeyedRows.{IsBelowAll, IsKeyed, put_row, row_at}
+use Rattle.room_types.proofs.KeyedLaws.{keyed_put, row_below, row_put}
+use Rattle.room_types.specs.KeyedRows.{IsBelowAll, IsKeyed, put_row, row_at}
 use Rattle.room_types.specs.Keys.{incident_key, pair_cmp}
 use Rattle.room_types.specs.Orders.{exact_pair, pairs_total}
 use Rattle.room_types.specs.declared.tables.Incident.{Incident}

@@ -4,7 +4,7 @@ use Rattle.std.specs.Prelude.{Bool, Err, IfOk, List, Ok, Result, [], cond, filte
 use Rattle.std.specs.Prelude.{◌≡◌}
 use Rattle.room_place.specs.Choice.{Among}
 use Rattle.room_place.specs.declared.plans.Area.{Area}
-use Rattle.room_types_keyed.specs.KeyedRows.{keep}
+use Rattle.room_types.specs.KeyedRows.{keep}
 use Rattle.room_types.specs.Keys.{call_key, incident_key, numbered_cmp, pair_cmp, report_key}
 use Rattle.room_types.specs.Orders.{numbered_total, pairs_total}
 use Rattle.room_types.specs.declared.changes.Change.{Change}

@@ -3,7 +3,7 @@ use Rattle.std.proofs.Common.{ap, arith, eq-eqb, inl, inr, subst, sym, ◌∙◌
 use Rattle.std.specs.Prelude.{Bool, Err, List, None, Option, Some, [], cond, false, filter, is_some, map, max, nat_lt}
 use Rattle.std.specs.Prelude.{not, refl, true, ℕ, ℤ, ◌<◌, ◌==◌, ◌||◌, ◌∷◌, ◌≡◌, ◌⊎◌}
 use Rattle.room_place.specs.Plans.{division_of}
-use Rattle.room_types_keyed.specs.KeyedRows.{keep, put_row, row_at}
+use Rattle.room_types.specs.KeyedRows.{keep, put_row, row_at}
 use Rattle.room_types.specs.Codes.{is_active}
 use Rattle.room_types.specs.Keys.{callsign_cmp, numbered_cmp, report_key, vehicle_key}
 use Rattle.room_types.specs.Orders.{callsigns_total, exact_callsigns}

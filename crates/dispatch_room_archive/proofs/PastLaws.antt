@@ -3,7 +3,7 @@ use Rattle.std.proofs.Common.{ap, sym, ◌∙◌}
 use Rattle.std.specs.BTreeSet.{BTreeSet, contains}
 use Rattle.std.specs.Prelude.{Bool, List, None, Some, false, is_some, nat_lt, not, refl, true, ℕ, ◌&&◌, ◌≡◌}
 use Rattle.room_place.specs.declared.plans.Area.{Area}
-use Rattle.room_types_keyed.specs.KeyedRows.{keep, row_at}
+use Rattle.room_types.specs.KeyedRows.{keep, row_at}
 use Rattle.room_types.specs.Codes.{is_active}
 use Rattle.room_types.specs.Keys.{callsign_cmp, incident_key, pair_cmp, vehicle_key}
 use Rattle.room_types.specs.declared.slices.DivisionRows.{DivisionRows}

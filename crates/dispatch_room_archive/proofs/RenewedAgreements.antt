@@ -2,8 +2,8 @@
 use Rattle.std.proofs.Common.{ap, arith, inl, inr, subst, sym, ◌∙◌}
 use Rattle.std.specs.Prelude.{Bool, IfSome, None, Option, Some, cond, false, is_some, not, refl, true, ℕ, ◌<◌, ◌≡◌}
 use Rattle.room_place.specs.Plans.{has_division}
-use Rattle.room_types_keyed.proofs.KeyedLaws.{keyed_filter}
-use Rattle.room_types_keyed.specs.KeyedRows.{keep, row_at}
+use Rattle.room_types.proofs.KeyedLaws.{keyed_filter}
+use Rattle.room_types.specs.KeyedRows.{keep, row_at}
 use Rattle.room_types.specs.Codes.{is_busy}
 use Rattle.room_types.specs.Keys.{assignment_key, call_key, callsign_cmp, incident_key, numbered_cmp, pair_cmp}
 use Rattle.room_types.specs.Keys.{report_key, turn_key, vehicle_key}

@@ -6,7 +6,7 @@ use Rattle.std.specs.Prelude.{true, ℕ, ◌&&◌, ◌+◌, ◌++◌, ◌<◌, �
 use Rattle.room_place.specs.Choice.{Among, least_from}
 use Rattle.room_place.specs.Plans.{division_of}
 use Rattle.room_place.specs.declared.places.Place.{Place}
-use Rattle.room_types_keyed.specs.KeyedRows.{keep, row_at}
+use Rattle.room_types.specs.KeyedRows.{keep, row_at}
 use Rattle.room_types.specs.Codes.{is_active}
 use Rattle.room_types.specs.Keys.{division_key, incident_key, numbered_cmp, pair_cmp, report_key}
 use Rattle.room_types.specs.Orders.{exact_pair, pairs_total}

@@ -6,8 +6,8 @@ use Rattle.std.specs.Prelude.{Bool, List, None, Option, Some, [], cond, false, f
 use Rattle.std.specs.Prelude.{◌<◌, ◌==◌, ◌∷◌, ◌≡◌}
 use Rattle.std.specs.declared.cmp.Ordering.{Ordering}
 use Rattle.std.specs.declared.cmp.Ordering.TheVariants.{Equal, Greater, Less}
-use Rattle.room_types_keyed.proofs.KeyedLaws.{filter_put}
-use Rattle.room_types_keyed.specs.KeyedRows.{IsKeyed, drop_row, keep, put_row, row_at}
+use Rattle.room_types.proofs.KeyedLaws.{filter_put}
+use Rattle.room_types.specs.KeyedRows.{IsKeyed, drop_row, keep, put_row, row_at}
 use Rattle.room_types.specs.Keys.{call_key, callsign_cmp, incident_key, numbered_cmp, pair_cmp, report_key, turn_key}
 use Rattle.room_types.specs.Keys.{vehicle_key}
 use Rattle.room_types.specs.Orders.{callsigns_total, exact_callsigns, exact_numbered, exact_pair, numbered_total}

@@ -1,7 +1,7 @@
 -- A room as the changes that put each of its rows.
 use Rattle.std.specs.Ordering.{nat_cmp}
 use Rattle.std.specs.Prelude.{List, None, [], map, ℕ, ◌++◌, ◌≡◌}
-use Rattle.room_types_keyed.specs.KeyedRows.{row_at}
+use Rattle.room_types.specs.KeyedRows.{row_at}
 use Rattle.room_types.specs.Keys.{division_key}
 use Rattle.room_types.specs.declared.changes.Change.{Change}
 use Rattle.room_types.specs.declared.changes.Change.TheVariants.{PutAssignment, PutCall, PutDivision, PutIncident}

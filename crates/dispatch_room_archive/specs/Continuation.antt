@@ -1,7 +1,7 @@
 -- How a room and the one that was made of it go on, when both get the same events.
 use Rattle.std.specs.Prelude.{Bool, List, None, Ok, Option, Some, [], false, int_lt, is_some, pos, true, ℕ, ◌<◌, ◌||◌}
 use Rattle.std.specs.Prelude.{◌∷◌, ◌≡◌}
-use Rattle.room_types_keyed.specs.KeyedRows.{keep, put_row}
+use Rattle.room_types.specs.KeyedRows.{keep, put_row}
 use Rattle.room_types.specs.Codes.{is_active, is_normal}
 use Rattle.room_types.specs.Keys.{numbered_cmp, report_key}
 use Rattle.room_types.specs.Texts.{Callsign}

@@ -8,7 +8,7 @@ use Rattle.sqlite.specs.Held.{Held, state}
 use Rattle.sqlite_trees.specs.Tree.{Trees}
 use Rattle.sqlite_trees.specs.declared.store.Store.{Ghosts}
 use Rattle.room_place.specs.Plans.{Layout, has_division}
-use Rattle.room_types_keyed.specs.KeyedRows.{IsKeyed, row_at}
+use Rattle.room_types.specs.KeyedRows.{IsKeyed, row_at}
 use Rattle.room_types.specs.Keys.{incident_key, owns_incident, pair_cmp}
 use Rattle.room_types.specs.declared.tables.Incident.{Incident}
 use Rattle.room_http_time.specs.Dates.{day_of}

@@ -3,7 +3,7 @@
 use Rattle.std.specs.List.{list_any}
 use Rattle.std.specs.Prelude.{Bool, None, Option, Some, false, filter, is_some, nat_le, nat_lt, not, ℕ, ◌&&◌, ◌==◌}
 use Rattle.std.specs.Prelude.{◌||◌}
-use Rattle.room_types_keyed.specs.KeyedRows.{keep}
+use Rattle.room_types.specs.KeyedRows.{keep}
 use Rattle.room_types.specs.Codes.{is_active, is_normal}
 use Rattle.room_types.specs.Texts.{Callsign}
 use Rattle.room_types.specs.declared.tables.Call.{Call}

@@ -3,7 +3,7 @@
 ghost use Rattle.std.specs.List.{list_all};
 ghost use Rattle.std.specs.Prelude.{◌≡◌, ℕ, false, filter, true, IfErr, IfOk, IsOk};
 ghost use Rattle.sqlite.specs.Held.{state};
-ghost use Rattle.room_types_keyed.specs.KeyedRows.{IsKeyed};
+ghost use Rattle.room_types.specs.KeyedRows.{IsKeyed};
 ghost use Rattle.room_types.specs.Keys.{incident_key, owns_incident, pair_cmp};
 ghost use Rattle.room_types.specs.declared.refusal_statuses.Refusal.TheVariants.{Memory as NoMemory};
 ghost use Rattle.room_model.specs.RoomSlices.{room_of};

@@ -32,6 +32,7 @@ use room_place::plans::Plan;
 use room_store_check_tables::whole_file::{Configuration, ReadFile};
 use room_store_file::examined_file::read_room;
 use room_store_writes::new_room::create_with;
+use room_tables::connection_lemmas::lemma_committed;
 use room_tables_schema::database_faults::Fault;
 use room_tables_schema::schema_tests::is_empty;
 use room_types::changes::Change;
@@ -172,8 +173,7 @@ pub fn begin_in<S: Alter + Drop, O: Write>(
         (O.contents out.old) (O.contents out.new) worked.0) }
     ensures fault { IfErr result (ExplainsUnmade (state S.Store conn).now.schema) }
 {
-    // Outside a transaction the tables are as they were committed.
-    let _ = conn.is_autocommit();
+    lemma_committed(&conn);
     if !is_empty(conn.schema()) {
         return Err(Failure::File);
     }

@@ -1,5 +1,5 @@
 -- How a command ends: what its words are to the program, and what it has shown.
-use Rattle.std.specs.Prelude.{Bool, Err, List, Ok, Option, Result, false, true, ℕ, ◌⊎◌, ◌≡◌}
+use Rattle.std.specs.Prelude.{Bool, Err, List, Ok, Option, Result, false, true, ℕ, ⊤, ◌⊎◌, ◌≡◌}
 use Rattle.std.specs.Io.KnownBytes.{Appends}
 use Rattle.clap.specs.declared.error.ErrorKind.{ErrorKind}
 use Rattle.clap.specs.declared.error.ErrorKind.TheVariants as kind
@@ -7,7 +7,8 @@ use Rattle.dispatch_room_board.specs.Boards.{IsBoard}
 use Rattle.dispatch_room_board.specs.declared.boards.Board.{Board}
 use Rattle.dispatch_room_board.specs.declared.boards.Reached.{Reached}
 use Rattle.dispatch_room_board.specs.declared.boards.Reached.TheVariants as reached
-use Rattle.dispatch_room_cli.specs.ExitStatus.{refused}
+use Rattle.dispatch_room_cli.specs.declared.tasks.Color.{Color}
+use Rattle.dispatch_room_cli.specs.declared.tasks.Color.TheVariants as color
 use Rattle.dispatch_room_cli.specs.declared.exit_status.Done.{Done}
 use Rattle.dispatch_room_cli.specs.declared.exit_status.Done.TheVariants.{InPart, Whole}
 use Rattle.dispatch_room_cli.specs.declared.exit_status.Failure.{Failure}
@@ -33,6 +34,18 @@ IsWordsStatus kind.DisplayHelp status = (status ≡ 0) ⊎ (status ≡ 4)
 IsWordsStatus kind.DisplayVersion status = (status ≡ 0) ⊎ (status ≡ 4)
 IsWordsStatus other status = status ≡ 2
 
+-- what is written of words that are no command: nothing, but help that is asked for
+abbrev pub IsWordsOutput : ErrorKind → Option (List ℕ) → Option (List ℕ) → Type 0
+IsWordsOutput kind.DisplayHelp before after = ⊤
+IsWordsOutput kind.DisplayVersion before after = ⊤
+IsWordsOutput other before after = after ≡ before
+
+-- whether a board has colours: as it was asked, or as the terminal is
+abbrev pub IsColour : Color → Bool → Type 0
+IsColour color.Auto colour = ⊤
+IsColour color.Always colour = colour ≡ true
+IsColour color.Never colour = colour ≡ false
+
 -- how a board ends: refused parts are as rows that are refused, and what is not reached is the
 -- network's
 abbrev pub end_of_board : Reached → Result Done Failure
@@ -45,3 +58,10 @@ abbrev pub IsPrinted : List ℕ → Bool → Bool → Option (List ℕ) → Opti
 IsPrinted heard proposes colour old new done =
     (board : Board) × IsBoard heard proposes colour board × Appends old new board.page.text.items
     × (end_of_board board.reached ≡ Ok done)
+
+-- The board of what was heard is not shown, for lack of memory, and nothing is written; or it is
+-- one that ends badly, or the output failed.
+abbrev pub FailsToPrint : List ℕ → Bool → Bool → Option (List ℕ) → Option (List ℕ) → Failure → Type 0
+FailsToPrint heard proposes colour old new fault =
+    ((fault ≡ Memory) × (new ≡ old))
+    ⊎ ((fault ≡ Network) × ((board : Board) × IsBoard heard proposes colour board))

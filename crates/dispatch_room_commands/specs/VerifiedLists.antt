@@ -1,10 +1,14 @@
 -- What is printed of a list that was looked through.
-use Rattle.std.specs.Prelude.{◌≡◌, ◌⊎◌, ℕ, List, [], ◌∷◌, ◌++◌, codes, decimal, Bool, true, false}
+use Rattle.std.specs.Prelude.{◌≡◌, ℕ, List, [], ◌∷◌, ◌++◌, codes, decimal, Bool, true, false}
 use Rattle.std.specs.Prelude.{Option, Some, None}
+use Rattle.dispatch_room_journal.specs.ListTallies.{IsFlawed}
+use Rattle.dispatch_room_journal.specs.declared.entry_reader.EntryFault.{EntryFault}
+use Rattle.dispatch_room_journal.specs.declared.entry_reader.EntryFault.TheVariants.{Cut, Foreign, Read}
+use Rattle.dispatch_room_journal.specs.declared.list_tallies.Flaw.{Flaw}
 use Rattle.dispatch_room_journal.specs.declared.list_tallies.Span.{Span}
 use Rattle.dispatch_room_journal.specs.declared.list_tallies.Tally.{Tally}
 use Rattle.dispatch_room_cli.specs.declared.exit_status.Failure.{Failure}
-use Rattle.dispatch_room_cli.specs.declared.exit_status.Failure.TheVariants.{Input, Memory, Network, Record}
+use Rattle.dispatch_room_cli.specs.declared.exit_status.Failure.TheVariants.{Network, Record}
 
 -- how many messages the list has
 abbrev pub records_text : ℕ → List ℕ
@@ -26,7 +30,13 @@ abbrev pub tally_text : Tally → Bool → List ℕ
 tally_text tally has_ended =
     records_text tally.records ++ span_text tally.span ++ end_text has_ended
 
--- why nothing is printed of a list: out of memory, it can't be read, or it is none at a record
-abbrev pub IsUnverified : Failure → Type 0
-IsUnverified fault = (fault ≡ Memory) ⊎ (fault ≡ Input) ⊎ (fault ≡ Network)
-    ⊎ ((number : ℕ) × (fault ≡ Record number))
+-- how the program fails by a flaw of a list: the message at which it is none, or a read that failed
+abbrev pub fails_by : EntryFault → ℕ → Failure
+fails_by Cut number = Record number
+fails_by Foreign number = Record number
+fails_by Read number = Network
+
+-- a list has a flaw, by which the program fails
+abbrev pub FlawsList : Option (List ℕ) → Bool → Failure → Type 0
+FlawsList list read_failed fault = (flaw : Flaw) × (fault ≡ fails_by flaw.fault flaw.number)
+    × ((text : List ℕ) → list ≡ Some text → IsFlawed read_failed text flaw)

@@ -1,6 +1,10 @@
 //! `board`: a served room is asked as a desk, and what the desk sees is shown.
-ghost use Rattle.std.specs.Prelude.{◌≡◌, IfErr, IfOk};
-ghost use Rattle.dispatch_room_commands.specs.CommandEnds.{IsPrinted, end_of_board};
+ghost use Rattle.std.specs.Prelude.{◌≡◌, ◌*◌, Bool, IfErr, IfOk, IfSome, OnOk, SomeIff, false, true};
+ghost use Rattle.std.specs.Duration.{as_nanos};
+ghost use Rattle.std.specs.Io.KnownBytes.{Consumes};
+ghost use Rattle.room_types.specs.Texts.{is_token};
+ghost use Rattle.dispatch_room_board.specs.Requests.{Tells, requests};
+ghost use Rattle.dispatch_room_commands.specs.CommandEnds.{FailsToPrint, IsColour, IsPrinted, end_of_board};
 ghost use Rattle.dispatch_room_commands.specs.DoneTasks.{FailsBoard, IsBoardOf};
 
 use dispatch_room_board::boards::{Reached, board_of};
@@ -9,34 +13,55 @@ use dispatch_room_board::requests::Asker;
 use dispatch_room_cli::exit_status::{Done, Failure};
 use dispatch_room_cli::tasks::{Color, Look};
 use dispatch_room_sockets::client::call;
+use dispatch_room_sockets::socket_readers::SocketReader;
+use dispatch_room_sockets::socket_writers::SocketWriter;
 use dispatch_room_tcp::hosts::Host;
+use room_http_messages::sinks::Sink;
+use room_http_messages::sources::Source;
 use room_types::token::Token;
 use std::alloc::{AllocError, Global};
 use std::io::{IsTerminal, Write};
+use std::net::TcpStream;
 use std::time::Duration;
+
+type CallReader<'a> = SocketReader<'a, TcpStream, HostRuntime>;
+
+type CallWriter<'a> = SocketWriter<'a, TcpStream, HostRuntime>;
 
 /// Shows the board of a desk: what could not be reached is shown in it, and by the end. A text that
 /// is no token is refused, and nothing is asked.
 pub fn board<O: Write>(host: Host<'_>, look: &Look<'_>, out: &mut O) -> Result<Done, Failure>
     ensures done { IfOk result (λ done.
         IsBoardOf (O.contents out.old) (O.contents out.new) done look.now) }
-    ensures undone { IfErr result (FailsBoard (O.contents out.old) (O.contents out.new)) }
+    ensures undone { IfErr result (λ fault.
+        FailsBoard (O.contents out.old) (O.contents out.new) fault look.now) }
 {
-    let Some(token) = Token::parse(look.token) else {
+    let Some(asker) = asker_of(look) else {
         return Err(Failure::Input);
     };
-    let incident = look.incident;
-    let Ok(heard) = heard(host, look, &Asker { token, incident }) else {
+    let Ok(heard) = heard(host, look, &asker) else {
         return Err(Failure::Memory);
     };
     let colour = has_colour(host.rt, look.color);
     print(
         host.alloc,
         heard.as_slice(),
-        incident.is_some(),
+        look.incident.is_some(),
         colour,
         out,
     )
+}
+
+// Who asks, and of which incident: nobody where the text is no token.
+fn asker_of(look: &Look<'_>) -> Option<Asker>
+    ensures { SomeIff result (is_token look.now.token.now ≡ true)
+        (record { token = look.now.token.now; incident = look.now.incident }) }
+{
+    let token = Token::parse(look.token)?;
+    Some(Asker {
+        token,
+        incident: look.incident,
+    })
 }
 
 // Prints the board of what was heard.
@@ -49,7 +74,8 @@ fn print<O: Write>(
 ) -> Result<Done, Failure>
     ensures done { IfOk result
         (IsPrinted heard.now proposes colour (O.contents out.old) (O.contents out.new)) }
-    ensures undone { IfErr result (FailsBoard (O.contents out.old) (O.contents out.new)) }
+    ensures undone { IfErr result
+        (FailsToPrint heard.now proposes colour (O.contents out.old) (O.contents out.new)) }
 {
     let Ok(board) = board_of(alloc, heard, proposes, colour) else {
         return Err(Failure::Memory);
@@ -71,7 +97,10 @@ fn end_of(reached: Reached) -> Result<Done, Failure>
     }
 }
 
-fn has_colour(rt: &HostRuntime, color: Color) -> bool {
+// Whether a board has colours.
+fn has_colour(rt: &HostRuntime, color: Color) -> bool
+    ensures { IsColour color result }
+{
     match color {
         Color::Auto => rt.stdout().is_terminal(),
         Color::Always => true,
@@ -79,14 +108,40 @@ fn has_colour(rt: &HostRuntime, color: Color) -> bool {
     }
 }
 
-// What is heard of a room within the time that was granted: nothing where it takes no connection,
-// and what still comes where it doesn't take all that is asked.
+// What is heard of a room within the time that was granted: nothing where it takes no connection.
 fn heard(host: Host<'_>, look: &Look<'_>, asker: &Asker) -> Result<Vec<u8>, AllocError> {
+    match called(host, look) {
+        Some((mut reader, mut writer)) => ask(host.alloc, asker, &mut reader, &mut writer),
+        None => Ok(Vec::new(host.alloc)),
+    }
+}
+
+// The sides of a connection to a room, where it takes one. All that is said on it ends within the
+// time that was granted.
+fn called<'a>(host: Host<'a>, look: &Look<'_>) -> Option<(CallReader<'a>, CallWriter<'a>)>
+    ensures sound { IfSome result (λ sides. (sides.0.failed ≡ false)
+        × (sides.1.failed ≡ false)) }
+    ensures patient { IfSome result (λ sides.
+        (as_nanos sides.0.idle ≡ look.now.patience * 1_000_000_000)
+        × (as_nanos sides.1.patience ≡ look.now.patience * 1_000_000_000)) }
+{
     let patience = Duration::from_secs(u64::from(look.patience));
-    let Some((mut reader, mut writer)) = call(host.rt, host.explainer, look.address, patience)
-    else {
-        return Ok(Vec::new(host.alloc));
-    };
-    let _told = tell(host.alloc, asker, &mut writer)?;
-    hear(host.alloc, &mut reader)
+    call(host.rt, host.explainer, look.address, patience)
+}
+
+// Asks a room, and hears what it says: also where it doesn't take all that is asked.
+fn ask<R: Source, W: Sink>(
+    alloc: Global,
+    asker: &Asker,
+    reader: &mut R,
+    writer: &mut W,
+) -> Result<Vec<u8>, AllocError>
+    requires { W.has_failed writer.old ≡ false }
+    ensures asked { OnOk result ((is_whole : Bool) × Tells W.held W.has_failed writer.old writer.new
+        (requests asker.now.token asker.now.incident) is_whole) }
+    ensures heard { IfOk result (λ heard.
+        Consumes (R.left reader.old) (R.left reader.new) heard.items) }
+{
+    let _told = tell(alloc, asker, writer)?;
+    hear(alloc, reader)
 }

@@ -2,7 +2,8 @@
 ghost use Rattle.std.specs.Prelude.{◌≡◌, IfOk, MatchResult, Result};
 ghost use Rattle.clap.specs.Words.{kind_of};
 ghost use Rattle.clap.specs.declared.error.Error.{Error as Mistake};
-ghost use Rattle.dispatch_room_commands.specs.CommandEnds.{IsHelpDone, IsWordsStatus, is_mistake};
+ghost use Rattle.clap.specs.declared.error.ErrorKind.TheVariants.{OutOfMemory};
+ghost use Rattle.dispatch_room_commands.specs.CommandEnds.{IsHelpDone, IsWordsOutput, IsWordsStatus, is_mistake};
 ghost use Rattle.dispatch_room_commands.specs.DoneTasks.{FailsTask, IsExit, IsTask};
 ghost use Rattle.dispatch_room_cli.specs.Tasks.{IsServedHere};
 ghost use Rattle.dispatch_room_cli.specs.declared.tasks.Task.{Task as Asked};
@@ -10,23 +11,23 @@ ghost use Rattle.dispatch_room_cli.specs.declared.tasks.Task.{Task as Asked};
 use crate::board::board;
 use crate::check::check;
 use crate::digest::digest;
-use crate::files::is_open_to_others;
-use crate::import::import;
-use crate::init::init;
 use crate::joined_times::joined_times;
-use crate::kept_changes::ChangedFile;
-use crate::kept_import::import_kept;
 use crate::migrate::migrate;
 use crate::renew::renew;
-use crate::replan::replan;
 use crate::replay::replay;
 use crate::restore::restore;
 use crate::task_causes::explain;
-use crate::terminals::{set_terminals, terminals};
 use crate::times::times;
 use crate::verify::verify_list;
 use clap::Error;
 use clap::error::ErrorKind;
+use dispatch_room_changes::files::is_open_to_others;
+use dispatch_room_changes::import::import;
+use dispatch_room_changes::init::init;
+use dispatch_room_changes::kept_changes::ChangedFile;
+use dispatch_room_changes::kept_import::import_kept;
+use dispatch_room_changes::replan::replan;
+use dispatch_room_changes::terminals::{set_terminals, terminals};
 use dispatch_room_cli::argument_parser;
 use dispatch_room_cli::exit_status::{Done, Failure, end};
 use dispatch_room_cli::explainer::Explainer;
@@ -185,7 +186,8 @@ fn perform<O: Write, E: Write>(
 
 // Reports a mistake in the words, or prints the help that was asked for, and gives the exit status.
 fn refuse<O: Write, E: Write>(error: &Error, out: &mut O, err: &mut E) -> u8
-    ensures { IsWordsStatus (kind_of error.now) result }
+    ensures status { IsWordsStatus (kind_of error.now) result }
+    ensures output { IsWordsOutput (kind_of error.now) (O.contents out.old) (O.contents out.new) }
 {
     if is_mistake(error.kind()) {
         let _ = write!(err, "{error}");
@@ -207,7 +209,9 @@ fn is_mistake(kind: ErrorKind) -> bool
 
 // Writes the help that was asked for.
 fn help<O: Write>(error: &Error, out: &mut O) -> Result<Done, Failure>
-    ensures { IsHelpDone (kind_of error.now) result }
+    ensures done { IsHelpDone (kind_of error.now) result }
+    ensures output { kind_of error.now ≡ OutOfMemory
+        → O.contents out.new ≡ O.contents out.old }
 {
     if error.kind() == ErrorKind::OutOfMemory {
         return Err(Failure::Memory);

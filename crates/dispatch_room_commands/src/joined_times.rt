@@ -12,7 +12,7 @@ use dispatch_room_tcp::hosts::Host;
 use room_place::plans::DivisionNumber;
 use sqlite::{Alter, Connection};
 use std::alloc::Global;
-use std::io::Write;
+use std::io::{self, Write};
 
 /// Writes the activation times of a division's day as CSV, by the room of a file and by the older
 /// one that it was made of. No row of either is written.
@@ -30,9 +30,9 @@ pub fn joined_times<O: Write>(
         FailsJoinedTimes (O.contents out.old) (O.contents out.new) fault division day.now) }
 {
     let finding = Finding { division, day };
-    let newer = host.in_file(RoomFile::Kept(file), finding, out)?;
+    let newer = host.in_file(RoomFile::Kept(file), finding, &mut io::sink())?;
     let joining = Joining { newer: &newer };
-    let report = host.in_file(RoomFile::Kept(older), joining, out)?;
+    let report = host.in_file(RoomFile::Kept(older), joining, &mut io::sink())?;
     match out.write_all(report.as_slice()) {
         Ok(()) => Ok(Done::Whole),
         Err(_) => Err(Failure::Network),

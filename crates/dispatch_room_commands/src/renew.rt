@@ -10,7 +10,7 @@ use dispatch_room_tasks::opened_room::TaskResult;
 use dispatch_room_tcp::hosts::Host;
 use sqlite::{Alter, Connection};
 use std::alloc::Global;
-use std::io::Write;
+use std::io::{self, Write};
 
 /// Makes a room in a file that has nothing, of what the room of another file leaves since a day,
 /// and reports how much it has. No row of the other file is written.
@@ -27,7 +27,7 @@ pub fn renew<O: Write>(
         FailsRenew (O.contents out.old) (O.contents out.new) fault since.now) }
 {
     let leaving = Leaving { since };
-    let left = host.in_file(RoomFile::Kept(old), leaving, out)?;
+    let left = host.in_file(RoomFile::Kept(old), leaving, &mut io::sink())?;
     let beginning = Beginning { left: &left };
     host.in_file(RoomFile::New(new), beginning, out)
 }

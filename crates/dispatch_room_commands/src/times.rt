@@ -11,7 +11,7 @@ use dispatch_room_tcp::hosts::Host;
 use room_place::plans::DivisionNumber;
 use sqlite::{Alter, Connection};
 use std::alloc::Global;
-use std::io::Write;
+use std::io::{self, Write};
 
 /// Writes the activation times of a division's day as CSV.
 pub fn times<O: Write>(
@@ -26,7 +26,8 @@ pub fn times<O: Write>(
     ensures undone { IfErr result (λ fault.
         FailsTimes (O.contents out.old) (O.contents out.new) fault division day.now) }
 {
-    let report = host.in_file(RoomFile::Kept(file), Report { division, day }, out)?;
+    let reporting = Report { division, day };
+    let report = host.in_file(RoomFile::Kept(file), reporting, &mut io::sink())?;
     match out.write_all(report.as_slice()) {
         Ok(()) => Ok(Done::Whole),
         Err(_) => Err(Failure::Network),

@@ -1,11 +1,11 @@
 //! `verify`: how much a list holds, or at which record it is none.
-ghost use Rattle.std.specs.Prelude.{◌≡◌, Some, false, IfErr, IfOk, OnOk};
+ghost use Rattle.std.specs.Prelude.{◌≡◌, ◌≢◌, ◌⊎◌, ◌||◌, ◌==◌, Some, false, IfErr, IfOk, OnOk};
 ghost use Rattle.std.specs.Io.KnownBytes.{Appends};
-ghost use Rattle.dispatch_room_journal.specs.ReadSteps.{left_in};
+ghost use Rattle.dispatch_room_journal.specs.ReadSteps.{ends_well, left_in, most_rows};
 ghost use Rattle.dispatch_room_cli.specs.declared.exit_status.Done.TheVariants.{Whole};
-ghost use Rattle.dispatch_room_cli.specs.declared.exit_status.Failure.TheVariants.{Network};
-ghost use Rattle.dispatch_room_commands.specs.DoneTasks.{FailsVerify, IsVerify, IsVerifyOf};
-ghost use Rattle.dispatch_room_commands.specs.VerifiedLists.{IsUnverified, span_text, tally_text};
+ghost use Rattle.dispatch_room_cli.specs.declared.exit_status.Failure.TheVariants.{Input, Memory, Network};
+ghost use Rattle.dispatch_room_commands.specs.DoneTasks.{FailsVerify, FailsVerifyOf, IsVerify, IsVerifyOf};
+ghost use Rattle.dispatch_room_commands.specs.VerifiedLists.{fails_by, span_text, tally_text};
 
 use dispatch_room_cli::exit_status::{Done, Failure};
 use dispatch_room_journal::chain_source::Unchained;
@@ -27,39 +27,58 @@ pub fn verify_list<O: Write>(host: Host<'_>, path: &str, out: &mut O) -> Result<
     ensures undone { IfErr result (FailsVerify (O.contents out.old) (O.contents out.new)) }
 {
     let file = opened(host, path)?;
-    verify_in(host.alloc, Unchained::new(Wire::new(&file)), out)
+    verify_in(host.alloc, &mut Unchained::new(Wire::new(&file)), out)
 }
 
 // The file of a list.
 fn opened(host: Host<'_>, path: &str) -> Result<File, Failure>
-    ensures { IfErr result IsUnverified }
+    ensures { IfErr result (λ fault. (fault ≡ Memory) ⊎ (fault ≡ Input)) }
 {
     match File::open(host.rt, path) {
         Ok(file) => Ok(file),
-        Err(error) if error.kind() == ErrorKind::OutOfMemory => Err(Failure::Memory),
         Err(error) => {
-            host.explainer.explain(format_args!("{path}: {error}"));
-            Err(Failure::Input)
+            if error.kind() != ErrorKind::OutOfMemory {
+                host.explainer.explain(format_args!("{path}: {error}"));
+            }
+            Err(unopened(error.kind()))
         }
     }
 }
 
+// What an error of the system is of a list that can't be opened.
+fn unopened(kind: ErrorKind) -> Failure
+    ensures memory { kind ≡ ErrorKind.OutOfMemory → result ≡ Memory }
+    ensures input { kind ≢ ErrorKind.OutOfMemory → result ≡ Input }
+{
+    if kind == ErrorKind::OutOfMemory {
+        Failure::Memory
+    } else {
+        Failure::Input
+    }
+}
+
 // Prints what a list holds that is read.
-fn verify_in<R: Source + Drop, O: Write>(
+fn verify_in<R: Source, O: Write>(
     alloc: Global,
-    mut list: Unchained<R>,
+    list: &mut Unchained<R>,
     out: &mut O,
 ) -> Result<Done, Failure>
-    requires sound { R.has_failed list.reader ≡ false }
-    requires none { list.passed ≡ 0 }
+    requires sound { R.has_failed list.old.reader ≡ false }
+    requires none { list.old.passed ≡ 0 }
     ensures done { IfOk result (λ done. IsVerifyOf (O.contents out.old) (O.contents out.new) done
-        (left_in list.reel.mode list.reel.vouched list.reel.inbox (R.left list.reader))) }
-    ensures undone { IfErr result (FailsVerify (O.contents out.old) (O.contents out.new)) }
+        (left_in list.old.reel.mode list.old.reel.vouched list.old.reel.inbox
+        (R.left list.old.reader))
+        (ends_well list.new.reel.mode)) }
+    ensures undone { IfErr result (λ fault. FailsVerifyOf (O.contents out.old) (O.contents out.new)
+        fault
+        (left_in list.old.reel.mode list.old.reel.vouched list.old.reel.inbox
+        (R.left list.old.reader))
+        (R.has_failed list.new.reader || list.new.passed == most_rows)) }
 {
     let Ok(mut inbox) = JournalInbox::new(alloc) else {
         return Err(Failure::Memory);
     };
-    match verify(&mut inbox, &mut list) {
+    match verify(&mut inbox, list) {
         Ok(tally) => tell(&tally, list.ended_well(), out),
         Err(flaw) => Err(failure_of(&flaw)),
     }
@@ -67,7 +86,7 @@ fn verify_in<R: Source + Drop, O: Write>(
 
 // Why a list is none, as the program reports it.
 fn failure_of(flaw: &Flaw) -> Failure
-    ensures { IsUnverified result }
+    ensures { result ≡ fails_by flaw.now.fault flaw.now.number }
 {
     match flaw.fault {
         EntryFault::Cut | EntryFault::Foreign => Failure::Record(flaw.number),

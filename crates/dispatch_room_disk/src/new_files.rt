@@ -1,8 +1,10 @@
 //! The file of a new room: private to its owner, and with small pages.
-ghost use Rattle.std.specs.Prelude.{◌≡◌, true, IfErr, IsTrue, OnOk};
+ghost use Rattle.std.specs.Prelude.{◌≡◌, ◌≢◌, true, IfErr, IsErr, IsOk, IsTrue, OnOk};
+ghost use Rattle.std.specs.IoError.{error_kind};
+ghost use Rattle.dispatch_room_cli.specs.declared.exit_status.Failure.TheVariants.{Memory};
 ghost use Rattle.sqlite_pages.specs.declared.error.Error.TheVariants.{Corrupt};
 ghost use Rattle.sqlite_wal.specs.Reads.{AreClean};
-ghost use Rattle.dispatch_room_disk.specs.DiskFaults.{IsFileFault};
+ghost use Rattle.dispatch_room_disk.specs.DiskFaults.{IsFileFault, begun_by};
 ghost use Rattle.dispatch_room_disk.specs.NewFiles.{IsBegun, IsSpared};
 
 use crate::opened_files::open_files;
@@ -14,8 +16,8 @@ use sqlite_pager::{PageSize, Pager};
 use sqlite_pages::Error;
 use sqlite_pool::Pool;
 use std::alloc::Global;
-use std::fs::OpenOptions;
-use std::io::ErrorKind;
+use std::fs::{File, OpenOptions};
+use std::io::{self, ErrorKind};
 use std::os::unix::fs::OpenOptionsExt;
 
 // How many bytes a page of a new room has. A write writes each page whole on which a row changes,
@@ -38,7 +40,19 @@ pub fn make_file(rt: &HostRuntime, explainer: Explainer<'_>, path: &str) -> Resu
 fn make_private(rt: &HostRuntime, path: &str) -> Result<(), Failure>
     ensures { IfErr result IsFileFault }
 {
-    match private_options().open(rt, path) {
+    made(&private_options().open(rt, path))
+}
+
+// What is reported of a file that was to be made, where none was there.
+fn made(file: &io::Result<File>) -> Result<(), Failure>
+    ensures fault { IfErr result (λ fault. fault ≡ Memory) }
+    ensures memory { IfErr file.now (λ error. error_kind error ≡ ErrorKind.OutOfMemory
+        → IsErr result) }
+    ensures same { IfErr file.now (λ error. error_kind error ≢ ErrorKind.OutOfMemory
+        → IsOk result) }
+    ensures made { OnOk file.now (IsOk result) }
+{
+    match file {
         Err(error) if error.kind() == ErrorKind::OutOfMemory => Err(Failure::Memory),
         _ => Ok(()),
     }
@@ -90,6 +104,7 @@ fn begin<D: Disk + Drop>(
 fn begun(explainer: Explainer<'_>, path: &str, created: Result<(), Error>) -> Result<(), Failure>
     ensures done { OnOk result (IfErr created (λ error. error ≡ Corrupt)) }
     ensures fault { IfErr result IsFileFault }
+    ensures cause { result ≡ begun_by created }
 {
     match created {
         Ok(()) | Err(Error::Corrupt) => Ok(()),

@@ -1,7 +1,7 @@
 //! The files of a room, opened.
 ghost use Rattle.std.specs.Prelude.{◌≡◌, IfErr, IfOk, IsTrue};
 ghost use Rattle.sqlite_std_file.specs.File.{file_is_usable};
-ghost use Rattle.dispatch_room_disk.specs.DiskFaults.{IsFileFault};
+ghost use Rattle.dispatch_room_disk.specs.DiskFaults.{IsFileFault, IsUnopenedBy};
 
 use crate::file_causes::explain_unopened;
 use dispatch_room_cli::exit_status::Failure;
@@ -51,7 +51,8 @@ pub fn open_files<S: Start>(
 }
 
 fn fault_of(error: &OpenError) -> Failure
-    ensures { IsFileFault result }
+    ensures fault { IsFileFault result }
+    ensures cause { IsUnopenedBy error.now result }
 {
     match error {
         OpenError::OutOfMemory => Failure::Memory,

@@ -1,7 +1,8 @@
 //! A copy of a room, put in the place of a file.
-ghost use Rattle.std.specs.Prelude.{◌≡◌, ◌⊎◌, IfErr};
+ghost use Rattle.std.specs.Prelude.{◌≡◌, ◌≢◌, ◌⊎◌, IfErr, IsErrAnd, IsOk, OnOk};
+ghost use Rattle.std.specs.IoError.{error_kind};
 ghost use Rattle.dispatch_room_cli.specs.declared.exit_status.Failure.TheVariants as failure;
-ghost use Rattle.dispatch_room_disk.specs.DiskFaults.{IsFileFault};
+ghost use Rattle.dispatch_room_disk.specs.DiskFaults.{IsFaultBy, IsFileFault};
 
 use crate::file_causes::explain_unopened;
 use dispatch_room_cli::exit_status::Failure;
@@ -36,10 +37,29 @@ pub fn put_in_place(
     if let Err(error) = &put {
         explainer.explain(format_args!("{path}: {error}"));
     }
+    put_by(&put)
+}
+
+// What is reported of what came of it.
+fn put_by(put: &io::Result<()>) -> Result<(), Failure>
+    ensures done { OnOk put.now (IsOk result) }
+    ensures fault { IfErr put.now (λ error. IsErrAnd result (IsFaultBy (error_kind error))) }
+{
     match put {
         Ok(()) => Ok(()),
-        Err(error) if error.kind() == ErrorKind::OutOfMemory => Err(Failure::Memory),
-        Err(_) => Err(Failure::Storage),
+        Err(error) => Err(fault_by(error.kind())),
+    }
+}
+
+// What an error of the system is to the program.
+fn fault_by(kind: ErrorKind) -> Failure
+    ensures fault { IsFileFault result }
+    ensures cause { IsFaultBy kind result }
+{
+    if kind == ErrorKind::OutOfMemory {
+        Failure::Memory
+    } else {
+        Failure::Storage
     }
 }
 
@@ -116,7 +136,11 @@ fn remove_all(rt: &HostRuntime, old: &str) -> io::Result<()> {
 }
 
 // What was done, where it is done too if there was no such file.
-fn unless_missing(done: io::Result<()>) -> io::Result<()> {
+fn unless_missing(done: io::Result<()>) -> io::Result<()>
+    ensures done { OnOk done (IsOk result) }
+    ensures missing { IfErr done (λ error. error_kind error ≡ ErrorKind.NotFound → IsOk result) }
+    ensures there { IfErr done (λ error. error_kind error ≢ ErrorKind.NotFound → result ≡ done) }
+{
     match done {
         Err(error) if error.kind() == ErrorKind::NotFound => Ok(()),
         _ => done,

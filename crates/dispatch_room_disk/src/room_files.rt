@@ -1,9 +1,10 @@
 //! The file of a room: found or made, opened, worked in, and closed.
 ghost use Rattle.std.specs.Prelude.{◌≡◌, ◌⊎◌, Err, Ok, true, false, IfErr, IfOk, IsOk, IsTrue, OnOk};
+ghost use Rattle.std.specs.IoError.{error_kind};
 ghost use Rattle.sqlite.specs.Files.{file_state};
 ghost use Rattle.sqlite.specs.State.{HasCleanDisk};
 ghost use Rattle.dispatch_room_cli.specs.declared.exit_status.Failure.TheVariants as failure;
-ghost use Rattle.dispatch_room_disk.specs.DiskFaults.{IsFileFault, fault_of};
+ghost use Rattle.dispatch_room_disk.specs.DiskFaults.{IsFileFault, IsUnfoundBy, fault_of};
 ghost use Rattle.dispatch_room_disk.specs.RoomFiles.{IsConnected, IsCopiedOut, IsDone, IsDoneInFile, IsFound, IsUnclosed, IsUndone, IsUndoneInFile, IsUnharmed, Refusing, Saying};
 
 use crate::file_causes::{explain_failed, explain_unbegun, explain_undone};
@@ -210,15 +211,23 @@ fn found(begun: io::Result<bool>) -> Result<(), Failure>
     ensures begun { OnOk result (begun ≡ Ok true) }
     ensures none { begun ≡ Ok false → result ≡ Err failure.File }
     ensures fault { IfErr result (λ fault. (fault ≡ failure.File) ⊎ IsFileFault fault) }
+    ensures cause { IfErr begun (λ error. IfErr result (IsUnfoundBy (error_kind error))) }
 {
     match begun {
         Ok(true) => Ok(()),
         Ok(false) => Err(Failure::File),
-        Err(error) => Err(match error.kind() {
-            ErrorKind::NotFound => Failure::File,
-            ErrorKind::OutOfMemory => Failure::Memory,
-            _ => Failure::Storage,
-        }),
+        Err(error) => Err(unfound(error.kind())),
+    }
+}
+
+// What is reported of a file that can't be looked at: it is not there, or it can't be read.
+fn unfound(kind: ErrorKind) -> Failure
+    ensures { IsUnfoundBy kind result }
+{
+    match kind {
+        ErrorKind::NotFound => Failure::File,
+        ErrorKind::OutOfMemory => Failure::Memory,
+        _ => Failure::Storage,
     }
 }
 

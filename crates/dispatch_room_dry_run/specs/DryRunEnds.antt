@@ -1,9 +1,11 @@
 -- How the dry run ends as a program.
-use Rattle.std.specs.Prelude.{◌≡◌, ℕ, Result, Ok, Err}
+use Rattle.std.specs.Prelude.{◌≡◌, ℕ, Bool, IfOk, Result, Ok, Err}
+use Rattle.room_http.specs.Session.{Finish, Sides}
 use Rattle.room_http.specs.declared.session.ServeEnd.{ServeEnd}
 use Rattle.room_http.specs.declared.session.ServeEnd.TheVariants as end
 use Rattle.room_types.specs.declared.refusal_statuses.Refusal.{Refusal}
 use Rattle.dispatch_room_cli.specs.ExitStatus.{refused, status_after}
+use Rattle.dispatch_room_dry_run.specs.Example.{IsDryRun}
 use Rattle.dispatch_room_cli.specs.declared.exit_status.Done.{Done}
 use Rattle.dispatch_room_cli.specs.declared.exit_status.Done.TheVariants.{Whole}
 use Rattle.dispatch_room_cli.specs.declared.exit_status.Failure.{Failure}
@@ -25,6 +27,11 @@ abbrev pub end_of : Result ServeEnd Refusal → Result Done Failure
 end_of (Ok end) = ended end
 end_of (Err want) = Err (refused want)
 
--- a number is the exit status of a dry run
-abbrev pub IsStatus : ℕ → Type 0
-IsStatus status = (done : Result Done Failure) × (status ≡ status_after done)
+-- standard input and output were served so, or no room could be made to serve, and this is the exit
+-- status by how that ended
+pub record IsRun (status : ℕ) : Type 0 where
+  pub old : Sides
+  pub new : ℕ → Bool → Finish
+  pub served : Result ServeEnd Refusal
+  pub is : IfOk served (IsDryRun old new)
+  pub told : status ≡ status_after (end_of served)

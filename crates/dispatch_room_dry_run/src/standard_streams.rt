@@ -3,7 +3,7 @@ ghost use Rattle.std.specs.Prelude.{◌≡◌, [], false, replicate, IfOk, Resul
 ghost use Rattle.room_http.specs.declared.session.ServeEnd.{ServeEnd as End};
 ghost use Rattle.room_types.specs.declared.refusal_statuses.Refusal.{Refusal as Want};
 ghost use Rattle.dispatch_room_dry_run.specs.DryRun.{example_moment};
-ghost use Rattle.dispatch_room_dry_run.specs.DryRunEnds.{IsStatus, end_of, ended};
+ghost use Rattle.dispatch_room_dry_run.specs.DryRunEnds.{IsRun, end_of, ended};
 ghost use Rattle.dispatch_room_dry_run.specs.Example.{IsDryRun};
 
 use crate::dry_run::dry_run;
@@ -16,7 +16,7 @@ use std::alloc::Global;
 
 /// Runs it, reports on standard error why it fails, and returns its exit status.
 pub fn run(rt: &HostRuntime) -> u8
-    ensures { IsStatus result }
+    ensures { IsRun result }
 {
     let mut connection = Connection {
         reader: Wire::new(rt.stdin()),

@@ -1,4 +1,4 @@
--- Lemmas on the entries of a list, as records are put behind it.
+-- Lemmas on the entries and rows of a list, as records are put behind it.
 use Rattle.std.proofs.Common.{◌≡◌, ◌∙◌, refl, sym, ap, arith, ℕ, zero, suc, ◌+◌, ◌*◌, ◌<◌, ◌≤◌, List, [], ◌∷◌, ◌++◌}
 use Rattle.std.proofs.Common.{length, length-append, length-drop, take, drop, append_assoc, append-nil, Bool, true}
 use Rattle.std.proofs.Common.{false, ◌⊎◌, inl, inr, Option, Some, None, Result, Ok, Err, OnOk, OnErr, is_err, ◌||◌}
@@ -20,7 +20,7 @@ use Rattle.dispatch_room_journal.specs.declared.list_ends.ListEnd.{ListEnd}
 use Rattle.dispatch_room_journal.specs.declared.list_ends.ListEnd.TheVariants.{Plain, Chain}
 use Rattle.dispatch_room_journal.specs.Chains.{IsBody, chain_text, first_check, header, is_end, is_row, is_silent, last_check}
 use Rattle.dispatch_room_journal.specs.Chains.{next_check}
-use Rattle.dispatch_room_journal.specs.Chains.{opening, record_text, said_by, sha256_digits}
+use Rattle.dispatch_room_journal.specs.Chains.{opening, record_text, shown_by, sha256_digits}
 use Rattle.dispatch_room_journal.specs.RecordFronts.{after, body_in, comes_next, front_of, number_in}
 use Rattle.dispatch_room_journal.specs.ChainLaws.{AreBodies}
 use Rattle.dispatch_room_journal.specs.PlainTexts.{PutsKnown, StandsAt, last_ended, plain_in, plain_of, plain_says}
@@ -37,7 +37,7 @@ plain_with-same f g text Empty same = refl
 plain_with-same f g text Short same = refl
 plain_with-same f g text Wrong same = refl
 plain_with-same f g text (Whole size check) same =
-    ap (λ rest. said_by (body_in size text) ++ rest) (same size check (is_end (body_in size text)))
+    ap (λ rest. shown_by (body_in size text) ++ rest) (same size check (is_end (body_in size text)))
 
 -- a number is below another or not
 below_or_not : (n m : ℕ) → (n < m) ⊎ (m ≤ n)
@@ -94,7 +94,7 @@ module _ (hash : List ℕ → List ℕ) where
     pub plain_whole : (text : List ℕ) (size : ℕ) (next : List ℕ)
         → front_of hash check has_ended text ≡ Whole size next
         → plain_says hash check has_ended text
-        ≡ said_by (body_in size text) ++ plain_says hash next (is_end (body_in size text)) (after size text)
+        ≡ shown_by (body_in size text) ++ plain_says hash next (is_end (body_in size text)) (after size text)
     plain_whole text size next is = plain_front text (Whole size next) is
 
   pub chain-push : (bodies : List (List ℕ)) (check body : List ℕ)
@@ -138,11 +138,11 @@ entry_comes true body says = rw says refl
 entry_comes false body says = refl
 
 module _ (hash : List ℕ → List ℕ) (long : (text : List ℕ) → length (hash text) ≡ 64) where
-  -- records say what they do, and then what follows them does
+  -- records hold what they do, and then what follows them does
   pub chain_plain : (bodies : List (List ℕ)) (check : List ℕ) (has_ended : Bool) (rest : List ℕ)
       → AreBodies has_ended bodies
       → plain_says hash check has_ended (chain_text hash check bodies ++ rest)
-      ≡ flat_map said_by bodies
+      ≡ flat_map shown_by bodies
       ++ plain_says hash (last_check hash check bodies) (last_ended has_ended bodies) rest
   chain_plain [] check has_ended rest are = refl
   chain_plain (body ∷ more) check has_ended rest are =
@@ -156,8 +156,8 @@ module _ (hash : List ℕ → List ℕ) (long : (text : List ℕ) → length (ha
         read_body hash long check has_ended body tail are.0 are.1,
         read_after hash long check has_ended body tail are.0 are.1,
       )
-      (ap (λ t. said_by body ++ t) (chain_plain more next (is_end body) rest are.2))
-      ∙ sym (append_assoc (said_by body) (flat_map said_by more) back)
+      (ap (λ t. shown_by body ++ t) (chain_plain more next (is_end body) rest are.2))
+      ∙ sym (append_assoc (shown_by body) (flat_map shown_by more) back)
 
   module _ (check : List ℕ) (has_ended : Bool) (body : List ℕ) (is_one : IsBody body) where
     abbrev record_ : List ℕ
@@ -172,7 +172,7 @@ module _ (hash : List ℕ → List ℕ) (long : (text : List ℕ) → length (ha
           length-append (header (length body) (next_check hash check body)) body,
         )
 
-    -- a record that is cut short says nothing
+    -- a record that is cut short holds nothing
     pub cut_plain : (front rest : List ℕ) → record_ ≡ front ++ rest → 0 < length rest
         → plain_says hash check has_ended front ≡ []
     cut_plain [] rest same some = plain_none hash check has_ended
@@ -202,44 +202,44 @@ module _ (hash : List ℕ → List ℕ) (long : (text : List ℕ) → length (ha
     text = opening ++ chain_text hash first_check bodies
 
     stood : (rest : List ℕ) → plain_of hash (text ++ rest)
-        ≡ flat_map said_by bodies ++ plain_says hash check (last_ended false bodies) rest
+        ≡ flat_map shown_by bodies ++ plain_says hash check (last_ended false bodies) rest
     unfolding plain_of
     stood rest = chain_plain bodies first_check false rest are
 
-    now_stood : plain_of hash text ≡ flat_map said_by bodies
+    now_stood : plain_of hash text ≡ flat_map shown_by bodies
     now_stood =
         ap (plain_of hash) (sym (append-nil text)) ∙ stood []
-        ∙ ap (λ t. flat_map said_by bodies ++ t) (plain_none hash check (last_ended false bodies))
-        ∙ append-nil (flat_map said_by bodies)
+        ∙ ap (λ t. flat_map shown_by bodies ++ t) (plain_none hash check (last_ended false bodies))
+        ∙ append-nil (flat_map shown_by bodies)
 
-    one_says : plain_says hash check (last_ended false bodies) (record_text hash check body) ≡ said_by body
+    one_says : plain_says hash check (last_ended false bodies) (record_text hash check body) ≡ shown_by body
     one_says =
         ap (plain_says hash check (last_ended false bodies))
         (sym (append-nil (record_text hash check body ++ []) ∙ append-nil (record_text hash check body)))
         ∙ chain_plain (body ∷ []) check (last_ended false bodies) [] (is_one, comes, tt)
-        ∙ ap (λ t. (said_by body ++ []) ++ t) (plain_none hash (next_check hash check body) (is_end body))
-        ∙ append-nil (said_by body ++ []) ∙ append-nil (said_by body)
+        ∙ ap (λ t. (shown_by body ++ []) ++ t) (plain_none hash (next_check hash check body) (is_end body))
+        ∙ append-nil (shown_by body ++ []) ∙ append-nil (shown_by body)
 
-    pub put_whole : plain_of hash (text ++ record_text hash check body) ≡ plain_of hash text ++ said_by body
+    pub put_whole : plain_of hash (text ++ record_text hash check body) ≡ plain_of hash text ++ shown_by body
     put_whole =
-        stood (record_text hash check body) ∙ ap (λ t. flat_map said_by bodies ++ t) one_says
-        ∙ ap (λ t. t ++ said_by body) (sym now_stood)
+        stood (record_text hash check body) ∙ ap (λ t. flat_map shown_by bodies ++ t) one_says
+        ∙ ap (λ t. t ++ shown_by body) (sym now_stood)
 
     pub put_cut : (front rest : List ℕ) → record_text hash check body ≡ front ++ rest
-        → (part : List ℕ) × (more : List ℕ) × (said_by body ≡ part ++ more)
+        → (part : List ℕ) × (more : List ℕ) × (shown_by body ≡ part ++ more)
         × (plain_of hash (text ++ front) ≡ plain_of hash text ++ part)
     put_cut front [] same = (
-      said_by body,
+      shown_by body,
       [],
-      sym (append-nil (said_by body)),
+      sym (append-nil (shown_by body)),
       ap (λ t. plain_of hash (text ++ t)) (sym (same ∙ append-nil front)) ∙ put_whole,
     )
     put_cut front (byte ∷ rest) same = (
       [],
-      said_by body,
+      shown_by body,
       refl,
       stood front
-          ∙ ap (λ t. flat_map said_by bodies ++ t)
+          ∙ ap (λ t. flat_map shown_by bodies ++ t)
           (cut_plain check (last_ended false bodies) body is_one front (byte ∷ rest) same (omega arith))
           ∙ ap (λ t. t ++ []) (sym now_stood),
     )
@@ -274,7 +274,7 @@ module _ (link : Link) (text body : List ℕ) (stands : StandsAt (Chain link) te
   more_is t = ap (λ front. front ++ t) stands.2
 
   pub puts_all : (more : List ℕ) → more ≡ text ++ record_text sha256_digits link.check body
-      → (plain_of sha256_digits more ≡ plain_of sha256_digits text ++ said_by body)
+      → (plain_of sha256_digits more ≡ plain_of sha256_digits text ++ shown_by body)
       × StandsAt (Chain next) more
   puts_all more is =
       let put = put_stands sha256_digits digits_long stands.0 stands.1 body is_one comes_ in
@@ -282,7 +282,7 @@ module _ (link : Link) (text body : List ℕ) (stands : StandsAt (Chain link) te
       ∙ more_is (record_text sha256_digits (last_check sha256_digits first_check stands.0) body) in (
         ap (plain_of sha256_digits) now
             ∙ put_whole sha256_digits digits_long stands.0 stands.1 body is_one comes_
-            ∙ ap (λ t. plain_of sha256_digits t ++ said_by body) (sym stands.2),
+            ∙ ap (λ t. plain_of sha256_digits t ++ shown_by body) (sym stands.2),
         (
           put.0,
           put.1,
@@ -294,7 +294,7 @@ module _ (link : Link) (text body : List ℕ) (stands : StandsAt (Chain link) te
 
   pub puts_some : (front rest more : List ℕ) → record_text sha256_digits link.check body ≡ front ++ rest
       → more ≡ text ++ front
-      → (part : List ℕ) × (left : List ℕ) × (said_by body ≡ part ++ left)
+      → (part : List ℕ) × (left : List ℕ) × (shown_by body ≡ part ++ left)
       × (plain_of sha256_digits more ≡ plain_of sha256_digits text ++ part)
   puts_some front rest more same is =
       let cut = put_cut sha256_digits digits_long stands.0 stands.1 body is_one comes_ front rest
@@ -306,9 +306,9 @@ module _ (link : Link) (text body : List ℕ) (stands : StandsAt (Chain link) te
             ∙ ap (λ t. plain_of sha256_digits t ++ cut.0) (sym stands.2),
       )
 
--- what a record says that is an entry
-pub said_entry : (body : List ℕ) → is_silent body ≡ false → said_by body ≡ body
-said_entry body says = rw says refl
+-- what a record holds that is an entry
+pub shown_entry : (body : List ℕ) → is_silent body ≡ false → shown_by body ≡ body
+shown_entry body says = rw (never_end body says) refl
 
 -- what follows a list that is no chain
 pub plain_more : (text more : List ℕ) → StandsAt Plain text
@@ -330,7 +330,7 @@ module _ {E : Type 0} where
       × (record_text sha256_digits link.check body ≡ front ++ rest) × Appends a b front)
       → PutsKnown (Chain link)
       (Chain (record { check = next_check sha256_digits link.check body; has_ended = is_end body })) a b
-      (said_by body) r
+      (shown_by body) r
   known_put link body is_one comes None b r all part = tt
   known_put link body is_one comes (Some t) None (Ok u) all part = all
   known_put link body is_one comes (Some t) None (Err e) all part = part.3
@@ -357,7 +357,7 @@ module _ {W E : Type 0} (held : W → Option (List ℕ)) (failed : W → Bool) w
       → WritesAll held failed a b (record_text sha256_digits link.check body) r
       → PutsKnown (Chain link)
       (Chain (record { check = next_check sha256_digits link.check body; has_ended = is_end body }))
-      (held a) (held b) (said_by body) r
+      (held a) (held b) (shown_by body) r
   record_put link body is_one comes a b (Ok u) wrote =
       known_put link body is_one comes (held a) (held b) (Ok u) wrote.all.0 tt
   record_put link body is_one comes a b (Err e) wrote =

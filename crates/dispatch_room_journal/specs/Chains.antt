@@ -54,6 +54,10 @@ is_silent body = is_end body || is_row body
 abbrev pub said_by : List ℕ → List ℕ
 said_by body = if is_silent body then [] else body
 
+-- what a record holds in plain: an entry or a row, itself
+abbrev pub shown_by : List ℕ → List ℕ
+shown_by body = if is_end body then [] else body
+
 -- a record is not empty, and not longer than an entry
 abbrev pub IsBody : List ℕ → Type 0
 IsBody body = (1 ≤ length body) × (length body ≤ ENTRY_ROOM)

@@ -1,4 +1,5 @@
--- The entries of a list: what its whole records say, whatever follows them; and how a list goes on.
+-- What a list holds in plain: the entries and rows of its whole records, whatever follows them; and
+-- how a list goes on.
 use Rattle.std.specs.Prelude.{◌≡◌, ◌⊎◌, ◌<◌, ◌≤◌, ⊤, ℕ, zero, suc, List, [], ◌∷◌, ◌++◌, length, take, drop, Bool, true}
 use Rattle.std.specs.Prelude.{false, if◌then◌else◌, Option, None, Some, Result, OnErr, OnOk}
 use Rattle.std.specs.Str.{bytes_eq}
@@ -6,31 +7,31 @@ use Rattle.dispatch_room_journal.specs.declared.record_fronts.Front.{Front}
 use Rattle.dispatch_room_journal.specs.declared.record_fronts.Front.TheVariants.{Empty, Short, Wrong, Whole}
 use Rattle.dispatch_room_journal.specs.declared.list_ends.ListEnd.{ListEnd}
 use Rattle.dispatch_room_journal.specs.declared.list_ends.ListEnd.TheVariants.{Plain, Chain}
-use Rattle.dispatch_room_journal.specs.Chains.{chain_text, first_check, is_end, last_check, opening, said_by}
+use Rattle.dispatch_room_journal.specs.Chains.{chain_text, first_check, is_end, last_check, opening, shown_by}
 use Rattle.dispatch_room_journal.specs.Chains.{sha256_digits}
 use Rattle.dispatch_room_journal.specs.RecordFronts.{after, body_in, front_of}
 use Rattle.dispatch_room_journal.specs.ChainLaws.{AreBodies}
 
--- what is at the front of a text says, where it is a record, and then what the rest does
+-- what is at the front of a text holds, where it is a record, and then what the rest does
 abbrev pub plain_with : (List ℕ → Bool → List ℕ → List ℕ) → List ℕ → Front → List ℕ
 plain_with rest text Empty = []
 plain_with rest text Short = []
 plain_with rest text Wrong = []
 plain_with rest text (Whole size check) =
-    said_by (body_in size text) ++ rest check (is_end (body_in size text)) (after size text)
+    shown_by (body_in size text) ++ rest check (is_end (body_in size text)) (after size text)
 
 module _ (hash : List ℕ → List ℕ) where
-  -- what so many records at most say
+  -- what so many records at most hold
   abbrev pub plain_in : ℕ → List ℕ → Bool → List ℕ → List ℕ
   plain_in zero check has_ended text = []
   plain_in (suc more) check has_ended text =
       plain_with (λ c e t. plain_in more c e t) text (front_of hash check has_ended text)
 
-  -- what the records say with which a text begins, each of which comes next after the one before
+  -- what the records hold with which a text begins, each of which comes next after the one before
   unfoldable pub plain_says : List ℕ → Bool → List ℕ → List ℕ
   plain_says check has_ended text = plain_in (length text) check has_ended text
 
-  -- the entries of a list: of one that is no chain, itself
+  -- the entries and rows of a list, as they follow one another: of one that is no chain, itself
   unfoldable pub plain_of : List ℕ → List ℕ
   plain_of text =
       if bytes_eq (take 7 text) opening then plain_says first_check false (drop 7 text) else text
@@ -50,9 +51,9 @@ StandsAt (Chain link) text =
     × (link.check ≡ last_check sha256_digits first_check bodies)
     × (link.has_ended ≡ last_ended false bodies)
 
--- An entry was put behind a text: the entries are those of before and this one, and the list goes
--- on from there; or it was not wholly written, and the entries are those of before and some first
--- bytes of it.
+-- This was put behind a text, as an entry is or a row: the entries and rows are those of before and
+-- this one, and the list goes on from there; or it was not wholly written, and they are those of
+-- before and some first bytes of it.
 pub record Puts {E : Type 0} (new : ListEnd) (text entry : List ℕ)
     (result : Result (Unit {0}) E) (more : List ℕ) : Type 0 where
   pub all : OnOk result

@@ -1,6 +1,6 @@
 //! How a list goes on.
 ghost use Rattle.std.specs.Prelude.{◌≡◌, ◌≤◌, [], false, true, is_err, length, OnOk};
-ghost use Rattle.dispatch_room_journal.specs.Chains.{IsBody, is_silent, row_body, said_by};
+ghost use Rattle.dispatch_room_journal.specs.Chains.{IsBody, is_silent, row_body, said_by, shown_by};
 ghost use Rattle.dispatch_room_journal.specs.RowRuns.{PutsBody, PutsEnd, PutsEntry, PutsRow};
 ghost use Rattle.dispatch_room_journal.specs.RecordFronts.{comes_next};
 ghost use Rattle.dispatch_room_journal.specs.PlainTexts.{PutsKnown};
@@ -54,7 +54,7 @@ fn put_after<W: Sink>(
     requires is_one { IsBody body.now }
     requires comes { comes_next link.now.has_ended body.now ≡ true }
     ensures put { PutsKnown (Chain link.now) end.new (W.held writer.old) (W.held writer.new)
-        (said_by body.now) result }
+        (shown_by body.now) result }
     ensures written { OnOk result (PutsBody (Chain link.now) end.new (W.held writer.old)
         (W.held writer.new) body.now) }
     ensures failed { W.has_failed writer.new ≡ is_err result }
@@ -79,8 +79,9 @@ pub fn put_row<W: Sink>(
     requires sound { W.has_failed writer.old ≡ false }
     requires fits { length line.now ≤ ROW_ROOM }
     requires line { Lacks 10 line.now }
-    ensures put { PutsKnown (Chain link.now) end.new (W.held writer.old) (W.held writer.new) []
-        result }
+    ensures put { PutsKnown (Chain link.now) end.new (W.held writer.old) (W.held writer.new)
+        (row_body line.now) result }
+    ensures says { said_by (row_body line.now) ≡ [] }
     ensures row { OnOk result (PutsRow (Chain link.now) end.new (W.held writer.old)
         (W.held writer.new) line.now) }
     ensures failed { W.has_failed writer.new ≡ is_err result }

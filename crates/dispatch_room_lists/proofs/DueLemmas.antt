@@ -1,6 +1,6 @@
 -- Rows that are enrolled one after another until the room has a head's digest.
-use Rattle.std.proofs.Common.{Bool, Err, IfOk, IsTrue, List, Ok, Result, [], arith, false, inl, inr, refl, subst, take, true}
-use Rattle.std.proofs.Common.{ℕ, ◌≤◌, ◌↔◌}
+use Rattle.std.proofs.Common.{Bool, Err, IfOk, IsTrue, List, Ok, Result, [], arith, false, inl, inr, length, refl, subst, suc, take}
+use Rattle.std.proofs.Common.{true, zero, ℕ, ◌≤◌, ◌↔◌}
 use Rattle.std.proofs.Math.Nat.{eq-or-lt_of_le}
 use Rattle.std.proofs.Common.{◌+◌, ◌++◌, ◌<◌, ◌∙◌, ◌∷◌, ◌≡◌, ◌⊎◌}
 use Rattle.sqlite_trees.specs.declared.store.Store.{Ghosts}
@@ -14,11 +14,11 @@ use Rattle.room_model.specs.Fleets.{enrolled}
 use Rattle.room_model.specs.Room.{Room}
 use Rattle.room_model.specs.declared.digests.Head.{Head}
 use Rattle.room_store.proofs.EnrolledLaws.{after_row, enrolled_more}
-use Rattle.room_store.specs.FleetEnrolment.{room_after_rows, terminals_after_rows}
+use Rattle.room_store.specs.FleetEnrolment.{HasEnrolled, room_after_rows, terminals_after_rows}
 use Rattle.room_store.specs.StoredRoom.{IsReady, IsRoom}
 use Rattle.room_store.specs.declared.store.Store.{Store}
 use Rattle.dispatch_room_journal.specs.declared.replay_faults.ReplayFault.{ReplayFault}
-use Rattle.dispatch_room_lists.specs.ListedRows.{FindsHead, IsMetAfter}
+use Rattle.dispatch_room_lists.specs.ListedRows.{FindsHead, IsMetAfter, IsNoMore}
 use Rattle.dispatch_room_lists.specs.declared.followed_rows.Stage.{Stage}
 use Rattle.dispatch_room_lists.specs.StoodRooms.{GoesOn, StageGoesOn, digits_in}
 use Rattle.dispatch_room_journal.proofs.FaultLemmas.{not_both}
@@ -67,6 +67,21 @@ unadded Added row room terminals not = absurd (cc)
 unadded Same row room terminals not = (refl, refl)
 unadded (Refused why) row room terminals not = (refl, refl)
 
+-- an enrolment of one row that failed: it was done, or not
+pub one_row : {S : Type 0} (g : Ghosts S) (old new : Store S) (row : FleetRow) (was is : List RowFate)
+    (terminals : List Terminal) (room : Room) → HasEnrolled g old new (row ∷ []) was is terminals room
+    → IsRoom g new terminals room
+    ⊎ IsRoom g new (terminals_enrolled room terminals row) (room_enrolled room terminals row)
+one_row g old new row was is terminals room done = by_count done.count done.within done.stands where
+  by_count : (count : ℕ) → count ≤ 1
+      → IsRoom g new (terminals_after_rows (take count (row ∷ [])) room terminals)
+      (room_after_rows (take count (row ∷ [])) room terminals)
+      → IsRoom g new terminals room
+      ⊎ IsRoom g new (terminals_enrolled room terminals row) (room_enrolled room terminals row)
+  by_count zero few stands = inl stands
+  by_count (suc zero) few stands = inr stands
+  by_count (suc (suc more)) few stands = absurd (omega (arith, few))
+
 module _ (digits : DigitsOf) (head : Head) (rows : List FleetRow) (terminals : List Terminal)
     (room : Room) where
   -- No fewer rows lead to the head's digest, and so many neither where the last of them changed
@@ -84,6 +99,27 @@ module _ (digits : DigitsOf) (head : Head) (rows : List FleetRow) (terminals : L
   unmet_here true count unmet new = new refl
   unmet_here false count unmet new = unmet.here refl
 
+  earlier : (fewer count : ℕ) → fewer < count + 1 → (fewer < count) ⊎ (fewer ≡ count)
+  earlier fewer count less =
+      let below : fewer ≤ count = omega (arith, less) in
+      elim (eq-or-lt_of_le below) [
+        | inl same ↦ inr same
+        | inr before ↦ inl before
+      ]
+
+  -- one row more is no more than are due where so many don't lead to the digest
+  pub no_more : (count : ℕ) → count < length rows
+      → ((fewer : ℕ) → fewer < count → ¬ IsMetAfter digits head rows terminals room fewer)
+      → ¬ IsMetAfter digits head rows terminals room count
+      → IsNoMore digits head rows terminals room (count + 1)
+  no_more count some fewest not = record {
+    within = omega (arith, some);
+    fewest = λ fewer less. elim (earlier fewer count less) [
+      | inl sooner ↦ fewest fewer sooner
+      | inr now ↦ rw now not
+    ];
+  }
+
   -- a row more
   pub unmet_more : (is_changed added : Bool) (count : ℕ) (row : FleetRow)
       → take (count + 1) rows ≡ take count rows ++ row ∷ []
@@ -98,7 +134,7 @@ module _ (digits : DigitsOf) (head : Head) (rows : List FleetRow) (terminals : L
       ≡ room_after_rows (take count rows) room terminals))
       → IsUnmet (count + 1) added
   unmet_more is_changed added count row more unmet not same = record {
-    fewest = λ fewer less. elim (earlier fewer less) [
+    fewest = λ fewer less. elim (earlier fewer count less) [
       | inl before ↦ unmet.fewest fewer before
       | inr now ↦ rw now not
     ];
@@ -108,14 +144,6 @@ module _ (digits : DigitsOf) (head : Head) (rows : List FleetRow) (terminals : L
         (enrolled_more rows count row more room terminals ∙ stays (same none))
         met);
   } where
-    earlier : (fewer : ℕ) → fewer < count + 1 → (fewer < count) ⊎ (fewer ≡ count)
-    earlier fewer less =
-        let below : fewer ≤ count = omega (arith, less) in
-        elim (eq-or-lt_of_le below) [
-          | inl same ↦ inr same
-          | inr before ↦ inl before
-        ]
-
     stays : (terminals_enrolled (room_after_rows (take count rows) room terminals)
         (terminals_after_rows (take count rows) room terminals) row
         ≡ terminals_after_rows (take count rows) room terminals)

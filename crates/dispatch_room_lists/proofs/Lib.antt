@@ -1,3 +1,4 @@
 pub mod DueLemmas
+pub mod FollowLemmas
 pub mod LegLemmas
-pub mod LineLemmas
+pub mod PrintLemmas

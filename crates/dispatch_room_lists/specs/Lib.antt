@@ -1,11 +1,7 @@
 -- the room that a store stands for
 pub mod StoodRooms
--- an import that is kept in a list
-pub mod KeptImports
 -- changes of a room's terminals and plan
 pub mod RoomChanges
--- a change that is kept in a list
-pub mod MadeChanges
 -- how many rows of a fleet that a list has are enrolled
 pub mod ListedRows
 -- the digest of a room that is printed

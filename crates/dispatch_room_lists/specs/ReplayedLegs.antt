@@ -1,24 +1,30 @@
 -- A list with changes among its messages, replayed leg by leg: each leg as a list without changes
 -- is, and between two of them a change is made.
-use Rattle.std.specs.Prelude.{Bool, Err, List, [], Ok, Option, Result, false, min, true, ℕ, ◌+◌, ◌-◌, ◌^◌, ◌∷◌}
-use Rattle.std.specs.Prelude.{◌≡◌, ◌⊎◌}
+use Rattle.std.specs.Prelude.{Bool, Err, IfOk, List, [], Ok, Option, Result, ⊤, false, length, min, true, ℕ, ◌+◌, ◌-◌}
+use Rattle.std.specs.Prelude.{◌<◌, ◌^◌, ◌∷◌, ◌≡◌, ◌⊎◌}
+use Rattle.std.specs.Io.KnownBytes.{prepend_known}
 use Rattle.sqlite_trees.specs.declared.store.Store.{Ghosts}
+use Rattle.room_types.specs.declared.refusal_statuses.Refusal.TheVariants.{Memory}
 use Rattle.room_model.specs.Rooms.{machine}
+use Rattle.room_model.specs.declared.digests.Head.{Head}
 use Rattle.room_http.specs.Settings.{IsSetting}
 use Rattle.room_http.specs.declared.settings.Setting.{Setting}
-use Rattle.room_store.specs.StoredRoom.{IsRoom}
+use Rattle.room_store.specs.StoredRoom.{IsReady, IsRoom}
 use Rattle.room_store.specs.declared.store.Store.{Store}
 use Rattle.dispatch_room_cli.specs.declared.tasks.Replay.{Replay as How}
 use Rattle.dispatch_room_cli.specs.declared.exit_status.Failure.{Failure}
 use Rattle.dispatch_room_journal.specs.AnswerFrames.{AnswersEach}
+use Rattle.dispatch_room_journal.specs.Legs.{TakesIn}
+use Rattle.dispatch_room_journal.specs.ReadSteps.{left_in}
 use Rattle.dispatch_room_journal.specs.Replays as replay
+use Rattle.dispatch_room_journal.specs.declared.chain_source.Unchained.{Unchained}
 use Rattle.dispatch_room_journal.specs.declared.replay_faults.ReplayFault.{ReplayFault}
-use Rattle.dispatch_room_journal.specs.declared.replay_faults.ReplayFault.TheVariants.{ReadFailed}
+use Rattle.dispatch_room_journal.specs.declared.replay_faults.ReplayFault.TheVariants.{ReadFailed, Want}
 use Rattle.dispatch_room_journal.specs.declared.replay_faults.Stopped.{Stopped}
 use Rattle.dispatch_room_journal.specs.declared.replayed_journal.Replayed.{Replayed}
 use Rattle.dispatch_room_journal.specs.declared.row_runs.Behind.{Behind}
 use Rattle.dispatch_room_journal.specs.declared.row_runs.Behind.TheVariants as behind
-use Rattle.dispatch_room_lists.specs.ListedRows.{Follows, IsUnfollowed, LosesStage}
+use Rattle.dispatch_room_lists.specs.ListedRows.{Follows, IsUnfollowed, LosesText}
 use Rattle.dispatch_room_lists.specs.StoodRooms.{digits_in}
 use Rattle.room_tables_schema.specs.FileConnections.{IsClean}
 
@@ -30,6 +36,16 @@ pub record Waypoint (S : Type 0) : Type 0 where
   pub left : Option (List ℕ)
   pub held : Option (List ℕ)
   pub records : ℕ
+
+-- where the first leg of a list begins
+abbrev pub begins_leg : {S : Type 0} → Store S → Setting → Option (List ℕ) → Option (List ℕ)
+    → Waypoint S
+begins_leg store setting list held =
+    record { store = store; setting = setting; left = list; held = held; records = 0 }
+
+-- what is left of the leg of a list that is read next, by what is left of its source
+abbrev pub left_of : {R : Type 0} → (R → Option (List ℕ)) → Unchained R → Option (List ℕ)
+left_of left list = left_in list.reel.mode list.reel.vouched list.reel.inbox (left list.reader)
 
 -- how many messages were answered, or why it stopped
 abbrev pub count_in : Result Replayed Stopped → Result ℕ Stopped
@@ -47,6 +63,32 @@ in_all before (Ok replayed) =
 in_all before (Err stopped) =
     Err (record { fault = stopped.fault; number = sum_of before stopped.number })
 
+-- ---- what stands behind a leg
+-- a list of which nothing was read
+abbrev pub IsUntouched : {R : Type 0} → Unchained R → Unchained R → Type 0
+IsUntouched old new = (new.reader ≡ old.reader) × (new.reel ≡ old.reel)
+
+module _ {R : Type 0} (left : R → Option (List ℕ)) where
+  -- What stands behind a leg of a list was taken, and the lines of its rows put behind others. Of
+  -- one that was not read to its end, and of one of which something may still be given, nothing
+  -- was; else the rows that stand next.
+  abbrev pub TakesBehind : Unchained R → Unchained R → List ℕ → List ℕ → Behind → Type 0
+  TakesBehind old new before rows which =
+      (old.has_ended ≡ false → (which ≡ behind.Unread) × IsUntouched old new × (rows ≡ before))
+      × (0 < old.reel.vouched → (which ≡ behind.Unread) × IsUntouched old new × (rows ≡ before))
+      × (old.has_ended ≡ true → old.reel.vouched ≡ 0
+      → TakesIn old.reel.mode new.reel.mode (prepend_known old.reel.inbox (left old.reader))
+      (prepend_known new.reel.inbox (left new.reader)) before rows which)
+
+  -- No leg follows the one that was read last: no rows stand behind it, or it was not read to its
+  -- end, or nothing stands behind the rows.
+  pub record IsSpent (new : Unchained R) : Type 0 where
+    pub old : Unchained R
+    pub rows : List ℕ
+    pub which : Behind
+    pub takes : TakesBehind old new [] rows which
+    pub last : (rows ≡ []) ⊎ (which ≡ behind.Unread) ⊎ (which ≡ behind.End)
+
 module _ {S : Type 0} (g : Ghosts S) where
   -- What is done with the rows behind a leg, and whether another leg follows. Where a head stands
   -- behind them, they are followed as far as it says; where anything else does, or nothing, the
@@ -59,13 +101,22 @@ module _ {S : Type 0} (g : Ghosts S) where
       (goes_on ≡ true) × Follows g old new (byte ∷ more) head
   FollowsBy old new (byte ∷ more) behind.Other goes_on = (goes_on ≡ true) × (new ≡ old)
 
+  -- Why no leg follows one that was replayed whole, and the room then: what stands behind it can't
+  -- be read, or memory is refused for it, and the room stays as it is; or a head stands behind
+  -- rows, of which something is said, and they are not followed.
+  abbrev pub StopsBehind : (List ℕ → Behind → Type 0) → Bool → Store S → Store S → ReplayFault
+      → Type 0
+  StopsBehind Stand read_failed old new fault =
+      ((fault ≡ ReadFailed) × (read_failed ≡ true) × (new ≡ old))
+      ⊎ ((fault ≡ Want Memory) × (new ≡ old))
+      ⊎ ((rows : List ℕ) × (head : Head) × Stand rows (behind.Room head)
+      × IsUnfollowed g old new rows head fault)
+
   module _ (how : How) where
-    -- A leg was replayed, or its messages answered, and came to this. Behind the answers before it,
-    -- its own are written then.
+    -- A leg was replayed, or its messages answered, and came to this, where a read or a write
+    -- failed or not. Behind the answers before it, its own are written then.
     pub record IsLeg (at : Waypoint S) (last : Store S) (holds : Option (List ℕ))
-        (came : Result Replayed Stopped) : Type 0 where
-      pub read_failed : Bool
-      pub write_failed : Bool
+        (read_failed write_failed : Bool) (came : Result Replayed Stopped) : Type 0 where
       pub replayed : how.answers ≡ false
           → replay.Replays machine at.setting (digits_in at.store) (IsClean g last.conn)
           (IsRoom g at.store) (IsRoom g last) at.left how.until read_failed came
@@ -79,7 +130,7 @@ module _ {S : Type 0} (g : Ghosts S) where
     pub record Passes (at now : Waypoint S) : Type 0 where
       pub last : Store S
       pub replayed : Replayed
-      pub leg : IsLeg at last now.held (Ok replayed)
+      pub leg : IsLeg at last now.held false false (Ok replayed)
       pub rows : List ℕ
       pub behind : Behind
       pub between : FollowsBy last now.store rows behind true
@@ -93,43 +144,58 @@ module _ {S : Type 0} (g : Ghosts S) where
     ArePassed (at ∷ earlier) first now = ArePassed earlier first at × Passes at now
 
     -- this leg was the last, and came to this
-    pub record EndsLeg (first : Waypoint S) (last : Store S) (holds : Option (List ℕ)) (before : ℕ)
-        (came : Result Replayed Stopped) : Type 0 where
+    pub record EndsLeg (first : Waypoint S) (last : Store S) (holds : Option (List ℕ))
+        (read_failed write_failed : Bool) (before : ℕ) (came : Result Replayed Stopped)
+        : Type 0 where
       pub at : Waypoint S
       pub earlier : List (Waypoint S)
       pub are : ArePassed earlier first at
-      pub is : IsLeg at last holds came
+      pub is : IsLeg at last holds read_failed write_failed came
       pub before_is : at.records ≡ before
 
-    -- Behind a leg the rows could not be read, or not followed: memory or storage fails, they
-    -- are those of no change, or the room does not allow theirs.
+    -- Behind a leg that was replayed whole the rows could not be read, or not followed.
     pub record StopsBetween (first : Waypoint S) (last : Store S) (holds : Option (List ℕ))
-        (result : Result Replayed Stopped) : Type 0 where
+        (read_failed : Bool) (result : Result Replayed Stopped) : Type 0 where
       pub stood : Store S
       pub before : ℕ
       pub replayed : Replayed
-      pub leg : EndsLeg first stood holds before (Ok replayed)
+      pub leg : EndsLeg first stood holds false false before (Ok replayed)
       pub clean : IsClean g last.conn → IsClean g stood.conn
       pub fault : ReplayFault
-      pub why : IsUnfollowed fault ⊎ (fault ≡ ReadFailed)
+      pub why : StopsBehind (λ rows which. ⊤) read_failed stood last fault
       pub told : result ≡ Err (record {
         fault = fault;
         number = sum_of (sum_of before replayed.records) 1;
       })
 
-    -- A list was replayed leg by leg: so its last leg came to it, or it stopped between two.
-    abbrev pub ReplaysLegs : Waypoint S → Store S → Option (List ℕ) → Result Replayed Stopped
-        → Type 0
-    ReplaysLegs first last holds result =
+    -- A list was replayed leg by leg: so its last leg came to it, or it stopped between two. Where
+    -- the last leg was replayed whole, the list is spent, unless more legs than are counted were
+    -- replayed.
+    abbrev pub ReplaysLegs : Waypoint S → Store S → Option (List ℕ) → Bool → Bool → Type 0
+        → Result Replayed Stopped → Type 0
+    ReplaysLegs first last holds read_failed write_failed spent result =
         ((before : ℕ) × (came : Result Replayed Stopped)
-        × EndsLeg first last holds before came × (result ≡ in_all before came))
-        ⊎ StopsBetween first last holds result
+        × (ends : EndsLeg first last holds read_failed write_failed before came)
+        × (result ≡ in_all before came)
+        × IfOk came (λ _. spent ⊎ (length ends.earlier ≡ 2 ^ 64 - 2)))
+        ⊎ StopsBetween first last holds read_failed result
 
-    -- Behind a leg no room was opened again, for this, before a change or after it.
+    -- so it was, and the store that it came to is ready again
+    pub record PlaysLegs (first : Waypoint S) (last : Store S) (holds : Option (List ℕ))
+        (read_failed write_failed : Bool) (spent : Type 0) (result : Result Replayed Stopped)
+        : Type 0 where
+      pub ready : IsReady g last
+      pub trusted : IsClean g last.conn → IsClean g first.store.conn
+      pub legs : ReplaysLegs first last holds read_failed write_failed spent result
+
+    -- Behind a leg that was replayed whole no room was opened again, for this, before a change that
+    -- stands there, or after it.
     pub record LosesLeg (first : Waypoint S) (fault : Failure) : Type 0 where
       pub stood : Store S
       pub holds : Option (List ℕ)
       pub before : ℕ
       pub replayed : Replayed
-      pub leg : EndsLeg first stood holds before (Ok replayed)
-      pub lost : LosesStage g stood fault
+      pub leg : EndsLeg first stood holds false false before (Ok replayed)
+      pub rows : List ℕ
+      pub head : Head
+      pub lost : LosesText g stood rows head fault

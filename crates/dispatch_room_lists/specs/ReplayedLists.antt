@@ -1,5 +1,5 @@
 -- A list that is replayed to the room of a database, and what is reported of it.
-use Rattle.std.specs.Prelude.{Bool, Err, List, Ok, Option, Result, false, true, ℕ, ◌≡◌, None, codes, decimal, ◌++◌}
+use Rattle.std.specs.Prelude.{Bool, Err, List, Ok, Option, Result, ⊤, false, true, ℕ, ◌≡◌, None, codes, decimal, ◌++◌}
 use Rattle.std.specs.Io.KnownBytes.{Appends}
 use Rattle.dispatch_room_cli.specs.ExitStatus.{refused}
 use Rattle.dispatch_room_cli.specs.declared.exit_status.Done.{Done}
@@ -13,12 +13,13 @@ use Rattle.sqlite.specs.Held.{Held}
 use Rattle.sqlite_trees.specs.declared.store.Store.{Ghosts}
 use Rattle.room_http.specs.Settings.{IsSetting}
 use Rattle.room_http.specs.declared.settings.Setting.{Setting}
+use Rattle.room_store.specs.StoredRoom.{IsReady}
 use Rattle.room_store.specs.declared.store.Store.{Store}
 use Rattle.dispatch_room_tasks.specs.OpenedRoom.{OpensRoom}
 use Rattle.dispatch_room_journal.specs.declared.replayed_journal.Replayed.{Replayed}
 use Rattle.dispatch_room_cli.specs.declared.tasks.Replay.{Replay as How}
 use Rattle.dispatch_room_lists.specs.ReplayEnds.{Concludes}
-use Rattle.dispatch_room_lists.specs.ReplayedLegs.{LosesLeg, ReplaysLegs, Waypoint, count_in}
+use Rattle.dispatch_room_lists.specs.ReplayedLegs.{LosesLeg, ReplaysLegs, begins_leg, count_in}
 use Rattle.room_tables_schema.specs.FileConnections.{IsClean}
 
 -- why a replay stopped at a record, as the program reports it
@@ -48,57 +49,66 @@ abbrev pub EndsAs : Result ℕ Stopped → Result Done Failure → Type 0
 EndsAs (Ok records) done = done ≡ Ok Whole
 EndsAs (Err stopped) done = done ≡ Err (failure_of stopped)
 
--- where the first leg of a list begins
-abbrev pub begins_leg : {S : Type 0} → Store S → Setting → Option (List ℕ) → Option (List ℕ)
-    → Waypoint S
-begins_leg store setting list held =
-    record { store = store; setting = setting; left = list; held = held; records = 0 }
-
 -- What is done with a list in a store that is first this and then that, first in this setting, and
 -- so.
 module _ {S : Type 0} (g : Ghosts S) (how : How) (first : Store S) (setting : Setting)
-    (last : Store S) (list before after : Option (List ℕ)) (done : Result Done Failure) where
+    (last : Store S) (list before after : Option (List ℕ)) (read_failed : Bool) (spent : Type 0)
+    (done : Result Done Failure) where
   -- it is replayed leg by leg, and how much it was is reported
   pub record IsReplayed : Type 0 where
+    pub write_failed : Bool
     pub result : Result Replayed Stopped
-    pub is : ReplaysLegs g how (begins_leg first setting list None) last None result
+    pub is : ReplaysLegs g how (begins_leg first setting list None) last None read_failed
+        write_failed spent result
     pub told : IsTold result before after done
 
   -- each of its messages is answered, leg by leg, and the answers are written
   pub record AreAnswered : Type 0 where
+    pub write_failed : Bool
     pub result : Result Replayed Stopped
-    pub is : ReplaysLegs g how (begins_leg first setting list before) last after result
+    pub is : ReplaysLegs g how (begins_leg first setting list before) last after read_failed
+        write_failed spent result
     pub ends : EndsAs (count_in result) done
 
--- A list was replayed to the room, or its messages answered, as it was asked. What is written of
+-- the one or the other is done, as it was asked, and the store is ready again
+pub record IsPlayed {S : Type 0} (g : Ghosts S) (how : How) (first : Store S) (setting : Setting)
+    (last : Store S) (list before after : Option (List ℕ)) (read_failed : Bool) (spent : Type 0)
+    (done : Result Done Failure) : Type 0 where
+  pub ready : IsReady g last
+  pub trusted : IsClean g last.conn → IsClean g first.conn
+  pub replayed : how.answers ≡ false
+      → IsReplayed g how first setting last list before after read_failed spent done
+  pub answered : how.answers ≡ true → (holds : Option (List ℕ))
+      × AreAnswered g how first setting last list before holds read_failed spent done
+
+-- This list was replayed to the room, or its messages answered, as it was asked. What is written of
 -- the answers is said by who writes them. Then the replay ended, with the digest of the room where
 -- no answers were asked for.
 pub record HasReplayed {S : Type 0} (g : Ghosts S) (old new : Held S) (how : How)
-    (before after : Option (List ℕ)) (done : Result Done Failure) : Type 0 where
+    (list before after : Option (List ℕ)) (done : Result Done Failure) : Type 0 where
   pub first : Store S
   pub last : Store S
   pub setting : Setting
   pub opens : IsClean g first.conn → OpensRoom g old first
   pub is_set : IsSetting first.plan.zone how.history setting
-  pub list : Option (List ℕ)
   pub came : Result Done Failure
   pub between : Option (List ℕ)
+  pub read_failed : Bool
   pub replayed : how.answers ≡ false
-      → IsReplayed g how first setting last list before between came
-  pub answered : how.answers ≡ true
-      → (holds : Option (List ℕ)) × AreAnswered g how first setting last list before holds came
+      → IsReplayed g how first setting last list before between read_failed ⊤ came
+  pub answered : how.answers ≡ true → (holds : Option (List ℕ))
+      × AreAnswered g how first setting last list before holds read_failed ⊤ came
   pub ended : Store S
   pub has_ended : Bool
   pub ends : Concludes g last ended how came has_ended between after done
   pub closed : new ≡ ended.conn
 
 -- no room was opened, or, behind a leg of a list, none was opened again
-pub record LosesReplayed {S : Type 0} (g : Ghosts S) (old : Held S) (how : How) (fault : Failure)
-    : Type 0 where
+pub record LosesReplayed {S : Type 0} (g : Ghosts S) (old : Held S) (how : How)
+    (list : Option (List ℕ)) (fault : Failure) : Type 0 where
   pub first : Store S
   pub setting : Setting
   pub opens : IsClean g first.conn → OpensRoom g old first
   pub is_set : IsSetting first.plan.zone how.history setting
-  pub list : Option (List ℕ)
   pub held : Option (List ℕ)
   pub loses : LosesLeg g how (begins_leg first setting list held) fault

@@ -1,5 +1,5 @@
--- The digest of a room that is printed, and a copy of a room that is put in a file's place.
-use Rattle.std.specs.Prelude.{IfOk, List, OnOk, Option, Result, codes, ℕ, ◌++◌, ◌≡◌}
+-- The digest of a room that is printed, or why it is not.
+use Rattle.std.specs.Prelude.{Bool, Err, List, Ok, Option, Result, codes, false, length, true, ℕ, ◌++◌, ◌<◌, ◌≡◌, ◌⊎◌}
 use Rattle.std.specs.Io.KnownBytes.{Appends}
 use Rattle.sqlite.specs.Held.{Held}
 use Rattle.sqlite_trees.specs.declared.store.Store.{Ghosts}
@@ -7,33 +7,66 @@ use Rattle.room_types.specs.declared.fleet.Terminal.{Terminal}
 use Rattle.room_model.specs.Digests.{digits_of}
 use Rattle.room_model.specs.Room.{Room}
 use Rattle.room_model.specs.declared.digests.Version.TheVariants.{Second}
-use Rattle.room_store.specs.StoredRoom.{IsRoom}
+use Rattle.room_store.specs.StoredRoom.{IsReady, IsRoom}
 use Rattle.room_store.specs.declared.store.Store.{Store}
 use Rattle.room_store_file.specs.DigestTexts.{digest_of}
 use Rattle.dispatch_room_cli.specs.declared.exit_status.Done.{Done}
 use Rattle.dispatch_room_cli.specs.declared.exit_status.Done.TheVariants.{Whole}
 use Rattle.dispatch_room_cli.specs.declared.exit_status.Failure.{Failure}
+use Rattle.dispatch_room_cli.specs.declared.exit_status.Failure.TheVariants.{Memory, Network, Storage}
+use Rattle.dispatch_room_journal.specs.Entries.{IsDigest}
 use Rattle.dispatch_room_tasks.specs.OpenedRoom.{OpensRoom}
 use Rattle.room_tables_schema.specs.FileConnections.{IsClean}
 
+-- ---- what is printed
 -- the line of a digest
 abbrev pub digest_line : List ℕ → List ℕ
 digest_line digits = codes "digest " ++ (digits ++ codes "\n")
 
+-- an output took the first of these bytes, and not all of them
+abbrev pub TakesLess : Option (List ℕ) → Option (List ℕ) → List ℕ → Type 0
+TakesLess before after bytes =
+    (front : List ℕ) × (rest : List ℕ) × (bytes ≡ front ++ rest) × (0 < length rest)
+    × Appends before after front
+
+-- an output took all of these bytes, or less of them
+abbrev pub TakesBytes : Bool → Option (List ℕ) → Option (List ℕ) → List ℕ → Type 0
+TakesBytes true before after bytes = Appends before after bytes
+TakesBytes false before after bytes = TakesLess before after bytes
+
+-- The line of a digest is printed. Only where the output doesn't take all of it, that fails.
+abbrev pub PrintsDigits : Option (List ℕ) → Option (List ℕ) → List ℕ → Result Done Failure → Type 0
+PrintsDigits before after digits (Ok done) =
+    (done ≡ Whole) × Appends before after (digest_line digits)
+PrintsDigits before after digits (Err fault) =
+    (fault ≡ Network) × TakesLess before after (digest_line digits)
+
+-- the room can't be read, for memory or storage, and nothing is printed
+abbrev pub PrintsNothing : Option (List ℕ) → Option (List ℕ) → Result Done Failure → Type 0
+PrintsNothing before after done = (fault : Failure) × (done ≡ Err fault)
+    × ((fault ≡ Memory) ⊎ (fault ≡ Storage)) × (after ≡ before)
+
+-- ---- of which room
 -- the digest of all rows of a room, in digits, with the zone of its days and its terminals
 abbrev pub room_digits : List ℕ → List Terminal → Room → List ℕ
 room_digits zone terminals room = digits_of digest_of zone Second terminals room
 
--- The digest of a store's room is printed, unless something fails. The room stays as it was.
+-- these are the digits of the digest of a store's room
+abbrev pub AreDigits : {S : Type 0} → Ghosts S → Store S → Store S → List ℕ → Type 0
+AreDigits g old new digits = IsClean g new.conn → (terminals : List Terminal) (room : Room)
+    → IsRoom g old terminals room → digits ≡ room_digits old.plan.zone terminals room
+
+-- The digest of a store's room is printed, unless the output fails; or the room can't be read. The
+-- room stays as it was, and the store may be called again.
 pub record TellsDigest {S : Type 0} (g : Ghosts S) (old new : Store S)
     (before after : Option (List ℕ)) (done : Result Done Failure) : Type 0 where
+  pub ready : IsReady g new
   pub clean : IsClean g new.conn → IsClean g old.conn
   pub same : IsClean g new.conn → (terminals : List Terminal) (room : Room)
       → IsRoom g old terminals room → IsRoom g new terminals room
-  pub whole : IfOk done (λ it. it ≡ Whole)
-  pub told : IsClean g new.conn → OnOk done ((terminals : List Terminal) (room : Room)
-      → IsRoom g old terminals room
-      → Appends before after (digest_line (room_digits old.plan.zone terminals room)))
+  pub told : PrintsNothing before after done
+      ⊎ ((digits : List ℕ) × IsDigest digits × AreDigits g old new digits
+      × PrintsDigits before after digits done)
 
 -- a room of a database was opened, and its digest printed
 pub record HasDigest {S : Type 0} (g : Ghosts S) (old new : Held S)

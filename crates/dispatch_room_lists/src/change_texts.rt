@@ -1,5 +1,6 @@
 //! The text by which a list has a change of a room.
-ghost use Rattle.std.specs.Prelude.{◌≡◌, ◌++◌, flat_map, unwrap_or, IfOk, IfSome, OnOk, [], string_bytes};
+ghost use Rattle.std.specs.Prelude.{◌≡◌, ◌++◌, flat_map, unwrap_or, IfNone, IfOk, IfSome, OnOk, [], string_bytes};
+ghost use Rattle.dispatch_room_lists.specs.ListedRows.{IsNoPlan};
 ghost use Rattle.dispatch_room_lists.specs.RoomChanges.{IsTextOf, line_of, terminal_line, terminals_text};
 
 use crate::room_changes::RoomChange;
@@ -54,15 +55,24 @@ fn push_line(text: &mut String, who: &Who, token: &str) -> Result<(), AllocError
 
 /// The change whose text this is; none where it is no change's.
 pub fn change_of(alloc: Global, text: &[u8]) -> Result<Option<RoomChange>, AllocError>
-    ensures { IfOk result (λ found. IfSome found (λ change. IsTextOf change text.now)) }
+    ensures change { IfOk result (λ found. IfSome found (λ change. IsTextOf change text.now)) }
+    ensures none { IfOk result (λ found. IfNone found (IsNoPlan text.now)) }
 {
     match read_plan(alloc, text) {
         Ok(file) => Ok(Some(RoomChange::Plan(file))),
         Err(PlanFileFault::Memory) => Err(AllocError),
-        Err(_) => match str::from_utf8(text) {
-            Ok(text) => terminals_of(alloc, text),
-            Err(_) => Ok(None),
-        },
+        Err(PlanFileFault::Input) => change_of_terminals(alloc, text),
+        Err(PlanFileFault::Row(_)) => change_of_terminals(alloc, text),
+    }
+}
+
+// The change of terminals whose text these bytes are.
+fn change_of_terminals(alloc: Global, bytes: &[u8]) -> Result<Option<RoomChange>, AllocError>
+    ensures { IfOk result (λ found. IfSome found (λ change. IsTextOf change bytes.now)) }
+{
+    match str::from_utf8(bytes) {
+        Ok(text) => terminals_of(alloc, text),
+        Err(_) => Ok(None),
     }
 }
 

@@ -1,9 +1,13 @@
 //! What the rows of a list say, done in the room that it is replayed to, as far as the head behind
 //! them says.
-ghost use Rattle.std.specs.Prelude.{◌≡◌, ◌⊎◌, IfErr, IfOk, Ok, OnOk};
+ghost use Rattle.std.specs.Prelude.{◌≡◌, ◌⊎◌, Err, IfErr, IfOk, Ok, OnErr, OnOk};
 ghost use Rattle.room_store.specs.StoredRoom.{IsReady};
+ghost use Rattle.dispatch_room_cli.specs.declared.exit_status.Failure.{Failure as Why};
 ghost use Rattle.dispatch_room_journal.specs.ReplayFaults.{IsWanting};
-ghost use Rattle.dispatch_room_lists.specs.ListedRows.{EnrolsDue, Follows, IsMadeTowards, IsThere, IsUnfollowed, LosesStage};
+ghost use Rattle.dispatch_room_journal.specs.declared.replay_faults.ReplayFault.TheVariants.{Bad};
+ghost use Rattle.dispatch_room_lists.specs.ListedRows.{EnrolsDue, EnrolsSome, Follows, IsElsewhere, IsMadeTowards};
+ghost use Rattle.dispatch_room_lists.specs.ListedRows.{IsThere, IsUnfollowed, IsUnmadeTowards, IsUnread, LosesStage};
+ghost use Rattle.dispatch_room_lists.specs.ListedRows.{LosesText, unmade_fault};
 ghost use Rattle.dispatch_room_lists.specs.StoodRooms.{GoesOn, StageGoesOn};
 
 use crate::listed_changes::{ListedChange, listed_in};
@@ -45,8 +49,9 @@ pub fn follow<S: Alter + Drop>(
     ensures goes { IfOk result (λ it. StageGoesOn S.Store stage it.1) }
     ensures followed { IfOk result (λ it.
         OnOk it.0 (Follows S.Store stage.room it.1.room text.now head.now)) }
-    ensures fault { IfOk result (λ it. IfErr it.0 IsUnfollowed) }
-    ensures lost { IfErr result (LosesStage S.Store stage.room) }
+    ensures fault { IfOk result (λ it. IfErr it.0
+        (IsUnfollowed S.Store stage.room it.1.room text.now head.now)) }
+    ensures lost { IfErr result (LosesText S.Store stage.room text.now head.now) }
 {
     match listed_in(alloc, text) {
         Ok(Some(ListedChange::Fleet(rows))) => Ok(enrol(alloc, stage, rows.as_slice(), head)),
@@ -70,6 +75,8 @@ fn enrol<S: Alter>(
     ensures setting { result.1.setting ≡ stage.setting }
     ensures enrolled { OnOk result.0
         (EnrolsDue S.Store stage.room result.1.room rows.now head.now) }
+    ensures part { OnErr result.0
+        (EnrolsSome S.Store stage.room result.1.room rows.now head.now) }
     ensures wants { IfErr result.0 IsWanting }
 {
     let Stage { mut room, setting } = stage;
@@ -83,7 +90,8 @@ fn stay<S: Alter>(stage: Stage<S>, head: &Head) -> (Result<(), ReplayFault>, Sta
     ensures goes { GoesOn S.Store stage.room result.1.room }
     ensures setting { result.1.setting ≡ stage.setting }
     ensures there { OnOk result.0 (IsThere S.Store stage.room result.1.room head.now) }
-    ensures fault { IfErr result.0 IsUnfollowed }
+    ensures fault { IfErr result.0 (λ fault. IsUnread S.Store stage.room result.1.room fault
+        ⊎ ((fault ≡ Bad) × IsElsewhere S.Store stage.room result.1.room head.now)) }
 {
     let Stage { mut room, setting } = stage;
     let met = has_come_to(&mut room, head, true);
@@ -108,8 +116,10 @@ fn make_towards<S: Alter + Drop>(
     ensures made { IfOk result (λ it. OnOk it.0
         (IsThere S.Store stage.room it.1.room head.now
         ⊎ IsMadeTowards S.Store stage.room it.1.room change.now head.now)) }
-    ensures fault { IfOk result (λ it. IfErr it.0 IsUnfollowed) }
-    ensures lost { IfErr result (LosesStage S.Store stage.room) }
+    ensures fault { IfOk result (λ it. IfErr it.0 (λ fault.
+        IsUnread S.Store stage.room it.1.room fault
+        ⊎ IsUnmadeTowards S.Store stage.room it.1.room change.now head.now fault)) }
+    ensures lost { IfErr result (LosesStage S.Store stage.room change.now head.now) }
 {
     let Stage { mut room, setting } = stage;
     match has_come_to(&mut room, head, true) {
@@ -121,22 +131,31 @@ fn make_towards<S: Alter + Drop>(
     Ok(followed_by(remade, setting.history))
 }
 
-// What is reported of a change that was made, or not: then the list is of another room, unless
-// memory or storage fails.
+// What is reported of a change that was made, or not.
 fn followed_by<S: Alter>(remade: Remade<S>, history: bool) -> (Result<(), ReplayFault>, Stage<S>)
     ensures room { result.1.room ≡ remade.room }
     ensures setting { result.1.setting
         ≡ record { zone = remade.zone; history = history } }
     ensures made { OnOk result.0 (remade.done ≡ Ok tt) }
-    ensures fault { IfErr result.0 IsUnfollowed }
+    ensures fault { IfErr result.0 (λ fault. (failure : Why) × (remade.done ≡ Err failure)
+        × (fault ≡ unmade_fault failure)) }
 {
     let Remade { done, room, zone } = remade;
     let done = match done {
         Ok(()) => Ok(()),
-        Err(Failure::Memory) => Err(ReplayFault::Want(Refusal::Memory)),
-        Err(Failure::Storage) => Err(ReplayFault::Want(Refusal::Storage)),
-        Err(_) => Err(ReplayFault::Another),
+        Err(failure) => Err(unmade_fault(failure)),
     };
     let setting = Setting { zone, history };
     (done, Stage { room, setting })
+}
+
+// How it is reported that a change was not made.
+fn unmade_fault(failure: Failure) -> ReplayFault
+    ensures { result ≡ unmade_fault failure }
+{
+    match failure {
+        Failure::Memory => ReplayFault::Want(Refusal::Memory),
+        Failure::Storage => ReplayFault::Want(Refusal::Storage),
+        _ => ReplayFault::Another,
+    }
 }

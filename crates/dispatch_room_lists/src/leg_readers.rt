@@ -1,9 +1,13 @@
 //! A list that is read leg by leg, and whether a read of it failed.
-ghost use Rattle.std.specs.Prelude.{◌≡◌, ◌==◌, ◌||◌, None, IfOk, OnOk, false, is_err, true};
-ghost use Rattle.std.specs.Io.KnownBytes.{prepend_known};
-ghost use Rattle.dispatch_room_journal.specs.Legs.{TakesIn};
+ghost use Rattle.std.specs.Prelude.{◌≡◌, ◌==◌, ◌||◌, None, IfOk, false};
+ghost use Rattle.std.specs.Option.{option_map};
+ghost use Rattle.dispatch_room_journal.specs.Chains.{sha256_digits};
 ghost use Rattle.dispatch_room_journal.specs.ReadSteps.{left_in, most_rows};
+ghost use Rattle.dispatch_room_journal.specs.RecordFronts.{list_says};
+ghost use Rattle.dispatch_room_journal.specs.RowRuns.{is_read};
 ghost use Rattle.dispatch_room_journal.specs.declared.chain_source.Unchained.{Unchained as List};
+ghost use Rattle.dispatch_room_journal.specs.declared.read_progress.Reach.TheVariants.{Leg};
+ghost use Rattle.dispatch_room_lists.specs.ReplayedLegs.{TakesBehind, left_of};
 
 use dispatch_room_journal::chain_source::Unchained;
 use dispatch_room_journal::row_runs::{Behind, RowsFault};
@@ -32,6 +36,8 @@ impl<R: Source> LegReader<R> {
     pub fn new(reader: R) -> LegReader<R>
         requires { R.has_failed reader ≡ false }
         ensures sound { (R.has_failed result.reader || result.passed == most_rows) ≡ false }
+        ensures left { left_of R.left result
+            ≡ option_map (list_says sha256_digits Leg) (R.left reader) }
     {
         LegReader {
             list: Unchained::by_legs(reader),
@@ -41,13 +47,10 @@ impl<R: Source> LegReader<R> {
 
     /// Takes the rows that stand behind a leg which was read to its end, unless a read failed.
     pub fn take_rows(&mut self, rows: &mut Vec<u8>) -> Result<Behind, RowsFault>
-        ensures sound { OnOk result ((R.has_failed self.new.reader || self.new.passed == most_rows)
-            ≡ false) }
-        ensures taken { self.old.has_ended ≡ true → self.old.reel.vouched ≡ 0
-            → IfOk result (TakesIn self.old.reel.mode self.new.reel.mode
-            (prepend_known self.old.reel.inbox (R.left self.old.reader))
-            (prepend_known self.new.reel.inbox (R.left self.new.reader))
-            rows.old.items rows.new.items) }
+        ensures failed { (R.has_failed self.new.reader || self.new.passed == most_rows)
+            ≡ is_read result }
+        ensures taken { IfOk result
+            (TakesBehind R.left self.old self.new rows.old.items rows.new.items) }
     {
         if self.failed {
             return Err(RowsFault::Read);

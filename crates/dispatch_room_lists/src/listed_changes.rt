@@ -1,6 +1,6 @@
 //! What the rows of a list are: a fleet, or another change of its room.
-ghost use Rattle.std.specs.Prelude.{IfOk, IfSome};
-ghost use Rattle.dispatch_room_lists.specs.ListedRows.{IsListed};
+ghost use Rattle.std.specs.Prelude.{IfNone, IfOk, IfSome};
+ghost use Rattle.dispatch_room_lists.specs.ListedRows.{IsListed, IsNoFile};
 
 use crate::change_texts::change_of;
 use crate::room_changes::RoomChange;
@@ -19,7 +19,8 @@ pub enum ListedChange {
 
 /// What a text is; none where it is neither a fleet's nor a change's.
 pub fn listed_in(alloc: Global, text: &[u8]) -> Result<Option<ListedChange>, AllocError>
-    ensures { IfOk result (λ found. IfSome found (IsListed text.now)) }
+    ensures listed { IfOk result (λ found. IfSome found (IsListed text.now)) }
+    ensures none { IfOk result (λ found. IfNone found (IsNoFile text.now)) }
 {
     match read_fleet(alloc, text) {
         Ok(lines) => {

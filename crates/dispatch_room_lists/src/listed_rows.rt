@@ -1,11 +1,11 @@
 //! Rows of a fleet that a list has, enrolled as far as the head says that stands behind them.
-ghost use Rattle.std.specs.Prelude.{◌≡◌, List, IfErr, IfOk, OnOk, false};
+ghost use Rattle.std.specs.Prelude.{◌≡◌, ◌⊎◌, List, IfErr, IfOk, OnErr, OnOk, false};
 ghost use Rattle.room_types.specs.declared.fleet.Terminal.{Terminal};
 ghost use Rattle.room_model.specs.FleetRows.{room_enrolled, terminals_enrolled};
 ghost use Rattle.room_model.specs.Room.{Room};
 ghost use Rattle.room_store.specs.StoredRoom.{IsReady, IsRoom};
 ghost use Rattle.dispatch_room_journal.specs.ReplayFaults.{IsWanting};
-ghost use Rattle.dispatch_room_lists.specs.ListedRows.{EnrolsDue, FindsHead};
+ghost use Rattle.dispatch_room_lists.specs.ListedRows.{EnrolsDue, EnrolsSome, FindsHead};
 ghost use Rattle.dispatch_room_lists.specs.StoodRooms.{GoesOn, Stays};
 ghost use Rattle.room_tables_schema.specs.FileConnections.{IsClean};
 
@@ -31,6 +31,7 @@ pub fn enrol_rows<S: Alter>(
     requires ready { IsReady S.Store room.old }
     ensures goes { GoesOn S.Store room.old room.new }
     ensures enrolled { OnOk result (EnrolsDue S.Store room.old room.new rows.now head.now) }
+    ensures part { OnErr result (EnrolsSome S.Store room.old room.new rows.now head.now) }
     ensures wants { IfErr result IsWanting }
 {
     let mut is_changed = true;
@@ -85,6 +86,12 @@ fn enrol_row<S: Alter>(
         → IsRoom S.Store room.old terminals held
         → (terminals_enrolled held terminals row.now ≡ terminals)
         × (room_enrolled held terminals row.now ≡ held)) }
+    ensures part { IsClean S.Store room.new.conn
+        → OnErr result ((terminals : List Terminal) (held : Room)
+        → IsRoom S.Store room.old terminals held
+        → IsRoom S.Store room.new terminals held
+        ⊎ IsRoom S.Store room.new (terminals_enrolled held terminals row.now)
+        (room_enrolled held terminals row.now)) }
     ensures wants { IfErr result IsWanting }
 {
     let mut fates = Vec::new(alloc);

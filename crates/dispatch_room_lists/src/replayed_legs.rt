@@ -1,16 +1,15 @@
 //! A list with changes among its messages, replayed leg by leg.
-ghost use Rattle.std.specs.Io.KnownBytes.{prepend_known};
-ghost use Rattle.std.specs.Prelude.{◌≡◌, ◌==◌, ◌⊎◌, ◌||◌, [], Err, List, Ok, ℕ, IfErr, IfOk, OnOk, false, true};
+ghost use Rattle.std.specs.Prelude.{◌≡◌, ◌==◌, ◌||◌, [], Err, List, Ok, ℕ, IfErr, IfOk, OnOk, false};
 ghost use Rattle.room_http.specs.Settings.{IsSetting};
 ghost use Rattle.room_store.specs.StoredRoom.{IsReady};
-ghost use Rattle.dispatch_room_journal.specs.Legs.{TakesIn};
-ghost use Rattle.dispatch_room_journal.specs.ReadSteps.{left_in, most_rows};
-ghost use Rattle.dispatch_room_journal.specs.declared.replay_faults.ReplayFault.TheVariants.{ReadFailed};
+ghost use Rattle.dispatch_room_journal.specs.ReadSteps.{most_rows};
+ghost use Rattle.room_model.specs.declared.digests.Head.{Head};
 ghost use Rattle.dispatch_room_journal.specs.declared.row_runs.Behind.{Behind as Which};
-ghost use Rattle.dispatch_room_lists.specs.ListedRows.{IsUnfollowed, LosesStage};
-ghost use Rattle.dispatch_room_lists.specs.ReplayedLegs.{FollowsBy, IsLeg, LosesLeg, ReplaysLegs, in_all, sum_of};
+ghost use Rattle.dispatch_room_journal.specs.declared.row_runs.Behind.TheVariants.{Room};
+ghost use Rattle.dispatch_room_lists.specs.ListedRows.{IsUnfollowed, LosesText};
+ghost use Rattle.dispatch_room_lists.specs.ReplayedLegs.{FollowsBy, IsLeg, IsSpent, LosesLeg, PlaysLegs, StopsBehind};
+ghost use Rattle.dispatch_room_lists.specs.ReplayedLegs.{TakesBehind, begins_leg, in_all, left_of, sum_of};
 ghost use Rattle.dispatch_room_lists.specs.StoodRooms.{GoesOn, StageGoesOn};
-ghost use Rattle.room_tables_schema.specs.FileConnections.{IsClean};
 
 use crate::followed_rows::{Followed, Stage, follow};
 use crate::leg_readers::LegReader;
@@ -53,28 +52,14 @@ pub fn replay_legs<S: Alter + Drop, R: Source, O: Write, E: Write>(
     requires list { (R.has_failed list.old.reader || list.old.passed == most_rows) ≡ false }
     requires ready { IsReady S.Store first.room }
     requires set { IsSetting first.room.plan.zone course.now.replay.now.history first.setting }
-    ensures ready { IfOk result (λ played. IsReady S.Store played.1) }
-    ensures trusted { IfOk result (λ played. IsClean S.Store played.1.conn
-        → IsClean S.Store first.room.conn) }
-    ensures legs { IfOk result (λ played. ReplaysLegs S.Store course.now.replay.now
-        (record {
-          store = first.room;
-          setting = first.setting;
-          left = left_in list.old.reel.mode list.old.reel.vouched list.old.reel.inbox
-              (R.left list.old.reader);
-          held = O.contents out.old.inner;
-          records = 0;
-        })
-        played.1 (O.contents out.new.inner) played.0) }
+    ensures played { IfOk result (λ played. PlaysLegs S.Store course.now.replay.now
+        (begins_leg first.room first.setting (left_of R.left list.old) (O.contents out.old.inner))
+        played.1 (O.contents out.new.inner)
+        (R.has_failed list.new.reader || list.new.passed == most_rows) out.new.failed
+        (IsSpent R.left list.new) played.0) }
     ensures lost { IfErr result (LosesLeg S.Store course.now.replay.now
-        (record {
-          store = first.room;
-          setting = first.setting;
-          left = left_in list.old.reel.mode list.old.reel.vouched list.old.reel.inbox
-              (R.left list.old.reader);
-          held = O.contents out.old.inner;
-          records = 0;
-        })) }
+        (begins_leg first.room first.setting (left_of R.left list.old)
+        (O.contents out.old.inner))) }
 {
     let mut stage = first;
     let mut before = 0;
@@ -152,7 +137,7 @@ fn replay_leg<S: Alter, R: Source, O: Write>(
           held = O.contents out.old.inner;
           records = before;
         })
-        stage.new.room (O.contents out.new.inner) result }
+        stage.new.room (O.contents out.new.inner) (R.has_failed list.new) out.new.failed result }
 {
     let replay = course.replay;
     let setting = stage.setting;
@@ -183,15 +168,14 @@ fn follow_between<S: Alter + Drop, R: Source, E: Write>(
     ensures sound { IfOk result (λ it. OnOk it.0 ((R.has_failed list.new.reader
         || list.new.passed == most_rows) ≡ false)) }
     ensures between { IfOk result (λ it. IfOk it.0 (λ goes_on.
-        (rows : List ℕ) × (behind : Which)
-        × FollowsBy S.Store stage.room it.1.room rows behind goes_on
-        × (list.old.has_ended ≡ true → list.old.reel.vouched ≡ 0
-        → TakesIn list.old.reel.mode list.new.reel.mode
-        (prepend_known list.old.reel.inbox (R.left list.old.reader))
-        (prepend_known list.new.reel.inbox (R.left list.new.reader)) [] rows behind))) }
-    ensures fault { IfOk result (λ it. IfErr it.0 (λ fault.
-        IsUnfollowed fault ⊎ (fault ≡ ReadFailed))) }
-    ensures lost { IfErr result (LosesStage S.Store stage.room) }
+        (rows : List ℕ) × (which : Which) × TakesBehind R.left list.old list.new [] rows which
+        × FollowsBy S.Store stage.room it.1.room rows which goes_on)) }
+    ensures fault { IfOk result (λ it. IfErr it.0 (StopsBehind S.Store
+        (TakesBehind R.left list.old list.new [])
+        (R.has_failed list.new.reader || list.new.passed == most_rows) stage.room it.1.room)) }
+    ensures lost { IfErr result (λ fault. (rows : List ℕ) × (head : Head)
+        × TakesBehind R.left list.old list.new [] rows (Room head)
+        × LosesText S.Store stage.room rows head fault) }
 {
     let mut rows = Vec::new(course.alloc);
     match list.take_rows(&mut rows) {
@@ -214,8 +198,11 @@ fn follow_by<S: Alter + Drop, E: Write>(
     ensures goes { IfOk result (λ it. StageGoesOn S.Store stage it.1) }
     ensures by { IfOk result (λ it. IfOk it.0
         (FollowsBy S.Store stage.room it.1.room rows.now behind.now)) }
-    ensures fault { IfOk result (λ it. IfErr it.0 IsUnfollowed) }
-    ensures lost { IfErr result (LosesStage S.Store stage.room) }
+    ensures fault { IfOk result (λ it. IfErr it.0 (λ fault. (head : Head)
+        × (behind.now ≡ Room head)
+        × IsUnfollowed S.Store stage.room it.1.room rows.now head fault)) }
+    ensures lost { IfErr result (λ fault. (head : Head) × (behind.now ≡ Room head)
+        × LosesText S.Store stage.room rows.now head fault) }
 {
     if rows.is_empty() {
         return Ok((Ok(false), stage));

@@ -1,12 +1,15 @@
 //! A list that is replayed to the room of a database, and what is reported of it.
-ghost use Rattle.std.specs.Prelude.{◌≡◌, ◌==◌, ◌⊎◌, ◌||◌, List, Ok, Option, true, false, IfErr, IfOk, ℕ};
+ghost use Rattle.std.specs.Prelude.{◌≡◌, ◌==◌, ◌⊎◌, ◌||◌, List, Ok, Option, false, IfErr, IfOk, ℕ};
+ghost use Rattle.std.specs.Option.{option_map};
 ghost use Rattle.room_http.specs.Settings.{IsSetting};
 ghost use Rattle.room_store.specs.StoredRoom.{IsReady};
-ghost use Rattle.room_tables_schema.specs.FileConnections.{IsClean};
-ghost use Rattle.dispatch_room_journal.specs.ReadSteps.{left_in, most_rows};
+ghost use Rattle.dispatch_room_journal.specs.Chains.{sha256_digits};
+ghost use Rattle.dispatch_room_journal.specs.ReadSteps.{most_rows};
+ghost use Rattle.dispatch_room_journal.specs.RecordFronts.{list_says};
+ghost use Rattle.dispatch_room_journal.specs.declared.read_progress.Reach.TheVariants.{Leg};
 ghost use Rattle.dispatch_room_tasks.specs.OpenedRoom.{IsUnopened};
-ghost use Rattle.dispatch_room_lists.specs.ReplayedLegs.{LosesLeg, count_in};
-ghost use Rattle.dispatch_room_lists.specs.ReplayedLists.{AreAnswered, EndsAs, HasReplayed, IsReplayed, IsTold, LosesReplayed, begins_leg, failure_of};
+ghost use Rattle.dispatch_room_lists.specs.ReplayedLegs.{IsSpent, LosesLeg, begins_leg, count_in, left_of};
+ghost use Rattle.dispatch_room_lists.specs.ReplayedLists.{EndsAs, HasReplayed, IsPlayed, IsTold, LosesReplayed, failure_of};
 
 use crate::followed_rows::Stage;
 use crate::leg_readers::LegReader;
@@ -36,9 +39,11 @@ pub fn replay_from<S: Alter + Drop, R: Source + Drop, O: Write, E: Write>(
     requires outside { conn.in_transaction ≡ false }
     requires reads { R.has_failed reader ≡ false }
     ensures replayed { IfOk result (λ worked. HasReplayed S.Store conn worked.1
-        course.now.replay.now (O.contents out.old) (O.contents out.new) worked.0) }
+        course.now.replay.now (option_map (list_says sha256_digits Leg) (R.left reader))
+        (O.contents out.old) (O.contents out.new) worked.0) }
     ensures lost { IfErr result (λ fault. IsUnopened S.Store conn fault
-        ⊎ LosesReplayed S.Store conn course.now.replay.now fault) }
+        ⊎ LosesReplayed S.Store conn course.now.replay.now
+        (option_map (list_says sha256_digits Leg) (R.left reader)) fault) }
 {
     let (room, zone) = open_room(course.alloc, conn)?;
     let replay = course.replay;
@@ -69,22 +74,13 @@ fn replay_in<R: Source, S: Alter + Drop, O: Write, E: Write>(
     requires list { (R.has_failed list.old.reader || list.old.passed == most_rows) ≡ false }
     requires ready { IsReady S.Store stage.room }
     requires set { IsSetting stage.room.plan.zone course.now.replay.now.history stage.setting }
-    ensures ready { IfOk result (λ it. IsReady S.Store it.1) }
-    ensures trusted { IfOk result (λ it. IsClean S.Store it.1.conn
-        → IsClean S.Store stage.room.conn) }
-    ensures replayed { course.now.replay.now.answers ≡ false → IfOk result (λ it.
-        IsReplayed S.Store course.now.replay.now stage.room stage.setting it.1
-        (left_in list.old.reel.mode list.old.reel.vouched list.old.reel.inbox
-        (R.left list.old.reader)) (O.contents out.old) (O.contents out.new) it.0) }
-    ensures answered { course.now.replay.now.answers ≡ true → IfOk result (λ it.
-        (holds : Option (List ℕ))
-        × AreAnswered S.Store course.now.replay.now stage.room stage.setting it.1
-        (left_in list.old.reel.mode list.old.reel.vouched list.old.reel.inbox
-        (R.left list.old.reader)) (O.contents out.old) holds it.0) }
+    ensures played { IfOk result (λ it. IsPlayed S.Store course.now.replay.now stage.room
+        stage.setting it.1 (left_of R.left list.old) (O.contents out.old) (O.contents out.new)
+        (R.has_failed list.new.reader || list.new.passed == most_rows) (IsSpent R.left list.new)
+        it.0) }
     ensures lost { IfErr result (λ fault. (held : Option (List ℕ)) × LosesLeg S.Store
-        course.now.replay.now (begins_leg stage.room stage.setting
-        (left_in list.old.reel.mode list.old.reel.vouched list.old.reel.inbox
-        (R.left list.old.reader)) held) fault) }
+        course.now.replay.now (begins_leg stage.room stage.setting (left_of R.left list.old) held)
+        fault) }
 {
     if course.replay.answers {
         let mut writer = LegWriter::new(out);

@@ -15,10 +15,11 @@ use Rattle.dispatch_room_serving.specs.Journals.{known_by, known_where}
 use Rattle.dispatch_room_serving.specs.declared.journals.Journal.{Journal}
 use Rattle.dispatch_room_serving.specs.KeptChanges.{is_kept, kept_of}
 
--- what was kept could not be made to last
-pub keeps_whole : {E : Type 0} (a b : Option (List ℕ)) (bytes : List ℕ) (e : E) → Appends a b bytes
-    → KeepsAll a b bytes (Err e)
-keeps_whole a b bytes e grows = (bytes, ([], sym (append-nil bytes)), grows)
+-- what was kept is, whether or not it could be made to last
+pub keeps_whole : {E : Type 0} (a b : Option (List ℕ)) (bytes : List ℕ) (result : Result (Unit {0}) E)
+    → Appends a b bytes → KeepsAll a b bytes result
+keeps_whole a b bytes (Ok done) grows = grows
+keeps_whole a b bytes (Err e) grows = (bytes, ([], sym (append-nil bytes)), grows)
 
 -- what has arrived and is kept is kept wholly, and of what is not nothing is
 pub keeps_it : {E : Type 0} (keeps : Bool) (arrived : Arrived) (a b : Option (List ℕ))

@@ -3,7 +3,7 @@ ghost use Rattle.std.specs.Prelude.{◌≡◌, ◌⊎◌, ◌+◌, ℕ, List, fa
 ghost use Rattle.std.specs.Option.{option_map};
 ghost use Rattle.dispatch_room_journal.specs.Chains.{sha256_digits};
 ghost use Rattle.dispatch_room_journal.specs.PlainTexts.{StandsKnown, plain_of};
-ghost use Rattle.dispatch_room_journal.specs.RowRuns.{PutsEnd};
+ghost use Rattle.dispatch_room_journal.specs.RowRuns.{PutsEnd, PutsEntry};
 ghost use Rattle.dispatch_room_journal.specs.declared.list_ends.ListEnd.{ListEnd};
 ghost use Rattle.std.specs.Prelude.{Bool, Option, Some, None, IfErr, IsTrue, MatchResult, is_some, refl};
 ghost use Rattle.dispatch_room_cli.specs.declared.exit_status.Failure.TheVariants as failure;
@@ -445,11 +445,16 @@ impl<F: Lasting> JournalFile<F> {
     }
 }
 
-// The entries are those that the list stands for, in whichever form.
+// The entries and rows are those that the list holds, in whichever form.
 impl<F: Lasting> Keeper for JournalFile<F> {
     ghost held = { λ journal. option_map (plain_of sha256_digits) (F.contents journal.0.file) };
 
     ghost lasting = { λ journal. option_map (plain_of sha256_digits) (F.lasting journal.0.file) };
+
+    ghost has_failed = { λ journal. journal.0.failed };
+
+    ghost puts = { λ old new entry. PutsEntry old.1 new.1 (F.contents old.0.file)
+        (F.contents new.0.file) entry };
 
     ghost ends = { λ old new. PutsEnd old.1 new.1 (F.contents old.0.file) (F.contents new.0.file) };
 

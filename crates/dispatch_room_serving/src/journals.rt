@@ -1,6 +1,6 @@
 //! A journal of what is served: each message before the room acts on it, and its answer's status
 //! before the answer is written.
-ghost use Rattle.std.specs.Prelude.{◌≡◌, ◌&&◌, ◌||◌, ℕ, List, [], false, is_err, Option, IsTrue, OnOk, ⊤};
+ghost use Rattle.std.specs.Prelude.{◌≡◌, ◌&&◌, ◌||◌, ℕ, List, [], Bool, false, is_err, Option, IsTrue, OnOk, ⊤};
 ghost use Rattle.room_http.specs.Arrivals.{IsBounded};
 ghost use Rattle.room_http.specs.KeptMessages.{KeepsAll, came_of, told_of};
 ghost use Rattle.dispatch_room_journal.specs.Entries.{Entry, IsDigest, IsEntry, message, text_of};
@@ -18,28 +18,39 @@ use room_types::numbers::Moment;
 
 /// Where the entries of a journal are kept.
 pub trait Keeper {
-    // The text of the entries that it keeps, where that is known.
+    // The text of the entries that it keeps, and of rows that stand among them, where that is known.
     ghost held: { Self → Option (List ℕ) };
 
-    // The text of those that it keeps wherever the machine stops, where that is known.
+    // The text of what of them it keeps wherever the machine stops, where that is known.
     ghost lasting: { Self → Option (List ℕ) };
+
+    // Whether something could not be written to it.
+    ghost has_failed: { Self → Bool };
+
+    // What it is before and after it kept an entry.
+    ghost puts: { Self → Self → List ℕ → Type 0 };
 
     // What it is before and after it kept that the journal ended well.
     ghost ends: { Self → Self → Type 0 };
 
-    /// Keeps one entry more.
+    /// Keeps one entry more, and nothing else.
     fn keep(&mut self, entry: &[u8]) -> Result<(), Unkept>
         requires is_one { (e : Entry) × IsEntry e × (entry.now ≡ text_of e) }
-        ensures kept { KeepsAll (held self.old) (held self.new) entry.now result };
+        ensures kept { KeepsAll (held self.old) (held self.new) entry.now result }
+        ensures put { OnOk result (puts self.old self.new entry.now) }
+        ensures failed { has_failed self.new ≡ (has_failed self.old || is_err result) };
 
     /// Keeps that the journal ended well, where it can say so.
     fn end(&mut self) -> Result<(), Unkept>
         ensures held { KeepsAll (held self.old) (held self.new) [] result }
-        ensures ended { OnOk result (ends self.old self.new) };
+        ensures ended { OnOk result (ends self.old self.new) }
+        ensures failed { has_failed self.new ≡ (has_failed self.old || is_err result) };
 
     /// Makes all that was kept last, and says whether it could.
     fn sync(&mut self) -> bool
         ensures held { held self.new ≡ held self.old }
+        ensures ended { (first : Self) → ends first self.old → ends first self.new }
+        ensures failed { has_failed self.new ≡ has_failed self.old }
         ensures lasts { IsTrue result → lasting self.new ≡ held self.new };
 }
 
@@ -102,17 +113,19 @@ impl<W: Keeper> Journal<W> {
         self.told(kept)
     }
 
-    /// The journal ended well, where nothing failed.
+    /// The journal ended well, where nothing failed. Where its messages last, so does that.
     pub fn end(&mut self) -> Result<(), Unkept>
         ensures kept { KeepsAll (W.held self.old.out) (W.held self.new.out) [] result }
         ensures ended { OnOk result (W.ends self.old.out self.new.out) }
+        ensures lasts { OnOk result
+            (Lasts self.old.is_synced (W.lasting self.new.out) (W.held self.new.out)) }
         ensures failed { self.new.has_failed ≡ (self.old.has_failed || is_err result) }
         ensures for_good { FailsForGood self.old self.new result }
     {
         if self.has_failed {
             return Err(Unkept);
         }
-        let kept = self.out.end();
+        let kept = keep_end(&mut self.out, self.is_synced);
         self.told(kept)
     }
 
@@ -247,14 +260,31 @@ fn keep_entry<W: Keeper>(out: &mut W, is_synced: bool, entry: &EntryText) -> Res
     ensures lasts { OnOk result (Lasts is_synced (W.lasting out.new) (W.held out.new)) }
 {
     match out.keep(entry.bytes()) {
-        Ok(()) => {}
-        Err(unkept) => return Err(unkept),
+        Ok(()) => make_last(out, is_synced),
+        Err(unkept) => Err(unkept),
     }
+}
+
+// Keeps that the journal ended well, and makes it last, where that is wanted.
+fn keep_end<W: Keeper>(out: &mut W, is_synced: bool) -> Result<(), Unkept>
+    ensures kept { KeepsAll (W.held out.old) (W.held out.new) [] result }
+    ensures ended { OnOk result (W.ends out.old out.new) }
+    ensures lasts { OnOk result (Lasts is_synced (W.lasting out.new) (W.held out.new)) }
+{
+    match out.end() {
+        Ok(()) => make_last(out, is_synced),
+        Err(unkept) => Err(unkept),
+    }
+}
+
+// Makes all that was kept last, where that is wanted.
+fn make_last<W: Keeper>(out: &mut W, is_synced: bool) -> Result<(), Unkept>
+    ensures held { W.held out.new ≡ W.held out.old }
+    ensures ended { (first : W) → W.ends first out.old → W.ends first out.new }
+    ensures lasts { OnOk result (Lasts is_synced (W.lasting out.new) (W.held out.new)) }
+{
     if !is_synced {
         return Ok(());
     }
-    if !out.sync() {
-        return Err(Unkept);
-    }
-    Ok(())
+    if out.sync() { Ok(()) } else { Err(Unkept) }
 }

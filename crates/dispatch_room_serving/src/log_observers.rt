@@ -1,13 +1,14 @@
 //! Who watches over what is served: a log, and perhaps a journal.
-ghost use Rattle.std.specs.Prelude.{◌≡◌, [], OnOk, is_some};
+ghost use Rattle.std.specs.Prelude.{◌≡◌, ◌||◌, [], OnOk, is_err, is_some};
 ghost use Rattle.room_http.specs.KeptMessages.{KeepsAll};
 ghost use Rattle.dispatch_room_journal.specs.JournalRecords.{answer_text, message_text, room_text};
-ghost use Rattle.dispatch_room_serving.specs.Journals.{EndsBy, failed_by, held_by};
+ghost use Rattle.dispatch_room_serving.specs.Journals.{EndsAfter, EndsBy, failed_by, held_by};
 ghost use Rattle.dispatch_room_serving.specs.LoggedLines.{Logs};
 
 use crate::journal_observers::JournalObserver;
 use crate::journals::{Journal, Keeper};
 use crate::logs::Log;
+use dispatch_room_cli::exit_status::{Done, Failure};
 use room_http::arrivals::Arrived;
 use room_http::observers::{Asked, Observer, Unkept};
 use room_model::digests::Head;
@@ -25,20 +26,37 @@ pub struct LogAndJournal<'a, E, T, W> {
 impl<'a, E: Write, T: Clock, W: Keeper> LogAndJournal<'a, E, T, W> {
     /// A log, and a journal or none.
     pub fn new(log: Log<'a, E, T>, journal: Option<Journal<W>>) -> LogAndJournal<'a, E, T, W>
-        ensures { result.journal ≡ journal }
+        ensures journal { result.journal ≡ journal }
+        ensures log { result.log.goes_on ≡ log.entry.goes_on }
     {
         LogAndJournal { log, journal }
     }
 
     /// What was kept ended well, where nothing failed.
-    pub fn end(&mut self) -> Result<(), Unkept>
+    fn end(&mut self) -> Result<(), Unkept>
         ensures kept { KeepsAll (held_by W.held self.old.journal) (held_by W.held self.new.journal)
             [] result }
         ensures ended { OnOk result (EndsBy W.ends self.old.journal self.new.journal) }
+        ensures failed { failed_by self.new.journal
+            ≡ (failed_by self.old.journal || is_err result) }
     {
         match &mut self.journal {
             Some(journal) => journal.end(),
             None => Ok(()),
+        }
+    }
+
+    /// Keeps that serving ended well, where it did, and returns how the service ended: where that
+    /// could not be kept, its journal failed.
+    pub fn end_after(&mut self, served: Result<Done, Failure>) -> Result<Done, Failure>
+        ensures { EndsAfter W.ends self.old.journal self.new.journal served result }
+    {
+        match served {
+            Ok(done) => match self.end() {
+                Ok(()) => Ok(done),
+                Err(_) => Err(Failure::Journal),
+            },
+            Err(fault) => Err(fault),
         }
     }
 }

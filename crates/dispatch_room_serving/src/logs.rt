@@ -40,7 +40,9 @@ impl<'a, E: Write, T: Clock> Log<'a, E, T> {
         explainer: Explainer<'a>,
         out: &'a mut E,
         is_written: bool,
-    ) -> Log<'a, E, T> {
+    ) -> Log<'a, E, T>
+        ensures { result.goes_on ≡ is_written }
+    {
         Log {
             alloc,
             clock,

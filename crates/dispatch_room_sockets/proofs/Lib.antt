@@ -4,4 +4,6 @@ mod PieceLaws
 pub mod SweepLaws
 mod LeaverLaws
 mod HistoryLaws
+mod TurnLaws
+mod PauseLaws
 mod LookaheadLaws

@@ -12,6 +12,12 @@ pub mod Sweeps
 pub mod Pieces
 -- what has become of all who came
 pub mod CallerHistories
+-- whose turn it is of those who are to be served
+pub mod Turns
+-- those who are parted from
+pub mod Departures
+-- how long it is waited for someone to move
+pub mod Pauses
 -- one round of looks
 pub mod Rounds
 -- what stands ahead in a stream

@@ -1,5 +1,6 @@
 //! A room is called at its address.
-ghost use Rattle.std.specs.Prelude.{◌≡◌, IfSome, false};
+ghost use Rattle.std.specs.Prelude.{◌≡◌, ◌≤◌, IfSome, false, min};
+ghost use Rattle.std.specs.Duration.{as_nanos, max_nanos};
 
 use crate::socket_readers::SocketReader;
 use crate::socket_writers::SocketWriter;
@@ -22,7 +23,13 @@ pub fn call<'a>(
     address: &str,
     patience: Duration,
 ) -> Option<(Reader<'a>, Writer<'a>)>
-    ensures { IfSome result (λ sides. sides.1.failed ≡ false) }
+    ensures sound { IfSome result (λ sides. (sides.0.failed ≡ false)
+        × (sides.1.failed ≡ false)) }
+    ensures paced { IfSome result (λ sides. (sides.0.idle ≡ patience)
+        × (sides.0.pace.waits ≡ record { idle = patience; patience = patience })) }
+    ensures patient { IfSome result (λ sides. sides.1.patience ≡ patience) }
+    ensures ends { IfSome result (λ sides. (sides.0.pace.ends ≡ sides.1.last)
+        × (min (as_nanos patience) max_nanos ≤ as_nanos sides.1.last)) }
 {
     let ends = rt.monotonic().ok()?.saturating_add(patience);
     let stream = match connected(rt, address, ends) {

@@ -1,4 +1,5 @@
 //! The door of a room: its sockets, and the system's set of those that move.
+ghost use Rattle.std.specs.Prelude.{◌≡◌, true};
 
 use crate::entrances::Entrance;
 use crate::kept_callers::{Heard, is_over};
@@ -74,7 +75,9 @@ impl Client {
     }
 
     /// From now on it is looked at anew.
-    pub(crate) fn refresh(&mut self) {
+    pub(crate) fn refresh(&mut self)
+        ensures { self.new ≡ record self.old { is_fresh = true } }
+    {
         self.is_fresh = true;
     }
 }
@@ -262,6 +265,8 @@ impl<'a> Entrance for Door<'a> {
     ghost came = { λ _. None };
 
     ghost heard = { λ _. None };
+
+    ghost is_watched = { λ _ client. client.is_watched };
 
     fn accept(&mut self) -> Option<Client> {
         if !self.is_called || self.is_deaf() {

@@ -1,5 +1,5 @@
 //! Where those who call come in, and where they are looked at.
-ghost use Rattle.std.specs.Prelude.{◌≡◌, List, [], ◌∷◌, Option, option_to_list};
+ghost use Rattle.std.specs.Prelude.{◌≡◌, Bool, List, [], ◌∷◌, Option, option_to_list};
 ghost use Rattle.dispatch_room_sockets.specs.Growths.{Grows};
 ghost use Rattle.dispatch_room_sockets.specs.declared.kept_callers.Heard.{Heard as Found};
 
@@ -18,6 +18,9 @@ pub trait Entrance: Drop {
     // What each look found so far, where that is known.
     ghost heard: { Self → Option (List Found) };
 
+    // Whether `wait` finds when one moves.
+    ghost is_watched: { Self → Self.Caller → Bool };
+
     /// The next who calls, where one does.
     fn accept(&mut self) -> Option<Self::Caller>
         ensures came { Grows (came self.old) (came self.new) (option_to_list result) }
@@ -34,7 +37,8 @@ pub trait Entrance: Drop {
         ensures heard { heard self.new ≡ heard self.old };
 
     /// Whether `wait` finds when one moves.
-    fn is_watched(&self, caller: &Self::Caller) -> bool;
+    fn is_watched(&self, caller: &Self::Caller) -> bool
+        ensures { result ≡ is_watched self.now caller.now };
 
     /// Waits until someone moves, and so long at most. Who was looked at after it waited for
     /// nothing is watched, where they may still speak.

@@ -4,6 +4,7 @@ ghost use Rattle.std.specs.Prelude.{◌≤◌, ◌<◌, All, true};
 ghost use Rattle.std.specs.Duration.{as_nanos};
 ghost use Rattle.std.specs.VecDeque.{deque_len, deque_capacity};
 ghost use Rattle.std.specs.Prelude.{◌≡◌};
+ghost use Rattle.dispatch_room_sockets.specs.Pauses.{looked_at_by};
 
 use crate::entrances::Entrance;
 use crate::kept_callers::is_over;
@@ -39,7 +40,9 @@ impl<C> Leaver<C> {
     }
 
     /// When it is looked at at the latest, whether anybody moves or not.
-    pub(crate) fn next(&self) -> Duration {
+    pub(crate) fn next(&self) -> Duration
+        ensures { as_nanos result ≡ looked_at_by self.now.rests self.now.until }
+    {
         match self.rests {
             Some(rests) => {
                 let latest = rests.saturating_add(Duration::from_millis(SLACK));

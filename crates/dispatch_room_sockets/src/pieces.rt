@@ -1,7 +1,10 @@
 //! A connection is served in pieces: each is whole requests, and between two of them others are
 //! served.
-ghost use Rattle.std.specs.Prelude.{◌≡◌, ◌≤◌, ◌||◌, if◌then◌else◌, IfOk, IfSome, None, false, is_err, length, true};
+ghost use Rattle.std.specs.Prelude.{◌≡◌, ◌*◌, ◌≤◌, ◌||◌, if◌then◌else◌, IfOk, IfSome, None, false, is_err, length, true};
+ghost use Rattle.std.specs.Duration.{as_nanos};
 ghost use Rattle.dispatch_room_sockets.specs.CallerHistories.{ComesBack};
+ghost use Rattle.dispatch_room_sockets.specs.Departures.{Departs};
+ghost use Rattle.dispatch_room_sockets.specs.Turns.{WaitsAgain};
 ghost use Rattle.room_http_messages.specs.Streams.{found_end, known_count};
 
 use crate::doors::{Client, Door, PAUSE};
@@ -219,6 +222,8 @@ pub fn next_piece<'a>(
 ) -> Option<(PieceReader<'a>, PieceWriter<'a>)>
     ensures reader { IfSome result (λ sides. sides.0.failed ≡ false) }
     ensures writer { IfSome result (λ sides. sides.1.failed ≡ false) }
+    ensures patient { IfSome result (λ sides. (sides.1.patience ≡ patience)
+        × (as_nanos sides.1.last ≡ u64.MAX * 1_000_000_000)) }
 {
     let mut kept = waiting.next()?;
     let now = rt.monotonic().ok()?;
@@ -257,6 +262,13 @@ pub fn take_back<'a>(
     ensures parted { reader.entry.is_paused ≡ false →
         waiting.new.line.items ≡ waiting.old.line.items }
     ensures waits { reader.entry.is_paused ≡ true → waiting.new.leavers ≡ waiting.old.leavers }
+    ensures again { reader.entry.is_paused ≡ true → WaitsAgain waiting.old.keep
+        reader.entry.kept.number (record reader.entry.kept.caller { is_fresh = true })
+        waiting.old.line.items waiting.new.line.items }
+    ensures departs { reader.entry.is_paused ≡ false →
+        IfSome (if writer.entry.failed then None else writer.entry.until) (λ until.
+        Departs (record reader.entry.kept.caller { is_fresh = true }) until
+        waiting.old.leavers.items waiting.new.leavers.items) }
     ensures same { (waiting.new.ready.items ≡ waiting.old.ready.items)
         × (waiting.new.next ≡ waiting.old.next) }
 {

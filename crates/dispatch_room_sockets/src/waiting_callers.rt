@@ -49,7 +49,10 @@ pub struct Waiting<E: Entrance> {
 impl<E: Entrance> Waiting<E> {
     ghost use Rattle.dispatch_room_sockets.specs.CallerHistories.{AreInTime, ComesBack, GivesNext};
     ghost use Rattle.dispatch_room_sockets.specs.Rounds.{IsRound};
-    ghost use Rattle.std.specs.Prelude.{[], None, ◌<◌};
+    ghost use Rattle.dispatch_room_sockets.specs.Turns.{IsInTurn, WaitsAgain};
+    ghost use Rattle.dispatch_room_sockets.specs.Departures.{Departs};
+    ghost use Rattle.dispatch_room_sockets.specs.Pauses.{IsLeast, limits};
+    ghost use Rattle.std.specs.Prelude.{[], None, ◌<◌, ◌==◌, not};
     ghost use Rattle.std.specs.Duration.{as_nanos};
 
     /// Nobody waits yet where they come in. Each may be silent so long, and a request may take so
@@ -81,6 +84,8 @@ impl<E: Entrance> Waiting<E> {
     pub fn next(&mut self) -> Option<Kept<E::Caller>>
         ensures given { GivesNext self.old.line.items self.old.ready.items self.old.next
             self.new.line.items self.new.ready.items self.new.next result }
+        ensures in_turn { IsInTurn self.old.line.items self.new.line.items self.old.ready.items
+            self.new.ready.items result }
     {
         if self.ready.is_empty() {
             self.look_around();
@@ -183,7 +188,9 @@ impl<E: Entrance> Waiting<E> {
 
     /// Until when nobody's time is over, from now on.
     pub fn pause(&self, now: Duration) -> Duration
-        ensures { as_nanos result ≤ 1_000_000_000 }
+        ensures bound { as_nanos result ≤ 1_000_000_000 }
+        ensures least { IsLeast (as_nanos result) (limits now (E.is_watched self.now.entrance)
+            self.now.line.items self.now.leavers.items) }
     {
         let mut pause = Duration::from_secs(LONGEST_PAUSE);
         for kept in &self.line {
@@ -206,12 +213,16 @@ impl<E: Entrance> Waiting<E> {
     }
 
     /// Whether another is to be served.
-    pub fn is_awaited(&self) -> bool {
+    pub fn is_awaited(&self) -> bool
+        ensures { result ≡ not (deque_len self.now.ready == 0) }
+    {
         !self.ready.is_empty()
     }
 
     /// Takes one back who was served and may say more. It is silent again from now on.
     pub fn take_back(&mut self, kept: Kept<E::Caller>)
+        ensures again { WaitsAgain self.old.keep kept.number kept.caller self.old.line.items
+            self.new.line.items }
         ensures back { ComesBack kept.number self.old.line.items self.new.line.items
             self.old.ready.items self.old.next }
         ensures same { (self.new.ready.items ≡ self.old.ready.items)
@@ -232,6 +243,7 @@ impl<E: Entrance> Waiting<E> {
 
     /// Parts from one who was served: what they still say is thrown away until a moment.
     pub fn part(&mut self, kept: Kept<E::Caller>, until: Duration)
+        ensures departs { Departs kept.caller until self.old.leavers.items self.new.leavers.items }
         ensures back { ComesBack kept.number self.old.line.items self.new.line.items
             self.old.ready.items self.old.next }
         ensures same { (self.new.line.items ≡ self.old.line.items)

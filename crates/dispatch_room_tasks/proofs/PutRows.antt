@@ -6,8 +6,8 @@ use Rattle.std.specs.Cmp.{IsTotalOrder}
 use Rattle.std.specs.Ordering.{is_eq}
 use Rattle.std.specs.Prelude.{Bool, List, None, Option, Some, [], cond, false, refl, true, ◌∷◌, ◌≡◌}
 use Rattle.std.specs.declared.cmp.Ordering.{Ordering}
-use Rattle.room_types_keyed.proofs.KeyedLaws.{keyed_put, row_below, row_put}
-use Rattle.room_types_keyed.specs.KeyedRows.{IsBelowAll, IsKeyed, put_row, row_at}
+use Rattle.room_types.proofs.KeyedLaws.{keyed_put, row_below, row_put}
+use Rattle.room_types.specs.KeyedRows.{IsBelowAll, IsKeyed, put_row, row_at}
 use Rattle.room_types.specs.declared.fleet.Terminal.{Terminal}
 use Rattle.room_model.proofs.OneList.{one_keyed}
 use Rattle.room_model.proofs.OpenTurns.{row_there}

@@ -10,8 +10,8 @@ use Rattle.std.specs.List.{list_any}
 use Rattle.sqlite_trees.specs.Tree.{Trees}
 use Rattle.room_place.specs.Plans.{Layout, has_division}
 use Rattle.room_tables_schema.proofs.Comparisons.{is_Equal}
-use Rattle.room_types_keyed.proofs.KeyedLaws.{keyed_filter, keyed_put, row_filter}
-use Rattle.room_types_keyed.specs.KeyedRows.{IsKeyed, keep, put_row, row_at}
+use Rattle.room_types.proofs.KeyedLaws.{keyed_filter, keyed_put, row_filter}
+use Rattle.room_types.specs.KeyedRows.{IsKeyed, keep, put_row, row_at}
 use Rattle.room_types.specs.Keys.{callsign_cmp, vehicle_key}
 use Rattle.room_types.specs.Orders.{exact_callsigns}
 use Rattle.room_types.specs.Texts.{Callsign, Token}

@@ -11,8 +11,8 @@ use Rattle.room_place.specs.Plans.{Layout, are_of_divisions, are_rectangles, has
 use Rattle.room_place.specs.Plans.{is_zone}
 use Rattle.room_place.specs.declared.plans.Area.{Area}
 use Rattle.room_place.specs.declared.plans.PlanFault.TheVariants.{Count, Number, Rectangle, Zone}
-use Rattle.room_types_keyed.proofs.KeyedLaws.{keyed_put}
-use Rattle.room_types_keyed.specs.KeyedRows.{IsKeyed, put_row, row_at}
+use Rattle.room_types.proofs.KeyedLaws.{keyed_put}
+use Rattle.room_types.specs.KeyedRows.{IsKeyed, put_row, row_at}
 use Rattle.room_types.specs.Keys.{callsign_cmp, division_key, incident_key, numbered_cmp, pair_cmp, point_key}
 use Rattle.room_types.specs.Keys.{report_key, turn_key, vehicle_key}
 use Rattle.room_types.specs.declared.changes.Change.TheVariants.{PutDivision}

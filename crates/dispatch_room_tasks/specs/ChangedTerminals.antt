@@ -14,6 +14,7 @@ use Rattle.room_model.specs.RoomAgreements.{IsWellFormed}
 use Rattle.room_tables.specs.RoomsInTables.{Stands}
 use Rattle.room_store_writes.specs.Houses.{config_of}
 use Rattle.room_store_writes.specs.Transactions.{IsSettled, Leaves}
+use Rattle.room_store_check_tables.specs.HeldRooms.{IsPlanOf}
 use Rattle.room_store_file.specs.OpenedFile.{KeepsFile, MayBeIndexed}
 use Rattle.room_store_writes.specs.TerminalChanges.{Explains, Gives, fault_in}
 use Rattle.room_store_writes.specs.TerminalHolders.{terminals_by}
@@ -50,6 +51,7 @@ pub record HasChanged {S : Type 0} (g : Ghosts S) (old new : Held S) (who : Who)
   pub plan : Layout
   pub opened : Held S
   pub rows : IsClean g opened → KeepsFile (state g old) (state g opened)
+  pub of_room : IsClean g opened → IsPlanOf (state g opened).now.trees plan
   pub changed : IsClean g new
       → OnOk done ((terminals : List Terminal) × (room : Room)
       × IsSameRoom (state g opened).now.trees (state g new).now.trees plan who token terminals room

@@ -1,7 +1,7 @@
 -- Who has a terminal in a room, and what is written of that.
 use Rattle.std.specs.Io.KnownBytes.{Appends}
 use Rattle.std.specs.List.{flat_map}
-use Rattle.std.specs.Prelude.{IfOk, IsPermutation, List, OnOk, Option, Result, codes, decimal, map, ℕ, ◌++◌, ◌≡◌}
+use Rattle.std.specs.Prelude.{IfErr, IfOk, IsPermutation, List, OnOk, Option, Result, codes, decimal, map, ℕ, ◌++◌, ◌≡◌, ◌⊎◌}
 use Rattle.sqlite.specs.Held.{Held, state}
 use Rattle.sqlite.specs.State.{Survives}
 use Rattle.sqlite_trees.specs.declared.store.Store.{Ghosts}
@@ -18,6 +18,7 @@ use Rattle.room_store_file.specs.OpenedFile.{KeepsFile, MayBeIndexed}
 use Rattle.dispatch_room_cli.specs.declared.exit_status.Done.{Done}
 use Rattle.dispatch_room_cli.specs.declared.exit_status.Done.TheVariants.{Whole}
 use Rattle.dispatch_room_cli.specs.declared.exit_status.Failure.{Failure}
+use Rattle.dispatch_room_cli.specs.declared.exit_status.Failure.TheVariants.{Memory, Network, Storage}
 use Rattle.dispatch_room_tasks.specs.declared.listed_terminals.Listed.{Listed}
 use Rattle.dispatch_room_tasks.specs.declared.listed_terminals.Listed.TheVariants.{Crew, Desk, Position}
 use Rattle.room_tables_schema.specs.FileConnections.{IsClean}
@@ -44,6 +45,10 @@ abbrev pub Tells : List Terminal → Option (List ℕ) → Option (List ℕ) →
 Tells ts before after =
     (listed : List Listed) × IsListing ts listed × Appends before after (lines_text listed)
 
+-- memory, storage or the output fails
+abbrev pub IsMachines : Failure → Type 0
+IsMachines fault = (fault ≡ Memory) ⊎ (fault ≡ Storage) ⊎ (fault ≡ Network)
+
 -- The file of a database was opened, which keeps all of its rows, and nothing is written to it. It
 -- is listed who has the terminals of its room, unless something fails.
 pub record HasListed {S : Type 0} (g : Ghosts S) (old new : Held S)
@@ -52,6 +57,7 @@ pub record HasListed {S : Type 0} (g : Ghosts S) (old new : Held S)
   pub opened : Held S
   pub rows : IsClean g opened → KeepsFile (state g old) (state g opened)
   pub whole : IfOk done (λ it. it ≡ Whole)
+  pub fault : IfErr done IsMachines
   pub told : IsClean g new
       → OnOk done ((terminals : List Terminal) × (room : Room) × AreTerminals room terminals
       × Stands (state g opened).now.trees (config_of plan terminals) room

@@ -18,6 +18,7 @@ use Rattle.room_model.specs.RoomAgreements.{IsWellFormed}
 use Rattle.room_tables_rows.specs.RoomsInTables.{Configuration, Stands}
 use Rattle.room_tables_schema.specs.declared.database_faults.Fault.{Fault}
 use Rattle.room_tables_schema.specs.declared.database_faults.Fault.TheVariants as fault
+use Rattle.room_store_check_tables.specs.HeldRooms.{IsPlanOf}
 use Rattle.room_store_file.specs.OpenedFile.{KeepsFile, MayBeIndexed}
 use Rattle.room_store_writes.specs.Houses.{config_of}
 use Rattle.room_store_writes.specs.NewRoom.{put_all}
@@ -142,6 +143,7 @@ pub record HasReplaced {S : Type 0} (g : Ghosts S) (old new : Held S) (listed : 
   pub plan : Layout
   pub opened : Held S
   pub rows : IsClean g opened → KeepsFile (state g old) (state g opened)
+  pub of_room : IsClean g opened → IsPlanOf (state g opened).now.trees plan
   pub replaced : IsClean g new
       → OnOk done ((terminals : List Terminal) × (room : Room)
       × KeepsRoom (state g opened).now.trees (state g new).now.trees plan listed terminals room

@@ -14,6 +14,7 @@ use Rattle.room_model.specs.FleetRows.{AreTerminals}
 use Rattle.room_model.specs.Room.{Room, apply}
 use Rattle.room_model.specs.RoomAgreements.{IsWellFormed}
 use Rattle.room_tables_rows.specs.RoomsInTables.{Configuration, Stands}
+use Rattle.room_store_check_tables.specs.HeldRooms.{IsPlanOf}
 use Rattle.room_store_file.specs.OpenedFile.{KeepsFile, MayBeIndexed}
 use Rattle.room_store_writes.specs.Houses.{config_of}
 use Rattle.room_store_writes.specs.NewRoom.{new_division}
@@ -99,6 +100,7 @@ pub record HasReplanned {S : Type 0} (g : Ghosts S) (old new : Held S) (file : P
   pub plan : Layout
   pub opened : Held S
   pub rows : IsClean g opened → KeepsFile (state g old) (state g opened)
+  pub of_room : IsClean g opened → IsPlanOf (state g opened).now.trees plan
   pub replanned : IsClean g new
       → OnOk done ((terminals : List Terminal) × (room : Room)
       × HasNewPlan (state g opened).now.trees (state g new).now.trees plan file terminals room

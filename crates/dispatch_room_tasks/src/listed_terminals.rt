@@ -9,7 +9,7 @@ ghost use Rattle.room_tables_schema.specs.FileConnections.{HasRoomSchema, IsClea
 ghost use Rattle.room_store_writes.specs.Transactions.{Leaves};
 ghost use Rattle.dispatch_room_cli.specs.declared.exit_status.Done.TheVariants.{Whole};
 ghost use Rattle.dispatch_room_tasks.specs.OpenedRoom.{HoldsNone};
-ghost use Rattle.dispatch_room_tasks.specs.ListedTerminals.{HasListed, IsListing, Tells, line_text, lines_text, listed_of};
+ghost use Rattle.dispatch_room_tasks.specs.ListedTerminals.{HasListed, IsMachines, IsListing, Tells, line_text, lines_text, listed_of};
 
 use crate::opened_room::TaskResult;
 use crate::opening_faults::of_opening;
@@ -64,6 +64,7 @@ fn list_opened<S: Alter, O: Write>(
     requires room { HasRoomSchema S.Store conn.old }
     requires outside { conn.old.in_transaction ≡ false }
     ensures whole { IfOk result (λ done. done ≡ Whole) }
+    ensures fault { IfErr result IsMachines }
     ensures told { IsClean S.Store conn.new
         → OnOk result ((config : Configuration) (room : Room)
         → Stands (state S.Store conn.old).now.trees config room
@@ -82,6 +83,7 @@ fn list_opened<S: Alter, O: Write>(
 // Lists who has these terminals.
 fn tell<O: Write>(alloc: Global, terminals: &[Terminal], out: &mut O) -> Result<Done, Failure>
     ensures whole { IfOk result (λ done. done ≡ Whole) }
+    ensures fault { IfErr result IsMachines }
     ensures told { OnOk result (Tells terminals.now (O.contents out.old) (O.contents out.new)) }
 {
     let Ok(listed) = in_order(alloc, terminals) else {

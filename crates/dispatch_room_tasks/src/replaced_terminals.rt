@@ -2,7 +2,7 @@
 ghost use Rattle.std.specs.Prelude.{◌≡◌, false, length, IfErr, IfOk, OnOk};
 ghost use Rattle.sqlite.specs.Held.{state};
 ghost use Rattle.sqlite.specs.State.{Survives};
-ghost use Rattle.room_types_keyed.specs.KeyedRows.{IsKeyed};
+ghost use Rattle.room_types.specs.KeyedRows.{IsKeyed};
 ghost use Rattle.room_model.specs.FleetRows.{terminal_key, token_cmp};
 ghost use Rattle.room_model.specs.Room.{Room};
 ghost use Rattle.room_tables_rows.specs.RoomsInTables.{Configuration, Stands};

@@ -1,11 +1,21 @@
 -- Parts of a room's service, one after another.
-use Rattle.std.proofs.Common.{◌≡◌, refl, [], ◌∷◌, Bool, true, false, Result, Ok, Err}
+use Rattle.std.proofs.Common.{◌≡◌, refl, ap, inl, inr, [], ◌∷◌, Bool, true, false, Option, Result, Ok, Err}
 use Rattle.std.specs.Prelude.{is_err, not}
 use Rattle.sqlite_trees.specs.declared.store.Store.{Ghosts}
 use Rattle.dispatch_room_cli.specs.declared.exit_status.Done.{Done}
 use Rattle.dispatch_room_cli.specs.declared.exit_status.Failure.{Failure}
 use Rattle.dispatch_room_serving.specs.declared.served_room.Terms.{Terms}
-use Rattle.dispatch_room_tcp.specs.ServedParts.{EndsPart, Interval, IsPart, PartsBefore}
+use Rattle.dispatch_room_serving.specs.Journals.{EndsAfter}
+use Rattle.dispatch_room_serving.specs.declared.journals.Journal.{Journal}
+use Rattle.dispatch_room_tcp.specs.ServedParts.{EndsAs, EndsPart, Interval, IsPart, PartsBefore}
+
+-- where there is a list, a part ends as its service does with it
+pub ends_as : {W : Type 0} (ends : W → W → Type 0) (old new : Option (Journal W))
+    (served result : Result Done Failure) → EndsAfter ends old new served result
+    → EndsAs true served result
+ends_as ends old new (Ok done) (Ok told) it = inl (ap Ok it.0)
+ends_as ends old new (Ok done) (Err fault) it = inr (refl, refl, ap Err it.0)
+ends_as ends old new (Err fault) result it = inl it.0
 
 pub not_false : (b : Bool) → not b ≡ false → b ≡ true
 not_false true is = refl

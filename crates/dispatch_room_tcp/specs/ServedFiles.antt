@@ -1,6 +1,7 @@
 -- The room of a file, served to those who call.
 use Rattle.std.specs.Prelude.{Bool, Err, IfOk, List, None, Ok, Option, Result, Some, false, is_some, true, ℕ, ◌&&◌}
-use Rattle.std.specs.Prelude.{◌==◌, ◌≡◌, ◌⊎◌}
+use Rattle.std.specs.Prelude.{◌*◌, ◌==◌, ◌≡◌, ◌⊎◌}
+use Rattle.std.specs.Duration.{as_nanos}
 use Rattle.sqlite.specs.Held.{Held}
 use Rattle.sqlite_trees.specs.declared.store.Store.{Ghosts}
 use Rattle.dispatch_room_disk.specs.RoomFiles.{Refusing, Saying, IsDoneInFile, IsUndoneInFile}
@@ -83,47 +84,65 @@ abbrev pub keeps_questions_by : Option Journal → Bool
 keeps_questions_by None = true
 keeps_questions_by (Some journal) = journal.keeps_questions
 
+-- the door of a service: where it listens, how many seconds a connection may be silent, and how
+-- many a request and its answer have
+abbrev pub IsDoorOf : Service → TcpDoor → Type 0
+IsDoorOf service door = (door.address ≡ service.address)
+    × (as_nanos door.keep ≡ service.keep * 1_000_000_000)
+    × (as_nanos door.patience ≡ service.patience * 1_000_000_000)
+
+-- the address of a service that serves so many connections: where it listens, how many milliseconds
+-- it waits for the first byte of a message, and how many seconds a message and its answer have
+abbrev pub IsAddressOf : Service → TcpAddress → Type 0
+IsAddressOf service listener = (listener.address ≡ service.address)
+    × (as_nanos listener.waits.idle ≡ service.idle * 1_000_000)
+    × (as_nanos listener.waits.patience ≡ service.patience * 1_000_000_000)
+
 -- by what the output held before, what it holds after, and how much is done
 module _ (before after : Option (List ℕ)) (done : Done) where
-  -- a room was served to those who call where something listens
+  -- a room was served to those who call where this listens
   abbrev pub IsServedAt : {L : Type 0} → (L → Option (List (Option Opening)))
-      → (L → Option (List (Option (List ℕ)))) → Bool → Terms → Type 0
-  IsServedAt {L} heard told has_journal terms =
-      (listener : L) × (served : Served L)
+      → (L → Option (List (Option (List ℕ)))) → Bool → Terms → L → Type 0
+  IsServedAt {L} heard told has_journal terms listener =
+      (served : Served L)
       × IsDoneInFile (Serves heard told has_journal terms listener) before after served
       × (done ≡ served.done)
 
-  -- A room was served, with a journal where one was asked for: at a door, where it goes on until it
-  -- is stopped, or to as many connections as was asked for, one after another.
-  abbrev pub IsServedBy : Bool → Bool → Terms → Type 0
-  IsServedBy true has_journal terms =
-      IsServedAt {L = TcpDoor} (λ _. None) (λ _. None) has_journal terms
-  IsServedBy false has_journal terms =
-      IsServedAt {L = TcpAddress} (λ _. None) (λ _. None) has_journal terms
+  -- A room was served, with a journal where one was asked for: at the door of a service, where it
+  -- goes on until it is stopped, or at its address to as many connections as was asked for, one
+  -- after another.
+  abbrev pub IsServedBy : Bool → Bool → Service → Type 0
+  IsServedBy true has_journal service =
+      (door : TcpDoor) × IsDoorOf service door
+      × IsServedAt (λ _. None) (λ _. None) has_journal (terms_of service) door
+  IsServedBy false has_journal service =
+      (listener : TcpAddress) × IsAddressOf service listener
+      × IsServedAt (λ _. None) (λ _. None) has_journal (terms_of service) listener
 
   abbrev pub IsServe : Service → Type 0
-  IsServe service = IsServedBy (is_endless service) (is_some service.journal) (terms_of service)
+  IsServe service = IsServedBy (is_endless service) (is_some service.journal) service
 
 -- by what the output held before, what it holds after, and why the task fails
 module _ (before after : Option (List ℕ)) (fault : Failure) where
-  -- this became of the file of the room that was to be served to those who call where something
-  -- listens
+  -- this became of the file of the room that was to be served to those who call where this listens
   abbrev pub FailsAt : {L : Type 0} → (L → Option (List (Option Opening)))
-      → (L → Option (List (Option (List ℕ)))) → Bool → Terms → Type 0
-  FailsAt {L} heard told has_journal terms =
-      (listener : L)
-      × IsUndoneInFile (Serves heard told has_journal terms listener)
+      → (L → Option (List (Option (List ℕ)))) → Bool → Terms → L → Type 0
+  FailsAt heard told has_journal terms listener =
+      IsUndoneInFile (Serves heard told has_journal terms listener)
       (ServesNone heard told has_journal terms listener) before after fault
 
-  abbrev pub FailsBy : Bool → Bool → Terms → Type 0
-  FailsBy true has_journal terms =
-      FailsAt {L = TcpDoor} (λ _. None) (λ _. None) has_journal terms
-  FailsBy false has_journal terms =
-      FailsAt {L = TcpAddress} (λ _. None) (λ _. None) has_journal terms
+  abbrev pub FailsBy : Bool → Bool → Service → Type 0
+  FailsBy true has_journal service =
+      (door : TcpDoor) × IsDoorOf service door
+      × FailsAt (λ _. None) (λ _. None) has_journal (terms_of service) door
+  FailsBy false has_journal service =
+      (listener : TcpAddress) × IsAddressOf service listener
+      × FailsAt (λ _. None) (λ _. None) has_journal (terms_of service) listener
 
-  -- there is no journal where one was asked for, and nothing is said; or this became of the file of
-  -- the room that was to be served
+  -- there is no journal, where one was asked for, and nothing is said; or this became of the file
+  -- of the room that was to be served
   abbrev pub FailsServe : Service → Type 0
   FailsServe service =
-      ((after ≡ before) × ((fault ≡ failure.Memory) ⊎ (fault ≡ failure.Journal)))
-      ⊎ FailsBy (is_endless service) (is_some service.journal) (terms_of service)
+      ((after ≡ before) × (is_some service.journal ≡ true)
+      × ((fault ≡ failure.Memory) ⊎ (fault ≡ failure.Journal)))
+      ⊎ FailsBy (is_endless service) (is_some service.journal) service

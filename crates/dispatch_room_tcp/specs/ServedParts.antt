@@ -1,6 +1,6 @@
 -- A room that is served in parts, one after another: each begins in a new list, at the room that
 -- the one before left in the same database.
-use Rattle.std.specs.Prelude.{◌≡◌, ◌⊎◌, ℕ, List, [], ◌∷◌, Bool, true, false, Option, Result, Ok, Err}
+use Rattle.std.specs.Prelude.{◌≡◌, ◌⊎◌, ℕ, List, [], ◌∷◌, Bool, true, false, IsOk, Option, Result, Ok, Err}
 use Rattle.sqlite.specs.Held.{Held}
 use Rattle.sqlite_trees.specs.declared.store.Store.{Ghosts}
 use Rattle.dispatch_room_cli.specs.declared.exit_status.Done.{Done}
@@ -20,12 +20,20 @@ pub record Interval (S : Type 0) : Type 0 where
   pub told : Option (List (Option (List ℕ)))
   pub given : Option (List ℕ)
 
+-- A part ends as serving ended; or serving ended well, and the list that there is could not say so.
+abbrev pub EndsAs : Bool → Result Done Failure → Result Done Failure → Type 0
+EndsAs has_journal served result = (result ≡ served)
+    ⊎ (IsOk served × (has_journal ≡ true) × (result ≡ Err Journal))
+
 module _ {S : Type 0} (g : Ghosts S) (has_journal : Bool) (terms : Terms) where
-  -- A part was served, and ended so: it is a start. What its list holds is said by who gives that.
+  -- A part was served, which is a start, and ended so. What its list holds is said by who gives
+  -- that.
   pub record IsPart (old new : Interval S) (result : Result Done Failure) : Type 0 where
     pub kept : Option (List ℕ)
     pub keeps : Option (List ℕ)
     pub fails : Bool
+    pub served : Result Done Failure
+    pub ends : EndsAs has_journal served result
     pub is : ServesRoom g has_journal room_text message_text answer_text terms.history old.conn
         (λ store. record {
           heard = old.heard;
@@ -37,7 +45,7 @@ module _ {S : Type 0} (g : Ghosts S) (has_journal : Bool) (terms : Terms) where
           told = new.told;
           stage = record { given = new.given; kept = keeps; has_failed = fails; store = store };
         })
-        terms.renews terms.connections (result, new.conn)
+        terms.renews terms.connections (served, new.conn)
 
   -- these parts ended well, the last of them first: each began where the one before ended
   abbrev pub AreParts : List (Interval S) → Interval S → Interval S → Type 0

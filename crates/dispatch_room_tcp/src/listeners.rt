@@ -1,5 +1,5 @@
 //! What listens at an address: it gives the connections of those who call, and lets their peers go.
-ghost use Rattle.std.specs.Prelude.{◌≡◌, ℕ, List, [], ◌∷◌, Bool, None, Option, IfErr, IfSome, OnOk, false, is_some, option_map, true};
+ghost use Rattle.std.specs.Prelude.{◌≡◌, ℕ, List, [], ◌∷◌, Bool, None, Option, IfErr, IfSome, OnErr, OnOk, false, is_some, option_map, true};
 ghost use Rattle.dispatch_room_cli.specs.declared.exit_status.Failure.TheVariants.{Network};
 ghost use Rattle.dispatch_room_serving.specs.Callers.{Grows, Opening};
 ghost use Rattle.dispatch_room_sockets.specs.LingeringClose.{Step};
@@ -49,6 +49,7 @@ pub trait Listener: Drop {
     /// Begins to listen. A failure is the network's.
     fn listen(&mut self) -> Result<(), Failure>
         ensures listens { OnOk result (is_listening self.new ≡ true) }
+        ensures deaf { OnErr result (is_listening self.new ≡ is_listening self.old) }
         ensures heard { heard self.new ≡ heard self.old }
         ensures told { told self.new ≡ told self.old }
         ensures fault { IfErr result (λ fault. fault ≡ Network) };
@@ -148,7 +149,14 @@ impl<'a> Listener for TcpAddress<'a> {
         self.listener.is_some()
     }
 
-    fn accept(&mut self) -> Option<(Self::Reader, Self::Writer)> {
+    // Beside what all that listens ensures: the sides have the waits of the address.
+    fn accept(&mut self) -> Option<(Self::Reader, Self::Writer)>
+        ensures reader { IfSome result (λ sides. sides.0.failed ≡ false) }
+        ensures writer { IfSome result (λ sides. sides.1.failed ≡ false) }
+        ensures paced { IfSome result (λ sides. (sides.0.pace.waits ≡ self.old.waits)
+            × (sides.0.idle ≡ self.old.waits.idle)) }
+        ensures patient { IfSome result (λ sides. sides.1.patience ≡ self.old.waits.patience) }
+    {
         match self.listener.as_ref()?.accept() {
             Ok((stream, _)) => sides(stream, self.rt, self.waits),
             Err(error) => {

@@ -1,6 +1,8 @@
 //! The names at which the files of a served room were opened, and whether the files still lie
 //! there. The room is served from the files that were opened, wherever these went; but a start
 //! would find what lies at the names then.
+ghost use Rattle.std.specs.Prelude.{◌≡◌, ◌+◌, ◌&&◌, min, nat_lt, not, if◌then◌else◌};
+ghost use Rattle.std.specs.Duration.{as_nanos, max_nanos};
 
 use dispatch_room_cli::explainer::Explainer;
 use std::alloc::Global;
@@ -48,16 +50,30 @@ impl OpenedNames {
         let Ok(now) = rt.monotonic() else {
             return;
         };
-        if now < self.rests_until {
+        if !self.is_due(now) {
             return;
         }
-        self.rests_until = now.saturating_add(Duration::from_millis(BETWEEN_LOOKS));
         if let Some(room) = &mut self.room {
             room.look(rt, explainer);
         }
         if let Some(log) = &mut self.log {
             log.look(rt, explainer);
         }
+    }
+
+    // Whether both are looked at now, and then they rest for a second.
+    fn is_due(&mut self, now: Duration) -> bool
+        ensures due { result ≡ not (nat_lt (as_nanos now) (as_nanos self.old.rests_until)) }
+        ensures rests { as_nanos self.new.rests_until ≡ if result
+            then min (as_nanos now + 1_000_000_000) max_nanos
+            else as_nanos self.old.rests_until }
+        ensures same { (self.new.room ≡ self.old.room) × (self.new.log ≡ self.old.log) }
+    {
+        if !self.rests_until.saturating_sub(now).is_zero() {
+            return false;
+        }
+        self.rests_until = now.saturating_add(Duration::from_millis(BETWEEN_LOOKS));
+        true
     }
 }
 
@@ -88,15 +104,27 @@ impl OpenedName {
     }
 
     fn look(&mut self, rt: &HostRuntime, explainer: Explainer<'_>) {
-        let is_missed = !self.is_there(rt);
-        if is_missed && !self.is_missed {
+        let is_there = self.is_there(rt);
+        if self.note(is_there) {
             let path = self.path.as_str();
             explainer.explain(format_args!(
                 "{path} was moved, replaced or removed: the room is served on from the file that \
                  was opened, which a start would not find"
             ));
         }
-        self.is_missed = is_missed;
+    }
+
+    // Notes whether the file lies there, and says whether it is to be explained: once, as it first
+    // does not.
+    fn note(&mut self, is_there: bool) -> bool
+        ensures once { result ≡ (not is_there && not self.old.is_missed) }
+        ensures missed { self.new.is_missed ≡ not is_there }
+        ensures same { (self.new.path ≡ self.old.path) × (self.new.device ≡ self.old.device)
+            × (self.new.inode ≡ self.old.inode) }
+    {
+        let was_missed = self.is_missed;
+        self.is_missed = !is_there;
+        self.is_missed && !was_missed
     }
 
     fn is_there(&self, rt: &HostRuntime) -> bool {

@@ -1,13 +1,14 @@
 //! `serve`: a room is served over TCP, to so many connections one after another, or to all who
 //! call, until it is stopped. Then it may be served in parts, each with a list of its own.
-ghost use Rattle.std.specs.Prelude.{◌≡◌, ◌⊎◌, ◌*◌, Option, false, true, is_some, IfErr, IfOk, IfSome};
+ghost use Rattle.std.specs.Prelude.{◌≡◌, ◌≢◌, ◌⊎◌, ◌*◌, Option, false, true, is_some, IfErr, IfOk, IfSome, OnErr};
 ghost use Rattle.std.specs.Duration.{as_nanos};
 ghost use Rattle.dispatch_room_cli.specs.declared.exit_status.Failure.TheVariants as failure;
 ghost use Rattle.dispatch_room_tasks.specs.OpenedRoom.{IsUnopened};
-ghost use Rattle.dispatch_room_serving.specs.Journals.{failed_by};
-ghost use Rattle.dispatch_room_tcp.specs.ServedFiles.{FailsAt, FailsBy, FailsServe, IsServe, IsServedAt, IsServedBy};
+ghost use Rattle.dispatch_room_serving.specs.Journals.{EndsAfter, failed_by};
+ghost use Rattle.dispatch_room_serving.specs.declared.list_places.Finding.TheVariants.{Truncated};
+ghost use Rattle.dispatch_room_tcp.specs.ServedFiles.{FailsAt, FailsBy, FailsServe, IsAddressOf, IsDoorOf, IsServe, IsServedAt, IsServedBy};
 ghost use Rattle.dispatch_room_tcp.specs.ServedFiles.{Serves, ServesNone, ended, is_endless, is_synced_by, keeps_questions_by, terms_of};
-ghost use Rattle.dispatch_room_tcp.specs.ServedParts.{IsPart, OpensNoPart, ServesParts};
+ghost use Rattle.dispatch_room_tcp.specs.ServedParts.{EndsAs, IsPart, OpensNoPart, ServesParts};
 
 use crate::hosts::Host;
 use crate::listeners::{Listener, TcpAddress};
@@ -19,7 +20,7 @@ use dispatch_room_cli::tasks::{self, Service};
 use dispatch_room_disk::room_files::{RoomFile, RoomTask};
 use dispatch_room_serving::callers::Callers;
 use dispatch_room_serving::journal_files::{JournalFile, OpenedList, SystemFile};
-use dispatch_room_serving::journals::Journal;
+use dispatch_room_serving::journals::{Journal, Keeper};
 use dispatch_room_serving::list_places::{Finding, ListPlace, standing};
 use dispatch_room_serving::log_observers::LogAndJournal;
 use dispatch_room_serving::logs::Log;
@@ -30,7 +31,7 @@ use room_http::clocks::{Clock, MachineClock};
 use sqlite::{Alter, Connection};
 use std::alloc::Global;
 use std::io::Write;
-use std::time::Duration;
+use std::time::{self, Duration};
 
 /// Serves the room of a file, with a log and a journal of it where they are wanted: to so many
 /// connections, one after another, each to its end; or where it goes on until it is stopped, in
@@ -85,15 +86,20 @@ fn serve_at_door<O: Write, E: Write>(
     err: &mut E,
 ) -> Result<Done, Failure>
     ensures done { IfOk result (λ done. IsServedBy (O.contents out.old) (O.contents out.new) done
-        true (is_some journal) (terms_of run.now.service.now)) }
+        true (is_some journal) run.now.service.now) }
     ensures undone { IfErr result (λ fault. FailsBy (O.contents out.old) (O.contents out.new) fault
-        true (is_some journal) (terms_of run.now.service.now)) }
+        true (is_some journal) run.now.service.now) }
+{
+    serve_at(file, run, journal, door_of(file, run), out, err)
+}
+
+// The door of a service, at which the room of a file is served.
+fn door_of<'a>(file: &'a str, run: &ServiceRun<'a>) -> TcpDoor<'a>
+    ensures { IsDoorOf run.now.service.now result }
 {
     let keep = Duration::from_secs(u64::from(run.service.keep));
     let patience = waits_of(run.service).patience;
-    let address = run.service.address;
-    let listener = TcpDoor::new(run.host, file, address, keep, patience);
-    serve_at(file, run, journal, listener, out, err)
+    TcpDoor::new(run.host, file, run.service.address, keep, patience)
 }
 
 // Serves the room of a file to as many connections as its service says, one after another.
@@ -105,18 +111,23 @@ fn serve_at_address<O: Write, E: Write>(
     err: &mut E,
 ) -> Result<Done, Failure>
     ensures done { IfOk result (λ done. IsServedBy (O.contents out.old) (O.contents out.new) done
-        false (is_some journal) (terms_of run.now.service.now)) }
+        false (is_some journal) run.now.service.now) }
     ensures undone { IfErr result (λ fault. FailsBy (O.contents out.old) (O.contents out.new) fault
-        false (is_some journal) (terms_of run.now.service.now)) }
+        false (is_some journal) run.now.service.now) }
 {
-    let address = run.service.address;
-    let listener = TcpAddress::new(
+    serve_at(file, run, journal, address_of(run), out, err)
+}
+
+// The address of a service that serves so many connections.
+fn address_of<'a>(run: &ServiceRun<'a>) -> TcpAddress<'a>
+    ensures { IsAddressOf run.now.service.now result }
+{
+    TcpAddress::new(
         run.host.rt,
         run.host.explainer,
-        address,
+        run.service.address,
         waits_of(run.service),
-    );
-    serve_at(file, run, journal, listener, out, err)
+    )
 }
 
 // Serves the room of a file to those who call where something listens.
@@ -129,9 +140,9 @@ fn serve_at<L: Listener, O: Write, E: Write>(
     err: &mut E,
 ) -> Result<Done, Failure>
     ensures done { IfOk result (λ done. IsServedAt (O.contents out.old) (O.contents out.new) done
-        L.heard L.told (is_some journal) (terms_of run.now.service.now)) }
+        L.heard L.told (is_some journal) (terms_of run.now.service.now) listener) }
     ensures undone { IfErr result (λ fault. FailsAt (O.contents out.old) (O.contents out.new) fault
-        L.heard L.told (is_some journal) (terms_of run.now.service.now)) }
+        L.heard L.told (is_some journal) (terms_of run.now.service.now) listener) }
 {
     let serving = Serving {
         run,
@@ -152,6 +163,7 @@ fn journal_file<E: Write>(
     err: &mut E,
 ) -> Result<Option<OpenedList>, Failure>
     ensures file { IfOk result (λ file. is_some file ≡ is_some journal.now) }
+    ensures wanted { OnErr result (is_some journal.now ≡ true) }
     ensures fault { IfErr result (λ fault. (fault ≡ failure.Memory) ⊎ (fault ≡ failure.Journal)) }
 {
     match journal {
@@ -316,7 +328,7 @@ fn next_list<E: Write>(
 
 // Serves the room of a database to those who call, so many as the service says, or until its list
 // stands there no more, and keeps a journal where there is a list for it. Where that ended well,
-// the list says so.
+// the list says so; where it can't, the part ends as a failure of the journal.
 fn serve_part<S: Alter + Drop, P: Callers, C: Clock, E: Write>(
     conn: Connection<S>,
     run: &ServiceRun<'_>,
@@ -369,14 +381,36 @@ fn serve_part<S: Alter + Drop, P: Callers, C: Clock, E: Write>(
         &mut part,
     )?;
     let left = standing(&mut part.place);
-    if done.is_ok() && left != Finding::Truncated {
-        let _ = log_and_journal.end();
-    }
+    let done = end_part(list, left, &mut log_and_journal, done);
     drop(log_and_journal);
     if done.is_ok() {
         leave(host.alloc, part.place, left, err);
     }
     Ok((done, conn))
+}
+
+// How a part ends that was served: where that went well, its list says so, if there is one that has
+// lost nothing.
+#[tactic(auto, using(crate::proofs::PartLemmas::ends_as))]
+fn end_part<E: Write, T: time::Clock, W: Keeper>(
+    list: &Option<OpenedList>,
+    left: Finding,
+    log_and_journal: &mut LogAndJournal<'_, E, T, W>,
+    served: Result<Done, Failure>,
+) -> Result<Done, Failure>
+    ensures part { EndsAs (is_some list.now) served result }
+    ensures ended { is_some list.now ≡ true → left ≢ Truncated
+        → EndsAfter W.ends log_and_journal.old.journal log_and_journal.new.journal served result }
+    ensures cut { left ≡ Truncated
+        → (result ≡ served) × (log_and_journal.new ≡ log_and_journal.old) }
+{
+    match left {
+        Finding::Truncated => served,
+        Finding::There | Finding::Elsewhere => match list {
+            Some(_) => log_and_journal.end_after(served),
+            None => served,
+        },
+    }
 }
 
 // The place of the list of a service that may be served in parts, where the system says which file

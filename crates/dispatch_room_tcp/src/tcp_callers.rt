@@ -1,6 +1,6 @@
 //! Those who call where something listens.
 ghost use Rattle.std.specs.Io.KnownBytes.{Appends};
-ghost use Rattle.std.specs.Prelude.{◌≡◌, ◌∷◌, [], IfErr, MatchBool, OnOk, codes, true};
+ghost use Rattle.std.specs.Prelude.{◌≡◌, ◌⊎◌, ◌∷◌, [], IfErr, IfSome, IsOk, MatchBool, OnErr, OnOk, codes, false, option_map, true};
 ghost use Rattle.dispatch_room_cli.specs.declared.exit_status.Failure.TheVariants.{Network};
 ghost use Rattle.dispatch_room_serving.specs.Callers.{Grows};
 ghost use Rattle.dispatch_room_tcp.specs.Listeners.{PartsFrom};
@@ -22,7 +22,8 @@ pub struct Heard<'a, L, O> {
 impl<'a, L: Listener, O: Write> Heard<'a, L, O> {
     /// Those who call where this listens.
     pub fn new(listener: L, out: &'a mut O) -> Heard<'a, L, O>
-        ensures { result.listener ≡ listener }
+        ensures listener { result.listener ≡ listener }
+        ensures out { result.out.now ≡ out.old }
     {
         Heard { listener, out }
     }
@@ -55,6 +56,9 @@ impl<'a, L: Listener, O: Write> Callers for Heard<'a, L, O> {
             (self.new.out.now ≡ self.old.out.now)
             (Appends (O.contents self.old.out.now) (O.contents self.new.out.now)
             (codes "serving\n"))) }
+        ensures goes_on { L.is_listening self.old.listener ≡ true → IsOk result }
+        ensures unsaid { OnErr result ((L.is_listening self.new.listener ≡ true)
+            ⊎ (self.new.out.now ≡ self.old.out.now)) }
     {
         if self.listener.is_listening() {
             return Ok(());
@@ -65,11 +69,22 @@ impl<'a, L: Listener, O: Write> Callers for Heard<'a, L, O> {
         tell(self.out)
     }
 
-    fn next(&mut self) -> Option<(L::Reader, L::Writer)> {
+    // Beside what all callers ensure: nothing is said.
+    fn next(&mut self) -> Option<(L::Reader, L::Writer)>
+        ensures heard { Grows (L.heard self.old.listener) (L.heard self.new.listener)
+            (option_map (λ sides. record {
+              left = L.Reader.left sides.0;
+              held = L.Writer.held sides.1;
+            }) result ∷ []) }
+        ensures told { L.told self.new.listener ≡ L.told self.old.listener }
+        ensures reader { IfSome result (λ sides. L.Reader.has_failed sides.0 ≡ false) }
+        ensures writer { IfSome result (λ sides. L.Writer.has_failed sides.1 ≡ false) }
+        ensures unsaid { self.new.out.now ≡ self.old.out.now }
+    {
         self.listener.accept()
     }
 
-    // Beside what all callers ensure: the peer was parted from, and then let go.
+    // Beside what all callers ensure: the peer was parted from, and then let go, and nothing is said.
     #[tactic(auto, using(crate::proofs::ListeningLemmas::parts_from))]
     fn done(&mut self, reader: L::Reader, writer: L::Writer)
         ensures heard { L.heard self.new.listener ≡ L.heard self.old.listener }
@@ -78,6 +93,7 @@ impl<'a, L: Listener, O: Write> Callers for Heard<'a, L, O> {
         ensures parted { PartsFrom L.Peer.done L.Peer.is_open L.Peer.answered
             (L.peer_of reader writer) (L.parted self.old.listener)
             (L.parted self.new.listener) }
+        ensures unsaid { self.new.out.now ≡ self.old.out.now }
     {
         let mut peer = self.listener.peer(reader, writer);
         part(&mut peer);

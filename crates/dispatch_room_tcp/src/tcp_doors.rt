@@ -1,6 +1,6 @@
 //! A door at which nobody waits for who has not spoken: each connection is served in pieces, and
 //! between two of them it waits among the others.
-ghost use Rattle.std.specs.Prelude.{◌≡◌, IfErr, None, false, is_some};
+ghost use Rattle.std.specs.Prelude.{◌≡◌, IfErr, IfOk, IfSome, None, OnErr, OnOk, false, is_some, true};
 ghost use Rattle.dispatch_room_cli.specs.declared.exit_status.Failure.TheVariants.{Network};
 
 use crate::hosts::Host;
@@ -55,6 +55,8 @@ impl<'a> TcpDoor<'a> {
 
     // Those who wait where this listens. A failure is the network's.
     fn opened(&self, listener: TcpListener) -> Result<Waiting<Door<'a>>, Failure>
+        ensures times { IfOk result (λ waiting. (waiting.keep ≡ self.now.keep)
+            × (waiting.patience ≡ self.now.patience)) }
         ensures fault { IfErr result (λ fault. fault ≡ Network) }
     {
         let host = self.host;
@@ -125,7 +127,14 @@ impl<'a> Listener for TcpDoor<'a> {
 
     ghost peer_of = { λ reader writer. record { reader = reader; writer = writer } };
 
-    fn listen(&mut self) -> Result<(), Failure> {
+    // Beside what all that listens ensures: who waits at the door has its times.
+    fn listen(&mut self) -> Result<(), Failure>
+        ensures listens { OnOk result (is_some self.new.waiting ≡ true) }
+        ensures times { OnOk result (IfSome self.new.waiting (λ waiting.
+            (waiting.keep ≡ self.old.keep) × (waiting.patience ≡ self.old.patience))) }
+        ensures deaf { OnErr result (is_some self.new.waiting ≡ is_some self.old.waiting) }
+        ensures fault { IfErr result (λ fault. fault ≡ Network) }
+    {
         match bound(self.host.rt, self.host.explainer, self.address) {
             Ok(listener) => match self.opened(listener) {
                 Ok(waiting) => {
@@ -143,7 +152,12 @@ impl<'a> Listener for TcpDoor<'a> {
         self.waiting.is_some()
     }
 
-    fn accept(&mut self) -> Option<(Self::Reader, Self::Writer)> {
+    // Beside what all that listens ensures: an answer has the patience of the door.
+    fn accept(&mut self) -> Option<(Self::Reader, Self::Writer)>
+        ensures reader { IfSome result (λ sides. sides.0.failed ≡ false) }
+        ensures writer { IfSome result (λ sides. sides.1.failed ≡ false) }
+        ensures patient { IfSome result (λ sides. sides.1.patience ≡ self.old.patience) }
+    {
         self.names.look(self.host.rt, self.host.explainer);
         next_piece(self.host.rt, self.waiting.as_mut()?, self.patience)
     }

@@ -6,10 +6,10 @@ use Rattle.std.specs.Ordering.{ordering_reverse}
 use Rattle.std.specs.Prelude.{IfSome, map, filter, is_some, ◌&&◌}
 use Rattle.std.specs.declared.cmp.Ordering.TheVariants.{Less}
 use Rattle.std.specs.declared.cmp.Ordering.{Ordering}
-use Rattle.room_types_keyed.proofs.EachRow.{row_key}
-use Rattle.room_types_keyed.proofs.KeyedLaws.{keyed_filter, row_filter}
+use Rattle.room_types.proofs.EachRow.{row_key}
+use Rattle.room_types.proofs.KeyedLaws.{keyed_filter, row_filter}
 use Rattle.room_types.specs.Codes.{same_kind}
-use Rattle.room_types_keyed.specs.KeyedRows.{IsBelowAll, IsKeyed, keep, put_row, row_at}
+use Rattle.room_types.specs.KeyedRows.{IsBelowAll, IsKeyed, keep, put_row, row_at}
 use Rattle.room_types.specs.Keys.{pair_cmp, point_key}
 use Rattle.room_types.specs.Orders.{exact_pair, pairs_total}
 use Rattle.room_types.specs.declared.codes.Kind.{Kind}

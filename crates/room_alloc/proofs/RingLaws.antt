@@ -10,7 +10,7 @@ use Rattle.std.specs.Ordering.{match_ordering}
 use Rattle.std.specs.declared.cmp.Ordering.TheVariants.{Equal, Greater, Less}
 use Rattle.std.specs.declared.cmp.Ordering.{Ordering}
 use Rattle.room_place.specs.Choice.{Among}
-use Rattle.room_types_keyed.specs.KeyedRows.{put_row}
+use Rattle.room_types.specs.KeyedRows.{put_row}
 use Rattle.room_types.specs.declared.tables.Incident.{Incident}
 use Rattle.room_alloc.specs.Nearness.{nearness_cmp, whole}
 use Rattle.room_alloc.specs.ProposalOrder.{exact_nearness}

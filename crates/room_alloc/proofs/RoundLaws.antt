@@ -8,9 +8,9 @@ use Rattle.std.specs.Prelude.{filter, not}
 use Rattle.std.specs.declared.cmp.Ordering.TheVariants.{Equal, Greater, Less}
 use Rattle.std.specs.declared.cmp.Ordering.{Ordering}
 use Rattle.room_place.specs.Choice.{Among, AreFirst}
-use Rattle.room_types_keyed.proofs.KeyedLaws.{keyed_filter}
+use Rattle.room_types.proofs.KeyedLaws.{keyed_filter}
 use Rattle.room_types.specs.Codes.{same_kind}
-use Rattle.room_types_keyed.specs.KeyedRows.{IsBelowAll, IsKeyed}
+use Rattle.room_types.specs.KeyedRows.{IsBelowAll, IsKeyed}
 use Rattle.room_types.specs.Keys.{callsign_cmp, vehicle_key}
 use Rattle.room_types.specs.Orders.{callsigns_total}
 use Rattle.room_types.specs.Texts.{Callsign}

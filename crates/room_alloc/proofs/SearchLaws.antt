@@ -12,8 +12,8 @@ use Rattle.room_model.proofs.Tests.{among_filter, map_among}
 use Rattle.room_model.specs.Proposals.{is_before}
 use Rattle.room_place.specs.Choice.{Among, AreBefore, AreDistinct, AreFirst, IsRising, comes_after, first}
 use Rattle.room_place.specs.Places.{ring_floor}
-use Rattle.room_types_keyed.proofs.KeyedLaws.{keyed_filter}
-use Rattle.room_types_keyed.specs.KeyedRows.{IsBelowAll, IsKeyed}
+use Rattle.room_types.proofs.KeyedLaws.{keyed_filter}
+use Rattle.room_types.specs.KeyedRows.{IsBelowAll, IsKeyed}
 use Rattle.room_types.specs.Keys.{callsign_cmp}
 use Rattle.room_types.specs.Orders.{callsigns_total}
 use Rattle.room_types.specs.Texts.{Callsign}

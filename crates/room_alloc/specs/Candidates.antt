@@ -2,7 +2,7 @@
 use Rattle.std.specs.Prelude.{Bool, List, None, Option, Some, [], false, filter, is_some, length, map, ℕ, ◌&&◌, ◌≡◌}
 use Rattle.room_place.specs.Places.{distance}
 use Rattle.room_types.specs.Codes.{same_kind}
-use Rattle.room_types_keyed.specs.KeyedRows.{row_at}
+use Rattle.room_types.specs.KeyedRows.{row_at}
 use Rattle.room_types.specs.Keys.{pair_cmp, point_key}
 use Rattle.room_types.specs.declared.answers.Proposal.{Proposal}
 use Rattle.room_types.specs.declared.codes.Kind.{Kind}

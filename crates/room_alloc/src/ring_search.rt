@@ -6,7 +6,7 @@
 ghost use Rattle.std.specs.Prelude.{◌≡◌, ◌≤◌, IfErr, IfOk, None, filter, map, take};
 ghost use Rattle.room_place.specs.Choice.{AreFirst};
 ghost use Rattle.room_place.specs.Places.{IsInSquares};
-ghost use Rattle.room_types_keyed.specs.KeyedRows.{IsKeyed};
+ghost use Rattle.room_types.specs.KeyedRows.{IsKeyed};
 ghost use Rattle.room_types.specs.declared.refusal_statuses.Refusal.TheVariants.{Memory};
 ghost use Rattle.room_model.specs.Proposals.{is_before};
 ghost use Rattle.room_alloc.specs.Nearness.{nearness_cmp, proposal_with, whole};

@@ -1,8 +1,8 @@
 -- A call that the room has not kept, decided on rows of its division.
 use Rattle.std.proofs.Common.{Bool, None, Some, ap, inl, inr, sym, ℕ, ◌∙◌, ◌≡◌}
 use Rattle.room_place.specs.Plans.{division_of}
-use Rattle.room_types_keyed.proofs.KeyedLaws.{row_filter}
-use Rattle.room_types_keyed.specs.KeyedRows.{keep, row_at}
+use Rattle.room_types.proofs.KeyedLaws.{row_filter}
+use Rattle.room_types.specs.KeyedRows.{keep, row_at}
 use Rattle.room_types.specs.Keys.{call_key, pair_cmp}
 use Rattle.room_types.specs.Orders.{pairs_total}
 use Rattle.room_types.specs.declared.asks.Ask.TheVariants as ask

@@ -3,8 +3,8 @@ use Rattle.std.proofs.Common.{Bool, None, Option, Some, eq-eqb, false, refl, tru
 use Rattle.std.proofs.lemmas.Bool.{false≢true}
 use Rattle.std.specs.List.{cons_option}
 use Rattle.std.specs.Prelude.{List, [], is_none, is_some, IfSome, option_map, ◌&&◌, ◌++◌, ◌==◌, ◌∷◌}
-use Rattle.room_types_keyed.proofs.EachRow.{row_key}
-use Rattle.room_types_keyed.specs.KeyedRows.{keep, row_at}
+use Rattle.room_types.proofs.EachRow.{row_key}
+use Rattle.room_types.specs.KeyedRows.{keep, row_at}
 use Rattle.room_types.specs.Keys.{callsign_cmp, loan_key, numbered_cmp, turn_key, vehicle_key}
 use Rattle.room_types.specs.Orders.{callsigns_total, exact_callsigns}
 use Rattle.room_types.specs.Texts.{Callsign}

@@ -13,7 +13,7 @@ pub trait Clock {
     // Whether its last answer was none.
     ghost was_none: { Self → Bool };
 
-    /// The moment, or none where there is none to be had.
+    /// The moment, or none where the clock gives none.
     fn now(&mut self) -> Option<u64>
         ensures moments { MatchOption result (Keeps (given self.old) (given self.new)) (λ at.
             Appends (given self.old) (given self.new) (at ∷ [])) }

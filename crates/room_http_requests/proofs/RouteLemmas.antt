@@ -6,7 +6,7 @@ use Rattle.room_types.specs.Texts.{Callsign}
 use Rattle.room_types.specs.declared.refusal_statuses.Allow.{Allow}
 use Rattle.room_types.specs.declared.refusal_statuses.Refusal.{Refusal}
 use Rattle.room_types.specs.declared.refusal_statuses.Refusal.TheVariants.{NoPath, WrongMethod}
-use Rattle.room_types_keyed.specs.KeyedRows.{keep}
+use Rattle.room_types.specs.KeyedRows.{keep}
 use Rattle.room_http_time.specs.Dates.{day_of}
 use Rattle.room_http_requests.specs.Parameters.{callsign_of, number_of, point_number_of, segment_at, text_of}
 use Rattle.room_http_requests.specs.Paths.{allow_of, is_allowed, is_of_history, path_at}

@@ -3,7 +3,7 @@ use Rattle.std.specs.Prelude.{Bool, not, ◌||◌, ℕ, List, Option, Some, None
 use Rattle.std.specs.Prelude.{Err, if◌then◌else◌}
 use Rattle.room_types.specs.declared.refusal_statuses.Refusal.{Refusal}
 use Rattle.room_types.specs.declared.refusal_statuses.Refusal.TheVariants.{NoPath, WrongMethod}
-use Rattle.room_types_keyed.specs.KeyedRows.{keep}
+use Rattle.room_types.specs.KeyedRows.{keep}
 use Rattle.room_http_time.specs.Dates.{day_of}
 use Rattle.room_http_requests.specs.Parameters.{callsign_of, number_of, point_number_of, segment_at, text_of}
 use Rattle.room_http_requests.specs.Paths.{allow_of, is_allowed, is_of_history, path_at}

@@ -2,8 +2,8 @@
 use Rattle.std.proofs.Common.{List, Some, ap, subst, sym, true, ℕ, ◌≡◌}
 use Rattle.std.specs.Prelude.{IfSome}
 use Rattle.std.specs.List.{list_all}
-use Rattle.room_types_keyed.proofs.EachRow.{row_key}
-use Rattle.room_types_keyed.specs.KeyedRows.{row_at}
+use Rattle.room_types.proofs.EachRow.{row_key}
+use Rattle.room_types.specs.KeyedRows.{row_at}
 use Rattle.room_types.specs.Keys.{incident_key, owns_incident, pair_cmp}
 use Rattle.room_types.proofs.ShareLaws.{share_agrees}
 use Rattle.room_types.specs.Orders.{exact_pair, pairs_total}

@@ -10,8 +10,8 @@ use Rattle.std.specs.Ordering.{is_eq, nat_cmp, ordering_reverse, ordering_then}
 use Rattle.std.specs.Prelude.{filter, min, ◌==◌}
 use Rattle.std.specs.declared.cmp.Ordering.{Ordering}
 use Rattle.std.specs.declared.cmp.Ordering.TheVariants.{Equal, Greater, Less}
-use Rattle.room_types_keyed.proofs.KeyedLaws.{below_from_less, with_passing, without_failing}
-use Rattle.room_types_keyed.specs.KeyedRows.{IsAt, IsBelowAll, IsGapFor, IsKeyed}
+use Rattle.room_types.proofs.KeyedLaws.{below_from_less, with_passing, without_failing}
+use Rattle.room_types.specs.KeyedRows.{IsAt, IsBelowAll, IsGapFor, IsKeyed}
 use Rattle.room_types.specs.Codes.{is_active, same_kind}
 use Rattle.room_types.specs.Keys.{incident_key, pair_cmp}
 use Rattle.room_types.specs.Orders.{pairs_total}

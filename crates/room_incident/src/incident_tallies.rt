@@ -2,7 +2,7 @@
 ghost use Rattle.std.specs.Prelude.{◌≡◌, IfErr, IfOk, map};
 ghost use Rattle.room_types.specs.Keys.{incident_key, pair_cmp};
 ghost use Rattle.room_types.specs.declared.refusal_statuses.Refusal.TheVariants.{Memory};
-ghost use Rattle.room_types_keyed.specs.KeyedRows.{IsAt, IsGapFor, IsKeyed};
+ghost use Rattle.room_types.specs.KeyedRows.{IsAt, IsGapFor, IsKeyed};
 ghost use Rattle.room_incident.specs.Tallies.{AreTallies, call_numbers, served_numbers, serves_here, times};
 
 use crate::served_needs::counts;

@@ -8,8 +8,8 @@ use Rattle.std.specs.Prelude.{◌∷◌, ◌≡◌, ◌⊎◌}
 use Rattle.room_place.specs.Choice.{Among, least, least_from}
 use Rattle.room_place.specs.Places.{distance}
 use Rattle.room_place.specs.Plans.{division_of}
-use Rattle.room_types_keyed.proofs.KeyedLaws.{row_filter}
-use Rattle.room_types_keyed.specs.KeyedRows.{keep, row_at}
+use Rattle.room_types.proofs.KeyedLaws.{row_filter}
+use Rattle.room_types.specs.KeyedRows.{keep, row_at}
 use Rattle.room_types.specs.Keys.{call_key, division_key, owns_call, owns_division, pair_cmp}
 use Rattle.room_types.specs.Orders.{pairs_total}
 use Rattle.room_types.specs.declared.asks.Ask.{Ask}

@@ -5,7 +5,7 @@ use Rattle.std.specs.Prelude.{Bool, List, None, Option, Some, [], false, is_some
 use Rattle.std.specs.Prelude.{◌==◌, ◌∷◌, ◌≡◌}
 use Rattle.room_place.specs.Choice.{Among}
 use Rattle.room_place.specs.Plans.{division_of}
-use Rattle.room_types_keyed.specs.KeyedRows.{row_at}
+use Rattle.room_types.specs.KeyedRows.{row_at}
 use Rattle.room_types.specs.Keys.{numbered_cmp, report_key}
 use Rattle.room_types.specs.Texts.{Callsign}
 use Rattle.room_types.specs.declared.asks.Ask.{Ask}

@@ -7,8 +7,8 @@ use Rattle.std.specs.Prelude.{◌≡◌}
 use Rattle.std.specs.declared.cmp.Ordering.{Ordering}
 use Rattle.std.specs.declared.cmp.Ordering.TheVariants.{Equal, Greater, Less}
 use Rattle.room_place.specs.Choice.{first}
-use Rattle.room_types_keyed.proofs.KeyedLaws.{filter_drop, filter_put, keyed_filter, row_filter}
-use Rattle.room_types_keyed.specs.KeyedRows.{IsKeyed, drop_row, keep, put_row}
+use Rattle.room_types.proofs.KeyedLaws.{filter_drop, filter_put, keyed_filter, row_filter}
+use Rattle.room_types.specs.KeyedRows.{IsKeyed, drop_row, keep, put_row}
 use Rattle.room_types.specs.Keys.{assignment_key, callsign_cmp, loan_key, numbered_cmp, offer_key, report_key}
 use Rattle.room_types.specs.Keys.{same_callsign, turn_key, vehicle_key}
 use Rattle.room_types.specs.Orders.{callsigns_total, exact_numbered, numbered_total}

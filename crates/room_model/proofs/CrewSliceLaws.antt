@@ -3,10 +3,10 @@ use Rattle.std.proofs.Common.{None, Option, Some, ap, subst, sym, true, ℕ, ◌
 use Rattle.std.proofs.lemmas.Cmp.{tied_itself}
 use Rattle.std.specs.Ordering.{is_eq}
 use Rattle.std.specs.Prelude.{IfSome, filter, is_none, ◌&&◌, ◌↔◌}
-use Rattle.room_types_keyed.proofs.EachRow.{row_key}
-use Rattle.room_types_keyed.proofs.KeyedLaws.{row_filter}
+use Rattle.room_types.proofs.EachRow.{row_key}
+use Rattle.room_types.proofs.KeyedLaws.{row_filter}
 use Rattle.room_types.specs.Crews.{IsCrew}
-use Rattle.room_types_keyed.specs.KeyedRows.{IsKeyed, keep, row_at}
+use Rattle.room_types.specs.KeyedRows.{IsKeyed, keep, row_at}
 use Rattle.room_types.specs.Keys.{assignment_key, callsign_cmp, loan_key, numbered_cmp, same_callsign, turn_key}
 use Rattle.room_types.specs.Keys.{vehicle_key}
 use Rattle.room_types.specs.Orders.{callsigns_total, exact_callsigns, exact_numbered, numbered_total}

@@ -4,8 +4,8 @@ use Rattle.std.proofs.lemmas.Cmp.{nat_cmp_total}
 use Rattle.std.specs.Ordering.{nat_cmp}
 use Rattle.std.specs.Prelude.{Bool, List, None, Option, Some, [], cond, false, filter, refl, true, ℕ, ◌++◌, ◌==◌, ◌∷◌}
 use Rattle.std.specs.Prelude.{◌≡◌}
-use Rattle.room_types_keyed.proofs.KeyedLaws.{drop_absent, filter_put}
-use Rattle.room_types_keyed.specs.KeyedRows.{row_at}
+use Rattle.room_types.proofs.KeyedLaws.{drop_absent, filter_put}
+use Rattle.room_types.specs.KeyedRows.{row_at}
 use Rattle.room_types.specs.Keys.{assignment_key, call_key, callsign_cmp, division_key, incident_key, loan_key}
 use Rattle.room_types.specs.Keys.{numbered_cmp, offer_key, owns_assignment, owns_call, owns_division, owns_incident}
 use Rattle.room_types.specs.Keys.{owns_loan, owns_offer, owns_point, owns_report, owns_turn, owns_vehicle, pair_cmp}

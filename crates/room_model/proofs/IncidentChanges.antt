@@ -6,8 +6,8 @@ use Rattle.std.specs.Cmp.{IsTotalOrder}
 use Rattle.std.specs.Ordering.{is_eq, nat_cmp}
 use Rattle.std.specs.Prelude.{Bool, List, None, Option, Some, cond, false, is_some, refl, true, ℕ, ◌≡◌, ◌≤◌}
 use Rattle.std.specs.declared.cmp.Ordering.{Ordering}
-use Rattle.room_types_keyed.proofs.KeyedLaws.{row_put}
-use Rattle.room_types_keyed.specs.KeyedRows.{put_row, row_at}
+use Rattle.room_types.proofs.KeyedLaws.{row_put}
+use Rattle.room_types.specs.KeyedRows.{put_row, row_at}
 use Rattle.room_types.specs.Keys.{call_key, callsign_cmp, division_key, incident_key, numbered_cmp, pair_cmp, point_key}
 use Rattle.room_types.specs.Keys.{turn_key, vehicle_key}
 use Rattle.room_types.specs.Orders.{callsigns_total, exact_callsigns, exact_number, exact_pair, pairs_total}

@@ -3,7 +3,7 @@ use Rattle.std.proofs.Common.{ap, inl, inr, subst, sym, ◌∙◌}
 use Rattle.std.specs.Prelude.{Bool, IfSome, None, Option, Some, [], false, is_some, refl, true, ℕ, ◌++◌, ◌+◌, ◌∷◌, ◌≡◌}
 use Rattle.room_place.specs.Plans.{has_division}
 use Rattle.room_place.specs.declared.places.Place.{Place}
-use Rattle.room_types_keyed.specs.KeyedRows.{row_at}
+use Rattle.room_types.specs.KeyedRows.{row_at}
 use Rattle.room_types.specs.Keys.{incident_key, numbered_cmp, pair_cmp, point_key, turn_key}
 use Rattle.room_types.specs.Orders.{exact_numbered, numbered_total, pairs_total}
 use Rattle.room_types.specs.Texts.{Callsign}

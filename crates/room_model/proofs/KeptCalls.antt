@@ -10,7 +10,7 @@ use Rattle.std.specs.declared.cmp.Ordering.{Ordering}
 use Rattle.room_place.specs.Choice.{Among, least_from}
 use Rattle.room_place.specs.Plans.{division_of, has_division}
 use Rattle.room_place.specs.declared.places.Place.{Place}
-use Rattle.room_types_keyed.specs.KeyedRows.{put_row, row_at}
+use Rattle.room_types.specs.KeyedRows.{put_row, row_at}
 use Rattle.room_types.specs.Keys.{call_key, division_key, incident_key, pair_cmp}
 use Rattle.room_types.specs.Orders.{exact_number, exact_pair, pairs_total}
 use Rattle.room_types.specs.declared.asks.NewCall.{NewCall}

@@ -2,7 +2,7 @@
 use Rattle.std.proofs.Common.{ap, ◌∙◌}
 use Rattle.std.specs.Prelude.{List, None, Option, Some, [], is_some, refl, true, ℕ, ◌∷◌, ◌≡◌}
 use Rattle.room_place.specs.Plans.{has_division}
-use Rattle.room_types_keyed.specs.KeyedRows.{put_row, row_at}
+use Rattle.room_types.specs.KeyedRows.{put_row, row_at}
 use Rattle.room_types.specs.Keys.{callsign_cmp, vehicle_key}
 use Rattle.room_types.specs.Texts.{Callsign}
 use Rattle.room_types.specs.declared.asks.Ask.{Ask}

@@ -6,7 +6,7 @@ use Rattle.std.specs.Prelude.{◌==◌, ◌||◌, ◌∷◌, ◌≡◌}
 use Rattle.room_place.specs.Choice.{Among}
 use Rattle.room_place.specs.Plans.{has_division}
 use Rattle.room_place.specs.declared.places.Place.{Place}
-use Rattle.room_types_keyed.specs.KeyedRows.{put_row, row_at}
+use Rattle.room_types.specs.KeyedRows.{put_row, row_at}
 use Rattle.room_types.specs.Keys.{incident_key, numbered_cmp, pair_cmp, point_key, report_key, turn_key}
 use Rattle.room_types.specs.Orders.{exact_numbered, numbered_total}
 use Rattle.room_types.specs.Texts.{Callsign}

@@ -4,8 +4,8 @@ use Rattle.std.proofs.lemmas.Cmp.{tied_itself}
 use Rattle.std.specs.Ordering.{is_eq}
 use Rattle.std.specs.Prelude.{Bool, List, None, Option, Some, [], cond, false, filter, map, refl, true, ℕ, ◌&&◌, ◌==◌}
 use Rattle.std.specs.Prelude.{◌∷◌, ◌≡◌, ◌≢◌}
-use Rattle.room_types_keyed.proofs.KeyedLaws.{keyed_filter, row_below, row_filter, row_put}
-use Rattle.room_types_keyed.specs.KeyedRows.{IsKeyed, keep, put_row, row_at}
+use Rattle.room_types.proofs.KeyedLaws.{keyed_filter, row_below, row_filter, row_put}
+use Rattle.room_types.specs.KeyedRows.{IsKeyed, keep, put_row, row_at}
 use Rattle.room_types.specs.Keys.{call_key, incident_key, pair_cmp}
 use Rattle.room_types.specs.Orders.{exact_pair, pairs_total}
 use Rattle.room_types.specs.declared.changes.Change.TheVariants.{PutIncident}

@@ -4,7 +4,7 @@ use Rattle.std.specs.Prelude.{Bool, Err, List, None, Option, Some, [], cond, fal
 use Rattle.std.specs.Prelude.{refl, ℕ, ◌&&◌, ◌++◌, ◌==◌, ◌∷◌, ◌≡◌, ◌↔◌}
 use Rattle.room_place.specs.Choice.{chosen}
 use Rattle.room_types.specs.Codes.{is_mobilised}
-use Rattle.room_types_keyed.specs.KeyedRows.{keep, row_at}
+use Rattle.room_types.specs.KeyedRows.{keep, row_at}
 use Rattle.room_types.specs.Keys.{callsign_cmp, offer_key, owns_offer, vehicle_key}
 use Rattle.room_types.specs.Orders.{callsigns_total}
 use Rattle.room_types.specs.Texts.{Callsign}

@@ -3,7 +3,7 @@ use Rattle.std.proofs.Common.{ap}
 use Rattle.std.specs.Prelude.{Bool, List, None, Option, Some, [], cond, false, is_some, map, refl, true, ℕ, ◌&&◌, ◌++◌}
 use Rattle.std.specs.Prelude.{◌∷◌, ◌≡◌}
 use Rattle.room_types.specs.Codes.{acts}
-use Rattle.room_types_keyed.specs.KeyedRows.{drop_row}
+use Rattle.room_types.specs.KeyedRows.{drop_row}
 use Rattle.room_types.specs.Keys.{callsign_cmp, offer_key}
 use Rattle.room_types.specs.Texts.{Callsign}
 use Rattle.room_types.specs.declared.asks.Ask.{Ask}

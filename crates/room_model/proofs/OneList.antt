@@ -6,7 +6,7 @@ use Rattle.std.specs.Prelude.{Bool, List, Option, Some, [], length, refl, true, 
 use Rattle.std.specs.declared.cmp.Ordering.{Ordering}
 use Rattle.std.specs.declared.cmp.Ordering.TheVariants.{Less}
 use Rattle.room_place.specs.Choice.{Among, AreBefore, AreFirst, IsRising}
-use Rattle.room_types_keyed.specs.KeyedRows.{IsBelowAll, IsKeyed}
+use Rattle.room_types.specs.KeyedRows.{IsBelowAll, IsKeyed}
 
 -- ---- in key order
 module _ {R K : Type 0} (cmp : K → K → Ordering) (key : R → K) (total : IsTotalOrder cmp) where

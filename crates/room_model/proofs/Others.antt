@@ -7,8 +7,8 @@ use Rattle.std.specs.Prelude.{◌≡◌}
 use Rattle.std.specs.declared.cmp.Ordering.{Ordering}
 use Rattle.std.specs.declared.cmp.Ordering.TheVariants.{Equal, Greater, Less}
 use Rattle.room_place.specs.Choice.{Among}
-use Rattle.room_types_keyed.proofs.KeyedLaws.{below_from_less, row_below, row_filter}
-use Rattle.room_types_keyed.specs.KeyedRows.{IsKeyed, keep, put_row, row_at}
+use Rattle.room_types.proofs.KeyedLaws.{below_from_less, row_below, row_filter}
+use Rattle.room_types.specs.KeyedRows.{IsKeyed, keep, put_row, row_at}
 use Rattle.room_types.specs.Keys.{assignment_key, call_key, callsign_cmp, incident_key, numbered_cmp, owns_assignment}
 use Rattle.room_types.specs.Keys.{owns_call, owns_incident, owns_point, owns_report, owns_turn, owns_vehicle, pair_cmp}
 use Rattle.room_types.specs.Keys.{point_key, report_key, turn_key, vehicle_key}

@@ -7,8 +7,8 @@ use Rattle.std.specs.Prelude.{Bool, None, Option, Some, cond, false, filter, fil
 use Rattle.std.specs.Prelude.{◌&&◌, ◌++◌, ◌==◌, ◌≡◌}
 use Rattle.room_place.specs.Choice.{first, least}
 use Rattle.room_place.specs.declared.places.Place.{Place}
-use Rattle.room_types_keyed.proofs.KeyedLaws.{row_filter}
-use Rattle.room_types_keyed.specs.KeyedRows.{keep}
+use Rattle.room_types.proofs.KeyedLaws.{row_filter}
+use Rattle.room_types.specs.KeyedRows.{keep}
 use Rattle.room_types.specs.Keys.{division_key, incident_key, numbered_cmp, owns_call, owns_division, owns_incident}
 use Rattle.room_types.specs.Keys.{owns_loan, owns_offer, owns_point, owns_report, owns_turn, owns_vehicle, pair_cmp}
 use Rattle.room_types.specs.Keys.{report_key}

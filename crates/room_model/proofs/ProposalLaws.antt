@@ -12,7 +12,7 @@ use Rattle.room_place.proofs.Choices.{chosen_first}
 use Rattle.room_place.specs.Choice.{Among, AreBefore, AreDistinct, AreFirst, IsRising, IsStrict, chosen, comes_after}
 use Rattle.room_place.specs.Choice.{extend, least, least_from}
 use Rattle.room_types.specs.Keys.{callsign_cmp, vehicle_key}
-use Rattle.room_types_keyed.specs.KeyedRows.{IsBelowAll, IsKeyed}
+use Rattle.room_types.specs.KeyedRows.{IsBelowAll, IsKeyed}
 use Rattle.room_types.specs.Orders.{callsigns_total, exact_callsigns}
 use Rattle.room_types.specs.Texts.{Callsign}
 use Rattle.room_types.specs.declared.answers.Proposal.{Proposal}
@@ -24,7 +24,7 @@ use Rattle.room_types.specs.declared.tables.Incident.{Incident}
 use Rattle.room_types.specs.declared.tables.Vehicle.{Vehicle}
 use Rattle.room_model.proofs.OneList.{one_first}
 use Rattle.room_model.proofs.Tests.{among_filter, right_true}
-use Rattle.room_types_keyed.proofs.KeyedLaws.{keyed_filter}
+use Rattle.room_types.proofs.KeyedLaws.{keyed_filter}
 use Rattle.room_types.specs.Codes.{same_kind}
 use Rattle.room_model.specs.Incidents.{lacking}
 use Rattle.room_model.specs.Proposals.{AreProposed, candidates, eligible, is_before, proposal_cmp, proposal_of}

@@ -5,8 +5,8 @@ use Rattle.std.specs.Prelude.{Bool, Err, IfErr, IfSome, List, None, Ok, Option, 
 use Rattle.std.specs.Prelude.{is_some, not, refl, true, ℕ, ◌==◌, ◌∷◌, ◌≡◌}
 use Rattle.room_place.specs.Plans.{division_of}
 use Rattle.room_place.specs.declared.plans.Area.{Area}
-use Rattle.room_types_keyed.proofs.KeyedLaws.{row_put}
-use Rattle.room_types_keyed.specs.KeyedRows.{keep, row_at}
+use Rattle.room_types.proofs.KeyedLaws.{row_put}
+use Rattle.room_types.specs.KeyedRows.{keep, row_at}
 use Rattle.room_types.specs.Keys.{call_key, numbered_cmp, pair_cmp, report_key}
 use Rattle.room_types.specs.Orders.{exact_numbered, exact_pair, numbered_total, pairs_total}
 use Rattle.room_types.specs.Texts.{Callsign}

@@ -10,8 +10,8 @@ use Rattle.std.specs.declared.cmp.Ordering.{Ordering}
 use Rattle.room_place.specs.Places.{same_place}
 use Rattle.room_place.specs.Plans.{division_of}
 use Rattle.room_place.specs.declared.places.Place.{Place}
-use Rattle.room_types_keyed.proofs.KeyedLaws.{row_put}
-use Rattle.room_types_keyed.specs.KeyedRows.{put_row, row_at}
+use Rattle.room_types.proofs.KeyedLaws.{row_put}
+use Rattle.room_types.specs.KeyedRows.{put_row, row_at}
 use Rattle.room_types.specs.Keys.{call_key, numbered_cmp, pair_cmp, report_key}
 use Rattle.room_types.specs.Orders.{callsigns_total, exact_callsigns, exact_numbered, exact_pair, numbered_total}
 use Rattle.room_types.specs.Orders.{pairs_total}

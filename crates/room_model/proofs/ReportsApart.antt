@@ -4,8 +4,8 @@ use Rattle.std.proofs.lemmas.List.{append_assoc}
 use Rattle.std.specs.Prelude.{Bool, List, None, Option, Some, [], cond, false, is_none, option_map, refl, true, ℕ, ◌&&◌}
 use Rattle.std.specs.Prelude.{◌++◌, ◌==◌, ◌||◌, ◌∷◌, ◌≡◌}
 use Rattle.room_place.specs.Choice.{Among}
-use Rattle.room_types_keyed.proofs.KeyedLaws.{row_drop_same, row_filter}
-use Rattle.room_types_keyed.specs.KeyedRows.{drop_row, keep, put_row, row_at}
+use Rattle.room_types.proofs.KeyedLaws.{row_drop_same, row_filter}
+use Rattle.room_types.specs.KeyedRows.{drop_row, keep, put_row, row_at}
 use Rattle.room_types.specs.Keys.{callsign_cmp, loan_key, numbered_cmp, owns_loan, owns_report, owns_vehicle}
 use Rattle.room_types.specs.Keys.{report_key, same_callsign, vehicle_key}
 use Rattle.room_types.specs.Orders.{callsigns_total, numbered_total}

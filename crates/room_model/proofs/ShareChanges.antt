@@ -1,7 +1,7 @@
 -- What changes of the room are to a division's share.
 use Rattle.std.specs.Ordering.{nat_cmp}
 use Rattle.std.specs.Prelude.{List, [], cond, ℕ, ◌∷◌}
-use Rattle.room_types_keyed.specs.KeyedRows.{drop_row, put_row}
+use Rattle.room_types.specs.KeyedRows.{drop_row, put_row}
 use Rattle.room_types.specs.Keys.{assignment_key, call_key, callsign_cmp, division_key, incident_key, loan_key}
 use Rattle.room_types.specs.Keys.{numbered_cmp, offer_key, owns_assignment, owns_call, owns_division, owns_incident}
 use Rattle.room_types.specs.Keys.{owns_loan, owns_offer, owns_point, owns_report, owns_turn, owns_vehicle, pair_cmp}

@@ -1,8 +1,8 @@
 -- What two rooms must agree on, for a desk to decide alike in both.
 use Rattle.std.proofs.Common.{ap, eq-eqb, sym, ◌∙◌}
 use Rattle.std.specs.Prelude.{List, refl, ℕ, ◌==◌, ◌≡◌}
-use Rattle.room_types_keyed.proofs.KeyedLaws.{row_filter}
-use Rattle.room_types_keyed.specs.KeyedRows.{keep}
+use Rattle.room_types.proofs.KeyedLaws.{row_filter}
+use Rattle.room_types.specs.KeyedRows.{keep}
 use Rattle.room_types.specs.Keys.{assignment_key, callsign_cmp, loan_key, offer_key, owns_assignment, owns_loan}
 use Rattle.room_types.specs.Keys.{owns_offer, owns_point, owns_vehicle, pair_cmp, point_key, vehicle_key}
 use Rattle.room_types.specs.Orders.{callsigns_total, exact_pair, pairs_total}

@@ -8,10 +8,10 @@ use Rattle.std.specs.declared.cmp.Ordering.{Ordering}
 use Rattle.std.specs.Prelude.{IfSome, filter, is_none, nat_le, ◌&&◌, ◌==◌}
 use Rattle.room_place.specs.Choice.{Among, first}
 use Rattle.room_place.specs.declared.plans.Area.{Area}
-use Rattle.room_types_keyed.proofs.EachRow.{at_each_key, row_key}
+use Rattle.room_types.proofs.EachRow.{at_each_key, row_key}
 use Rattle.room_types.proofs.SentLaws.{itself}
 use Rattle.room_types.proofs.ShareLaws.{share_agrees}
-use Rattle.room_types_keyed.specs.KeyedRows.{IsKeyed, keep, row_at}
+use Rattle.room_types.specs.KeyedRows.{IsKeyed, keep, row_at}
 use Rattle.room_types.specs.Keys.{assignment_key, callsign_cmp, numbered_cmp, owns_assignment, owns_turn, owns_vehicle}
 use Rattle.room_types.specs.Keys.{same_callsign, turn_key, vehicle_key}
 use Rattle.room_types.specs.Orders.{callsigns_total, exact_callsigns, exact_numbered, numbered_total}

@@ -4,7 +4,7 @@ use Rattle.std.proofs.lemmas.Bool.{false_from_ne_true}
 use Rattle.std.specs.Prelude.{Bool, None, Option, Some, false, refl, true, ℕ, ◌↔◌, ◌≡◌}
 use Rattle.room_place.specs.Choice.{Among}
 use Rattle.room_types.specs.Codes.{is_busy}
-use Rattle.room_types_keyed.specs.KeyedRows.{row_at}
+use Rattle.room_types.specs.KeyedRows.{row_at}
 use Rattle.room_types.specs.Keys.{assignment_key, callsign_cmp, numbered_cmp, turn_key, vehicle_key}
 use Rattle.room_types.specs.Orders.{callsigns_total, exact_callsigns, exact_numbered, numbered_total}
 use Rattle.room_types.specs.Texts.{Callsign}

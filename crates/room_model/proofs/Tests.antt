@@ -9,7 +9,7 @@ use Rattle.std.specs.Prelude.{true, ◌&&◌, ◌||◌, ◌∷◌, ◌≡◌}
 use Rattle.std.specs.declared.cmp.Ordering.{Ordering}
 use Rattle.std.specs.declared.cmp.Ordering.TheVariants.{Equal, Greater, Less}
 use Rattle.room_place.specs.Choice.{Among, first}
-use Rattle.room_types_keyed.specs.KeyedRows.{IsBelowAll, IsKeyed, keep, row_at}
+use Rattle.room_types.specs.KeyedRows.{IsBelowAll, IsKeyed, keep, row_at}
 
 abbrev pub Implies : {X : Type 0} → (X → Bool) → (X → Bool) → Type 0
 Implies {X} p q = (x : X) → p x ≡ true → q x ≡ true

@@ -2,7 +2,7 @@
 use Rattle.std.proofs.Common.{ap, eq-eqb, subst, sym, ◌∙◌}
 use Rattle.std.specs.Prelude.{Bool, Err, List, None, Ok, Option, Some, [], false, is_err, not, refl, true, ℕ, ◌==◌}
 use Rattle.std.specs.Prelude.{◌||◌, ◌∷◌, ◌≡◌}
-use Rattle.room_types_keyed.specs.KeyedRows.{drop_row, keep, row_at}
+use Rattle.room_types.specs.KeyedRows.{drop_row, keep, row_at}
 use Rattle.room_types.specs.Keys.{callsign_cmp, loan_key, offer_key}
 use Rattle.room_types.specs.Texts.{Callsign}
 use Rattle.room_types.specs.declared.asks.Ask.{Ask}

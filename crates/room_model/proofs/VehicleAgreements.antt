@@ -4,7 +4,7 @@ use Rattle.std.specs.Ordering.{is_eq, nat_cmp}
 use Rattle.std.specs.Prelude.{Bool, IfSome, List, None, Option, Some, false, is_some, refl, true, ℕ, ◌≡◌, ◌≤◌, ◌⊎◌}
 use Rattle.room_place.specs.Plans.{has_division}
 use Rattle.room_place.specs.declared.plans.Area.{Area}
-use Rattle.room_types_keyed.specs.KeyedRows.{row_at}
+use Rattle.room_types.specs.KeyedRows.{row_at}
 use Rattle.room_types.specs.Keys.{call_key, callsign_cmp, division_key, incident_key, numbered_cmp, pair_cmp, point_key}
 use Rattle.room_types.specs.Keys.{report_key, vehicle_key}
 use Rattle.room_types.specs.Orders.{callsigns_total, exact_callsigns}

@@ -6,8 +6,8 @@ use Rattle.std.specs.Ordering.{is_eq, nat_cmp, ordering_then}
 use Rattle.std.specs.Prelude.{Bool, List, None, Option, Some, [], cond, false, option_map, refl, ℕ, ◌++◌, ◌∷◌, ◌≡◌}
 use Rattle.std.specs.declared.cmp.Ordering.{Ordering}
 use Rattle.std.specs.declared.cmp.Ordering.TheVariants.{Equal, Greater, Less}
-use Rattle.room_types_keyed.proofs.KeyedLaws.{row_drop_other, row_drop_same, row_put}
-use Rattle.room_types_keyed.specs.KeyedRows.{drop_row, put_row, row_at}
+use Rattle.room_types.proofs.KeyedLaws.{row_drop_other, row_drop_same, row_put}
+use Rattle.room_types.specs.KeyedRows.{drop_row, put_row, row_at}
 use Rattle.room_types.specs.Keys.{assignment_key, callsign_cmp, loan_key, numbered_cmp, offer_key, report_key, turn_key}
 use Rattle.room_types.specs.Keys.{vehicle_key}
 use Rattle.room_types.specs.Orders.{callsigns_total, exact_callsigns, numbered_total}

@@ -6,9 +6,9 @@ use Rattle.std.specs.Ordering.{is_eq}
 use Rattle.std.specs.Prelude.{Bool, None, Option, Some, cond, false, is_none, is_some, length, refl, true, ℕ, ◌&&◌}
 use Rattle.std.specs.Prelude.{◌==◌, ◌||◌, ◌≡◌, ◌≤◌}
 use Rattle.room_place.specs.Choice.{Among, first}
-use Rattle.room_types_keyed.proofs.KeyedLaws.{row_filter}
+use Rattle.room_types.proofs.KeyedLaws.{row_filter}
 use Rattle.room_types.specs.Codes.{is_active}
-use Rattle.room_types_keyed.specs.KeyedRows.{keep, row_at}
+use Rattle.room_types.specs.KeyedRows.{keep, row_at}
 use Rattle.room_types.specs.Keys.{assignment_key, callsign_cmp, incident_key, loan_key, numbered_cmp, offer_key}
 use Rattle.room_types.specs.Keys.{owns_assignment, owns_loan, owns_offer, owns_point, owns_vehicle, pair_cmp, point_key}
 use Rattle.room_types.specs.Keys.{report_key, same_callsign, turn_key, vehicle_key}

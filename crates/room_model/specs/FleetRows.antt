@@ -6,7 +6,7 @@ use Rattle.std.specs.Prelude.{Bool, List, None, Option, Some, cond, false, is_so
 use Rattle.std.specs.Prelude.{◌≡◌}
 use Rattle.std.specs.declared.cmp.Ordering.{Ordering}
 use Rattle.room_place.specs.Plans.{has_division}
-use Rattle.room_types_keyed.specs.KeyedRows.{IsKeyed, put_row, row_at}
+use Rattle.room_types.specs.KeyedRows.{IsKeyed, put_row, row_at}
 use Rattle.room_types.specs.Keys.{callsign_cmp, same_callsign, vehicle_key}
 use Rattle.room_types.specs.Texts.{Callsign, Token}
 use Rattle.room_types.specs.declared.asks.Who.{Who}

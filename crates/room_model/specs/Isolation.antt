@@ -1,6 +1,6 @@
 -- A division's share, by only what it is handed.
 use Rattle.std.specs.Prelude.{List, None, Option, Result, Some, [], true, ℕ, ◌++◌, ◌∷◌}
-use Rattle.room_types_keyed.specs.KeyedRows.{drop_row}
+use Rattle.room_types.specs.KeyedRows.{drop_row}
 use Rattle.room_types.specs.Keys.{callsign_cmp, vehicle_key}
 use Rattle.room_types.specs.declared.answers.Answer.{Answer}
 use Rattle.room_types.specs.declared.changes.Change.TheVariants.{DropLoan, DropOffer, PutLoan, PutOffer, PutVehicle}

@@ -6,7 +6,7 @@ use Rattle.std.specs.Prelude.{length, max, nat_le, nat_lt, not, pos, ℕ, ℤ, �
 use Rattle.room_place.specs.Choice.{first, least}
 use Rattle.room_place.specs.Places.{distance}
 use Rattle.room_place.specs.declared.places.Place.{Place}
-use Rattle.room_types_keyed.specs.KeyedRows.{keep, row_at}
+use Rattle.room_types.specs.KeyedRows.{keep, row_at}
 use Rattle.room_types.specs.Keys.{assignment_key, call_key, callsign_cmp, division_key, incident_key, loan_key}
 use Rattle.room_types.specs.Keys.{numbered_cmp, offer_key, owns_loan, owns_offer, pair_cmp, point_key, report_key}
 use Rattle.room_types.specs.Keys.{same_callsign, vehicle_key}

@@ -2,7 +2,7 @@
 use Rattle.std.specs.Prelude.{Bool, Err, List, None, Option, Some, [], cond, filter_map, is_none, length, nat_le}
 use Rattle.std.specs.Prelude.{nat_lt, not, true, ℕ, ◌&&◌, ◌++◌, ◌==◌, ◌||◌, ◌∷◌}
 use Rattle.room_place.specs.Choice.{Among}
-use Rattle.room_types_keyed.specs.KeyedRows.{IsKeyed, put_row}
+use Rattle.room_types.specs.KeyedRows.{IsKeyed, put_row}
 use Rattle.room_types.specs.Keys.{entry_cmp, entry_key, owns_loan, owns_offer}
 use Rattle.room_types.specs.declared.answers.Entry.{Entry}
 use Rattle.room_types.specs.declared.changes.Change.TheVariants.{PutReport}

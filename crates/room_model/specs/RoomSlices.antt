@@ -1,7 +1,7 @@
 -- The rows that a request is decided on, and the room's.
 use Rattle.std.specs.Prelude.{List, Some, is_none, ◌≡◌}
 use Rattle.room_place.specs.declared.plans.Area.{Area}
-use Rattle.room_types_keyed.specs.KeyedRows.{keep, row_at}
+use Rattle.room_types.specs.KeyedRows.{keep, row_at}
 use Rattle.room_types.specs.Keys.{callsign_cmp, loan_key, numbered_cmp, turn_key, vehicle_key}
 use Rattle.room_types.specs.Texts.{Callsign}
 use Rattle.room_types.specs.declared.crews.CrewRows.{CrewRows}

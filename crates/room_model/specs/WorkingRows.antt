@@ -6,7 +6,7 @@ use Rattle.std.specs.Prelude.{Bool, None, Option, Some, false, filter, int_le, i
 use Rattle.std.specs.Prelude.{ℕ, ◌&&◌, ◌==◌, ◌||◌}
 use Rattle.room_place.specs.declared.places.Place.{Place}
 use Rattle.room_types.specs.Codes.{is_active, is_normal}
-use Rattle.room_types_keyed.specs.KeyedRows.{keep}
+use Rattle.room_types.specs.KeyedRows.{keep}
 use Rattle.room_types.specs.Keys.{numbered_cmp, owns_assignment, owns_division, owns_loan, owns_offer, owns_point}
 use Rattle.room_types.specs.Keys.{owns_report, owns_vehicle, same_callsign, turn_key}
 use Rattle.room_types.specs.Texts.{Callsign}

@@ -13,6 +13,7 @@
 //! - `repeat_laws`: what changes nothing, a refusal and a message that is sent again.
 //! - `choice_laws`: why a list that is proposed or queued is the only one.
 //! - `crew_laws` and `slice_laws`: what a crew sees, and the few rows that a request reads.
+//! - `examples`: the machine in examples that the check computes.
 //! - `rooms` and `digests`: the room that is served.
 #![tactic(auto)]
 
@@ -20,6 +21,7 @@ pub mod agreement_laws;
 pub mod choice_laws;
 pub mod crew_laws;
 pub mod digests;
+pub mod examples;
 pub mod first_version_laws;
 pub mod isolation_laws;
 pub mod refusal_laws;

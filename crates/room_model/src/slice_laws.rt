@@ -3,7 +3,7 @@
 ghost use Rattle.std.specs.Prelude.{◌≡◌, ◌↔◌, ℕ, List, Some, true};
 ghost use Rattle.room_place.specs.declared.plans.Area.{Area};
 ghost use Rattle.room_types.specs.Crews.{IsCrew};
-ghost use Rattle.room_types_keyed.specs.KeyedRows.{IsKeyed};
+ghost use Rattle.room_types.specs.KeyedRows.{IsKeyed};
 ghost use Rattle.room_types.specs.Keys.{numbered_cmp, turn_key};
 ghost use Rattle.room_types.specs.Slices.{IsShare, is_share, vehicle_at, assignment_at, open_turn as open_turn_of};
 ghost use Rattle.room_types.specs.Texts.{Callsign};

@@ -7,7 +7,7 @@ use Rattle.std.specs.List.{cons_option, list_all}
 use Rattle.room_place.specs.Choice.{Among}
 use Rattle.room_place.specs.declared.plans.Area.{Area}
 use Rattle.room_types.proofs.ShareLaws.{share_agrees}
-use Rattle.room_types_keyed.specs.KeyedRows.{IsKeyed, row_at}
+use Rattle.room_types.specs.KeyedRows.{IsKeyed, row_at}
 use Rattle.room_types.specs.Keys.{callsign_cmp, numbered_cmp, owns_point, pair_cmp, point_key, turn_key, vehicle_key}
 use Rattle.room_types.specs.Orders.{callsigns_total, pairs_total}
 use Rattle.room_types.specs.Slices.{is_share}

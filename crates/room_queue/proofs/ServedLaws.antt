@@ -8,9 +8,9 @@ use Rattle.std.specs.Ordering.{is_eq, nat_cmp, ordering_reverse}
 use Rattle.std.specs.Prelude.{filter, is_some, nat_lt, not, None, Option, Some, ◌&&◌, ◌==◌, ◌||◌}
 use Rattle.std.specs.declared.cmp.Ordering.TheVariants.{Equal, Greater, Less}
 use Rattle.std.specs.declared.cmp.Ordering.{Ordering}
-use Rattle.room_types_keyed.proofs.KeyedLaws.{row_put}
+use Rattle.room_types.proofs.KeyedLaws.{row_put}
 use Rattle.room_types.specs.Codes.{is_active, same_kind}
-use Rattle.room_types_keyed.specs.KeyedRows.{put_row, row_at}
+use Rattle.room_types.specs.KeyedRows.{put_row, row_at}
 use Rattle.room_types.specs.declared.answers.Entry.{Entry}
 use Rattle.room_types.specs.declared.codes.Kind.TheVariants.{Ambulance, Car, Support}
 use Rattle.room_types.specs.declared.codes.Kind.{Kind}

@@ -14,7 +14,7 @@ use Rattle.std.specs.Prelude.{Bool, List, None, Option, Some, [], slice_index_or
 use Rattle.std.specs.declared.cmp.Ordering.{Ordering}
 use Rattle.std.specs.declared.cmp.Ordering.TheVariants.{Less}
 use Rattle.room_place.specs.Choice.{Among}
-use Rattle.room_types_keyed.specs.KeyedRows.{IsBelowAll, IsKeyed}
+use Rattle.room_types.specs.KeyedRows.{IsBelowAll, IsKeyed}
 use Rattle.room_types.specs.Keys.{callsign_cmp, entry_cmp, entry_key, option_callsign_cmp}
 use Rattle.room_types.specs.Orders.{entries_total, exact_entries}
 use Rattle.room_types.specs.Texts.{Callsign}

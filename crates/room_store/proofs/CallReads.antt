@@ -2,7 +2,7 @@
 use Rattle.std.proofs.Common.{Err, List, None, Option, Some, not, refl, sym, ℕ, ◌∙◌, ◌≡◌}
 use Rattle.room_place.specs.Plans.{division_of}
 use Rattle.room_place.specs.declared.plans.Area.{Area}
-use Rattle.room_types_keyed.specs.KeyedRows.{row_at}
+use Rattle.room_types.specs.KeyedRows.{row_at}
 use Rattle.room_types.specs.Keys.{call_key, pair_cmp}
 use Rattle.room_types.specs.declared.answers.Answer.TheVariants.{Called}
 use Rattle.room_types.specs.declared.asks.NewCall.{NewCall}

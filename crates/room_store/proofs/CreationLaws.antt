@@ -14,13 +14,13 @@ use Rattle.std.specs.declared.cmp.Ordering.TheVariants.{Equal, Greater, Less}
 use Rattle.room_place.specs.Plans.{Layout, has_division}
 use Rattle.room_place.specs.declared.plans.Area.{Area}
 use Rattle.room_place.proofs.PlanLaws.{numbered}
-use Rattle.room_types_keyed.specs.KeyedRows.{IsKeyed, put_row, row_at}
+use Rattle.room_types.specs.KeyedRows.{IsKeyed, put_row, row_at}
 use Rattle.room_types.specs.Keys.{division_key}
 use Rattle.room_types.specs.Texts.{Token}
 use Rattle.room_types.specs.declared.fleet.Terminal.{Terminal}
 use Rattle.room_types.specs.declared.tables.Division.{Division}
-use Rattle.room_types_keyed.proofs.EachRow.{at_each_key}
-use Rattle.room_types_keyed.proofs.KeyedLaws.{keyed_put}
+use Rattle.room_types.proofs.EachRow.{at_each_key}
+use Rattle.room_types.proofs.KeyedLaws.{keyed_put}
 use Rattle.room_model.specs.FleetRows.{AreTerminals, terminal_at, terminal_key, token_cmp}
 use Rattle.room_model.specs.RoomAgreements.{IsWellFormed}
 use Rattle.room_model.proofs.Tests.{both_true, left_true, right_true}

@@ -3,7 +3,7 @@
 use Rattle.std.proofs.Common.{List, Some, [], false, refl, subst, sym, true, ◌∙◌, ◌≡◌}
 use Rattle.std.proofs.lemmas.List.Elements.{All-nil, All-same, All-weaker}
 use Rattle.std.specs.Prelude.{All, IfSome}
-use Rattle.room_types_keyed.proofs.EachRow.{row_key}
+use Rattle.room_types.proofs.EachRow.{row_key}
 use Rattle.room_types.specs.Texts.{Token}
 use Rattle.room_types.specs.declared.fleet.FleetRow.{FleetRow}
 use Rattle.room_types.specs.declared.fleet.RowFate.{RowFate}

@@ -1,6 +1,5 @@
 -- Reads of a connection that is in no transaction: what they leave, and what may follow them.
-use Rattle.std.proofs.Common.{Bool, IsTrue, ap, arith, false, inl, inr, not, refl, sym, ◌∙◌, ◌≡◌}
-use Rattle.std.specs.Prelude.{◌⊎◌}
+use Rattle.std.proofs.Common.{IsTrue, ap, arith, inl, inr, refl, sym, ◌∙◌, ◌≡◌}
 use Rattle.sqlite.specs.Effect.{Database}
 use Rattle.sqlite.specs.Held.{Held, state}
 use Rattle.sqlite.specs.State.{IsUnchanged, State, Survives}
@@ -15,11 +14,6 @@ use Rattle.room_store.specs.StoredRoom.{ShowsRoom}
 -- outside a transaction the tables are as they were committed
 abbrev pub IsAsCommitted : State → Type 0
 IsAsCommitted at = IsTrue at.is_open → at.now ≡ at.committed
-
--- as reported by a connection that says that it is in none
-pub outside : {P : Type 0} (told mode : Bool) → mode ≡ false → told ≡ not mode → (IsTrue told → P)
-    → P
-outside told mode is says f = f (says ∙ ap not is)
 
 pub left_same : (at : State) → Leaves at at
 left_same at = record { was_open = λ is_open. is_open; now_is = λ _. refl; committed_is = λ _. refl }

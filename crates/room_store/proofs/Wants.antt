@@ -10,7 +10,7 @@ use Rattle.room_model.specs.Room.{Room}
 use Rattle.room_store_cache.specs.Cache.{HasFleetOf, IsCacheOf}
 use Rattle.room_store_cache.specs.declared.cache.Cache.{Cache}
 use Rattle.room_store_cache.specs.declared.fleets.Fleet.{Fleet}
-use Rattle.room_store_cache.specs.Partitions.{AreKnown}
+use Rattle.room_store_reads.specs.Partitions.{AreKnown}
 use Rattle.room_types.specs.declared.answers.Answer.{Answer}
 use Rattle.room_types.specs.declared.changes.Change.{Change}
 use Rattle.room_types.specs.declared.decisions.Decision.{Decision}

@@ -24,6 +24,7 @@ use crate::store_faults::refusal_of;
 use room_place::plans::Plan;
 use room_store_cache::cache::Cache;
 use room_store_writes::transactions::write;
+use room_tables::connection_lemmas::lemma_committed;
 use room_types::answers::{Answer, Listed};
 use room_types::asks::{Ask, Event};
 use room_types::changes::Change;
@@ -68,8 +69,7 @@ pub(crate) fn act_on<S: Alter, F: FnOnce(&Result<Answer, Refusal>) -> Result<Vec
         → IsFor (state S.Store conn.old).now.trees plan.now cache.old event.now config room
         → Stands db config (room_after event.now room)) }
 {
-    // Outside a transaction the tables are as they were committed.
-    let _ = conn.is_autocommit();
+    lemma_committed(conn);
     let prepared = match prepare(alloc, conn, plan, cache, event, render) {
         Ok(prepared) => prepared,
         Err(refusal) => return Err(refusal),

@@ -23,6 +23,7 @@ use crate::store::Store;
 use crate::store_faults::refusal_of;
 use room_model::digests::{Head, Miss};
 use room_store_file::digest_changes::{Undone, write_towards};
+use room_tables::connection_lemmas::lemma_committed;
 use room_types::answers::Answer;
 use room_types::asks::Event;
 use room_types::refusal_statuses::Refusal;
@@ -81,8 +82,7 @@ impl<S: Alter> Store<S> {
         ensures known { self.new.terminals ≡ self.old.terminals }
         ensures sound { self.new.is_sound ≡ self.old.is_sound }
     {
-        // Outside a transaction the tables are as they were committed.
-        let _ = self.conn.is_autocommit();
+        lemma_committed(&self.conn);
         let prepared = match prepare(
             alloc,
             &mut self.conn,

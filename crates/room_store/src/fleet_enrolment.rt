@@ -22,6 +22,7 @@ use crate::store::Store;
 use crate::store_faults::refusal_of;
 use room_place::plans::Plan;
 use room_store_writes::enrolled_rows::write;
+use room_tables::connection_lemmas::lemma_committed;
 use room_tables::table_loads::row_at;
 use room_tables::terminal_table::terminal_at;
 use room_tables_schema::database_faults::Fault;
@@ -129,8 +130,7 @@ fn add_fate<S: Alter>(
         → StandsInPlan (state S.Store conn.old).now.trees plan.now config room
         → StandsAfter (fate_in row.now config room) row.now config room db) }
 {
-    // Outside a transaction the tables are as they were committed.
-    let _ = conn.is_autocommit();
+    lemma_committed(conn);
     let fate = find_fate(conn, plan, row)?;
     out.push(fate)?;
     match write(conn, row, fate) {

@@ -29,6 +29,7 @@ use room_model::digests::{Head, Miss};
 use room_place::plans::Plan;
 use room_store_cache::cache::Cache;
 use room_store_cache::known_terminals::Terminals;
+use room_tables::connection_lemmas::lemma_committed;
 use room_tables::terminal_table::terminal_at;
 use room_tables_schema::schema_tests::is_room;
 use room_types::answers::Answer;
@@ -117,7 +118,7 @@ impl<S: Alter> Store<S> {
         if let Some(terminal) = self.terminals.get(token) {
             return Ok(Some(terminal.who));
         }
-        let _ = self.conn.is_autocommit();
+        lemma_committed(&self.conn);
         match terminal_at(&mut self.conn, token) {
             Ok(None) => Ok(None),
             Ok(Some(terminal)) => {
@@ -300,7 +301,6 @@ fn can_read<S: Alter>(conn: &mut Connection<S>) -> bool
     let Some(token) = Token::parse("00000000") else {
         return false;
     };
-    // Outside a transaction the tables are as they were committed.
-    let _ = conn.is_autocommit();
+    lemma_committed(conn);
     terminal_at(conn, &token).is_ok()
 }

@@ -15,6 +15,7 @@ use room_store_cache::cache::Cache;
 use room_store_cache::known_terminals::Terminals;
 use room_store_writes::new_room::create_in;
 use room_store_writes::terminal_holders::has_token;
+use room_tables::connection_lemmas::lemma_committed;
 use room_tables_schema::database_faults::Fault;
 use room_tables_schema::schema_tests::is_empty;
 use room_types::asks::Who;
@@ -97,8 +98,7 @@ impl<S: Alter> Store<S> {
         ensures survives_fault { IfErr result (λ e.
             Survives (state S.Store conn) (state S.Store e.1) (StandsNew plan.now terminals.now)) }
     {
-        // Outside a transaction the tables are as they were committed.
-        let _ = conn.is_autocommit();
+        lemma_committed(&conn);
         match own_plan(alloc, conn.schema(), plan, terminals) {
             Ok(own) => match create_in(&mut conn, plan, terminals) {
                 Ok(()) => Ok(Store {

@@ -4,8 +4,8 @@ use Rattle.std.proofs.lemmas.Cmp.{tied_itself}
 use Rattle.std.specs.Cmp.{Equal-is}
 use Rattle.std.specs.Ordering.{is_eq}
 use Rattle.std.specs.Prelude.{IfSome}
-use Rattle.room_types_keyed.proofs.KeyedLaws.{row_drop_other, row_drop_same, row_put}
-use Rattle.room_types_keyed.specs.KeyedRows.{IsKeyed, drop_row, put_row, row_at}
+use Rattle.room_types.proofs.KeyedLaws.{row_drop_other, row_drop_same, row_put}
+use Rattle.room_types.specs.KeyedRows.{IsKeyed, drop_row, put_row, row_at}
 use Rattle.room_types.specs.Keys.{numbered_cmp, turn_key}
 use Rattle.room_types.specs.Orders.{exact_numbered, numbered_total}
 use Rattle.room_types.specs.Texts.{Callsign}

@@ -10,8 +10,8 @@ use Rattle.std.specs.Ordering.{is_eq, match_ordering}
 use Rattle.std.specs.Prelude.{All, AllPairs, filter, remove, ◌≢◌}
 use Rattle.std.specs.declared.cmp.Ordering.{Ordering}
 use Rattle.std.specs.declared.cmp.Ordering.TheVariants.{Equal, Greater, Less}
-use Rattle.room_types_keyed.proofs.KeyedLaws.{filter_put, keyed_taken, with_passing}
-use Rattle.room_types_keyed.specs.KeyedRows.{IsKeyed, drop_row, put_row}
+use Rattle.room_types.proofs.KeyedLaws.{filter_put, keyed_taken, with_passing}
+use Rattle.room_types.specs.KeyedRows.{IsKeyed, drop_row, put_row}
 use Rattle.room_tables.proofs.Streams.{put_end}
 
 module _ {R K : Type 0} (cmp : K → K → Ordering) (key : R → K) (total : IsTotalOrder cmp) where

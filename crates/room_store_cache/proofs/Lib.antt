@@ -14,12 +14,7 @@ pub mod QueueReads
 pub mod OneIncident
 -- a terminal that is known
 pub mod TerminalLaws
-pub mod KeyedUnions
-pub mod Selected
-pub mod CrewReads
--- which incidents that are read a list has
+-- which incidents a list has
 pub mod ShownLaws
--- a request that reads nothing but the fleet
-pub mod FleetReads
 -- what reads one after another leave of the connection
 pub mod StillRooms

@@ -4,8 +4,8 @@ use Rattle.std.proofs.Common.{refl, subst, suc, sym, true, zero, ℕ, ◌&&◌, 
 use Rattle.std.proofs.lemmas.Bool.{eq-eqb}
 use Rattle.std.specs.Ordering.{is_eq}
 use Rattle.std.specs.Prelude.{filter, ◌==◌}
-use Rattle.room_types_keyed.proofs.KeyedLaws.{row_below}
-use Rattle.room_types_keyed.specs.KeyedRows.{IsBelowAll, IsKeyed, keep, row_at}
+use Rattle.room_types.proofs.KeyedLaws.{row_below}
+use Rattle.room_types.specs.KeyedRows.{IsBelowAll, IsKeyed, keep, row_at}
 use Rattle.room_types.specs.Codes.{is_active}
 use Rattle.room_types.specs.Keys.{incident_key, pair_cmp}
 use Rattle.room_types.specs.Orders.{exact_pair, pairs_total}

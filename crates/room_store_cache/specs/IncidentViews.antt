@@ -1,6 +1,6 @@
 -- Which incident views are of a room.
 use Rattle.std.specs.Prelude.{All, List, filter, ◌&&◌, ◌==◌, ◌≡◌}
-use Rattle.room_types_keyed.specs.KeyedRows.{row_at}
+use Rattle.room_types.specs.KeyedRows.{row_at}
 use Rattle.room_types.specs.Keys.{incident_key, pair_cmp}
 use Rattle.room_model.specs.Room.{Room}
 use Rattle.room_store_cache.specs.declared.incident_views.IncidentView.{IncidentView}

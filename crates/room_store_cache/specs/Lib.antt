@@ -16,13 +16,3 @@ pub mod KnownTerminals
 pub mod IncidentNumbers
 -- what is known of a room
 pub mod Cache
--- how much of a table a request reads
-pub mod Selections
--- which incidents a request reads
-pub mod RequestReads
--- what the parts of a division's working rows are of the room
-pub mod Partitions
--- what is known of the incidents that a request reads
-pub mod KnownParts
--- what the parts of a vehicle's rows are of the room
-pub mod CrewParts

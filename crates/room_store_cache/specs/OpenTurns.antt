@@ -1,6 +1,6 @@
 -- Which turns are of a room.
 use Rattle.std.specs.Prelude.{IfSome, List, Some, ℕ, ◌≡◌}
-use Rattle.room_types_keyed.specs.KeyedRows.{row_at}
+use Rattle.room_types.specs.KeyedRows.{row_at}
 use Rattle.room_types.specs.Keys.{numbered_cmp, turn_key}
 use Rattle.room_types.specs.Texts.{Callsign}
 use Rattle.room_types.specs.declared.tables.Turn.{Turn}

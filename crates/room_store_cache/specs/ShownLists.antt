@@ -1,6 +1,6 @@
 -- Which incidents that were shown, with their calls and turns, are of a room.
 use Rattle.std.specs.Prelude.{All, Bool, List, filter, is_some, ℕ, ◌&&◌, ◌==◌, ◌≡◌}
-use Rattle.room_types_keyed.specs.KeyedRows.{row_at}
+use Rattle.room_types.specs.KeyedRows.{row_at}
 use Rattle.room_types.specs.Keys.{incident_key, pair_cmp}
 use Rattle.room_types.specs.declared.tables.Incident.{Incident}
 use Rattle.room_model.specs.Room.{Room}

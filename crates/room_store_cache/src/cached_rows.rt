@@ -1,7 +1,7 @@
 //! Rows in key order, kept in memory.
 ghost use Rattle.std.specs.Prelude.{◌≡◌, filter, IfErr, IfOk, OnOk, if◌then◌else◌};
 ghost use Rattle.room_tables_schema.specs.declared.database_faults.Fault.TheVariants.{Memory};
-ghost use Rattle.room_types_keyed.specs.KeyedRows.{drop_row, put_row};
+ghost use Rattle.room_types.specs.KeyedRows.{drop_row, put_row};
 
 use room_place::plans::DivisionNumber;
 use room_tables_schema::database_faults::Fault;

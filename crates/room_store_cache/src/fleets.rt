@@ -4,7 +4,7 @@ ghost use Rattle.room_tables.specs.FoundRows.{Finds};
 ghost use Rattle.room_tables_schema.specs.FileConnections.{HasRoomSchema, StandsOpen};
 ghost use Rattle.room_tables_schema.specs.declared.database_faults.Fault.TheVariants.{Memory};
 ghost use Rattle.room_tables_schema.specs.Outcomes.{ReadsOnly};
-ghost use Rattle.room_types_keyed.specs.KeyedRows.{row_at};
+ghost use Rattle.room_types.specs.KeyedRows.{row_at};
 ghost use Rattle.room_types.specs.Keys.{callsign_cmp, numbered_cmp, turn_key, vehicle_key};
 ghost use Rattle.room_model.specs.Room.{Room, apply_one, settled};
 ghost use Rattle.room_store_cache.specs.Cache.{AreRowsOf, HasFleetOf, IsFleetOf};

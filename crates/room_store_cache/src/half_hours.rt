@@ -1,7 +1,7 @@
 //! The incidents that were opened in one half hour.
 ghost use Rattle.std.specs.Prelude.{◌≡◌, ◌+◌, ◌≤◌, All, IfSome, IsTrue, nat_le, if◌then◌else◌};
 ghost use Rattle.room_types.specs.Keys.{incident_key, pair_cmp};
-ghost use Rattle.room_types_keyed.specs.KeyedRows.{drop_row, put_row};
+ghost use Rattle.room_types.specs.KeyedRows.{drop_row, put_row};
 
 use crate::cached_rows::put_if;
 use room_types::rows::Rows;

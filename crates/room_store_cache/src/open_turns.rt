@@ -1,6 +1,6 @@
 //! The open turns that are known of the fleet's vehicles.
 ghost use Rattle.std.specs.Prelude.{◌≡◌, Some, [], IfSome};
-ghost use Rattle.room_types_keyed.specs.KeyedRows.{row_at};
+ghost use Rattle.room_types.specs.KeyedRows.{row_at};
 ghost use Rattle.room_types.specs.Keys.{numbered_cmp, turn_key};
 ghost use Rattle.room_types.specs.declared.changes.Change.TheVariants.{PutTurn};
 ghost use Rattle.room_model.specs.Room.{Room, apply_one};

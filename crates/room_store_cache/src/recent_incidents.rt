@@ -7,6 +7,7 @@ ghost use Rattle.room_tables_schema.specs.FileConnections.{HasRoomSchema, Stands
 ghost use Rattle.room_tables_schema.specs.declared.database_faults.Fault.TheVariants.{Memory};
 ghost use Rattle.room_tables_schema.specs.Outcomes.{ReadsOnly};
 ghost use Rattle.room_types.specs.declared.asks.Ask.TheVariants.{Call};
+ghost use Rattle.room_model.specs.Moments.{link_seconds};
 ghost use Rattle.room_model.specs.Room.{Room};
 ghost use Rattle.room_model.specs.WorkingRows.{names_opening};
 ghost use Rattle.room_store_cache.specs.RecentIncidents.{AreRecent, opened_since};
@@ -51,7 +52,7 @@ impl RecentIncidents {
         ensures so { (room : Room) → AreRecent self.now room
             → IfSome result (λ x. x.now.incidents ≡ filter (opened_since x.now.from)
             room.incidents) }
-        ensures reach { IfSome result (λ x. x.now.from ≤ at - 900) }
+        ensures reach { IfSome result (λ x. x.now.from ≤ at - link_seconds) }
         ensures last { IfSome result (λ _. IfSome self.now.known (λ x. at ≤ x.from + 1800)) }
     {
         let from = first_linked(at);
@@ -123,7 +124,7 @@ impl View for RecentIncidents {
 
 // The first second in which an incident may have been opened that a call at a moment is linked to.
 fn first_linked(at: Moment) -> u32
-    ensures { result ≡ at - 900 }
+    ensures { result ≡ at - link_seconds }
 {
     at.get().saturating_sub(LINK_SECONDS)
 }

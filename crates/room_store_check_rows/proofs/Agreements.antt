@@ -7,8 +7,8 @@ use Rattle.std.specs.declared.cmp.Ordering.{Ordering}
 use Rattle.std.proofs.Common.{Bool, List, None, Option, Some, refl, sym, true, ◌≡◌}
 use Rattle.std.proofs.lemmas.Bool.{false≢true}
 use Rattle.std.proofs.lemmas.Map.Lookups.{CmpEqualImpliesEq}
-use Rattle.room_types_keyed.specs.KeyedRows.{IsKeyed, row_at}
-use Rattle.room_types_keyed.proofs.EachRow.{at_each_key, from_each_key}
+use Rattle.room_types.specs.KeyedRows.{IsKeyed, row_at}
+use Rattle.room_types.proofs.EachRow.{at_each_key, from_each_key}
 
 -- what holds of a row that is there
 pub told : {X Q : Type 0} (o : Option X) → IfSome o (λ x. Q) → is_some o ≡ true → Q

@@ -9,14 +9,14 @@ use Rattle.std.proofs.Common.{Bool, List, None, Some, [], ap, cond, false, inl, 
 use Rattle.std.proofs.Common.{◌≡◌, ◌⊎◌}
 use Rattle.std.proofs.lemmas.Bool.{false_from_ne_true, false≢true, or_parts}
 use Rattle.std.proofs.lemmas.Cmp.{tied_itself}
-use Rattle.room_types_keyed.specs.KeyedRows.{IsKeyed}
+use Rattle.room_types.specs.KeyedRows.{IsKeyed}
 use Rattle.room_types.specs.Keys.{callsign_cmp, same_callsign}
 use Rattle.room_types.specs.Orders.{callsigns_total, exact_callsigns}
 use Rattle.room_types.specs.Texts.{Callsign, Token}
 use Rattle.room_types.specs.declared.asks.Who.TheVariants.{Crew, Desk, Position}
 use Rattle.room_types.specs.declared.asks.Who.{Who}
 use Rattle.room_types.specs.declared.fleet.Terminal.{Terminal}
-use Rattle.room_types_keyed.proofs.KeyedLaws.{row_below}
+use Rattle.room_types.proofs.KeyedLaws.{row_below}
 use Rattle.room_model.specs.FleetRows.{is_crew, terminal_at, terminal_key, token_cmp}
 use Rattle.room_store_check_rows.specs.TerminalCrews.{crew_of, crews_of}
 use Rattle.room_store_check_rows.proofs.PassingRows.{behind, passed, passing}

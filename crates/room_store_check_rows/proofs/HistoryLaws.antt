@@ -16,9 +16,9 @@ use Rattle.room_types.specs.declared.slices.DivisionRows.{DivisionRows}
 use Rattle.room_types.specs.declared.tables.Report.{Report}
 use Rattle.room_types.specs.declared.tables.Turn.{Turn}
 use Rattle.room_types.specs.declared.tables.Vehicle.{Vehicle}
-use Rattle.room_types_keyed.proofs.EachRow.{row_key}
-use Rattle.room_types_keyed.proofs.KeyedLaws.{row_filter}
-use Rattle.room_types_keyed.specs.KeyedRows.{keep, row_at}
+use Rattle.room_types.proofs.EachRow.{row_key}
+use Rattle.room_types.proofs.KeyedLaws.{row_filter}
+use Rattle.room_types.specs.KeyedRows.{keep, row_at}
 use Rattle.room_model.proofs.Tests.{row_among}
 use Rattle.room_model.specs.Room.{IsInOrder}
 use Rattle.room_model.specs.RoomSlices.{room_of}

@@ -8,8 +8,8 @@ use Rattle.std.proofs.Common.{Bool, List, None, Option, Some, [], ap, cond, fals
 use Rattle.std.proofs.lemmas.Bool.{false≢true}
 use Rattle.std.proofs.lemmas.Cmp.{tied_itself}
 use Rattle.std.proofs.lemmas.Map.Lookups.{CmpEqualImpliesEq}
-use Rattle.room_types_keyed.specs.KeyedRows.{IsBelowAll, IsKeyed, row_at}
-use Rattle.room_types_keyed.proofs.KeyedLaws.{row_below}
+use Rattle.room_types.specs.KeyedRows.{IsBelowAll, IsKeyed, row_at}
+use Rattle.room_types.proofs.KeyedLaws.{row_below}
 use Rattle.room_model.proofs.Tests.{or_right}
 
 module _ {R K : Type 0} (cmp : K → K → Ordering) (key : R → K) (total : IsTotalOrder cmp)

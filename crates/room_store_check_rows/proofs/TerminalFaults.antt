@@ -13,7 +13,7 @@ use Rattle.std.proofs.lemmas.Cmp.{tied_itself}
 use Rattle.room_place.specs.Choice.{Among}
 use Rattle.room_place.specs.Plans.{has_division}
 use Rattle.room_place.specs.declared.plans.Area.{Area}
-use Rattle.room_types_keyed.specs.KeyedRows.{IsKeyed, row_at}
+use Rattle.room_types.specs.KeyedRows.{IsKeyed, row_at}
 use Rattle.room_types.specs.Keys.{callsign_cmp, same_callsign, vehicle_key}
 use Rattle.room_types.specs.Orders.{callsigns_total, exact_callsigns}
 use Rattle.room_types.specs.Slices.{vehicle_at}

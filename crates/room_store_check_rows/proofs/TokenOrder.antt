@@ -7,10 +7,10 @@ use Rattle.std.specs.declared.cmp.Ordering.{Ordering}
 use Rattle.std.proofs.Common.{Bool, List, [], add-one, ap, arith, false, get_or, length, refl, subst, suc, sym, true}
 use Rattle.std.proofs.Common.{zero, ℕ, ◌+◌, ◌<◌, ◌∙◌, ◌∷◌, ◌≡◌}
 use Rattle.std.proofs.lemmas.Bool.{false≢true}
-use Rattle.room_types_keyed.specs.KeyedRows.{IsKeyed}
+use Rattle.room_types.specs.KeyedRows.{IsKeyed}
 use Rattle.room_types.specs.Orders.{callsigns_total}
 use Rattle.room_types.specs.declared.fleet.Terminal.{Terminal}
-use Rattle.room_types_keyed.proofs.KeyedLaws.{below_from_less}
+use Rattle.room_types.proofs.KeyedLaws.{below_from_less}
 use Rattle.room_model.specs.FleetRows.{terminal_key, token_cmp}
 
 abbrev is_before : Terminal → Terminal → Bool

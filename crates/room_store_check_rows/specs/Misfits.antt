@@ -2,7 +2,7 @@
 use Rattle.std.specs.Prelude.{List, None, Option, Some, [], false, is_some, true, ◌≡◌, ◌∷◌, ◌⊎◌}
 use Rattle.room_place.specs.Choice.{Among}
 use Rattle.room_place.specs.Plans.{has_division}
-use Rattle.room_types_keyed.specs.KeyedRows.{IsKeyed, row_at}
+use Rattle.room_types.specs.KeyedRows.{IsKeyed, row_at}
 use Rattle.room_types.specs.Keys.{callsign_cmp, vehicle_key}
 use Rattle.room_types.specs.Texts.{Callsign}
 use Rattle.room_types.specs.declared.asks.Who.TheVariants.{Crew, Desk}

@@ -7,7 +7,7 @@ use Rattle.std.specs.declared.cmp.Ordering.{Ordering}
 use Rattle.room_place.specs.Plans.{has_division, is_division}
 use Rattle.room_place.specs.declared.plans.Area.{Area}
 use Rattle.room_types.specs.Codes.{is_busy, is_free, is_merged, is_offered}
-use Rattle.room_types_keyed.specs.KeyedRows.{row_at}
+use Rattle.room_types.specs.KeyedRows.{row_at}
 use Rattle.room_types.specs.Keys.{callsign_cmp, loan_key, numbered_cmp, offer_key, pair_cmp, point_key, report_key}
 use Rattle.room_types.specs.Slices.{assignment_at, division_at, incident_at, is_active_one, turn_at, vehicle_at}
 use Rattle.room_types.specs.Texts.{Callsign}

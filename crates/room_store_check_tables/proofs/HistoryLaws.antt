@@ -6,8 +6,8 @@ use Rattle.std.specs.Prelude.{◌&&◌, filter, is_none}
 use Rattle.std.proofs.Math.Bool.{and-true}
 use Rattle.std.proofs.lemmas.List.Elements.{filter-append}
 use Rattle.std.proofs.lemmas.List.Folds.{list_all-append}
-use Rattle.room_types_keyed.specs.KeyedRows.{IsKeyed}
-use Rattle.room_types_keyed.proofs.KeyedLaws.{keyed_filter}
+use Rattle.room_types.specs.KeyedRows.{IsKeyed}
+use Rattle.room_types.proofs.KeyedLaws.{keyed_filter}
 use Rattle.room_store_check_rows.specs.declared.disagreements.Disagreement.{Disagreement}
 use Rattle.room_store_check_tables.specs.JudgedHistories.{AreJudged}
 

@@ -2,7 +2,7 @@
 ghost use Rattle.std.specs.Prelude.{◌≡◌, ◌++◌, ◌∷◌, [], Bool, List, IfErr, IfOk, OnOk, filter, is_none, refl};
 ghost use Rattle.std.specs.List.{list_all};
 ghost use Rattle.sqlite.specs.Held.{state};
-ghost use Rattle.room_types_keyed.specs.KeyedRows.{IsKeyed};
+ghost use Rattle.room_types.specs.KeyedRows.{IsKeyed};
 ghost use Rattle.room_types.specs.declared.slices.DivisionRows.{DivisionRows};
 ghost use Rattle.room_store_check_rows.specs.HistoryChecks.{Tell, is_last};
 ghost use Rattle.room_tables_schema.specs.FileConnections.{HasRoomSchema, IsClean};

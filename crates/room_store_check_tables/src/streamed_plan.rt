@@ -19,6 +19,7 @@ use room_place::plans::Plan;
 use room_store_check_rows::history_checks::{Openings, is_room_well_formed};
 use room_store_check_rows::room_checks::RoomRows;
 use room_store_check_rows::terminal_checks::do_terminals_fit;
+use room_tables::connection_lemmas::lemma_committed;
 use room_tables::room_table::Table;
 use room_tables::row_streams::each_row;
 use room_tables::rowids::are_numbered_streamed;
@@ -100,8 +101,7 @@ fn judge_file<S: Alter>(
     ensures nothing { WritesNothing (state S.Store conn.old) (state S.Store conn.new) }
     ensures ended { conn.new.in_transaction ≡ false }
 {
-    // Outside a transaction the tables are as they were committed.
-    let _ = conn.is_autocommit();
+    lemma_committed(conn);
     // Of a connection that a fault has shut nothing is known, not even its schema.
     if !is_room(conn.schema()) {
         return Err(FileFault::Storage);

@@ -1,6 +1,5 @@
 -- What is read and written in a transaction.
-use Rattle.std.proofs.Common.{◌≡◌, not, Bool, true, false, Err, Ok, Result, IsTrue, List, inl, sym, subst, ap, ◌∙◌}
-use Rattle.std.specs.Prelude.{OnOk}
+use Rattle.std.proofs.Common.{◌≡◌, not, Bool, true, false, Err, Ok, Result, List, inl, sym, subst, ap, ◌∙◌}
 use Rattle.sqlite.specs.Effect.{Database}
 use Rattle.sqlite.specs.Held.{Held, state}
 use Rattle.sqlite.specs.State.{IsUnchanged, State}
@@ -17,10 +16,6 @@ pub reads_commit : {S T E : Type 0} {g : Ghosts S} {a b : Held S} (r : Result T 
     → ReadsInside g a b r → CommitsNothing g a b
 reads_commit (Ok x) h = record { kept = λ clean. keeps_commit _ _ (inl (h.ok clean)); survives = h.survives }
 reads_commit (Err e) h = record { kept = λ clean. keeps_commit _ _ (h.err clean); survives = h.survives }
-
--- what a test says outside a transaction
-pub outside : {P : Type 0} (is mode : Bool) → mode ≡ false → is ≡ not mode → (IsTrue is → P) → P
-outside is mode none says so = so (says ∙ ap not none)
 
 -- what is not, is not
 pub never_both : (b : Bool) → b ≡ false → b ≡ true → ⊥

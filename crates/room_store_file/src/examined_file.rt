@@ -19,6 +19,7 @@ use room_store_check_rows::summaries::{Summary, summary_of};
 use room_store_check_rows::terminal_checks::terminals_fault;
 use room_store_check_tables::file_faults::FileFault;
 use room_store_check_tables::whole_file::ReadFile;
+use room_tables::connection_lemmas::lemma_committed;
 use room_tables_rows::meta_sql::FIRST_VERSION;
 use sqlite::{Alter, Connection};
 use std::alloc::Global;
@@ -136,8 +137,7 @@ fn read_tables<S: Alter>(
     ensures nothing { WritesNothing (state S.Store conn.old) (state S.Store conn.new) }
     ensures ended { conn.new.in_transaction ≡ false }
 {
-    // Outside a transaction the tables are as they were committed.
-    let _ = conn.is_autocommit();
+    lemma_committed(conn);
     match room_tables_of(conn.schema()) {
         Some(tables) => read_sound(alloc, conn, tables),
         None => Err(Wrong::Tables),

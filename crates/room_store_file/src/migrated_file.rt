@@ -17,6 +17,7 @@ use crate::opened_file::is_room_of;
 use crate::room_in_tables::{Tables, read_room_in};
 use room_place::plans::Plan;
 use room_store_check_tables::file_faults::FileFault;
+use room_tables::connection_lemmas::lemma_committed;
 use room_tables_rows::meta_sql::{FIRST_VERSION, VERSION};
 use room_tables_schema::database_faults::Fault;
 use room_tables_schema::schema_tests::{has_first_tables_alone, is_first};
@@ -122,7 +123,7 @@ fn move_tables<S: Alter>(alloc: Global, conn: &mut Connection<S>) -> Result<Plan
     ensures survives { Survives (state S.Store conn.old) (state S.Store conn.new)
         (MayBeMoved (state S.Store conn.old).now) }
 {
-    let _ = conn.is_autocommit();
+    lemma_committed(conn);
     let Some(tables) = first_tables_of(conn.schema()) else {
         return Err(MigrateFault::NotARoom);
     };

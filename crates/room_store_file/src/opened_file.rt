@@ -20,6 +20,7 @@ ghost use Rattle.room_tables_schema.specs.FileConnections.{IsClean};
 use crate::room_in_tables::{Tables, take};
 use room_place::plans::Plan;
 use room_store_check_tables::file_faults::FileFault;
+use room_tables::connection_lemmas::lemma_committed;
 use room_tables::meta_table::is_of_version;
 use room_tables_rows::meta_sql::FIRST_VERSION;
 use room_tables_schema::database_faults::Fault;
@@ -126,8 +127,7 @@ pub fn is_room_of<S: Alter>(conn: &mut Connection<S>, version: u32) -> Result<bo
     ensures nothing { WritesNothing (state S.Store conn.old) (state S.Store conn.new) }
     ensures ended { conn.new.in_transaction ≡ false }
 {
-    // Outside a transaction the tables are as they were committed.
-    let _ = conn.is_autocommit();
+    lemma_committed(conn);
     if !begins_as_room(conn.schema()) {
         return Ok(false);
     }
@@ -156,7 +156,7 @@ fn open_tables<S: Alter>(alloc: Global, conn: &mut Connection<S>) -> Result<Plan
     ensures survives { Survives (state S.Store conn.old) (state S.Store conn.new)
         (MayBeIndexed (state S.Store conn.old).now) }
 {
-    let _ = conn.is_autocommit();
+    lemma_committed(conn);
     let Some(tables) = room_tables_of(conn.schema()) else {
         return Err(OpenFault::NotARoom);
     };

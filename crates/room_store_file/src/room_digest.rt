@@ -16,6 +16,7 @@ ghost use Rattle.sqlite_trees.specs.Tree.{Trees};
 
 use crate::row_hash::add_rows;
 use room_model::digests::Version;
+use room_tables::connection_lemmas::lemma_committed;
 use room_tables_rows::area_sql::ALL_AREAS;
 use room_tables_rows::assignment_sql::ALL_ASSIGNMENTS;
 use room_tables_rows::call_sql::ALL_CALLS;
@@ -66,8 +67,7 @@ pub fn digest_in<S: Alter>(conn: &mut Connection<S>, version: Version) -> Result
     ensures ended { conn.new.in_transaction ≡ false }
     ensures survives { Survives (state S.Store conn.old) (state S.Store conn.new) (λ _. ⊥) }
 {
-    // Outside a transaction the tables are as they were committed.
-    let _ = conn.is_autocommit();
+    lemma_committed(conn);
     let mut tx = conn.transaction();
     let digest = digest_inside(&mut tx, version);
     tx.rollback();

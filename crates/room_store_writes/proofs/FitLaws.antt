@@ -7,8 +7,8 @@ use Rattle.std.specs.List.{list_any}
 use Rattle.room_place.specs.Plans.{has_division}
 use Rattle.room_place.specs.declared.plans.Area.{Area}
 use Rattle.room_tables_schema.proofs.Comparisons.{is_Equal}
-use Rattle.room_types_keyed.proofs.KeyedLaws.{keyed_filter, keyed_put, row_below, row_filter}
-use Rattle.room_types_keyed.specs.KeyedRows.{IsBelowAll, IsKeyed, keep, row_at}
+use Rattle.room_types.proofs.KeyedLaws.{keyed_filter, keyed_put, row_below, row_filter}
+use Rattle.room_types.specs.KeyedRows.{IsBelowAll, IsKeyed, keep, row_at}
 use Rattle.room_types.specs.Keys.{callsign_cmp, vehicle_key}
 use Rattle.room_types.specs.Orders.{callsigns_total, exact_callsigns}
 use Rattle.room_types.specs.Texts.{Callsign, Token}

@@ -1,5 +1,5 @@
 -- What is read in a transaction.
-use Rattle.std.proofs.Common.{not, Bool, Err, IsTrue, Ok, Result, ap, false, inl, ◌∙◌, ◌≡◌}
+use Rattle.std.proofs.Common.{Err, Ok, Result, inl}
 use Rattle.sqlite.specs.Held.{Held}
 use Rattle.sqlite_trees.specs.declared.store.Store.{Ghosts}
 use Rattle.room_tables_schema.specs.Outcomes.{CommitsNothing, ReadsInside}
@@ -10,7 +10,3 @@ pub reads_commit : {S T E : Type 0} {g : Ghosts S} {a b : Held S} (r : Result T 
     → ReadsInside g a b r → CommitsNothing g a b
 reads_commit (Ok x) h = record { kept = λ clean. keeps_commit _ _ (inl (h.ok clean)); survives = h.survives }
 reads_commit (Err e) h = record { kept = λ clean. keeps_commit _ _ (h.err clean); survives = h.survives }
-
--- what a test says outside a transaction
-pub outside : {P : Type 0} (is mode : Bool) → mode ≡ false → is ≡ not mode → (IsTrue is → P) → P
-outside is mode none says so = so (says ∙ ap not none)

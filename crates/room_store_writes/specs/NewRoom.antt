@@ -6,7 +6,7 @@ use Rattle.sqlite_trees.specs.Tree.{Trees}
 use Rattle.sqlite_trees.specs.declared.store.Store.{Ghosts}
 use Rattle.room_place.specs.Plans.{Layout, has_division}
 use Rattle.room_place.specs.declared.plans.Area.{Area}
-use Rattle.room_types_keyed.specs.KeyedRows.{put_row}
+use Rattle.room_types.specs.KeyedRows.{put_row}
 use Rattle.room_types.specs.declared.changes.Change.{Change}
 use Rattle.room_types.specs.declared.fleet.Terminal.{Terminal}
 use Rattle.room_types.specs.declared.tables.Division.{Division}

@@ -6,7 +6,7 @@ ghost use Rattle.sqlite.specs.Held.{state};
 ghost use Rattle.sqlite.specs.State.{Survives};
 ghost use Rattle.room_tables_schema.specs.Outcomes.{CommitsNothing};
 ghost use Rattle.room_place.specs.Plans.{has_division, most_areas};
-ghost use Rattle.room_types_keyed.specs.KeyedRows.{put_row};
+ghost use Rattle.room_types.specs.KeyedRows.{put_row};
 ghost use Rattle.room_types.specs.Keys.{division_key};
 ghost use Rattle.room_model.specs.Room.{Room};
 ghost use Rattle.room_tables_schema.specs.Schema.{no_schema, room_schema};

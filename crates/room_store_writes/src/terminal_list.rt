@@ -7,6 +7,7 @@ ghost use Rattle.room_tables_rows.specs.RoomsInTables.{Configuration, Stands};
 ghost use Rattle.room_tables_schema.specs.FileConnections.{HasRoomSchema, IsClean};
 ghost use Rattle.room_store_writes.specs.Transactions.{Leaves};
 
+use room_tables::connection_lemmas::lemma_committed;
 use room_tables::terminal_table::all_terminals;
 use room_tables_schema::database_faults::Fault;
 use room_types::fleet::Terminal;
@@ -27,8 +28,7 @@ pub fn list<S: Alter>(alloc: Global, conn: &mut Connection<S>) -> Result<Vec<Ter
     ensures ended { conn.new.in_transaction ≡ false }
     ensures survives { Survives (state S.Store conn.old) (state S.Store conn.new) (λ _. ⊥) }
 {
-    // Outside a transaction the tables are as they were committed.
-    let _ = conn.is_autocommit();
+    lemma_committed(conn);
     let mut tx = conn.transaction();
     let terminals = all_terminals(alloc, &mut tx);
     tx.rollback();

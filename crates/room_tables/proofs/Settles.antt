@@ -2,7 +2,7 @@
 use Rattle.std.proofs.Common.{◌≡◌, ℕ, true, Option, Some, None, map, ◌∙◌, sym, subst}
 use Rattle.sqlite.specs.State.{State, IsUnchanged, Shown}
 use Rattle.sqlite_trees.specs.Tree.{Trees}
-use Rattle.room_types_keyed.specs.KeyedRows.{row_at}
+use Rattle.room_types.specs.KeyedRows.{row_at}
 use Rattle.room_types.specs.Keys.{callsign_cmp, vehicle_key}
 use Rattle.room_types.specs.Texts.{Callsign}
 use Rattle.room_types.specs.declared.changes.Change.TheVariants.{PutVehicle, Settle}

@@ -8,8 +8,8 @@ use Rattle.std.specs.List.{slice_get}
 use Rattle.std.specs.Prelude.{OnOk}
 use Rattle.std.specs.Result.{is_ok}
 use Rattle.sqlite_value.specs.Order.{Row}
-use Rattle.room_types_keyed.specs.KeyedRows.{IsBelowAll, IsKeyed, put_row}
-use Rattle.room_types_keyed.proofs.KeyedLaws.{keyed_put}
+use Rattle.room_types.specs.KeyedRows.{IsBelowAll, IsKeyed, put_row}
+use Rattle.room_types.proofs.KeyedLaws.{keyed_put}
 use Rattle.room_tables_schema.specs.declared.database_faults.Fault.{Fault}
 use Rattle.room_tables_schema.specs.declared.database_faults.Fault.TheVariants.{Memory, Storage}
 use Rattle.room_tables.specs.Failures.{AreNoRows, IfStorage}

@@ -8,7 +8,7 @@ use Rattle.std.proofs.lemmas.List.{drop_more, length-take-le, map-append, take_m
 use Rattle.sqlite_value.specs.Order.{Row}
 use Rattle.room_place.specs.declared.plans.Area.{Area}
 use Rattle.room_tables_rows.specs.AreaSql.{area_row}
-use Rattle.room_types_keyed.specs.KeyedRows.{IsBelowAll, IsKeyed}
+use Rattle.room_types.specs.KeyedRows.{IsBelowAll, IsKeyed}
 use Rattle.room_tables.specs.Failures.{HasMisnumbered, HasStranger}
 
 module _ (shown : List Row) (i : ℕ) (r : Row) (within : i < length shown)

@@ -8,7 +8,7 @@ use Rattle.sqlite_trees.specs.declared.store.Store.{Ghosts}
 use Rattle.sqlite.specs.State.{ExecutesInside, FailsToQuery, Shown, State}
 use Rattle.sqlite.specs.declared.error.Error.{Error}
 use Rattle.room_place.specs.declared.plans.Area.{Area}
-use Rattle.room_types_keyed.specs.KeyedRows.{IsKeyed}
+use Rattle.room_types.specs.KeyedRows.{IsKeyed}
 use Rattle.room_tables_schema.specs.Outcomes.{ReadsInside}
 use Rattle.room_tables_rows.specs.AreaSql.{is_area_row, area_row}
 use Rattle.room_tables_schema.specs.DatabaseFaults.{fault_of}

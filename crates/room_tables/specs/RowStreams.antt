@@ -5,7 +5,7 @@ use Rattle.sqlite.specs.State.{Shown, State}
 use Rattle.sqlite_value.specs.Order.{Row}
 use Rattle.sqlite_trees.specs.Tree.{Trees}
 use Rattle.sqlite_schema.specs.declared.schema.Table.{Table}
-use Rattle.room_types_keyed.specs.KeyedRows.{IsKeyed}
+use Rattle.room_types.specs.KeyedRows.{IsKeyed}
 use Rattle.room_model.specs.Room.{Room}
 use Rattle.room_tables_schema.specs.TableTrees.{AreNumbered}
 use Rattle.room_tables_schema.specs.declared.database_faults.Fault.{Fault}

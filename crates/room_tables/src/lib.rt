@@ -10,6 +10,7 @@ pub mod area_table;
 pub mod assignment_table;
 pub mod call_table;
 mod change_statements;
+pub mod connection_lemmas;
 pub mod division_table;
 pub mod incident_table;
 mod loaded_rows;

@@ -7,7 +7,7 @@ ghost use Rattle.sqlite.specs.Listing.{understood};
 ghost use Rattle.sqlite.specs.State.{Shown};
 ghost use Rattle.sqlite.specs.Values.{bound};
 ghost use Rattle.room_tables_schema.specs.Outcomes.{ReadsOnly};
-ghost use Rattle.room_types_keyed.specs.KeyedRows.{IsKeyed};
+ghost use Rattle.room_types.specs.KeyedRows.{IsKeyed};
 ghost use Rattle.room_tables_rows.specs.OptionalRows.{listed};
 ghost use Rattle.room_tables.specs.Failures.{AreMoreThanOne, AreNoRows, IfStorage, TellsWhy};
 ghost use Rattle.room_tables_schema.specs.FileConnections.{IsClean};

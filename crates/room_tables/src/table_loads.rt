@@ -5,7 +5,7 @@ ghost use Rattle.sqlite.specs.Held.{state};
 ghost use Rattle.room_tables_schema.specs.FileConnections.{HasRoomSchema, IsClean};
 ghost use Rattle.room_tables_schema.specs.TableTrees.{AreNumbered};
 ghost use Rattle.room_tables_schema.specs.Outcomes.{ReadsInside, ReadsOnly};
-ghost use Rattle.room_types_keyed.specs.KeyedRows.{row_at};
+ghost use Rattle.room_types.specs.KeyedRows.{row_at};
 ghost use Rattle.room_tables_rows.specs.RoomsInTables.{StandsFor};
 ghost use Rattle.room_tables.specs.Failures.{AreMoreThanOne, AreNoRows, TellsWhy};
 ghost use Rattle.room_tables.specs.FoundRows.{Finds};

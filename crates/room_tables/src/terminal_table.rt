@@ -5,7 +5,7 @@ ghost use Rattle.sqlite_value.specs.declared.value.Value.TheVariants.{Text};
 ghost use Rattle.sqlite.specs.Held.{state};
 ghost use Rattle.room_tables_schema.specs.TableTrees.{AreNumbered};
 ghost use Rattle.room_tables_schema.specs.Outcomes.{ReadsInside, ReadsOnly, WritesInside};
-ghost use Rattle.room_types_keyed.specs.KeyedRows.{IsKeyed, put_row};
+ghost use Rattle.room_types.specs.KeyedRows.{IsKeyed, put_row};
 ghost use Rattle.room_model.specs.FleetRows.{terminal_at as found_terminal, terminal_key, token_cmp};
 ghost use Rattle.room_tables_rows.specs.TerminalSql.{terminal_row, is_terminal_row};
 ghost use Rattle.room_tables_schema.specs.Schema.{terminals_table};

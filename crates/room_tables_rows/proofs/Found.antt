@@ -4,7 +4,7 @@ use Rattle.std.proofs.Common.{Some, None, refl, sym, ap, ◌∙◌, arith, Order
 use Rattle.std.specs.Cmp.{IsTotalOrder}
 use Rattle.std.specs.List.{slice_get}
 use Rattle.std.proofs.lemmas.Option.{slice_get_within}
-use Rattle.room_types_keyed.specs.KeyedRows.{IsKeyed, IsBelowAll, put_row, row_at}
+use Rattle.room_types.specs.KeyedRows.{IsKeyed, IsBelowAll, put_row, row_at}
 use Rattle.room_tables_rows.specs.OptionalRows.{listed}
 
 -- the first row that passes a test of its key is the row of the key

@@ -5,7 +5,7 @@ use Rattle.sqlite_sql.specs.Term.{Term}
 use Rattle.sqlite_schema.specs.declared.schema.Table.{Table}
 use Rattle.sqlite_trees.specs.Tree.{Trees}
 use Rattle.sqlite.specs.State.{State, Shown}
-use Rattle.room_types_keyed.specs.KeyedRows.{IsKeyed, row_at}
+use Rattle.room_types.specs.KeyedRows.{IsKeyed, row_at}
 use Rattle.room_tables_schema.specs.TableTrees.{cells, AreNumbered, Holds}
 use Rattle.room_tables_schema.specs.Statements.{passes, Selects}
 use Rattle.room_tables_schema.proofs.TypedTables.{stands_for_one, selection_is_chosen}

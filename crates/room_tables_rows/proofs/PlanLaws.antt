@@ -6,7 +6,7 @@ use Rattle.std.proofs.lemmas.Bool.Decides.{nat_tests}
 use Rattle.std.proofs.lemmas.List.{take_more, map-append}
 use Rattle.sqlite_value.specs.Order.{Row}
 use Rattle.room_place.specs.declared.plans.Area.{Area}
-use Rattle.room_types_keyed.specs.KeyedRows.{IsBelowAll, IsKeyed, put_row}
+use Rattle.room_types.specs.KeyedRows.{IsBelowAll, IsKeyed, put_row}
 use Rattle.room_tables_rows.specs.AreaSql.{area_key, area_row}
 use Rattle.room_tables_rows.specs.RoomsInTables.{numbered}
 

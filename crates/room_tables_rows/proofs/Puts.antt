@@ -5,7 +5,7 @@ use Rattle.sqlite_value.specs.Order.{Row}
 use Rattle.sqlite_schema.specs.declared.schema.Table.{Table}
 use Rattle.sqlite.specs.Effect.{Database}
 use Rattle.sqlite.specs.State.{State, Executes}
-use Rattle.room_types_keyed.specs.KeyedRows.{put_row, drop_row}
+use Rattle.room_types.specs.KeyedRows.{put_row, drop_row}
 use Rattle.room_types.specs.declared.changes.Change.{Change}
 use Rattle.room_tables_schema.specs.Outcomes.{Inside, Only}
 use Rattle.room_tables_schema.specs.Statements.{StandsAlone}

@@ -17,9 +17,9 @@ use Rattle.room_tables_schema.proofs.StoredRows.{stores_row}
 use Rattle.room_tables_schema.specs.Outcomes.{Inside}
 use Rattle.room_tables_schema.specs.Schema.{room_schema, terminals_table}
 use Rattle.room_tables_schema.specs.Statements.{Selects, StandsAlone, Stores, Upserts, equals, row_update, row_values}
+use Rattle.room_types.specs.KeyedRows.{put_row, row_at}
 use Rattle.room_types.specs.Texts.{Token}
 use Rattle.room_types.specs.declared.fleet.Terminal.{Terminal}
-use Rattle.room_types_keyed.specs.KeyedRows.{put_row, row_at}
 use Rattle.sqlite.specs.Listing.{understood}
 use Rattle.sqlite.specs.State.{Executes, State}
 use Rattle.sqlite_schema.specs.Rules.{equal}

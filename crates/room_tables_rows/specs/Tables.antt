@@ -12,7 +12,7 @@ use Rattle.room_tables_schema.specs.Statements.{passes, Selects, StandsAlone, De
 use Rattle.room_tables_schema.specs.Statements.{Overwrites, Covers}
 use Rattle.room_tables_schema.specs.TableTrees.{cells}
 use Rattle.room_tables_schema.specs.TypedRows.{IsFaithful}
-use Rattle.room_types_keyed.specs.KeyedRows.{put_row, drop_row}
+use Rattle.room_types.specs.KeyedRows.{put_row, drop_row}
 use Rattle.room_types.specs.declared.changes.Change.{Change}
 use Rattle.room_model.specs.Room.{Room, apply_one}
 use Rattle.room_tables_schema.specs.Schema.{room_schema}

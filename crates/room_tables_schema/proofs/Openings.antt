@@ -16,7 +16,7 @@ use Rattle.sqlite_sql.proofs.QueryLemmas.{key_cmp_total}
 use Rattle.sqlite_schema.specs.declared.schema.Schema.{Schema}
 use Rattle.sqlite_exec.proofs.PartitionLemmas.{ascending_from_sorted}
 use Rattle.sqlite.specs.State.{State}
-use Rattle.room_types_keyed.specs.KeyedRows.{IsKeyed, IsBelowAll}
+use Rattle.room_types.specs.KeyedRows.{IsKeyed, IsBelowAll}
 use Rattle.room_tables_schema.specs.TableTrees.{cells, keys, AreNumbered, RowidsRise}
 use Rattle.room_tables_schema.specs.Laws.{RowidsTell, StandsForRead, NumbersRead}
 use Rattle.room_tables_schema.proofs.Numbered.{numbered-permutation}

@@ -7,7 +7,7 @@ use Rattle.std.specs.Ordering.{match_ordering, ordering_reverse}
 use Rattle.sqlite_value.specs.Order.{Row}
 use Rattle.sqlite_trees.proofs.ListLemmas.{filter-map, filter_same, all_of}
 use Rattle.sqlite_sql.specs.Query.{key_cmp}
-use Rattle.room_types_keyed.specs.KeyedRows.{put_row, drop_row, IsKeyed, IsBelowAll}
+use Rattle.room_types.specs.KeyedRows.{put_row, drop_row, IsKeyed, IsBelowAll}
 use Rattle.room_tables_schema.specs.TableTrees.{Rises, put_in, keys, Holds}
 use Rattle.room_tables_schema.specs.TypedRows.{IsFaithful}
 use Rattle.room_tables_schema.proofs.Standing.{holds_one}

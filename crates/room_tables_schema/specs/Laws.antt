@@ -12,7 +12,7 @@ use Rattle.sqlite_schema.specs.declared.schema.Table.{Table}
 use Rattle.sqlite_schema.specs.declared.schema.Index.{Index}
 use Rattle.sqlite_schema.specs.declared.schema.Schema.{Schema}
 use Rattle.sqlite.specs.State.{State, Shown, Executes}
-use Rattle.room_types_keyed.specs.KeyedRows.{IsKeyed, put_row, drop_row}
+use Rattle.room_types.specs.KeyedRows.{IsKeyed, put_row, drop_row}
 use Rattle.room_tables_schema.specs.TableTrees.{cells, keys, AreNumbered, RowidsRise, Holds}
 use Rattle.room_tables_schema.specs.Outcomes.{Only, MakesTable, MakesIndex}
 use Rattle.room_tables_schema.specs.Statements.{passes, Selects, StandsAlone, Deletes, Inserts, Upserts, Stores}

@@ -1,3 +1,6 @@
+pub mod EachRow
+pub mod KeyedLaws
+pub mod Search
 pub mod CrewLaws
 -- callsigns and tokens are UTF-8
 pub mod Letters

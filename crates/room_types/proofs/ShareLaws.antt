@@ -6,7 +6,7 @@ use Rattle.std.specs.Bool.{Decides}
 use Rattle.std.proofs.lemmas.Bool.{eqb-true, leb-true, le-leb}
 use Rattle.std.proofs.lemmas.Bool.Decides.{Decides-and, Decides-like}
 use Rattle.room_types.specs.Codes.{is_active}
-use Rattle.room_types_keyed.specs.KeyedRows.{IsKeyed}
+use Rattle.room_types.specs.KeyedRows.{IsKeyed}
 use Rattle.room_types.specs.Keys.{callsign_cmp, numbered_cmp, vehicle_key, turn_key, assignment_key}
 use Rattle.room_types.specs.Orders.{callsigns_total, numbered_total, exact_callsigns, exact_numbered}
 use Rattle.room_types.specs.Slices.{AreOwned, IsShare, VehicleAgrees, AssignmentAgrees, TurnAgrees, IsInTurn, are_owned}
@@ -17,7 +17,7 @@ use Rattle.room_types.specs.declared.tables.Assignment.{Assignment}
 use Rattle.room_types.specs.declared.tables.Incident.{Incident}
 use Rattle.room_types.specs.declared.tables.Turn.{Turn}
 use Rattle.room_types.specs.declared.tables.Vehicle.{Vehicle}
-use Rattle.room_types_keyed.proofs.EachRow.{at_each_key, from_each_key}
+use Rattle.room_types.proofs.EachRow.{at_each_key, from_each_key}
 use Rattle.room_types.proofs.SentLaws.{itself, parts_decide}
 
 owned_decides : (d : ℕ) (s : DivisionRows) → Decides (are_owned d s) (AreOwned d s)

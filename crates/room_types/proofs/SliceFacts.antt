@@ -9,7 +9,7 @@ use Rattle.room_types.specs.Codes.{is_busy}
 use Rattle.room_types.specs.Slices.{IsShare, assignment_at, is_share, open_turn, vehicle_at}
 use Rattle.room_types.specs.declared.slices.DivisionRows.{DivisionRows}
 use Rattle.room_types.specs.declared.tables.Vehicle.{Vehicle}
-use Rattle.room_types_keyed.proofs.EachRow.{row_key}
+use Rattle.room_types.proofs.EachRow.{row_key}
 use Rattle.room_types.proofs.SentLaws as sent
 use Rattle.room_types.proofs.ShareLaws.{share_agrees}
 

@@ -1,3 +1,4 @@
+pub mod KeyedRows
 pub mod Codes
 pub mod Crews
 pub mod Keys

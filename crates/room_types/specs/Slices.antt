@@ -4,7 +4,7 @@ use Rattle.std.specs.Prelude.{is_some, is_none}
 use Rattle.std.specs.List.{list_all}
 use Rattle.std.specs.Ordering.{nat_cmp}
 use Rattle.room_types.specs.Codes.{is_active}
-use Rattle.room_types_keyed.specs.KeyedRows.{row_at, keep}
+use Rattle.room_types.specs.KeyedRows.{row_at, keep}
 use Rattle.room_types.specs.Keys.{callsign_cmp, pair_cmp, numbered_cmp, division_key, incident_key, vehicle_key}
 use Rattle.room_types.specs.Keys.{turn_key, assignment_key, owns_division, owns_incident, owns_call, owns_vehicle}
 use Rattle.room_types.specs.Keys.{owns_turn, owns_assignment, owns_point, owns_loan, owns_offer, owns_report}

@@ -3,7 +3,7 @@ ghost use Rattle.std.specs.Prelude.{◌≡◌, ℕ, Bool, false, List, [], lengt
 ghost use Rattle.std.specs.Iterator.Adapters.{IterYieldsInOrder};
 ghost use Rattle.std.specs.Slice.Iter.{iter_rest};
 ghost use Rattle.std.specs.declared.cmp.Ordering.TheVariants.{Equal};
-ghost use Rattle.room_types_keyed.specs.KeyedRows.{IsKeyed, row_at, put_row, drop_row, keep, IsAt, IsGapFor};
+ghost use Rattle.room_types.specs.KeyedRows.{IsKeyed, row_at, put_row, drop_row, keep, IsAt, IsGapFor};
 ghost use Rattle.room_types.specs.declared.refusal_statuses.Refusal.TheVariants.{Memory};
 
 use crate::refusal_statuses::Refusal;

@@ -3,7 +3,7 @@
 //! a busy vehicle has both is an agreement of the room.
 ghost use Rattle.std.specs.Prelude.{◌≡◌, true, option_copied};
 ghost use Rattle.std.specs.List.{list_all};
-ghost use Rattle.room_types_keyed.specs.KeyedRows.{IsKeyed};
+ghost use Rattle.room_types.specs.KeyedRows.{IsKeyed};
 ghost use Rattle.room_types.specs.Keys.{callsign_cmp, numbered_cmp, vehicle_key, assignment_key, turn_key};
 ghost use Rattle.room_types.specs.Slices.{is_share, are_owned, vehicle_agrees, assignment_agrees, turn_agrees, open_turn};
 

@@ -1,8 +1,8 @@
 use Rattle.std.proofs.Common.{FitsSigned, rules, subst, sym, true, w64, ◌∙◌, ◌≡◌}
 use Rattle.std.proofs.lemmas.Int.{to_z-of_z}
 use Rattle.std.specs.List.{list_all}
-use Rattle.room_types_keyed.proofs.KeyedLaws.{keyed_filter}
-use Rattle.room_types_keyed.specs.KeyedRows.{IsKeyed}
+use Rattle.room_types.proofs.KeyedLaws.{keyed_filter}
+use Rattle.room_types.specs.KeyedRows.{IsKeyed}
 use Rattle.room_types.specs.Keys.{incident_key, owns_incident, pair_cmp}
 use Rattle.room_types.specs.Orders.{pairs_total}
 use Rattle.dispatch_room_archive.specs.JoinedReports.{AreOfBoth}

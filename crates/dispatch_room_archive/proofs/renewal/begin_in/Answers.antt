@@ -1,7 +1,6 @@
 use Rattle.std.proofs.Common.{false, sym, true, ◌∙◌, ◌≡◌}
 use Rattle.sqlite.specs.Held.{state}
 use Rattle.sqlite.proofs.StateLemmas.{survives_weaker}
-use Rattle.room_store.proofs.LookLaws.{outside}
 use Rattle.room_store_writes.specs.NewRoom.{StandsWith}
 use Rattle.dispatch_room_archive.specs.Renewal.{StandsRenewed}
 use Rattle.dispatch_room_archive.proofs.RenewalLemmas.{stands_renewed}
@@ -12,7 +11,7 @@ create_with-requires-clause-empty g c = sym c.schema.ensures.value ∙ c.is_empt
 
 pub create_with-requires-clause-committed : goal.create_with-requires-clause-committed
 create_with-requires-clause-committed g c =
-    outside c.is_autocommit.result _ c.requires.outside c.is_autocommit.ensures.value c.is_autocommit.ensures.settled
+    c.lemma_committed.ensures c.requires.outside
 
 pub returns-in-Ok-clause-begun : goal.returns-in-Ok-clause-begun
 returns-in-Ok-clause-begun g c =

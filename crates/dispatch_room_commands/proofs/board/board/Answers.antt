@@ -1,8 +1,21 @@
-use Rattle.std.proofs.lemmas.Result.{IfOk-weaker}
+use Rattle.std.proofs.Common.{inr}
+use Rattle.std.proofs.lemmas.Result.{IfErr-weaker, IfOk-weaker}
 use Rattle.dispatch_room_commands.proofs.board.board.Goals as goal
 
 pub returns-clause-done : goal.returns-clause-done
 returns-clause-done g c =
     IfOk-weaker c.print.result _ _
-    (λ done h. (c.as_slice.result.now, c.has_colour-colour.result, rw c.is_some.ensures at h))
+    (λ done h. (
+      c.in-Some.ensures.0,
+      (c.as_slice.result.now, c.has_colour-colour.result, c.has_colour-colour.ensures, rw c.is_some.ensures at h),
+    ))
     c.print.ensures.done
+
+pub returns-clause-undone : goal.returns-clause-undone
+returns-clause-undone g c =
+    IfErr-weaker c.print.result _ _
+    (λ fault h. inr (
+      c.in-Some.ensures.0,
+      inr (c.as_slice.result.now, c.has_colour-colour.result, c.has_colour-colour.ensures, rw c.is_some.ensures at h),
+    ))
+    c.print.ensures.undone

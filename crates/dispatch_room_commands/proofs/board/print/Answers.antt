@@ -26,7 +26,11 @@ returns-in-Ok-write_all-clause-done g c =
       sym c.end_of.ensures ∙ is,
     ))
 
+pub returns-clause-undone : goal.returns-clause-undone
+returns-clause-undone g c = inr (refl, (c.in-Ok.board, c.in-Ok.ensures))
+
 pub returns-in-Ok-write_all-clause-undone : goal.returns-in-Ok-write_all-clause-undone
 returns-in-Ok-write_all-clause-undone g c =
     rw c.end_of.ensures
-    (IfErr-weaker (end_of_board c.in-Ok.board.reached) _ _ (λ fault is. inr is) (by_network c.in-Ok.board.reached))
+    (IfErr-weaker (end_of_board c.in-Ok.board.reached) _ _ (λ fault is. inr (is, (c.in-Ok.board, c.in-Ok.ensures)))
+    (by_network c.in-Ok.board.reached))

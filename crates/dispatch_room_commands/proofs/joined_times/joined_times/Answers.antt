@@ -4,19 +4,22 @@ use Rattle.dispatch_room_commands.proofs.joined_times.joined_times.Goals as goal
 
 pub returns-in_err-newer-clause-undone : goal.returns-in_err-newer-clause-undone
 returns-in_err-newer-clause-undone g c =
-    handed_on c.from_residual.result _ c.from_residual.ensures.1 (λ fault is. inl (rw is c.in_err-newer.ensures.undone))
+    handed_on c.from_residual.result _ c.from_residual.ensures.1
+    (λ fault is. inl (refl, rw is c.in_err-newer.ensures.undone))
 
 pub returns-in_err-report-clause-undone : goal.returns-in_err-report-clause-undone
 returns-in_err-report-clause-undone g c =
     handed_on c.from_residual-in_err-report.result _ c.from_residual-in_err-report.ensures.1
-    (λ fault is. inr (_, c.in_ok-newer.newer, c.in_ok-newer.ensures.done, inl (rw is c.in_err-report.ensures.undone)))
+    (λ fault is. inr (
+      c.in_ok-newer.newer,
+      c.in_ok-newer.ensures.done,
+      inl (refl, rw is c.in_err-report.ensures.undone),
+    ))
 
 pub returns-in-Ok-clause-done : goal.returns-in-Ok-clause-done
 returns-in-Ok-clause-done g c = record {
-  found = _;
   newer = c.in_ok-newer.newer;
   finds = c.in_ok-newer.ensures.done;
-  between = _;
   report = c.in_ok-report.report;
   joins = c.in_ok-report.ensures.done;
   text = rw c.as_slice.ensures.value at c.in-Ok.ensures.bytes;
@@ -26,8 +29,7 @@ returns-in-Ok-clause-done g c = record {
 pub returns-clause-undone : goal.returns-clause-undone
 returns-clause-undone g c =
     inr (
-      _,
       c.in_ok-newer.newer,
       c.in_ok-newer.ensures.done,
-      inr (refl, (_, c.in_ok-report.report, c.in_ok-report.ensures.done)),
+      inr (refl, (c.in_ok-report.report, c.in_ok-report.ensures.done)),
     )

@@ -5,11 +5,10 @@ use Rattle.dispatch_room_commands.proofs.times.times.Goals as goal
 pub returns-in_err-report-clause-undone : goal.returns-in_err-report-clause-undone
 returns-in_err-report-clause-undone g c =
     handed_on c.from_residual.result _ c.from_residual.ensures.1
-    (λ fault is. inl (rw is c.in_err-report.ensures.undone))
+    (λ fault is. inl (refl, rw is c.in_err-report.ensures.undone))
 
 pub returns-in-Ok-clause-done : goal.returns-in-Ok-clause-done
 returns-in-Ok-clause-done g c = record {
-  between = _;
   report = c.in_ok-report.report;
   is = c.in_ok-report.ensures.done;
   text = rw c.as_slice.ensures.value at c.in-Ok.ensures.bytes;
@@ -17,4 +16,4 @@ returns-in-Ok-clause-done g c = record {
 }
 
 pub returns-clause-undone : goal.returns-clause-undone
-returns-clause-undone g c = inr (refl, (_, c.in_ok-report.report, c.in_ok-report.ensures.done))
+returns-clause-undone g c = inr (refl, (c.in_ok-report.report, c.in_ok-report.ensures.done))

@@ -1,5 +1,5 @@
 use Rattle.std.proofs.Common.{sym}
-use Rattle.dispatch_room_journal.proofs.PlainLemmas.{entry_comes, entry_put, failed_put, never_end, plain_put, said_entry}
+use Rattle.dispatch_room_journal.proofs.PlainLemmas.{entry_comes, entry_put, failed_put, never_end, plain_put, shown_entry}
 use Rattle.dispatch_room_journal.proofs.list_ends.put_entry.Goals as goal
 
 pub returns-in-Plain-clause-put : goal.returns-in-Plain-clause-put
@@ -16,7 +16,7 @@ put_after-requires-clause-comes g c = entry_comes c.in-Chain.link.has_ended c.ar
 
 pub returns-in-Chain-clause-put : goal.returns-in-Chain-clause-put
 returns-in-Chain-clause-put g c =
-    rw c.in-Chain.is (rw (said_entry c.args.entry.now c.requires.says) at c.put_after.ensures.put)
+    rw c.in-Chain.is (rw (shown_entry c.args.entry.now c.requires.says) at c.put_after.ensures.put)
 
 pub returns-in-Chain-clause-written : goal.returns-in-Chain-clause-written
 returns-in-Chain-clause-written g c = rw c.in-Chain.is c.put_after.ensures.written

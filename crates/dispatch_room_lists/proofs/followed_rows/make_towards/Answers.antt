@@ -1,6 +1,7 @@
 use Rattle.std.proofs.Common.{inl, inr, refl}
-use Rattle.std.proofs.lemmas.Result.{on_ok_weaker}
-use Rattle.dispatch_room_disk.proofs.WorkLemmas.{handed_on}
+use Rattle.std.proofs.lemmas.Result.{IfErr-weaker, on_ok_weaker}
+use Rattle.dispatch_room_lists.proofs.FollowLemmas.{handed_on}
+use Rattle.dispatch_room_lists.proofs.FollowLemmas.{elsewhere}
 use Rattle.dispatch_room_lists.proofs.followed_rows.make_towards.Goals as goal
 
 pub returns-in-Ok-true-clause-made : goal.returns-in-Ok-true-clause-made
@@ -10,13 +11,15 @@ returns-in-Ok-true-clause-made g c =
       met = λ clean. c.in-Ok-true.ensures.found.met clean c.in-Ok-true.field-0-test;
     })
 
+pub returns-in-Err-clause-fault : goal.returns-in-Err-clause-fault
+returns-in-Err-clause-fault g c = inl (c.in-Err.ensures.wants, c.has_come_to.ensures.stays)
+
 pub returns-in_err-remade-clause-lost : goal.returns-in_err-remade-clause-lost
 returns-in_err-remade-clause-lost g c =
     handed_on c.from_residual.result _ c.from_residual.ensures.1
     (λ fault is. record {
       begun = c.has_come_to.new.room;
-      stays = c.has_come_to.ensures.stays;
-      change = c.args.change.now;
+      elsewhere = elsewhere _ _ _ _ _ c.has_come_to.ensures.stays c.in-Ok-false.ensures.found c.in-Ok-false.field-0-test;
       loses = rw is c.in_err-remade.ensures.fault;
     })
 
@@ -25,11 +28,22 @@ returns-clause-made g c =
     on_ok_weaker c.followed_by.result.0
     (λ made. inr (record {
       begun = c.has_come_to.new.room;
-      stays = c.has_come_to.ensures.stays;
-      unmet = λ clean. c.in-Ok-false.ensures.found.unmet clean c.in-Ok-false.field-0-test refl;
+      elsewhere = elsewhere _ _ _ _ _ c.has_come_to.ensures.stays c.in-Ok-false.ensures.found c.in-Ok-false.field-0-test;
       remakes = rw c.followed_by.ensures.room (rw made at c.in_ok-remade.ensures.made);
     }))
     c.followed_by.ensures.made
+
+pub returns-clause-fault : goal.returns-clause-fault
+returns-clause-fault g c =
+    IfErr-weaker c.followed_by.result.0 _ _
+    (λ fault is. inr (record {
+      begun = c.has_come_to.new.room;
+      elsewhere = elsewhere _ _ _ _ _ c.has_come_to.ensures.stays c.in-Ok-false.ensures.found c.in-Ok-false.field-0-test;
+      failure = is.0;
+      remakes = rw c.followed_by.ensures.room (rw is.1 at c.in_ok-remade.ensures.made);
+      told = is.2;
+    }))
+    c.followed_by.ensures.fault
 
 pub returns-clause-goes : goal.returns-clause-goes
 returns-clause-goes g c = record {

@@ -7,7 +7,7 @@ use Rattle.room_store_file.specs.DigestTexts.{digest_of}
 use Rattle.room_store.proofs.EnrolledLaws.{enrolled_more}
 use Rattle.room_store.specs.FleetEnrolment.{room_after_rows, terminals_after_rows}
 use Rattle.room_store.specs.StoredRoom.{IsRoom}
-use Rattle.dispatch_room_lists.proofs.DueLemmas.{begins, goes_on, unmet_here, unmet_more}
+use Rattle.dispatch_room_lists.proofs.DueLemmas.{begins, goes_on, no_more, unmet_here, unmet_more}
 use Rattle.dispatch_room_lists.proofs.listed_rows.enrol_rows.Goals as goal
 
 pub loop-row-init : goal.loop-row-init
@@ -59,8 +59,7 @@ returns-in-Ok-true-clause-enrolled g c clean terminals room is =
     let at = room_after_rows (take i c.args.rows.now) room terminals in (
       i,
       record {
-        within = c.loop-row.auto.row-index-end;
-        fewest = done.0.fewest;
+        no_more = record { within = c.loop-row.auto.row-index-end; fewest = done.0.fewest };
         met = inl (subst (λ zone. IsHeadOf (digits_of digest_of zone) c.args.head.now now at) before.goes.zone
             (c.in-Ok-true.ensures.found.met clean c.in-Ok-true.field-0-test now at done.1));
       },
@@ -72,8 +71,7 @@ returns-clause-enrolled g c clean terminals room is =
     let done = c.loop-row.invariant.done clean terminals room is in (
       c.loop-row.row-index,
       record {
-        within = c.loop-row.auto.row-index-end;
-        fewest = done.0.fewest;
+        no_more = record { within = c.loop-row.auto.row-index-end; fewest = done.0.fewest };
         met = inr (omega (arith, c.loop-row.auto.row-index-end, c.loop-row-test.false));
       },
       done.1,
@@ -81,3 +79,34 @@ returns-clause-enrolled g c clean terminals room is =
 
 pub returns-clause-goes : goal.returns-clause-goes
 returns-clause-goes g c = c.loop-row.invariant.goes
+
+pub returns-in-Err-clause-part : goal.returns-in-Err-clause-part
+returns-in-Err-clause-part g c clean terminals room is =
+    let done = c.loop-row.invariant.done (c.has_come_to.ensures.stays.clean clean) terminals room is in (
+      c.loop-row.row-index,
+      record { within = c.loop-row.auto.row-index-end; fewest = done.0.fewest },
+      c.has_come_to.ensures.stays.same clean _ _ done.1,
+    )
+
+pub returns-in-Err-enrol_row-clause-part : goal.returns-in-Err-enrol_row-clause-part
+returns-in-Err-enrol_row-clause-part g c clean terminals room is =
+    let before = c.loop-row.invariant in
+    let rows = c.args.rows.now in
+    let i = c.loop-row.row-index in
+    let looked = c.enrol_row.ensures.goes.trusted clean in
+    let done = before.done (c.has_come_to.ensures.stays.clean looked) terminals room is in
+    let now = terminals_after_rows (take i rows) room terminals in
+    let at = room_after_rows (take i rows) room terminals in
+    let stands = c.has_come_to.ensures.stays.same looked now at done.1 in
+    elim (c.in-Err-enrol_row.ensures.part clean now at stands) [
+      | inl same ↦ (i, record { within = c.loop-row.auto.row-index-end; fewest = done.0.fewest }, same)
+      | inr more ↦ (
+        i + 1,
+        no_more _ _ rows terminals room i c.loop-row-test.true done.0.fewest
+            (unmet_here _ _ rows terminals room _ i done.0 (λ changed.
+            subst (λ zone. ¬ IsHeadOf (digits_of digest_of zone) c.args.head.now now at) before.goes.zone
+            (c.in-Ok-false.ensures.found.unmet looked c.in-Ok-false.field-0-test changed now at done.1))),
+        subst (λ (p : Room × List Terminal). IsRoom g.S.Store c.enrol_row.new.room p.1 p.0)
+            (sym (enrolled_more rows i c.row-item.result (rw c.row-item.is (take_more rows i _ c.loop-row-test.true)) room terminals)) more,
+      )
+    ]

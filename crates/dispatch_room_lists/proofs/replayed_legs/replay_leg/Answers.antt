@@ -1,27 +1,20 @@
-use Rattle.std.proofs.Common.{false}
 use Rattle.dispatch_room_journal.proofs.FaultLemmas.{not_both}
 use Rattle.dispatch_room_lists.proofs.replayed_legs.replay_leg.Goals as goal
 
 pub returns-then-not-replay-clause-leg : goal.returns-then-not-replay-clause-leg
 returns-then-not-replay-clause-leg g c before = record {
-  read_failed = g.R.Source.has_failed c.replay.new.reader;
-  write_failed = false;
   replayed = λ no. c.replay.ensures.replay;
   answered = λ yes. absurd (not_both _ c.if-not-replay.true yes);
 }
 
 pub returns-in-Ok-clause-leg : goal.returns-in-Ok-clause-leg
 returns-in-Ok-clause-leg g c before = record {
-  read_failed = g.R.Source.has_failed c.answer_each.new.reader;
-  write_failed = c.answer_each.new.writer.failed;
   replayed = λ no. absurd (not_both c.args.course.now.replay.now.answers no c.if-not-replay.false);
   answered = λ yes. rw c.begin.ensures at c.in-Ok.ensures.answers;
 }
 
 pub returns-in-Err-clause-leg : goal.returns-in-Err-clause-leg
 returns-in-Err-clause-leg g c before = record {
-  read_failed = g.R.Source.has_failed c.answer_each.new.reader;
-  write_failed = c.answer_each.new.writer.failed;
   replayed = λ no. absurd (not_both c.args.course.now.replay.now.answers no c.if-not-replay.false);
   answered = λ yes. rw c.begin.ensures at c.in-Err.ensures.answers;
 }

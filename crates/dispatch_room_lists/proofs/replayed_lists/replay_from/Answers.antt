@@ -1,34 +1,51 @@
 use Rattle.std.proofs.Common.{None, inr, refl}
-use Rattle.dispatch_room_disk.proofs.WorkLemmas.{handed_on}
+use Rattle.dispatch_room_lists.proofs.FollowLemmas.{handed_on}
+use Rattle.dispatch_room_lists.proofs.LegLemmas.{any_spent}
 use Rattle.dispatch_room_lists.proofs.replayed_lists.replay_from.Goals as goal
 
 pub returns-in_err-came-clause-lost : goal.returns-in_err-came-clause-lost
 returns-in_err-came-clause-lost g c =
+    let lost = rw c.new.ensures at rw c.new-list.ensures.left at c.in_err-came.ensures.lost in
     handed_on c.from_residual-in_err-came.result _ c.from_residual-in_err-came.ensures.1
     (λ fault is. rw is (inr (record {
       first = c.in_ok-room.room;
       setting = record { zone = c.in_ok-room.zone; history = c.args.course.now.replay.now.history };
       opens = c.in_ok-room.ensures.room;
       is_set = record { zone = c.in_ok-room.ensures.zone; history = refl };
-      list = _;
-      held = c.in_err-came.ensures.lost.0;
-      loses = c.in_err-came.ensures.lost.1;
+      held = lost.0;
+      loses = lost.1;
     })))
 
 pub returns-clause-replayed : goal.returns-clause-replayed
 returns-clause-replayed g c =
-    let said = c.in_ok-came.ensures in
+    let said = rw c.new.ensures at rw c.new-list.ensures.left at c.in_ok-came.ensures.played in
     record {
       first = c.in_ok-room.room;
       last = c.in_ok-came.room;
       setting = record { zone = c.in_ok-room.zone; history = c.args.course.now.replay.now.history };
       opens = c.in_ok-room.ensures.room;
       is_set = record { zone = c.in_ok-room.ensures.zone; history = refl };
-      list = _;
       came = c.in_ok-came.came;
       between = _;
-      replayed = said.replayed;
-      answered = said.answered;
+      read_failed = _;
+      replayed = λ unasked.
+          let is = said.replayed unasked in
+          record {
+            write_failed = is.write_failed;
+            result = is.result;
+            is = any_spent _ _ _ _ _ _ _ _ _ is.is;
+            told = is.told;
+          };
+      answered = λ asked.
+          let is = said.answered asked in (
+            is.0,
+            record {
+              write_failed = is.1.write_failed;
+              result = is.1.result;
+              is = any_spent _ _ _ _ _ _ _ _ _ is.1.is;
+              ends = is.1.ends;
+            },
+          );
       ended = c.conclude-done.new.room;
       has_ended = _;
       ends = c.conclude-done.ensures;

@@ -1,6 +1,6 @@
 use Rattle.std.proofs.Common.{Err, None, Ok}
 use Rattle.dispatch_room_journal.proofs.FaultLemmas.{not_both}
-use Rattle.dispatch_room_disk.proofs.WorkLemmas.{handed_on}
+use Rattle.dispatch_room_lists.proofs.FollowLemmas.{handed_on}
 use Rattle.dispatch_room_lists.proofs.replayed_lists.replay_in.Goals as goal
 
 pub returns-in_err-came-clause-lost : goal.returns-in_err-came-clause-lost
@@ -13,35 +13,33 @@ returns-in_err-came-2-clause-lost g c =
     handed_on c.from_residual-in_err-came-2.result _ c.from_residual-in_err-came-2.ensures.1
     (λ fault is. (None, rw is c.in_err-came-2.ensures.lost))
 
-pub returns-then-course-clause-answered : goal.returns-then-course-clause-answered
-returns-then-course-clause-answered g c asked = (
-  g.O.Write.contents c.replay_legs.new.out.inner.now,
-  record {
-    result = c.in_ok-came.came;
-    is = rw c.new-writer.ensures at c.in_ok-came.ensures.legs;
-    ends = c.answered.ensures;
-  },
-)
+pub returns-then-course-clause-played : goal.returns-then-course-clause-played
+returns-then-course-clause-played g c =
+    let played = rw c.new-writer.ensures at c.in_ok-came.ensures.played in
+    record {
+      ready = played.ready;
+      trusted = played.trusted;
+      replayed = λ unasked. absurd (not_both _ unasked c.if-course.true);
+      answered = λ asked. (_, record { write_failed = _; result = c.in_ok-came.came; is = played.legs; ends = c.answered.ensures });
+    }
 
-pub returns-in-Ok-clause-replayed : goal.returns-in-Ok-clause-replayed
-returns-in-Ok-clause-replayed g c asked = record {
-  result = Ok c.in-Ok.replayed;
-  is = rw c.in-Ok.is at c.in_ok-came-2.ensures.legs;
-  told = c.tell.ensures;
-}
+pub returns-in-Ok-clause-played : goal.returns-in-Ok-clause-played
+returns-in-Ok-clause-played g c =
+    let played = rw c.in-Ok.is at c.in_ok-came-2.ensures.played in
+    record {
+      ready = played.ready;
+      trusted = played.trusted;
+      replayed = λ unasked. record { write_failed = _; result = Ok c.in-Ok.replayed; is = played.legs; told = c.tell.ensures };
+      answered = λ asked. absurd (not_both _ c.if-course.false asked);
+    }
 
-pub returns-in-Err-clause-replayed : goal.returns-in-Err-clause-replayed
-returns-in-Err-clause-replayed g c asked = record {
-  result = Err c.in-Err.stopped;
-  is = rw c.in-Err.is at c.in_ok-came-2.ensures.legs;
-  told = c.failure_of.ensures;
-}
-
-pub returns-then-course-clause-replayed : goal.returns-then-course-clause-replayed
-returns-then-course-clause-replayed g c unasked = absurd (not_both _ unasked c.if-course.true)
-
-pub returns-in-Ok-clause-answered : goal.returns-in-Ok-clause-answered
-returns-in-Ok-clause-answered g c asked = absurd (not_both _ c.if-course.false asked)
-
-pub returns-in-Err-clause-answered : goal.returns-in-Err-clause-answered
-returns-in-Err-clause-answered g c asked = absurd (not_both _ c.if-course.false asked)
+pub returns-in-Err-clause-played : goal.returns-in-Err-clause-played
+returns-in-Err-clause-played g c =
+    let played = rw c.in-Err.is at c.in_ok-came-2.ensures.played in
+    record {
+      ready = played.ready;
+      trusted = played.trusted;
+      replayed = λ unasked.
+          record { write_failed = _; result = Err c.in-Err.stopped; is = played.legs; told = c.failure_of.ensures };
+      answered = λ asked. absurd (not_both _ c.if-course.false asked);
+    }

@@ -1,5 +1,5 @@
 use Rattle.std.proofs.Common.{inl, inr}
-use Rattle.dispatch_room_disk.proofs.WorkLemmas.{handed_on}
+use Rattle.dispatch_room_lists.proofs.FollowLemmas.{handed_on}
 use Rattle.dispatch_room_lists.proofs.room_changes.remake.Goals as goal
 
 pub returns-in_err-done-clause-fault : goal.returns-in_err-done-clause-fault

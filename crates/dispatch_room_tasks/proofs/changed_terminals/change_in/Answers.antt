@@ -14,6 +14,7 @@ returns-in-Ok-clause-changed g c =
       plan = c.in-Ok.plan;
       opened = opened;
       rows = c.in-Ok.ensures.kept;
+      of_room = c.in-Ok.ensures.room;
       changed = λ clean.
           let early : IsClean g.S.Store opened = omega (arith, made.survives.clean) in
           on_ok_weaker c.change_opened-done.result

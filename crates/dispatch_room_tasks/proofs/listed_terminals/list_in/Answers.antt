@@ -13,6 +13,7 @@ returns-in-Ok-clause-listed g c =
       opened = opened;
       rows = c.in-Ok.ensures.kept;
       whole = made.whole;
+      fault = made.fault;
       told = λ clean.
           let early : IsClean g.S.Store opened = omega (arith, made.survives.clean) in
           let it = c.in-Ok.ensures.room early in

@@ -1,6 +1,6 @@
 use Rattle.std.proofs.Common.{ap, length, not, subst, sym, ◌∙◌}
-use Rattle.room_types_keyed.proofs.KeyedLaws.{keyed_filter}
-use Rattle.room_types_keyed.specs.KeyedRows.{IsKeyed}
+use Rattle.room_types.proofs.KeyedLaws.{keyed_filter}
+use Rattle.room_types.specs.KeyedRows.{IsKeyed}
 use Rattle.room_model.proofs.EnrolLaws.{tokens_total}
 use Rattle.room_model.specs.FleetRows.{terminal_key, token_cmp}
 use Rattle.dispatch_room_tasks.specs.ReplacedTerminals.{AreFree, IsFirstFault, is_listed, kept_beside}

@@ -4,7 +4,7 @@ use Rattle.sqlite.specs.Held.{state}
 use Rattle.sqlite.specs.State.{HasCleanDisk}
 use Rattle.room_tables.specs.RoomsInTables.{Stands}
 use Rattle.std.proofs.lemmas.List.Sums.{fold-append}
-use Rattle.room_types_keyed.specs.KeyedRows.{put_row}
+use Rattle.room_types.specs.KeyedRows.{put_row}
 use Rattle.room_model.specs.FleetRows.{terminal_key, token_cmp}
 use Rattle.room_tables_schema.proofs.WriteLaws.{commits_more}
 use Rattle.room_store_writes.specs.NewRoom.{put_all}

@@ -13,6 +13,7 @@ returns-in-Ok-clause-replaced g c =
       plan = c.in-Ok.plan;
       opened = opened;
       rows = c.in-Ok.ensures.kept;
+      of_room = c.in-Ok.ensures.room;
       replaced = λ clean.
           let early : IsClean g.S.Store opened = omega (arith, made.survives.clean) in
           on_ok_weaker c.replace_opened-done.result

@@ -5,7 +5,7 @@ use Rattle.dispatch_room_tcp.proofs.serve.serve_listened.Goals as goal
 
 pub returns-clause-served : goal.returns-clause-served
 returns-clause-served g c =
-    let is = rw c.new-callers.ensures at c.in_ok-done.ensures.served in
+    let is = rw c.new-callers.ensures.listener at c.in_ok-done.ensures.served in
     record {
       hears = g.L.Listener.heard c.serve_parts.new.callers.listener;
       tells = g.L.Listener.told c.serve_parts.new.callers.listener;
@@ -22,5 +22,5 @@ returns-clause-served g c =
 
 pub returns-in_err-done-clause-fault : goal.returns-in_err-done-clause-fault
 returns-in_err-done-clause-fault g c =
-    let told = rw c.new-callers.ensures at c.in_err-done.ensures.fault in
+    let told = rw c.new-callers.ensures.listener at c.in_err-done.ensures.fault in
     handed_on c.from_residual.result _ c.from_residual.ensures.1 (λ fault is. (_, rw (← is) at told))

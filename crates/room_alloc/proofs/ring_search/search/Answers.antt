@@ -1,6 +1,6 @@
 use Rattle.std.proofs.Common.{ap, arith, inl, inr, subst, sym, take_all, ◌∙◌}
 use Rattle.room_place.specs.Choice.{Among}
-use Rattle.room_types_keyed.specs.KeyedRows.{put_row}
+use Rattle.room_types.specs.KeyedRows.{put_row}
 use Rattle.room_alloc.specs.Nearness.{nearness_cmp, whole}
 use Rattle.room_alloc.proofs.RingLaws.{among_item, more_only, more_there, seen_or_later}
 use Rattle.room_alloc.proofs.ring_search.search.Goals as goal

@@ -2,8 +2,8 @@ use Rattle.std.proofs.Common.{ap, arith, length, map, refl, take, ◌∙◌}
 use Rattle.std.proofs.lemmas.List.{length-map}
 use Rattle.std.proofs.lemmas.Simd.{splat_is_map}
 use Rattle.room_types.specs.Keys.{incident_key, pair_cmp}
-use Rattle.room_types_keyed.proofs.Search.{at_within}
-use Rattle.room_types_keyed.specs.KeyedRows.{IsKeyed}
+use Rattle.room_types.proofs.Search.{at_within}
+use Rattle.room_types.specs.KeyedRows.{IsKeyed}
 use Rattle.room_incident.specs.Tallies.{times}
 use Rattle.room_incident.proofs.TallyLaws.{none_counted, one_counted, tally_within}
 use Rattle.room_incident.proofs.incident_tallies.tally.Goals.{in-Ok, in_default}

@@ -2,7 +2,7 @@ use Rattle.std.proofs.Common.{arith, subst, ◌∙◌}
 use Rattle.room_model.specs.Room.{apply}
 use Rattle.room_store_cache.specs.Cache.{IsCacheOf}
 use Rattle.room_store.proofs.ActLaws.{acted, acted_survives}
-use Rattle.room_store.proofs.LookLaws.{left_failed, left_later, outside, room_read, settled_read, survives_more}
+use Rattle.room_store.proofs.LookLaws.{left_failed, left_later, room_read, settled_read, survives_more}
 use Rattle.room_tables_schema.specs.FileConnections.{IsClean}
 use Rattle.room_store.proofs.acted_events.act_on.Goals as goal
 
@@ -48,7 +48,7 @@ prepare-requires-clause-open g c = c.requires.open
 pub returns-in-Err-clause-err : goal.returns-in-Err-clause-err
 returns-in-Err-clause-err g c clean =
     left_failed _ _
-    (outside c.is_autocommit.result _ c.requires.outside c.is_autocommit.ensures.value c.is_autocommit.ensures.settled)
+    (c.lemma_committed.ensures c.requires.outside)
     (c.in-Err.ensures.reads.err clean)
 
 pub returns-in-Err-clause-ended : goal.returns-in-Err-clause-ended
@@ -68,7 +68,7 @@ write-requires-clause-outside g c = c.prepare.ensures.reads.mode c.requires.outs
 pub write-requires-clause-settled : goal.write-requires-clause-settled
 write-requires-clause-settled g c =
     settled_read g.S.Store c.args.conn.now c.prepare.new.conn c.in-Ok.ensures.reads.ok
-    (outside c.is_autocommit.result _ c.requires.outside c.is_autocommit.ensures.value c.is_autocommit.ensures.settled)
+    (c.lemma_committed.ensures c.requires.outside)
 
 pub returns-in-Err-write-clause-err : goal.returns-in-Err-write-clause-err
 returns-in-Err-write-clause-err g c clean =

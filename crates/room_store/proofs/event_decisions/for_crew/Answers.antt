@@ -1,11 +1,11 @@
 use Rattle.std.proofs.Common.{Some, ap, refl, sym, ◌∙◌, ◌≡◌}
 use Rattle.std.proofs.lemmas.Result.{IfOk-weaker}
-use Rattle.room_types_keyed.specs.KeyedRows.{row_at}
+use Rattle.room_types.specs.KeyedRows.{row_at}
 use Rattle.room_types.specs.Keys.{assignment_key, callsign_cmp, vehicle_key}
 use Rattle.room_model.specs.Queries.{assignment_at, vehicle_at}
 use Rattle.room_tables_schema.proofs.ReadLaws.{begins, told, wants}
 use Rattle.room_store_cache.specs.declared.fleets.FleetRows.{FleetRows}
-use Rattle.room_store_cache.proofs.CrewReads.{found_here}
+use Rattle.room_store_reads.proofs.CrewReads.{found_here}
 use Rattle.room_store.specs.EventDecisions.{unless_out_of_memory}
 use Rattle.room_store.proofs.event_decisions.for_crew.Goals as goal
 

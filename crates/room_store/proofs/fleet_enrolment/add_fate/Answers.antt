@@ -2,7 +2,7 @@ use Rattle.std.proofs.Common.{arith}
 use Rattle.sqlite.specs.Held.{state}
 use Rattle.room_tables_schema.proofs.ReadLaws.{any_err}
 use Rattle.room_store.proofs.EnrolledLaws.{row_enrolled, row_survives}
-use Rattle.room_store.proofs.LookLaws.{left_failed, left_later, left_unchanged, outside, room_read, settled_read}
+use Rattle.room_store.proofs.LookLaws.{left_failed, left_later, left_unchanged, room_read, settled_read}
 use Rattle.room_store.proofs.LookLaws.{survives_more}
 use Rattle.room_tables_schema.specs.FileConnections.{IsClean}
 use Rattle.room_store.proofs.fleet_enrolment.add_fate.Goals as goal
@@ -26,7 +26,7 @@ returns-in-Err-clause-survives g c =
 pub returns-in_err-fate-clause-err : goal.returns-in_err-fate-clause-err
 returns-in_err-fate-clause-err g c clean =
     any_err c.from_residual.result (left_failed (state g.S.Store c.args.conn.now) (state g.S.Store c.find_fate.new.conn)
-    (outside c.is_autocommit.result _ c.requires.outside c.is_autocommit.ensures.value c.is_autocommit.ensures.settled)
+    (c.lemma_committed.ensures c.requires.outside)
     (c.in_err-fate.ensures.reads.err clean))
 
 pub returns-in_err-fate-clause-ended : goal.returns-in_err-fate-clause-ended
@@ -57,7 +57,7 @@ write-requires-clause-outside g c = c.find_fate.ensures.reads.mode c.requires.ou
 pub write-requires-clause-settled : goal.write-requires-clause-settled
 write-requires-clause-settled g c =
     settled_read g.S.Store c.args.conn.now c.find_fate.new.conn c.in_ok-fate.ensures.reads.ok
-    (outside c.is_autocommit.result _ c.requires.outside c.is_autocommit.ensures.value c.is_autocommit.ensures.settled)
+    (c.lemma_committed.ensures c.requires.outside)
 
 pub returns-in-Err-clause-err : goal.returns-in-Err-clause-err
 returns-in-Err-clause-err g c clean =

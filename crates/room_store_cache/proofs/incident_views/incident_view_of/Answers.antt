@@ -3,8 +3,8 @@ use Rattle.std.specs.Prelude.{filter, ◌==◌}
 use Rattle.room_types.specs.Keys.{incident_key, numbered_cmp, pair_cmp, turn_key}
 use Rattle.room_types.specs.Orders.{numbered_total}
 use Rattle.room_types.specs.declared.tables.Turn.{Turn}
-use Rattle.room_types_keyed.proofs.KeyedLaws.{without_failing}
-use Rattle.room_types_keyed.specs.KeyedRows.{row_at}
+use Rattle.room_types.proofs.KeyedLaws.{without_failing}
+use Rattle.room_types.specs.KeyedRows.{row_at}
 use Rattle.room_model.specs.Room.{Room}
 use Rattle.room_store_cache.proofs.KeptLaws.{put_passing}
 use Rattle.room_store_cache.proofs.OneIncident.{incident_read, turns_read}

@@ -1,4 +1,4 @@
-use Rattle.std.proofs.Common.{ap, arith, inl, inr, not, subst, sym, ◌∙◌}
+use Rattle.std.proofs.Common.{arith, inl, inr, not, subst, sym, ◌∙◌}
 use Rattle.std.proofs.lemmas.Bool.{false≢true}
 use Rattle.sqlite.specs.Effect.{Database}
 use Rattle.sqlite.specs.Held.{state}
@@ -22,7 +22,7 @@ pub returns-in_err-are_numbered_streamed : goal.returns-in_err-are_numbered_stre
 returns-in_err-are_numbered_streamed g c =
     let failed = c.from_residual.ensures in
     let reads = c.in_err-are_numbered_streamed.ensures.reads in
-    let settled = c.is_autocommit.ensures.settled (c.is_autocommit.ensures.value ∙ ap not c.requires.outside) in
+    let settled = c.lemma_committed.ensures c.requires.outside in
     record {
       found = λ clean. none_found _ _ failed.0;
       unnumbered = λ clean. not_told _ c.in_err-are_numbered_streamed.field-0.0 _ failed.1;
@@ -38,7 +38,7 @@ returns-in_err-are_numbered_streamed g c =
 pub returns-then-not-branch : goal.returns-then-not-branch
 returns-then-not-branch g c =
     let test = c.in_ok-are_numbered_streamed.ensures in
-    let settled = c.is_autocommit.ensures.settled (c.is_autocommit.ensures.value ∙ ap not c.requires.outside) in
+    let settled = c.lemma_committed.ensures c.requires.outside in
     record {
       found = λ clean. tt;
       unnumbered =
@@ -55,7 +55,7 @@ pub returns-in-Ok : goal.returns-in-Ok
 returns-in-Ok g c =
     let mid = state g.S.Store c.are_numbered_streamed.new.conn in
     let test = c.in_ok-are_numbered_streamed.ensures in
-    let settled = c.is_autocommit.ensures.settled (c.is_autocommit.ensures.value ∙ ap not c.requires.outside) in
+    let settled = c.lemma_committed.ensures c.requires.outside in
     let reads = and (looked test.reads) c.in-Ok.ensures.reads in
     record {
       found = λ clean.

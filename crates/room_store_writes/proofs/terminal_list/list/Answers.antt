@@ -9,7 +9,7 @@ use Rattle.room_tables_rows.specs.RoomsInTables.{Configuration, Stands}
 use Rattle.room_tables_schema.proofs.ReadLaws.{still}
 use Rattle.room_store_writes.specs.Transactions.{Leaves}
 use Rattle.room_store_writes.proofs.CommitLaws.{undone_leaves}
-use Rattle.room_store_writes.proofs.TransactionReads.{outside, reads_commit}
+use Rattle.room_store_writes.proofs.TransactionReads.{reads_commit}
 use Rattle.room_tables_schema.specs.FileConnections.{IsClean}
 use Rattle.room_store_writes.proofs.terminal_list.list.Goals as goal
 
@@ -38,8 +38,7 @@ returns-clause-leaves g c =
     let all : IsClean g.S.Store end → Leaves (state g.S.Store old) (state g.S.Store end) = λ clean.
     let early : IsClean g.S.Store last = omega (arith, c.rollback.ensures.survives.clean) in
     undone_leaves g.S.Store old last end (commits.kept early) (c.rollback.ensures.undone clean)
-    (outside c.is_autocommit.result _ c.requires.outside c.is_autocommit.ensures.value
-    c.is_autocommit.ensures.settled) in
+    (c.lemma_committed.ensures c.requires.outside) in
     search rules
 
 pub returns-clause-survives : goal.returns-clause-survives

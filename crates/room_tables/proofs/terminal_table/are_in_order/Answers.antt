@@ -3,7 +3,7 @@ use Rattle.std.proofs.lemmas.Cmp.{nat_list_cmp_total}
 use Rattle.std.proofs.lemmas.List.{get_or_read}
 use Rattle.std.proofs.lemmas.List.Sorted.{all_adjacent_more}
 use Rattle.room_tables_schema.proofs.Openings.{keyed_adjacent}
-use Rattle.room_types_keyed.specs.KeyedRows.{IsKeyed}
+use Rattle.room_types.specs.KeyedRows.{IsKeyed}
 use Rattle.room_model.specs.FleetRows.{token_cmp, terminal_key}
 use Rattle.room_tables_rows.specs.TerminalSql.{terminal_row}
 use Rattle.room_tables_rows.proofs.Found.{is_less}

@@ -2,7 +2,7 @@ use Rattle.std.proofs.Common.{arith, inr, refl, subst, sym, ◌∙◌}
 use Rattle.room_model.specs.Room.{apply}
 use Rattle.room_store_cache.specs.Cache.{IsCacheOf}
 use Rattle.room_store.proofs.ActLaws.{acted, acted_survives, missed, reached}
-use Rattle.room_store.proofs.LookLaws.{left_failed, left_later, outside, room_read, settled_read, survives_more}
+use Rattle.room_store.proofs.LookLaws.{left_failed, left_later, room_read, settled_read, survives_more}
 use Rattle.room_model.specs.Digests.{IsMiss}
 use Rattle.room_store_writes.proofs.CommitLaws.{ok_then}
 use Rattle.room_store.proofs.Misses.{miss_is, reaches_weaker, told_another}
@@ -57,7 +57,7 @@ prepare-requires-clause-open g c = c.requires.open
 pub returns-in-Err-clause-err : goal.returns-in-Err-clause-err
 returns-in-Err-clause-err g c clean =
     left_failed _ _
-    (outside c.is_autocommit.result _ c.requires.outside c.is_autocommit.ensures.value c.is_autocommit.ensures.settled)
+    (c.lemma_committed.ensures c.requires.outside)
     (c.in-Err.ensures.reads.err clean)
 
 pub returns-in-Err-clause-ended : goal.returns-in-Err-clause-ended
@@ -77,7 +77,7 @@ write_towards-requires-clause-outside g c = c.prepare.ensures.reads.mode c.requi
 pub write_towards-requires-clause-settled : goal.write_towards-requires-clause-settled
 write_towards-requires-clause-settled g c =
     settled_read g.S.Store c.args.self.now.conn c.prepare.new.conn c.in-Ok.ensures.reads.ok
-    (outside c.is_autocommit.result _ c.requires.outside c.is_autocommit.ensures.value c.is_autocommit.ensures.settled)
+    (c.lemma_committed.ensures c.requires.outside)
 
 pub returns-in-Err-write_towards-clause-err : goal.returns-in-Err-write_towards-clause-err
 returns-in-Err-write_towards-clause-err g c clean =

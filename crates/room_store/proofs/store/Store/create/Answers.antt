@@ -5,7 +5,7 @@ use Rattle.room_store_writes.specs.NewRoom.{in_order, new_room}
 use Rattle.room_store.proofs.CreationLaws.{new_room_formed, new_terminals_fit}
 use Rattle.room_store.proofs.KnownLaws.{knows_none, knows_nothing}
 use Rattle.room_store.proofs.StoreLaws.{ready_sound, settled_kept}
-use Rattle.room_store.proofs.LookLaws.{left_same, outside}
+use Rattle.room_store.proofs.LookLaws.{left_same}
 use Rattle.room_store_writes.proofs.CommitLaws.{unchanged_survives}
 use Rattle.room_store.proofs.store.Store.create.Goals as goal
 
@@ -46,7 +46,7 @@ returns-in-Err-clause-survives_fault g c = unchanged_survives g.S.Store c.args.c
 
 pub create_in-requires-clause-committed : goal.create_in-requires-clause-committed
 create_in-requires-clause-committed g c =
-    outside c.is_autocommit.result _ c.requires.outside c.is_autocommit.ensures.value c.is_autocommit.ensures.settled
+    c.lemma_committed.ensures c.requires.outside
 
 pub returns-in-Ok-create_in-clause-ready : goal.returns-in-Ok-create_in-clause-ready
 returns-in-Ok-create_in-clause-ready g c =

@@ -3,7 +3,7 @@ use Rattle.std.specs.Prelude.{option_map}
 use Rattle.room_types.specs.declared.fleet.Terminal.{Terminal}
 use Rattle.room_store_writes.specs.Houses.{config_of}
 use Rattle.room_store.proofs.KnownLaws.{knows_nothing, looked_up}
-use Rattle.room_store.proofs.LookLaws.{left_failed, left_same, left_then, left_unchanged, outside, shows_read}
+use Rattle.room_store.proofs.LookLaws.{left_failed, left_same, left_then, left_unchanged, shows_read}
 use Rattle.room_store.proofs.LookLaws.{survives_read}
 use Rattle.room_store.proofs.StoreLaws.{ready_schema, ready_sound, room_left}
 use Rattle.room_store_writes.proofs.CommitLaws.{unchanged_survives}
@@ -63,8 +63,7 @@ returns-in-Ok-None-clause-ready g c =
     (c.terminal_at.ensures.reads.mode c.requires.ready.outside) c.if-not-self.false
     (shows_read g.S.Store old.conn c.terminal_at.new.conn c.in-Ok-None.ensures.reads.ok
     c.terminal_at.ensures.reads.survives (ready_schema g.S.Store old c.requires.ready c.if-not-self.false)
-    (outside c.is_autocommit.result _ c.requires.ready.outside c.is_autocommit.ensures.value
-    c.is_autocommit.ensures.settled))
+    (c.lemma_committed.ensures c.requires.ready.outside))
 
 pub returns-in-Ok-None-clause-leaves : goal.returns-in-Ok-None-clause-leaves
 returns-in-Ok-None-clause-leaves g c clean = left_unchanged _ _ (c.in-Ok-None.ensures.reads.ok clean)
@@ -79,8 +78,7 @@ returns-in-Ok-Some-clause-ready g c =
     (c.terminal_at.ensures.reads.mode c.requires.ready.outside) c.if-not-self.false
     (shows_read g.S.Store old.conn c.terminal_at.new.conn c.in-Ok-Some.ensures.reads.ok
     c.terminal_at.ensures.reads.survives (ready_schema g.S.Store old c.requires.ready c.if-not-self.false)
-    (outside c.is_autocommit.result _ c.requires.ready.outside c.is_autocommit.ensures.value
-    c.is_autocommit.ensures.settled))
+    (c.lemma_committed.ensures c.requires.ready.outside))
 
 pub returns-in-Ok-Some-clause-leaves : goal.returns-in-Ok-Some-clause-leaves
 returns-in-Ok-Some-clause-leaves g c clean = left_unchanged _ _ (c.in-Ok-Some.ensures.reads.ok clean)
@@ -100,8 +98,7 @@ returns-in-Err-clause-leaves g c clean =
     (arith, c.test_file.ensures.survives.clean) in
     left_then _ _ _
     (left_failed _ _
-    (outside c.is_autocommit.result _ c.requires.ready.outside c.is_autocommit.ensures.value
-    c.is_autocommit.ensures.settled) (c.in-Err.ensures.reads.err early)) (c.test_file.ensures.leaves clean)
+    (c.lemma_committed.ensures c.requires.ready.outside) (c.in-Err.ensures.reads.err early)) (c.test_file.ensures.leaves clean)
 
 pub returns-in-Err-clause-same : goal.returns-in-Err-clause-same
 returns-in-Err-clause-same g c clean terminals room is =

@@ -1,7 +1,7 @@
 use Rattle.std.proofs.Common.{Some, subst, sym, ◌∙◌, ◌≡◌}
 use Rattle.std.specs.Prelude.{IfSome}
 use Rattle.room_types.specs.Keys.{numbered_cmp, turn_key}
-use Rattle.room_types_keyed.specs.KeyedRows.{row_at}
+use Rattle.room_types.specs.KeyedRows.{row_at}
 use Rattle.room_store_cache.proofs.open_turns.Turns.get.Goals as goal
 
 pub returns : goal.returns

@@ -1,7 +1,7 @@
 use Rattle.std.proofs.Common.{ap, sym, ◌∙◌, ◌≡◌}
 use Rattle.room_model.specs.Room.{Room}
 use Rattle.room_types.specs.Keys.{numbered_cmp, turn_key}
-use Rattle.room_types_keyed.specs.KeyedRows.{put_row}
+use Rattle.room_types.specs.KeyedRows.{put_row}
 use Rattle.room_store_cache.proofs.FleetLaws.{HasMet, met_dropped, met_kept, met_made, met_read}
 use Rattle.room_store_cache.proofs.RecentLaws.{where_err, where_ok}
 use Rattle.room_store_cache.specs.OpenTurns.{AreTurnsOf}

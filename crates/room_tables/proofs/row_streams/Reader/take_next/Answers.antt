@@ -1,6 +1,6 @@
 use Rattle.std.proofs.Common.{◌∙◌, subst}
-use Rattle.room_types_keyed.specs.KeyedRows.{IsKeyed}
-use Rattle.room_types_keyed.proofs.KeyedLaws.{keyed_put}
+use Rattle.room_types.specs.KeyedRows.{IsKeyed}
+use Rattle.room_types.proofs.KeyedLaws.{keyed_put}
 use Rattle.room_tables.proofs.Streams.{by_result, taken_next}
 use Rattle.room_tables.proofs.row_streams.Reader.take_next.Goals as goal
 

@@ -1,5 +1,5 @@
 use Rattle.std.proofs.Common.{ap, ◌∙◌}
-use Rattle.room_types_keyed.specs.KeyedRows.{put_row}
+use Rattle.room_types.specs.KeyedRows.{put_row}
 use Rattle.room_tables.proofs.Streams.{put_end}
 use Rattle.room_tables.proofs.row_streams.RowsTypedRowSink.take.Goals as goal
 

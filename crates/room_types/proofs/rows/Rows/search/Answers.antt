@@ -1,7 +1,7 @@
 use Rattle.std.proofs.Common.{◌≡◌, length, ◌∙◌, ap, subst, arith, rules}
 use Rattle.std.proofs.lemmas.List.Sorted.{answers_always}
-use Rattle.room_types_keyed.specs.KeyedRows.{IsGapFor}
-use Rattle.room_types_keyed.proofs.Search.{searched, gap_at_end}
+use Rattle.room_types.specs.KeyedRows.{IsGapFor}
+use Rattle.room_types.proofs.Search.{searched, gap_at_end}
 use Rattle.room_types.proofs.rows.Rows.search.Goals as goal
 
 pub returns-clause-absent : goal.returns-clause-absent

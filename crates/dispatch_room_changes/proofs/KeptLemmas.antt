@@ -1,0 +1,52 @@
+-- What is kept, and why it is not.
+use Rattle.std.proofs.Common.{Bool, Err, Ok, Result, arith, false, inl, inr, length, refl, sym, true, ◌<◌, ◌≤◌, ◌≡◌, ◌⊎◌}
+use Rattle.std.proofs.Common.{List, [], ℕ, ◌++◌, ◌∷◌}
+use Rattle.std.proofs.lemmas.List.{length-append}
+use Rattle.std.specs.List.{flat_map}
+use Rattle.std.specs.Prelude.{OnErr, OnOk, is_err, ◌||◌}
+use Rattle.dispatch_room_changes.proofs.LineLemmas.{AreTaken}
+use Rattle.dispatch_room_changes.specs.KeptImports.{LacksRows}
+use Rattle.dispatch_room_changes.specs.declared.kept_fleets.FleetList.{FleetList}
+
+-- what holds where a call failed, once it is known that it did
+pub where_failed : {T E : Type 0} (r : Result T E) (P : Type 0) → is_err r ≡ true → OnErr r P → P
+where_failed (Ok x) P failed holds = absurd (cc)
+where_failed (Err e) P failed holds = holds
+
+-- a flag that notes a failure
+module _ {T E : Type 0} where
+  pub flag_failed : (old new : Bool) (r : Result T E) → new ≡ (old || is_err r) → OnErr r (new ≡ true)
+  flag_failed old new (Ok x) is = tt
+  flag_failed true new (Err e) is = is
+  flag_failed false new (Err e) is = is
+
+  pub flag_sound : (old new : Bool) (r : Result T E) → new ≡ (old || is_err r) → old ≡ false
+      → OnOk r (new ≡ false)
+  flag_sound old new (Ok x) is sound = rw sound at is
+  flag_sound old new (Err e) is sound = tt
+
+line_short : (left line rest : List ℕ) → (left ≡ line ++ 10 ∷ rest) ⊎ ((left ≡ line) × (rest ≡ []))
+    → length line ≤ length left
+line_short left line rest (inl cut) = rw cut (omega (arith, length-append line (10 ∷ rest)))
+line_short left line rest (inr last) = rw last.0 (omega arith)
+
+taken_short : (text left : List ℕ) (lines : List (List ℕ)) → AreTaken text left lines
+    → length left ≤ length text
+taken_short text left lines taken = elim taken.is [
+  | inl is ↦
+      rw (sym is) (omega (arith, length-append (flat_map (λ line. line ++ 10 ∷ []) lines) left))
+  | inr none ↦ rw none.0 (omega arith)
+]
+
+-- a line that lacks room as a row is no longer than the text of which it was taken
+pub lacks_more : {F : Type 0} (list : FleetList F) (text left line rest : List ℕ) (lines : List (List ℕ))
+    → AreTaken text left lines → (left ≡ line ++ 10 ∷ rest) ⊎ ((left ≡ line) × (rest ≡ []))
+    → LacksRows list line → LacksRows list text
+lacks_more list text left line rest lines taken front lacks = elim lacks [
+  | inl failed ↦ inl failed
+  | inr other ↦ elim other [
+    | inl plain ↦ inr (inl plain)
+    | inr long ↦
+        inr (inr (omega (arith, long, line_short left line rest front, taken_short text left lines taken)))
+  ]
+]

@@ -1,0 +1,16 @@
+use Rattle.std.proofs.Common.{inl, inr, refl}
+use Rattle.std.proofs.lemmas.Result.{IfErr-weaker, IfOk-weaker}
+use Rattle.dispatch_room_disk.proofs.WorkLemmas.{handed_on}
+use Rattle.dispatch_room_changes.proofs.init.init.Goals as goal
+
+pub returns-in_err-text-clause-undone : goal.returns-in_err-text-clause-undone
+returns-in_err-text-clause-undone g c =
+    handed_on c.from_residual.result _ c.from_residual.ensures.1 (λ fault is. inl (rw is c.in_err-text.ensures, refl))
+
+pub returns-clause-done : goal.returns-clause-done
+returns-clause-done g c =
+    IfOk-weaker c.init_by.result _ _ (λ done is. (c.new-sheet.result.text.now, is)) c.init_by.ensures.done
+
+pub returns-clause-undone : goal.returns-clause-undone
+returns-clause-undone g c =
+    IfErr-weaker c.init_by.result _ _ (λ fault is. inr (c.new-sheet.result.text.now, is)) c.init_by.ensures.undone

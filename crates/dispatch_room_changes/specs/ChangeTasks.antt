@@ -1,0 +1,69 @@
+-- What each command that changes a room as a file says does in its database, over any storage.
+use Rattle.std.specs.Prelude.{IfOk, List, None, ℕ, ◌≡◌, ◌⊎◌}
+use Rattle.sqlite.specs.Held.{state}
+use Rattle.dispatch_room_disk.specs.RoomFiles.{Refusing, Saying}
+use Rattle.dispatch_room_cli.specs.declared.exit_status.Done.{Done}
+use Rattle.dispatch_room_cli.specs.declared.exit_status.Failure.TheVariants.{Memory}
+use Rattle.dispatch_room_csv.specs.declared.fleet_file.FleetLine.{FleetLine}
+use Rattle.dispatch_room_csv.specs.declared.plan_file.PlanFile.{PlanFile}
+use Rattle.dispatch_room_tasks.specs.OpenedRoom.{HoldsNone, IsUnopened}
+use Rattle.dispatch_room_changes.specs.MadeChanges.{MakesKeptIn, OpensNoneKept}
+use Rattle.dispatch_room_changes.specs.KeptImports.{ImportsKeptIn}
+use Rattle.dispatch_room_changes.specs.declared.kept_fleets.FleetList.{FleetList}
+use Rattle.dispatch_room_lists.specs.RoomChanges.{Makes}
+use Rattle.dispatch_room_lists.specs.declared.room_changes.RoomChange.{RoomChange}
+use Rattle.dispatch_room_serving.specs.declared.journal_files.SystemFile.{SystemFile}
+use Rattle.dispatch_room_tasks.specs.Creation as created
+use Rattle.dispatch_room_tasks.specs.ListedTerminals.{HasListed}
+use Rattle.dispatch_room_tasks.specs.Enrolment as imported
+use Rattle.room_tables_schema.specs.FileConnections.{IsClean}
+
+-- the room of a plan is created, and reported
+abbrev pub Creates : PlanFile → Saying Done
+Creates plan = λ S g old new before after done.
+    created.IsCreated g old new plan × created.IsTold plan before after done
+
+-- or none is, for this
+abbrev pub CreatesNone : PlanFile → Refusing
+CreatesNone plan = λ S g conn. created.ExplainsNone (state g conn).now.schema plan
+
+-- the good rows of a fleet are enrolled, and what became of each line is reported
+abbrev pub Enrols : List FleetLine → Saying Done
+Enrols lines = λ S g old new before after done.
+    (IsClean g new → imported.HasImportedIn g old new lines before after done)
+    × IfOk done (imported.IsTold lines before after)
+
+-- The same once the fleet lasts in a list, and then it is kept where the room is. What the file of
+-- a list holds no contract can say.
+abbrev pub EnrolsKept : List FleetLine → List ℕ → Saying Done
+EnrolsKept lines text = λ S g old new before after done.
+    (from to : FleetList SystemFile)
+    × ImportsKeptIn g (λ _. None) (λ _. None) old new from to lines text before after done
+
+-- or memory fails, or no room is opened
+abbrev pub EnrolsNone : Refusing
+EnrolsNone = λ S g conn fault. (fault ≡ Memory) ⊎ IsUnopened g conn fault
+
+-- who has a terminal is listed, and the room stays as it is
+abbrev pub Lists : Saying Done
+Lists = λ S g old new before after done. HasListed g old new before after done
+
+-- a change of its terminals or its plan is made, and nothing is written yet
+abbrev pub Changes : RoomChange → Saying (Unit {0})
+Changes change = λ S g old new before after done. Makes g old new change done × (after ≡ before)
+
+-- The same once its text lasts in a list, and then it is kept where the room is. What the file of a
+-- list holds no contract can say.
+abbrev pub ChangesKept : RoomChange → List ℕ → Saying (Unit {0})
+ChangesKept change text = λ S g old new before after done.
+    ((from to : FleetList SystemFile)
+    × MakesKeptIn g (λ _. None) (λ _. None) old new from to change text done) × (after ≡ before)
+
+-- or no room is opened for it, or none is again once the text was kept
+abbrev pub LosesKeptRoom : RoomChange → List ℕ → Refusing
+LosesKeptRoom change text = λ S g conn.
+    OpensNoneKept g {F = SystemFile} (λ _. None) (λ _. None) conn change text
+
+-- or the file holds no room, for this
+abbrev pub HoldsNoRoom : Refusing
+HoldsNoRoom = λ S g conn. HoldsNone g conn

@@ -1,0 +1,74 @@
+-- A change of a room that is kept in a list: where the room is, and the change, before it is made,
+-- and then where the room is after it.
+use Rattle.std.specs.Prelude.{Err, List, Option, Result, ℕ, ◌≡◌, ◌⊎◌}
+use Rattle.sqlite.specs.Held.{Held}
+use Rattle.sqlite_trees.specs.declared.store.Store.{Ghosts}
+use Rattle.room_model.specs.declared.digests.Head.{Head}
+use Rattle.room_store.specs.declared.store.Store.{Store}
+use Rattle.dispatch_room_cli.specs.declared.exit_status.Failure.{Failure}
+use Rattle.dispatch_room_tasks.specs.OpenedRoom.{IsUnopened, OpensRoom}
+use Rattle.dispatch_room_changes.specs.KeptImports.{EndsKept, IsUnkept, KeepsFleet, ShowsHead}
+use Rattle.dispatch_room_lists.specs.RoomChanges.{LosesRoom, Remakes}
+use Rattle.dispatch_room_lists.specs.StoodRooms.{Stays}
+use Rattle.dispatch_room_changes.specs.declared.kept_fleets.FleetList.{FleetList}
+use Rattle.dispatch_room_lists.specs.declared.room_changes.RoomChange.{RoomChange}
+use Rattle.room_tables_schema.specs.FileConnections.{IsClean}
+
+module _ {S : Type 0} (g : Ghosts S) where
+  -- the room stays as it is: memory, storage or the list fails
+  pub record KeepsNothing {F : Type 0} (old new : Store S) (from to : FleetList F) (text : List ℕ)
+      (done : Result (Unit {0}) Failure) : Type 0 where
+    pub stays : Stays g old new
+    pub fault : Failure
+    pub told : done ≡ Err fault
+    pub why : IsUnkept from to text fault
+
+  module _ {F : Type 0} (contents lasting : F → Option (List ℕ)) where
+    -- It was kept where the room is, and then this text.
+    pub record KeepsText (old new : Store S) (from to : FleetList F) (text : List ℕ) : Type 0 where
+      pub head : Head
+      pub shows : ShowsHead g old new head
+      pub keeps : KeepsFleet contents lasting from to head text
+
+    -- it was kept where the room is after a change that came to this, and it was closed
+    pub record EndsMade (old : Store S) (new : Held S) (from to : FleetList F)
+        (came done : Result (Unit {0}) Failure) : Type 0 where
+      pub closed : Store S
+      pub ends : EndsKept g contents lasting old closed from to came done
+      pub conn : closed.conn ≡ new
+
+    -- The text of a change was kept; once it lasted, the change was made, or not for this; and then
+    -- it was kept where the room is.
+    pub record KeepsAndMakes (old new : Store S) (from to : FleetList F) (change : RoomChange)
+        (text : List ℕ) (done : Result (Unit {0}) Failure) : Type 0 where
+      pub begun : Store S
+      pub kept : FleetList F
+      pub keeps : KeepsText old begun from kept text
+      pub again : Store S
+      pub came : Result (Unit {0}) Failure
+      pub remakes : Remakes g begun again change came
+      pub ends : EndsKept g contents lasting again new kept to came done
+
+    -- the same in the room of a database, or nothing was kept, and nothing changed
+    pub record MakesKeptIn (old new : Held S) (from to : FleetList F) (change : RoomChange)
+        (text : List ℕ) (done : Result (Unit {0}) Failure) : Type 0 where
+      pub opened : Store S
+      pub closed : Store S
+      pub opens : IsClean g opened.conn → OpensRoom g old opened
+      pub is : KeepsNothing opened closed from to text done
+          ⊎ KeepsAndMakes opened closed from to change text done
+      pub conn : closed.conn ≡ new
+
+    -- or no room was opened, or, once the text was kept, none was opened again
+    pub record LosesKept (old : Held S) (change : RoomChange) (text : List ℕ) (fault : Failure)
+        : Type 0 where
+      pub opened : Store S
+      pub begun : Store S
+      pub opens : IsClean g opened.conn → OpensRoom g old opened
+      pub from : FleetList F
+      pub to : FleetList F
+      pub keeps : KeepsText opened begun from to text
+      pub loses : LosesRoom g begun change fault
+
+    abbrev pub OpensNoneKept : Held S → RoomChange → List ℕ → Failure → Type 0
+    OpensNoneKept old change text fault = IsUnopened g old fault ⊎ LosesKept old change text fault

@@ -1,0 +1,93 @@
+//! `import`: the rows of a fleet are enrolled in a room.
+ghost use Rattle.std.specs.Prelude.{IfErr, IfOk};
+ghost use Rattle.dispatch_room_csv.specs.FleetFile.{IsFleetText};
+ghost use Rattle.dispatch_room_changes.specs.DoneChanges.{FailsImport, FailsImportOf, IsImport, IsImportOf};
+ghost use Rattle.dispatch_room_changes.specs.ChangeTasks.{Enrols, EnrolsNone};
+ghost use Rattle.dispatch_room_changes.specs.TerminalFiles.{GivesNoFleet};
+
+use crate::files::read_text;
+use dispatch_room_cli::exit_status::{Done, Failure};
+use dispatch_room_csv::fleet_file::{FleetLine, read_fleet};
+use dispatch_room_csv::fleet_file_faults::explain_fleet;
+use dispatch_room_csv::sheets::Sheet;
+use dispatch_room_disk::room_files::{RoomFile, RoomTask};
+use dispatch_room_tasks::enrolment::enrol_in;
+use dispatch_room_tasks::opened_room::TaskResult;
+use dispatch_room_tcp::hosts::Host;
+use sqlite::{Alter, Connection};
+use std::alloc::Global;
+use std::io::Write;
+
+/// Enrols the good rows of a fleet in order, and reports what became of each row. Where a row is
+/// bad or refused, the other rows are enrolled all the same.
+pub fn import<O: Write>(
+    host: Host<'_>,
+    file: &str,
+    fleet: &str,
+    out: &mut O,
+) -> Result<Done, Failure>
+    ensures done { IfOk result (IsImport (O.contents out.old) (O.contents out.new)) }
+    ensures undone { IfErr result (FailsImport (O.contents out.old) (O.contents out.new)) }
+{
+    let text = read_text(host, fleet)?;
+    let sheet = Sheet::new(host.alloc, host.explainer, fleet, text.as_slice());
+    import_by(host, file, sheet, out)
+}
+
+// Enrols the good rows of the fleet that a text gives.
+fn import_by<O: Write>(
+    host: Host<'_>,
+    file: &str,
+    sheet: Sheet<'_>,
+    out: &mut O,
+) -> Result<Done, Failure>
+    ensures done { IfOk result (λ done. IsImportOf (O.contents out.old) (O.contents out.new) done
+        sheet.entry.text.now) }
+    ensures undone { IfErr result (λ fault. FailsImportOf (O.contents out.old)
+        (O.contents out.new) fault sheet.entry.text.now) }
+{
+    let lines = lines_in(sheet)?;
+    let enrolment = Enrolment {
+        sheet,
+        lines: lines.as_slice(),
+    };
+    host.in_file(RoomFile::Kept(file), enrolment, out)
+}
+
+/// The rows that a file of a fleet has, or it is explained why it has none.
+pub fn lines_in(sheet: Sheet<'_>) -> Result<Vec<FleetLine>, Failure>
+    ensures fleet { IfOk result (λ lines. IsFleetText sheet.entry.text.now lines.items) }
+    ensures none { IfErr result (GivesNoFleet sheet.entry.text.now) }
+{
+    match read_fleet(sheet.alloc, sheet.text) {
+        Ok(lines) => Ok(lines),
+        Err(fault) => {
+            explain_fleet(sheet, fault);
+            Err(Failure::from(fault))
+        }
+    }
+}
+
+// The rows of a fleet are enrolled.
+#[derive(Clone, Copy)]
+struct Enrolment<'a> {
+    sheet: Sheet<'a>,
+    lines: &'a [FleetLine],
+}
+
+impl<'a> RoomTask for Enrolment<'a> {
+    type Done = Done;
+
+    ghost says = { λ work. Enrols work.lines.now };
+
+    ghost refuses = { λ _. EnrolsNone };
+
+    fn run<S: Alter + Drop, O: Write>(
+        self,
+        alloc: Global,
+        conn: Connection<S>,
+        out: &mut O,
+    ) -> TaskResult<Done, S> {
+        enrol_in(alloc, conn, self.sheet, self.lines, out)
+    }
+}

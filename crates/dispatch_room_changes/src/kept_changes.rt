@@ -1,0 +1,122 @@
+//! A change of a room, made in its file, and kept in a list before it, where there is one.
+ghost use Rattle.std.specs.Prelude.{IfErr, OnOk, is_some};
+ghost use Rattle.dispatch_room_changes.specs.DoneChanges.{IsMade, IsUnmade};
+ghost use Rattle.dispatch_room_changes.specs.ChangeTasks.{Changes, ChangesKept, HoldsNoRoom, LosesKeptRoom};
+ghost use Rattle.dispatch_room_lists.specs.RoomChanges.{IsTextOf};
+
+use crate::kept_fleets::FleetList;
+use crate::kept_import::opened_list;
+use crate::made_changes::make_kept_in;
+use dispatch_room_cli::exit_status::Failure;
+use dispatch_room_cli::explainer::Explainer;
+use dispatch_room_disk::room_files::{RoomFile, RoomTask};
+use dispatch_room_lists::room_changes::{RoomChange, make};
+use dispatch_room_serving::journal_files::{OpenedList, SystemFile};
+use dispatch_room_tasks::opened_room::TaskResult;
+use dispatch_room_tcp::hosts::Host;
+use sqlite::{Alter, Connection};
+use std::alloc::Global;
+use std::io::Write;
+
+/// The file of a room that is changed, and the list in which that is kept before, where there is
+/// one.
+#[derive(Clone, Copy)]
+pub struct ChangedFile<'a> {
+    pub file: &'a str,
+    pub list: Option<&'a str>,
+}
+
+/// Makes a change in the room of a file. Where there is a list for it, its text lasts there before,
+/// behind the digest of the room as it is, and before that of the room as it is then; where it
+/// can't be kept, nothing is changed, and where only the last digest can't be, the change stays,
+/// and the next start keeps the same.
+pub fn make_in_file<O: Write, E: Write>(
+    host: Host<'_>,
+    place: ChangedFile<'_>,
+    change: &RoomChange,
+    text: &[u8],
+    out: &mut O,
+    err: &mut E,
+) -> Result<(), Failure>
+    requires text { IsTextOf change.now text.now }
+    ensures done { OnOk result
+        (IsMade (O.contents out.old) (O.contents out.new) (is_some place.entry.list) change.now) }
+    ensures undone { IfErr result (λ fault. IsUnmade (O.contents out.old) (O.contents out.new)
+        fault (is_some place.entry.list) change.now) }
+{
+    let file = RoomFile::Kept(place.file);
+    match place.list {
+        None => {
+            let making = Making {
+                explainer: host.explainer,
+                change,
+            };
+            host.in_file(file, making, out)
+        }
+        Some(path) => {
+            let opened = opened_list(host, path, err)?;
+            let making = KeptMaking {
+                explainer: host.explainer,
+                change,
+                text,
+                path,
+                opened: &opened,
+            };
+            host.in_file(file, making, out)
+        }
+    }
+}
+
+// A change is made, and nothing is printed yet.
+#[derive(Clone, Copy)]
+struct Making<'a> {
+    explainer: Explainer<'a>,
+    change: &'a RoomChange,
+}
+
+impl<'a> RoomTask for Making<'a> {
+    type Done = ();
+
+    ghost says = { λ work. Changes work.change.now };
+
+    ghost refuses = { λ _. HoldsNoRoom };
+
+    fn run<S: Alter + Drop, O: Write>(
+        self,
+        alloc: Global,
+        conn: Connection<S>,
+        _out: &mut O,
+    ) -> TaskResult<(), S> {
+        make(alloc, self.explainer, conn, self.change)
+    }
+}
+
+// A change is kept in a list, and made, and nothing is printed yet.
+#[derive(Clone, Copy)]
+struct KeptMaking<'a> {
+    explainer: Explainer<'a>,
+    change: &'a RoomChange,
+    text: &'a [u8],
+    path: &'a str,
+    opened: &'a OpenedList,
+}
+
+impl<'a> RoomTask for KeptMaking<'a> {
+    type Done = ();
+
+    ghost says = { λ work. ChangesKept work.change.now work.text.now };
+
+    ghost refuses = { λ work. LosesKeptRoom work.change.now work.text.now };
+
+    fn run<S: Alter + Drop, O: Write>(
+        self,
+        alloc: Global,
+        conn: Connection<S>,
+        _out: &mut O,
+    ) -> TaskResult<(), S> {
+        let file = SystemFile::new(&self.opened.file, self.explainer, self.path);
+        let mut list = FleetList::new(file, self.opened.end);
+        let text = self.text;
+        make_kept_in(alloc, self.explainer, conn, &mut list, self.change, text)
+    }
+}

@@ -1,0 +1,191 @@
+//! The list of a room, in which a fleet is kept before it is enrolled.
+ghost use Rattle.std.specs.Prelude.{◌≡◌, ◌≤◌, ◌<◌, ◌⊎◌, ◌∷◌, ◌++◌, ◌||◌, [], IfOk, List, OnErr, OnOk, Some, is_err, length};
+ghost use Rattle.std.specs.Prelude.{slice_get, take, true, false, ℕ};
+ghost use Rattle.dispatch_room_journal.specs.Entries.{IsDigest};
+ghost use Rattle.dispatch_room_journal.specs.JournalRecords.{room_text};
+ghost use Rattle.dispatch_room_journal.specs.RowRuns.{PutsRow};
+ghost use Rattle.dispatch_room_journal.specs.TextParts.{Lacks};
+ghost use Rattle.dispatch_room_changes.specs.KeptImports.{AreLinesOf, KeepsFleet, KeepsHead, LacksRows, PutsHead, PutsRows};
+
+use dispatch_room_journal::entry_texts::EntryText;
+use dispatch_room_journal::entry_writer::put_room;
+use dispatch_room_journal::list_ends::{ListEnd, put_entry, put_row};
+use dispatch_room_journal::row_runs::ROW_ROOM;
+use dispatch_room_serving::journal_files::{Lasting, WrittenFile};
+use room_http::observers::Unkept;
+use room_model::digests::Head;
+
+/// The list of a room, behind which a fleet is put.
+#[derive(Drop)]
+pub struct FleetList<F> {
+    pub out: WrittenFile<F>,
+    pub end: ListEnd,
+}
+
+impl<F> FleetList<F> {
+    /// A list that was opened, and goes on from here.
+    pub fn new(file: F, end: ListEnd) -> FleetList<F>
+        ensures { result ≡ record { out = record { file = file; failed = false }; end = end } }
+    {
+        FleetList {
+            out: WrittenFile::new(file),
+            end,
+        }
+    }
+}
+
+/// Keeps where a room is, and then the lines of a fleet, and makes all of it last.
+pub fn keep_fleet<F: Lasting>(
+    list: &mut FleetList<F>,
+    head: &Head,
+    text: &[u8],
+) -> Result<(), Unkept>
+    requires sound { list.old.out.failed ≡ false }
+    requires digest { IsDigest head.now.digits }
+    ensures sound { OnOk result (list.new.out.failed ≡ false) }
+    ensures kept { OnOk result (KeepsFleet F.contents F.lasting list.old list.new head.now
+        text.now) }
+    ensures unkept { OnErr result (LacksRows list.new text.now) }
+{
+    match keep_head(list, head) {
+        Ok(()) => {}
+        Err(unkept) => return Err(unkept),
+    }
+    match keep_rows(list, text) {
+        Ok(()) => make_last(list),
+        Err(unkept) => Err(unkept),
+    }
+}
+
+/// Keeps where a room is, and makes it last.
+pub fn keep_place<F: Lasting>(list: &mut FleetList<F>, head: &Head) -> Result<(), Unkept>
+    requires sound { list.old.out.failed ≡ false }
+    requires digest { IsDigest head.now.digits }
+    ensures kept { OnOk result (KeepsHead F.contents F.lasting list.old list.new head.now) }
+    ensures unkept { OnErr result (list.new.out.failed ≡ true) }
+{
+    match keep_head(list, head) {
+        Ok(()) => make_last(list),
+        Err(unkept) => Err(unkept),
+    }
+}
+
+// Makes all that was kept last. A list that can't last has failed.
+fn make_last<F: Lasting>(list: &mut FleetList<F>) -> Result<(), Unkept>
+    ensures held { F.contents list.new.out.file ≡ F.contents list.old.out.file }
+    ensures end { list.new.end ≡ list.old.end }
+    ensures failed { list.new.out.failed ≡ (list.old.out.failed || is_err result) }
+    ensures lasts { OnOk result (F.lasting list.new.out.file ≡ F.contents list.new.out.file) }
+{
+    if list.out.file.make_last() {
+        Ok(())
+    } else {
+        list.out.failed = true;
+        Err(Unkept)
+    }
+}
+
+// Keeps where a room is. An entry has room for it: where not, the list is given up.
+fn keep_head<F: Lasting>(list: &mut FleetList<F>, head: &Head) -> Result<(), Unkept>
+    requires sound { list.old.out.failed ≡ false }
+    requires digest { IsDigest head.now.digits }
+    ensures failed { list.new.out.failed ≡ is_err result }
+    ensures kept { OnOk result (PutsHead F.contents F.lasting list.old list.new head.now) }
+{
+    let entry = match head_entry(head) {
+        Ok(entry) => entry,
+        Err(unkept) => {
+            list.out.failed = true;
+            return Err(unkept);
+        }
+    };
+    match put_entry(&mut list.out, &mut list.end, entry.bytes()) {
+        Ok(()) => Ok(()),
+        Err(_) => Err(Unkept),
+    }
+}
+
+// What a list says of where a room is.
+fn head_entry(head: &Head) -> Result<EntryText, Unkept>
+    requires { IsDigest head.now.digits }
+    ensures { IfOk result (λ entry. entry.text.items ≡ room_text head.now) }
+{
+    let mut entry = EntryText::new();
+    match put_room(&mut entry, head) {
+        Ok(()) => Ok(entry),
+        Err(_) => Err(Unkept),
+    }
+}
+
+// Keeps each line of a text as a row.
+fn keep_rows<F: Lasting>(list: &mut FleetList<F>, text: &[u8]) -> Result<(), Unkept>
+    requires sound { list.old.out.failed ≡ false }
+    ensures sound { OnOk result (list.new.out.failed ≡ false) }
+    ensures kept { OnOk result ((lines : List (List ℕ)) × AreLinesOf text.now lines
+        × PutsRows list.old.end list.new.end (F.contents list.old.out.file)
+        (F.contents list.new.out.file) lines) }
+    ensures unkept { OnErr result (LacksRows list.new text.now) }
+{
+    let mut left = text;
+    'lines: while !left.is_empty() {
+        let (line, rest) = first_line(left);
+        match keep_row(list, line) {
+            Ok(()) => {}
+            Err(unkept) => return Err(unkept),
+        }
+        left = rest;
+    }
+    Ok(())
+}
+
+// Keeps a line as a row, where the list is a chain and the line not too long.
+fn keep_row<F: Lasting>(list: &mut FleetList<F>, line: &[u8]) -> Result<(), Unkept>
+    requires sound { list.old.out.failed ≡ false }
+    requires line { Lacks 10 line.now }
+    ensures sound { OnOk result (list.new.out.failed ≡ false) }
+    ensures kept { OnOk result (PutsRow list.old.end list.new.end
+        (F.contents list.old.out.file) (F.contents list.new.out.file) line.now) }
+    ensures unkept { OnErr result (LacksRows list.new line.now) }
+{
+    let link = match list.end {
+        ListEnd::Chain(link) => link,
+        ListEnd::Plain => return Err(Unkept),
+    };
+    if line.len() > ROW_ROOM {
+        return Err(Unkept);
+    }
+    match put_row(&mut list.out, &mut list.end, &link, line) {
+        Ok(()) => Ok(()),
+        Err(_) => Err(Unkept),
+    }
+}
+
+// The first line of a text, and what follows it.
+fn first_line(text: &[u8]) -> (&[u8], &[u8])
+    requires { 0 < length text.now }
+    ensures line { Lacks 10 result.0.now }
+    ensures is { (text.now ≡ result.0.now ++ 10 ∷ result.1.now)
+        ⊎ ((text.now ≡ result.0.now) × (result.1.now ≡ [])) }
+    ensures shorter { length result.1.now < length text.now }
+{
+    let end = line_end(text);
+    if end < text.len() {
+        (&text[..end], &text[end + 1..])
+    } else {
+        (text, &[])
+    }
+}
+
+// How many bytes stand before the first line end of a text.
+fn line_end(text: &[u8]) -> usize
+    ensures within { result ≤ length text.now }
+    ensures before { Lacks 10 (take result text.now) }
+    ensures at { result < length text.now → slice_get text.now result ≡ Some 10 }
+{
+    for (at, byte) in text.iter().enumerate() {
+        if *byte == b'\n' {
+            return at;
+        }
+    }
+    text.len()
+}

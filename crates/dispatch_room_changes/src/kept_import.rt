@@ -1,0 +1,113 @@
+//! `import` with a list: a fleet is kept in the list of a room, and then enrolled.
+ghost use Rattle.std.specs.Prelude.{◌≡◌, ◌⊎◌, IfErr, IfOk};
+ghost use Rattle.dispatch_room_cli.specs.declared.exit_status.Failure.TheVariants as failure;
+ghost use Rattle.dispatch_room_changes.specs.DoneChanges.{FailsKeptImport, FailsKeptImportOf, IsKeptImport, IsKeptImportOf};
+ghost use Rattle.dispatch_room_changes.specs.ChangeTasks.{EnrolsKept, EnrolsNone};
+
+use crate::files::read_text;
+use crate::import::lines_in;
+use crate::kept_enrolments::{Fleet, import_in};
+use crate::kept_fleets::FleetList;
+use dispatch_room_cli::exit_status::{Done, Failure};
+use dispatch_room_csv::sheets::Sheet;
+use dispatch_room_disk::room_files::{RoomFile, RoomTask};
+use dispatch_room_journal::list_ends::ListEnd;
+use dispatch_room_serving::journal_files::{OpenedList, SystemFile};
+use dispatch_room_tasks::opened_room::TaskResult;
+use dispatch_room_tcp::hosts::Host;
+use sqlite::{Alter, Connection};
+use std::alloc::Global;
+use std::io::Write;
+
+/// Enrols a fleet as `import` does, once it lasts in a list: behind the digest of the room as it
+/// is, and before that of the room as it is then. Where the fleet can't be kept, nothing is
+/// enrolled; where only the last digest can't be, the rows stay, and the next start keeps the same.
+pub fn import_kept<'a, O: Write, E: Write>(
+    host: Host<'a>,
+    file: &str,
+    fleet: &'a str,
+    path: &'a str,
+    out: &mut O,
+    err: &mut E,
+) -> Result<Done, Failure>
+    ensures done { IfOk result (IsKeptImport (O.contents out.old) (O.contents out.new)) }
+    ensures undone { IfErr result (FailsKeptImport (O.contents out.old) (O.contents out.new)) }
+{
+    let text = read_text(host, fleet)?;
+    let sheet = Sheet::new(host.alloc, host.explainer, fleet, text.as_slice());
+    import_kept_by(host, file, sheet, path, out, err)
+}
+
+// Enrols the fleet that a text gives, once it lasts in a list.
+fn import_kept_by<'a, O: Write, E: Write>(
+    host: Host<'a>,
+    file: &str,
+    sheet: Sheet<'a>,
+    path: &'a str,
+    out: &mut O,
+    err: &mut E,
+) -> Result<Done, Failure>
+    ensures done { IfOk result (λ done. IsKeptImportOf (O.contents out.old) (O.contents out.new)
+        done sheet.entry.text.now) }
+    ensures undone { IfErr result (λ fault. FailsKeptImportOf (O.contents out.old)
+        (O.contents out.new) fault sheet.entry.text.now) }
+{
+    let lines = lines_in(sheet)?;
+    let opened = opened_list(host, path, err)?;
+    let fleet = Fleet {
+        explainer: host.explainer,
+        sheet,
+        lines: lines.as_slice(),
+    };
+    let enrolment = KeptEnrolment {
+        fleet,
+        path,
+        opened: &opened,
+    };
+    host.in_file(RoomFile::Kept(file), enrolment, out)
+}
+
+/// The list at a path, which goes on as a chain: else it has no room for rows.
+pub fn opened_list<E: Write>(host: Host<'_>, path: &str, err: &mut E) -> Result<OpenedList, Failure>
+    ensures { IfErr result (λ fault. (fault ≡ failure.Memory) ⊎ (fault ≡ failure.Journal)) }
+{
+    let opened = host.open_journal(path, err)?;
+    match opened.end {
+        ListEnd::Chain(_) => Ok(opened),
+        ListEnd::Plain => {
+            host.explainer.explain(format_args!(
+                "{path} is a list of version 1, which keeps no change: rename it, and a new one \
+                 begins"
+            ));
+            Err(Failure::Journal)
+        }
+    }
+}
+
+// The rows of a fleet are kept in a list, and enrolled.
+#[derive(Clone, Copy)]
+struct KeptEnrolment<'a> {
+    fleet: Fleet<'a>,
+    path: &'a str,
+    opened: &'a OpenedList,
+}
+
+impl<'a> RoomTask for KeptEnrolment<'a> {
+    type Done = Done;
+
+    ghost says = { λ work. EnrolsKept work.fleet.lines.now work.fleet.sheet.text.now };
+
+    ghost refuses = { λ _. EnrolsNone };
+
+    fn run<S: Alter + Drop, O: Write>(
+        self,
+        alloc: Global,
+        conn: Connection<S>,
+        out: &mut O,
+    ) -> TaskResult<Done, S> {
+        let fleet = self.fleet;
+        let file = SystemFile::new(&self.opened.file, fleet.explainer, self.path);
+        let mut list = FleetList::new(file, self.opened.end);
+        import_in(alloc, conn, &mut list, &fleet, out)
+    }
+}

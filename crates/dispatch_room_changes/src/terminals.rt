@@ -1,0 +1,265 @@
+//! `terminals`: who has a terminal in a room, a new token, a terminal taken away, and all that a
+//! file names.
+ghost use Rattle.std.specs.Prelude.{◌≡◌, ◌⊎◌, codes, is_some, true, IfErr, IfOk, OnOk, Some};
+ghost use Rattle.room_types.specs.Texts.{Token as TokenText};
+ghost use Rattle.dispatch_room_cli.specs.declared.exit_status.Failure.TheVariants as failure;
+ghost use Rattle.dispatch_room_cli.specs.declared.tasks.Terminals.TheVariants as wanted;
+ghost use Rattle.dispatch_room_changes.specs.DoneChanges.{FailsReissue, FailsSetting, FailsSettingBy, FailsSettingOf};
+ghost use Rattle.dispatch_room_changes.specs.DoneChanges.{FailsTerminals, IsMade, IsReissued, IsSet, IsSetting, IsSettingOf};
+ghost use Rattle.dispatch_room_changes.specs.DoneChanges.{IsTerminals, is_a_crew, reissue_of};
+ghost use Rattle.dispatch_room_changes.specs.ChangeTasks.{HoldsNoRoom, Lists};
+
+use crate::files::read_text;
+use crate::kept_changes::{ChangedFile, make_in_file};
+use crate::terminal_files::terminals_in;
+use dispatch_room_cli::exit_status::{Done, Failure};
+use dispatch_room_cli::tasks::Terminals;
+use dispatch_room_csv::sheets::Sheet;
+use dispatch_room_disk::room_files::{RoomFile, RoomTask};
+use dispatch_room_lists::change_texts::{terminals_text, token_text};
+use dispatch_room_lists::room_changes::RoomChange;
+use dispatch_room_tasks::listed_terminals::list_in;
+use dispatch_room_tasks::opened_room::TaskResult;
+use dispatch_room_tasks::random_tokens::{RANDOM, token_of};
+use dispatch_room_tcp::hosts::Host;
+use room_store_writes::change_faults::TokenChange;
+use room_types::asks::Who;
+use room_types::fleet::Terminal;
+use room_types::token::Token;
+use sqlite::{Alter, Connection};
+use std::alloc::Global;
+use std::io::Write;
+use std::random::RandomSource;
+
+/// Lists who has a terminal, or changes the terminals of one.
+pub fn terminals<O: Write, E: Write>(
+    host: Host<'_>,
+    place: ChangedFile<'_>,
+    wanted: Terminals,
+    out: &mut O,
+    err: &mut E,
+) -> Result<Done, Failure>
+    ensures done { IfOk result (λ done.
+        IsTerminals (O.contents out.old) (O.contents out.new) done (is_some place.entry.list)
+        wanted) }
+    ensures undone { IfErr result (λ fault. FailsTerminals (O.contents out.old)
+        (O.contents out.new) fault (is_some place.entry.list) wanted) }
+{
+    match wanted {
+        Terminals::List => host.in_file(RoomFile::Kept(place.file), Listing, out),
+        Terminals::New(who) => give(host, place, who, out, err),
+        Terminals::Revoke(who) => revoke(host, place, who, out, err),
+    }
+}
+
+// Gives one a new token, and then prints it.
+fn give<O: Write, E: Write>(
+    host: Host<'_>,
+    place: ChangedFile<'_>,
+    who: Who,
+    out: &mut O,
+    err: &mut E,
+) -> Result<Done, Failure>
+    ensures done { IfOk result (λ done. IsTerminals (O.contents out.old) (O.contents out.new) done
+        (is_some place.entry.list) (wanted.New who)) }
+    ensures undone { IfErr result (λ fault. FailsReissue (O.contents out.old) (O.contents out.new)
+        fault (is_some place.entry.list) who true) }
+{
+    let token = new_token(host)?;
+    let change = TokenChange {
+        who,
+        token: Some(token),
+    };
+    reissue(host, place, change, out, err)?;
+    match writeln!(out, "{}", token.as_str()) {
+        Ok(()) => Ok(Done::Whole),
+        Err(_) => Err(Failure::Network),
+    }
+}
+
+// Takes one's terminal away. A vehicle's crew always has one, so it gets a token that is not
+// printed.
+fn revoke<O: Write, E: Write>(
+    host: Host<'_>,
+    place: ChangedFile<'_>,
+    who: Who,
+    out: &mut O,
+    err: &mut E,
+) -> Result<Done, Failure>
+    ensures done { IfOk result (λ done. IsTerminals (O.contents out.old) (O.contents out.new) done
+        (is_some place.entry.list) (wanted.Revoke who)) }
+    ensures undone { IfErr result (λ fault. FailsReissue (O.contents out.old) (O.contents out.new)
+        fault (is_some place.entry.list) who (is_a_crew who)) }
+{
+    if is_a_crew(&who) {
+        return silence(host, place, who, out, err);
+    }
+    let change = TokenChange { who, token: None };
+    withdraw(host, place, change, out, err)
+}
+
+// Gives one a token that is not printed.
+fn silence<O: Write, E: Write>(
+    host: Host<'_>,
+    place: ChangedFile<'_>,
+    who: Who,
+    out: &mut O,
+    err: &mut E,
+) -> Result<Done, Failure>
+    ensures done { IfOk result (λ done. (token : TokenText) × IsReissued (O.contents out.old)
+        (O.contents out.new) done (is_some place.entry.list) who (Some token) (codes "revoked\n")) }
+    ensures undone { IfErr result (λ fault. FailsReissue (O.contents out.old) (O.contents out.new)
+        fault (is_some place.entry.list) who true) }
+{
+    let token = new_token(host)?;
+    let change = TokenChange {
+        who,
+        token: Some(token),
+    };
+    withdraw(host, place, change, out, err)
+}
+
+fn is_a_crew(who: &Who) -> bool
+    ensures { result ≡ is_a_crew who.now }
+{
+    matches!(who, Who::Crew(_))
+}
+
+// Gives one a token that is not printed, or none, and reports it.
+fn withdraw<O: Write, E: Write>(
+    host: Host<'_>,
+    place: ChangedFile<'_>,
+    change: TokenChange,
+    out: &mut O,
+    err: &mut E,
+) -> Result<Done, Failure>
+    ensures done { IfOk result (λ done. IsReissued (O.contents out.old) (O.contents out.new) done
+        (is_some place.entry.list) change.who change.token (codes "revoked\n")) }
+    ensures undone { IfErr result (λ fault. FailsReissue (O.contents out.old) (O.contents out.new)
+        fault (is_some place.entry.list) change.who (is_some change.token)) }
+{
+    reissue(host, place, change, out, err)?;
+    match writeln!(out, "revoked") {
+        Ok(()) => Ok(Done::Whole),
+        Err(_) => Err(Failure::Network),
+    }
+}
+
+// Gives one only a token, or none, and prints nothing yet.
+fn reissue<O: Write, E: Write>(
+    host: Host<'_>,
+    place: ChangedFile<'_>,
+    change: TokenChange,
+    out: &mut O,
+    err: &mut E,
+) -> Result<(), Failure>
+    ensures done { OnOk result (IsMade (O.contents out.old) (O.contents out.new)
+        (is_some place.entry.list) (reissue_of change.who change.token)) }
+    ensures undone { IfErr result (λ fault. FailsReissue (O.contents out.old) (O.contents out.new)
+        fault (is_some place.entry.list) change.who (is_some change.token)) }
+{
+    let Ok(text) = token_text(host.alloc, &change) else {
+        return Err(Failure::Memory);
+    };
+    let change = RoomChange::Token(change);
+    make_in_file(host, place, &change, text.as_slice(), out, err)
+}
+
+/// Gives all that a plan's or a fleet's file names the terminals that it gives them, and reports
+/// how many these are.
+pub fn set_terminals<O: Write, E: Write>(
+    host: Host<'_>,
+    place: ChangedFile<'_>,
+    csv: &str,
+    out: &mut O,
+    err: &mut E,
+) -> Result<Done, Failure>
+    ensures done { IfOk result (λ done.
+        IsSetting (O.contents out.old) (O.contents out.new) done (is_some place.entry.list)) }
+    ensures undone { IfErr result (λ fault.
+        FailsSetting (O.contents out.old) (O.contents out.new) fault (is_some place.entry.list)) }
+{
+    let text = read_text(host, csv)?;
+    let sheet = Sheet::new(host.alloc, host.explainer, csv, text.as_slice());
+    set_by(host, place, sheet, out, err)
+}
+
+// Gives all that a file's text names the terminals that it gives them.
+fn set_by<O: Write, E: Write>(
+    host: Host<'_>,
+    place: ChangedFile<'_>,
+    sheet: Sheet<'_>,
+    out: &mut O,
+    err: &mut E,
+) -> Result<Done, Failure>
+    ensures done { IfOk result (λ done. IsSettingOf (O.contents out.old) (O.contents out.new) done
+        (is_some place.entry.list) sheet.entry.text.now) }
+    ensures undone { IfErr result (λ fault. FailsSettingOf (O.contents out.old)
+        (O.contents out.new) fault (is_some place.entry.list) sheet.entry.text.now) }
+{
+    let listed = terminals_in(sheet)?;
+    set(host, place, listed, out, err)
+}
+
+// Gives all that a list names its terminals.
+fn set<O: Write, E: Write>(
+    host: Host<'_>,
+    place: ChangedFile<'_>,
+    listed: Vec<Terminal>,
+    out: &mut O,
+    err: &mut E,
+) -> Result<Done, Failure>
+    ensures done { IfOk result (λ done.
+        IsSet (O.contents out.old) (O.contents out.new) done (is_some place.entry.list) listed) }
+    ensures undone { IfErr result (λ fault. FailsSettingBy (O.contents out.old)
+        (O.contents out.new) fault (is_some place.entry.list) listed) }
+{
+    let Ok(text) = terminals_text(host.alloc, listed.as_slice()) else {
+        return Err(Failure::Memory);
+    };
+    let count = listed.len();
+    let change = RoomChange::Terminals(listed);
+    make_in_file(host, place, &change, text.as_slice(), out, err)?;
+    match writeln!(out, "set: terminals {count}") {
+        Ok(()) => Ok(Done::Whole),
+        Err(_) => Err(Failure::Network),
+    }
+}
+
+// A token by the system's randomness.
+fn new_token(host: Host<'_>) -> Result<Token, Failure>
+    ensures { IfErr result (λ fault. (fault ≡ failure.Memory) ⊎ (fault ≡ failure.Storage)) }
+{
+    let mut random = [0; RANDOM];
+    if let Err(error) = host.rt.fill_bytes(&mut random) {
+        host.explainer
+            .explain(format_args!("no random bytes: {error}"));
+        return Err(Failure::Storage);
+    }
+    match token_of(host.alloc, &random) {
+        Ok(Some(token)) => Ok(token),
+        Ok(None) => Err(Failure::Storage),
+        Err(_) => Err(Failure::Memory),
+    }
+}
+
+// Who has a terminal is listed.
+#[derive(Clone, Copy)]
+struct Listing;
+
+impl RoomTask for Listing {
+    type Done = Done;
+
+    ghost says = { λ _. Lists };
+
+    ghost refuses = { λ _. HoldsNoRoom };
+
+    fn run<S: Alter + Drop, O: Write>(
+        self,
+        alloc: Global,
+        conn: Connection<S>,
+        out: &mut O,
+    ) -> TaskResult<Done, S> {
+        list_in(alloc, conn, out)
+    }
+}

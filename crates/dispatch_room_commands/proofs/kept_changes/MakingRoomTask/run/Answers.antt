@@ -1,6 +1,0 @@
-use Rattle.std.proofs.Common.{refl}
-use Rattle.std.proofs.lemmas.Result.{IfOk-weaker}
-use Rattle.dispatch_room_commands.proofs.kept_changes.MakingRoomTask.run.Goals as goal
-
-pub returns-clause-done : goal.returns-clause-done
-returns-clause-done g c = IfOk-weaker c.make.result _ _ (λ worked is. (is, refl)) c.make.ensures.made

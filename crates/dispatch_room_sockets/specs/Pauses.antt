@@ -1,0 +1,37 @@
+-- How long it is waited for someone to move.
+use Rattle.std.specs.Prelude.{◌≡◌, ◌+◌, ◌-◌, ◌≤◌, ℕ, List, [], ◌∷◌, ◌++◌, Bool, if◌then◌else◌, All, min, map, flat_map}
+use Rattle.std.specs.Prelude.{Option, None, Some}
+use Rattle.std.specs.Duration.{as_nanos, max_nanos}
+use Rattle.std.specs.declared.time.Duration.{Duration}
+use Rattle.dispatch_room_sockets.specs.declared.kept_callers.Kept.{Kept}
+use Rattle.dispatch_room_sockets.specs.declared.leavers.Leaver.{Leaver}
+
+-- n is one of these, and none of them is less
+pub record IsLeast (n : ℕ) (all : List ℕ) : Type 0 where
+  pub before : List ℕ
+  pub after : List ℕ
+  pub one : all ≡ before ++ n ∷ after
+  pub least : All (λ m. n ≤ m) all
+
+-- When one who leaves is looked at at the latest: as its time is over, and where it rests still,
+-- 100 milliseconds after that.
+abbrev pub looked_at_by : Option Duration → Duration → ℕ
+looked_at_by None until = as_nanos until
+looked_at_by (Some rests) until =
+    min (min (as_nanos rests + 100000000) max_nanos) (as_nanos until)
+
+module _ {C : Type 0} where
+  -- So long it may be waited from now on for the sake of one who waits: until its time is over, and
+  -- two milliseconds, where it isn't reported that it moves.
+  abbrev pub waiter_limits : Duration → (C → Bool) → Kept C → List ℕ
+  waiter_limits now is_watched k =
+      (as_nanos k.until - as_nanos now) ∷ (if is_watched k.caller then [] else 2000000 ∷ [])
+
+  abbrev pub leaver_limit : Duration → Leaver C → ℕ
+  leaver_limit now l = looked_at_by l.rests l.until - as_nanos now
+
+  -- so long it may be waited: a second, and as each of those allows who wait or leave
+  abbrev pub limits : Duration → (C → Bool) → List (Kept C) → List (Leaver C) → List ℕ
+  limits now is_watched line leavers =
+      1000000000
+      ∷ flat_map (waiter_limits now is_watched) line ++ map (leaver_limit now) leavers

@@ -1,0 +1,63 @@
+//! The machine in examples that the check computes. Each function does nothing; what it ensures is
+//! that the machine answers as the rules say, in rooms small enough to be followed by hand. Steps
+//! that an independent program sampled from random runs stand in `proofs/`, and are computed by the
+//! same check.
+ghost use Rattle.room_model.specs.CallExamples.{CallExamples};
+ghost use Rattle.room_model.specs.IncidentExamples.{IncidentExamples};
+ghost use Rattle.room_model.specs.LoansAndOffers.{LoanExamples, OfferExamples};
+ghost use Rattle.room_model.specs.PlaceExamples.{PlaceExamples};
+ghost use Rattle.room_model.specs.ProposalExamples.{ProposalExamples};
+ghost use Rattle.room_model.specs.QueueExamples.{QueueExamples};
+ghost use Rattle.room_model.specs.ReportExamples.{ReportExamples};
+ghost use Rattle.room_model.specs.TimesExamples.{TimesExamples};
+ghost use Rattle.room_model.specs.VehicleExamples.{VehicleExamples};
+
+/// References, distances, areas and plans.
+pub fn place_examples()
+    ensures { PlaceExamples }
+{}
+
+/// Which incident a call is linked to, and what it does to it.
+pub fn call_examples()
+    ensures { CallExamples }
+{}
+
+/// Lists of incidents, merging, changed needs and closing.
+pub fn incident_examples()
+    ensures { IncidentExamples }
+{}
+
+/// Mobilising and standing down, orders, posts, going on and off duty.
+pub fn vehicle_examples()
+    ensures { VehicleExamples }
+{}
+
+/// Offering a vehicle, and what becomes of the offer.
+pub fn offer_examples()
+    ensures { OfferExamples }
+{}
+
+/// Lending, recalling and giving back.
+pub fn loan_examples()
+    ensures { LoanExamples }
+{}
+
+/// What the buttons of a crew come to.
+pub fn report_examples()
+    ensures { ReportExamples }
+{}
+
+/// Which vehicles are proposed.
+pub fn proposal_examples()
+    ensures { ProposalExamples }
+{}
+
+/// What stands in the queue.
+pub fn queue_examples()
+    ensures { QueueExamples }
+{}
+
+/// The times of a day.
+pub fn times_examples()
+    ensures { TimesExamples }
+{}

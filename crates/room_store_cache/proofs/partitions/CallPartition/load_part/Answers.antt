@@ -1,7 +1,0 @@
-use Rattle.std.proofs.lemmas.Result.{IfOk-weaker}
-use Rattle.room_store_cache.proofs.partitions.CallPartition.load_part.Goals as goal
-
-pub returns-clause-rows : goal.returns-clause-rows
-returns-clause-rows g c clean =
-    IfOk-weaker c.calls_of.result _ _ (λ x found config room h are keyed. found config room h)
-    (c.calls_of.ensures.rows clean)

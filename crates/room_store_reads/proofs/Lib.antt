@@ -1,0 +1,9 @@
+-- filters of what is read
+pub mod ReadFilters
+pub mod KeyedUnions
+pub mod Selected
+pub mod CrewReads
+-- which incidents that are read are known
+pub mod KnownRows
+-- the rows that a request reads, of the fleet and beside it
+pub mod FleetReads

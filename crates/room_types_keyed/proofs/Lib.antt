@@ -1,3 +1,0 @@
-pub mod EachRow
-pub mod KeyedLaws
-pub mod Search
