@@ -1,5 +1,5 @@
 #!/usr/bin/env bash
-# A short day in the room, told step by step: a room is made, a fleet enrolled, a call taken, a vehicle
+# A short day in the room, step by step: a room is made, a fleet enrolled, a call taken, a vehicle
 # sent, lent and given back, and the day's report written. Needs curl. Usage: examples/day.sh [FOLDER [PORT]]; in the
 # folder the room's file is left, without a folder it is removed at the end.
 set -eu
@@ -60,7 +60,7 @@ say 'A call makes an incident. Sent again, for a reply was lost: the same reply,
 ask takerone POST /call '{"class":2,"needs":[1,0,0],"note":"a fall","place":"TQ300800","serial":1}'
 ask takerone POST /call '{"class":2,"needs":[1,0,0],"note":"a fall","place":"TQ300800","serial":1}'
 
-say 'A second caller, 200 m away, tells of the same: the call is linked.'
+say 'A second caller, 200 m away, reports the same: the call is linked.'
 ask takerone POST /call '{"class":2,"needs":[1,0,0],"note":"man down","place":"TQ302800","serial":2}'
 ask deskone1 GET /incidents
 opened=${answer#*'"opened":'}

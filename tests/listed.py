@@ -98,7 +98,7 @@ class ThreeTestCase(TestCase):
         """Waits until each machine has reported its copy of a record to the others, which compare it
         with theirs."""
         self.machines.until(
-            lambda: len(upkeep.digests_told(self.machines.list()).get(record, ())) == 3,
+            lambda: len(upkeep.reported_digests(self.machines.list()).get(record, ())) == 3,
             f'each has reported its copy of {record}')
 
     def last_asked(self):

@@ -366,8 +366,8 @@ class Played(TestCase):
             if path == '/incidents/3/propose' and number[0] > 0:
                 return 200, {'proposals': [{'breaks': False, 'distance': 1, 'kind': 1,
                                             'vehicle': 'A1'}]}
-            is_told = method == 'POST' or path.endswith('/propose')
-            return (409, abs(number[0])) if is_told else answers(method, path, body)
+            is_refused = method == 'POST' or path.endswith('/propose')
+            return (409, abs(number[0])) if is_refused else answers(method, path, body)
 
         self.show(answer_of)
         for number[0], keys, words in REFUSALS:
@@ -461,7 +461,7 @@ class Played(TestCase):
         BROWSER.press('Enter')
         until(lambda: BROWSER.is_shown('#incident td'))
         self.check_comes('without history', lambda: [it in words_of('#incident') for it in (
-            'This room does not tell calls', 'lacks 1 ambulance; A2 at scene')], 2 * [True])
+            'This room does not show calls', 'lacks 1 ambulance; A2 at scene')], 2 * [True])
         BROWSER.press('Escape')
 
     def test_find(self):
@@ -626,7 +626,7 @@ class Played(TestCase):
                     self.check(f'{scheme}, {keys}: names', nameless(BROWSER), [])
         BROWSER.devtools('Emulation.setEmulatedMedia', features=[])
         self.check('focus', unseen_focus(BROWSER), [])
-        self.check_keys_told()
+        self.check_keys_shown()
         BROWSER.size(*PHONE)
         BROWSER.press('5', 'l')
         self.check('no scrolling sideways', BROWSER.run(
@@ -635,7 +635,7 @@ class Played(TestCase):
         self.check('contrast on a phone', weak_texts(BROWSER), [])
         BROWSER.press('Escape')
 
-    def check_keys_told(self):
+    def check_keys_shown(self):
         """The keys that fit a line are seen, and ? shows all."""
         BROWSER.press('6')
         self.check_comes('keys of an offer', lambda: absent('ae', '#keys kbd'), [])
@@ -814,7 +814,7 @@ class Served(TestCase):
         BROWSER.press('i')
         BROWSER.type('2')
         BROWSER.press('Enter')
-        wanted = ('This room does not tell calls, notes and moments of an incident. '
+        wanted = ('This room does not show calls, notes and moments of an incident. '
                   'No active incident has this number.')
         self.check_comes('what it says', lambda: wanted in words_of('#incident'), True)
         BROWSER.press('Escape')

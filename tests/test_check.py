@@ -24,13 +24,13 @@ reports 1, uncleared 0
 newest moment 1200
 """
 
-WRONG_ASSIGNMENT = 'has an assignment, which wants status 2 to 5, its holder and its last order'
-WRONG_OFFER = 'has an offer, which wants status 7, its home as lender, and another division'
+WRONG_ASSIGNMENT = 'has an assignment, which needs status 2 to 5, its holder and its last order'
+WRONG_OFFER = 'has an offer, which needs status 7, its home as lender, and another division'
 WRONG_LOAN = 'has a loan that is not from its home to its holder'
-WRONG_POST = 'has a post, which wants status 1 or 6 and a point of its holder'
+WRONG_POST = 'has a post, which needs status 1 or 6 and a point of its holder'
 NO_REPORT = 'has no report of its last number'
 NO_PLAN = 'its areas and its zone make no plan, or two rows have one number'
-UNREADABLE = "a row is none of its table, or the file can't be read\n"
+UNREADABLE = "a row is not of its table, or the file can't be read\n"
 OTHER_TABLES = 'its tables and indexes are not those of a room'
 
 # The first thing that is wrong where each agreement of the rows is broken.
@@ -115,7 +115,7 @@ MORE = {
     'an open turn of a vehicle that waits':
         ("UPDATE vehicles SET last_order = 1 WHERE callsign = 'B1'; INSERT INTO turns VALUES "
          "('B1', 1, 2, 1, 1, 1200, NULL, NULL, NULL, NULL, NULL, 0)",
-         'turn 1 of vehicle B1 is open, which wants its vehicle at status 2 to 5 on that order '
+         'turn 1 of vehicle B1 is open, which needs its vehicle at status 2 to 5 on that order '
          'for that division'),
     'a report of no vehicle':
         ("INSERT INTO reports VALUES ('Z9', 1, 0, 0, 530300, 180400, 1190, 1, 0, 1, 0)",

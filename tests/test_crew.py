@@ -150,7 +150,7 @@ class Served(TestCase):
         self.pressed.append(button)
         until(lambda: BROWSER.run(SHOWN_LAST) > before)
 
-    def tell(self):
+    def latest(self):
         """What stands of the latest press, once all are shown and it is answered."""
         def line_of_last():
             shown = BROWSER.texts('#reports li')
@@ -235,7 +235,7 @@ class Turn(Served):
                                ('hospital', 'at hospital'), ('return', 'returning'),
                                ('home', 'available')]:
             self.tap(button)
-            self.check(f'{button} is shown', self.tell()[1], f'Taken: you are {status}.')
+            self.check(f'{button} is shown', self.latest()[1], f'Taken: you are {status}.')
             self.check_front(status)
         self.ask('deskone1', 'POST /vehicles/A1/lend',
                  f'{{"to":2,"until":{int(time.time()) + 3600}}}')
@@ -266,7 +266,7 @@ class Turn(Served):
         BROWSER.act({'type': 'pointer', 'id': 'finger', 'actions': [move, *taps]})
         BROWSER.run('Date.now = clock')
         self.pressed.append('mobile')
-        self.check('taken', self.tell()[1], 'Taken: you are mobilised.')
+        self.check('taken', self.latest()[1], 'Taken: you are mobilised.')
         time.sleep(1.5)
         self.check('once', len(BROWSER.all('#reports li')), 1)
         self.check_once()
@@ -285,24 +285,24 @@ class Words(Served):
                 ('mobile', 'wrong', 'Not taken: it does not fit, for you are at scene. '
                  'Your desk sees that.')]:
             self.tap(button)
-            self.check(what, self.tell()[1], words)
+            self.check(what, self.latest()[1], words)
         first = self.number()
         self.tap('position')
-        self.tell()
+        self.latest()
         until(lambda: time.time() > YEAR_BEGAN + first + 4)
         self.report(first + 3)
         self.tap('position')
-        self.check('late', self.tell()[1], 'Not taken: a report with a later number came before '
+        self.check('late', self.latest()[1], 'Not taken: a report with a later number came before '
                    'it. Your desk sees that. Press it again where it still holds.')
         until(lambda: BROWSER.run(GIVEN_LAST) > first + 3)
         self.tap('position')
-        self.check('not late again', self.tell()[1], 'Taken: you are at scene.')
+        self.check('not late again', self.latest()[1], 'Taken: you are at scene.')
         self.check('the table', [OUTCOMES[int(it)] for it in self.reports('outcome')],
                    ['skipped', 'wrong', 'normal', 'late', 'normal', 'normal'])
 
     def number(self):
         """The number of the latest press."""
-        return int(self.tell()[0].split('number ')[1])
+        return int(self.latest()[0].split('number ')[1])
 
     def test_stale(self):
         """An order that was taken back and given again while the crew heard nothing."""
@@ -315,12 +315,12 @@ class Words(Served):
         self.ask('deskone1', 'POST /vehicles/A1/standdown')
         self.mobilise()
         self.line.mend()
-        self.check('stale', self.tell(), ['Mobile at TQ30627838, order 1, number ' +
-                   self.tell()[0].split('number ')[1],
+        self.check('stale', self.latest(), ['Mobile at TQ30627838, order 1, number ' +
+                   self.latest()[0].split('number ')[1],
                    'Not taken: it is about an order that you no longer have. Your desk sees that.'])
         self.check('the new order', until(lambda: 'Order 2' in BROWSER.text('#order')), True)
         self.tap('mobile')
-        self.check('and it is taken', self.tell()[1], 'Taken: you are mobilised.')
+        self.check('and it is taken', self.latest()[1], 'Taken: you are mobilised.')
         self.check('the table', self.reports('ord, outcome'), ['1|4', '2|0'])
 
     def test_used_number(self):
@@ -331,7 +331,7 @@ class Words(Served):
         first = self.number()
         self.report(first + 1)
         self.tap('scene')
-        self.check('taken, in words', self.tell()[1], 'Taken: you are at scene. The number '
+        self.check('taken, in words', self.latest()[1], 'Taken: you are at scene. The number '
                    f"{first + 1} was another report\u2019s, and was passed over.")
         self.check('the table', self.reports('number - %d, button, outcome' % first),
                    ['0|1|0', '1|0|0', '2|2|0'])
@@ -348,7 +348,7 @@ class Words(Served):
             self.tap('mobile')
             self.check('it waits', self.waits('1 button is not'), True)
         self.room.enter_context(serving_at(self.file, self.room_port))
-        self.check('it is taken', self.tell()[1], 'Taken: you are mobilised.')
+        self.check('it is taken', self.latest()[1], 'Taken: you are mobilised.')
         self.check('no trouble is left', until(lambda: not BROWSER.text('#trouble')), True)
         self.check_once()
 
@@ -375,12 +375,12 @@ class Place(Served):
         BROWSER.press('Control+a')
         BROWSER.type('tq 303 804')
         self.tap('mobile')
-        self.tell()
+        self.latest()
         self.tap('scene')
-        self.tell()
+        self.latest()
         BROWSER.click('#place button')  # the order's place
         self.tap('leave')
-        self.tell()
+        self.latest()
         east, north = STANDS_AT
         self.check('by hand once, then the phone, then a tap', self.reports('east, north'),
                    ['530300|180400', f'{east}|{north}', '530000|180000'])
@@ -443,7 +443,7 @@ class Network(Served):
         self.check_comes('two wait, with their age', lambda: len(self.ages()), 2)
         self.check_comes('which grows', self.has_grown, True)
         self.line.mend()
-        self.tell()
+        self.latest()
         self.check_once()
 
     def ages(self):
@@ -497,7 +497,7 @@ class Network(Served):
         BROWSER.close(second, then=other)
         self.line.mend()
         BROWSER.open(f'{self.address}desks/crew.html')
-        self.check('all are sent', [bool(self.tell()), self.is_all_sent()], [True, True])
+        self.check('all are sent', [bool(self.latest()), self.is_all_sent()], [True, True])
         self.check_once()
 
     def is_kept(self):
@@ -536,9 +536,9 @@ class Everyone(Served):
         self.send_out()
         self.sign_in()
         self.tap('scene')
-        self.tell()
+        self.latest()
         self.tap('mobile')
-        self.tell()
+        self.latest()
         self.line.cut()
         self.tap('position')
         until(lambda: BROWSER.text('#trouble'))
@@ -559,7 +559,7 @@ class Everyone(Served):
         BROWSER.run("document.querySelector('[data-button=mobile]').focus()")
         BROWSER.press('Enter')
         self.pressed.append('mobile')
-        self.tell()
+        self.latest()
         self.check_comes('the focus', lambda: BROWSER.run(
             'return document.activeElement.dataset.button'), 'mobile')
         self.check_once()

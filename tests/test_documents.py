@@ -198,8 +198,8 @@ class Figures(TestCase):
                 self.check(name, number(shown), rounded(value_of(self.rows, name), shown))
                 continue
             text = ' '.join(it for it in long_form if command in it)
-            is_told = re.search(rf'(?<![\d,.]){re.escape(shown)}(?![,.]?\d)', text)
-            self.check(f'{name} stands in the long form', bool(is_told), True)
+            is_there = re.search(rf'(?<![\d,.]){re.escape(shown)}(?![,.]?\d)', text)
+            self.check(f'{name} stands in the long form', bool(is_there), True)
             is_dated = re.fullmatch(r'\d{4}-\d\d-\d\d', row['date'])
             self.check(f'{name} has its day, unit and machine',
                        bool(is_dated and row['unit'] and row['machine']), True)

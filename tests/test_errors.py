@@ -20,8 +20,8 @@ DESK = 'desk,1,deskone1,,,'
 NO_FLEETS = [
     (b'', ': no header'),
     (b'\xff\n', ': not UTF-8'),
-    (b'callsign,division,kind,place,token\nA1,1,1,TQ303804\n', ':2: 4 fields where 5 are wanted'),
-    (b'callsign,division,kind,place,token\n\n\nA1\n', ':4: 1 field where 5 are wanted'),
+    (b'callsign,division,kind,place,token\nA1,1,1,TQ303804\n', ':2: 4 fields where 5 are expected'),
+    (b'callsign,division,kind,place,token\n\n\nA1\n', ':4: 1 field where 5 are expected'),
     (b'callsign;division;kind;place;token\nA1;1;1;TQ303804;crewofa1\n',
      ':1: the header is not callsign,division,kind,place,token'),
     (b'callsign,division,kind,token,place\n',
@@ -73,8 +73,8 @@ ADDRESSES = [
     ('127.0.0.1', 'no port'), ('::1', 'no port'), ('[::1]', 'no port'), ('', 'no port'),
     ('127.0.0.1:', 'no port'), ('127.0.0.1:http', 'no port'),
     ('127.0.0.1:80000', 'port above 65535'), (':80000', 'port above 65535'),
-    ('localhost:8080', 'an address in numbers is wanted'),
-    ('[::1%lo]:80', 'an address in numbers is wanted'),
+    ('localhost:8080', 'an address in numbers is expected'),
+    ('[::1%lo]:80', 'an address in numbers is expected'),
     ('0.0.0.0:8080', 'other machines reach it'), ('[::]:80', 'other machines reach it'),
 ]
 

@@ -42,24 +42,25 @@ def specs(place):
 
 
 def patterns():
-    return dict(re.findall(r'^pattern_of (\w+) = codes "(.*)"',
-                           specs('room_http_requests/specs/Paths.antt'), re.M))
+    return dict(re.findall(r'^pattern_of path\.(\w+) = codes "(.*)"',
+                           specs('room_http_requests/specs/RequestTable.antt'), re.M))
 
 
 def allowed(path):
     """The methods of a path by the definition, which names those that take GET."""
-    text = specs('room_http_requests/specs/Paths.antt')
-    return {'get', 'head'} if re.search(rf'^allow_of {path} = GetHead', text, re.M) else {'post'}
+    text = specs('room_http_requests/specs/RequestTable.antt')
+    is_read = re.search(rf'^allow_of path\.{path} = GetHead', text, re.M)
+    return {'get', 'head'} if is_read else {'post'}
 
 
 def is_of_history(path):
-    text = specs('room_http_requests/specs/Paths.antt')
-    return re.search(rf'^is_of_history {path} = true', text, re.M) is not None
+    text = specs('room_http_requests/specs/RequestTable.antt')
+    return re.search(rf'^is_of_history path\.{path} = true', text, re.M) is not None
 
 
 def roles(path):
     """The kinds of terminals that a path is for, by the definition."""
-    text = specs('room_http_requests/specs/Roles.antt')
+    text = specs('room_http_requests/specs/RequestTable.antt')
     role = re.search(rf'^role_of (?:target\.{path}|other) = (\w+)', text, re.M)[1]
     return set(re.findall(rf'^is_of {role} \(who\.(\w+) ', text, re.M))
 
@@ -102,7 +103,7 @@ BUTTONS = ['position', 'mobile', 'scene', 'leave', 'hospital', 'return', 'home']
 def refusals():
     """The number, the name and the status of each refusal, by the definition."""
     text = specs('room_types/specs/RefusalStatuses.antt')
-    found = re.findall(r'^told .* = (not_found|conflict|with_status (\d+)) (\d+) \(codes "(\w+)"\)',
+    found = re.findall(r'^refusal_parts .* = (not_found|conflict|with_status (\d+)) (\d+) \(codes "(\w+)"\)',
                        text, re.M)
     fixed = {'not_found': '404', 'conflict': '409'}
     return {(number, name, fixed.get(how, status)) for how, status, number, name in found}
@@ -116,9 +117,10 @@ def refusals_on_page():
 
 def members_written():
     """The members that the code writes of each struct in an answer."""
-    text = specs('room_http/src/answer_lines.rt')
+    text = specs('room_http/src/contents.rt')
     found = re.findall(r'^impl ToJson for (\w+) \{(.*?)^\}', text, re.M | re.S)
-    return {name: re.findall(r'member\(out, "(\w+)"', own) for name, own in found}
+    return {name: re.findall(r'member\(out, "(\w+)"', own) for name, own in found
+            if name not in ('Answer', 'Refusal')}
 
 
 # ---- the document

@@ -273,7 +273,7 @@ class Versions(TestCase):
                            (1, '', 'refused: version\n'))
             self.check(f'a room of version 1, {what}, stays as it is', dump(room), before)
 
-    def test_versions_that_are_told(self):
+    def test_versions_that_are_printed(self):
         room = made(self.folder / 'printed.db')
         sql(room, 'UPDATE meta SET version = 1')
         self.check('a room that says it is of version 1', run('times', room, 1, '2026-03-29'),

@@ -176,7 +176,7 @@ class Served(TestCase):
         until(pictures)
         is_broken.append(True)
         return [(left, "The wall's own server does not answer."),
-                (broken, 'The page can not draw what the room tells.')]
+                (broken, 'The page can not draw what the room answers.')]
 
     def check_proposed(self):
         """A vehicle on duty and a call, as the page first shows them; gives its tab."""

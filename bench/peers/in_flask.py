@@ -39,25 +39,25 @@ class Refused(Exception):
         self.number = number
 
 
-def told(content, status=200):
+def json_answer(content, status=200):
     text = flask.json.dumps(content, separators=(',', ':'), sort_keys=True)
     return app.response_class(text, status, mimetype='application/json')
 
 
 @app.errorhandler(Refused)
-def told_refusal(refused):
+def refusal_answer(refused):
     name, status = REFUSALS[refused.number]
-    return told({'error': name, 'number': refused.number}, status)
+    return json_answer({'error': name, 'number': refused.number}, status)
 
 
 @app.errorhandler(404)
-def told_no_path(_):
-    return told_refusal(Refused(36))
+def no_path(_):
+    return refusal_answer(Refused(36))
 
 
 @app.errorhandler(405)
-def told_wrong_method(_):
-    return told_refusal(Refused(37))
+def wrong_method(_):
+    return refusal_answer(Refused(37))
 
 
 # ---- the file
@@ -239,7 +239,7 @@ def new_call(position, form, now):
 def take_call():
     position, form = terminal_of(POSITION)['number'], call_form()
     with Transaction():
-        return told(kept_call(position, form) or new_call(position, form, int(time.time())))
+        return json_answer(kept_call(position, form) or new_call(position, form, int(time.time())))
 
 
 # ---- reports
@@ -334,7 +334,8 @@ def new_report(callsign, press, now):
 def take_report():
     callsign, press = terminal_of(CREW)['callsign'], press_form()
     with Transaction():
-        return told(kept_report(callsign, press) or new_report(callsign, press, int(time.time())))
+        return json_answer(kept_report(callsign, press)
+                           or new_report(callsign, press, int(time.time())))
 
 
 # ---- incidents
@@ -399,7 +400,7 @@ def mobilise(text):
         incident = active_incident(division, number)
         vehicle = held_vehicle(division, callsign)
         test_sending(vehicle, lacking(incident), now)
-        return told({'order': send(incident, vehicle, now), 'vehicle': callsign})
+        return json_answer({'order': send(incident, vehicle, now), 'vehicle': callsign})
 
 
 @app.post('/incidents/<text>/close')
@@ -411,7 +412,7 @@ def close(text):
                division, number):
             raise Refused(9)
         run('UPDATE incidents SET state = 1 WHERE division = ? AND number = ?', division, number)
-        return told({'done': True})
+        return json_answer({'done': True})
 
 
 # ---- what a desk looks at
@@ -438,7 +439,7 @@ def propose(text):
                   'distance': distance(it, incident)} for it in rows]
     found.sort(key=lambda it: (it['breaks'], it['distance'], it['vehicle']))
     best = [[it for it in found if it['kind'] == kind][:lack[kind]] for kind in (1, 2, 3)]
-    return told({'proposals': sum(best, [])})
+    return json_answer({'proposals': sum(best, [])})
 
 
 @app.get('/vehicles')
@@ -447,7 +448,7 @@ def show_vehicles():
                   FROM vehicles v LEFT JOIN assignments a ON a.callsign = v.callsign
                   WHERE v.holder = ? ORDER BY v.callsign''', terminal_of(DESK)['number'])
     names = ('home', 'incident', 'kind', 'post', 'shift_end', 'status')
-    return told({'vehicles': [{'place': [it['east'], it['north']], 'vehicle': it['callsign'],
+    return json_answer({'vehicles': [{'place': [it['east'], it['north']], 'vehicle': it['callsign'],
                                **{name: it[name] for name in names}} for it in rows]})
 
 
@@ -468,7 +469,7 @@ def show_incidents():
         shown.append({'lack': [max(0, a - b) for a, b in zip(needs, served)], 'needs': needs,
                       'place': [it['east'], it['north']],
                       **{name: it[name] for name in ('calls', 'class', 'number', 'opened')}})
-    return told({'incidents': shown})
+    return json_answer({'incidents': shown})
 
 
 QUEUE = f'''
@@ -501,7 +502,7 @@ ORDER BY 1, 2, 3, 4'''
 @app.get('/queue')
 def show_queue():
     given = {'division': terminal_of(DESK)['number'], 'now': int(time.time())}
-    return told({'queue': [dict(it) for it in app.room.execute(QUEUE, given)]})
+    return json_answer({'queue': [dict(it) for it in app.room.execute(QUEUE, given)]})
 
 
 def main(path, port):

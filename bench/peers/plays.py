@@ -1,5 +1,5 @@
 """What is played to each server: requests that are generated from a seed, each with the name under
-which it is told.
+which it is given.
 
 The numbers that the room will give are foreseen: an incident's is its division's last and one, an
 order's its vehicle's."""

@@ -11,7 +11,7 @@ from people import Call, Crew, Order, Place, Report, distance
 LINKED_WITHIN, LINKED_FOR = 200, 900  # metres and seconds, as in the room
 ACKNOWLEDGED_WITHIN, SENT_WITHIN = 60, 180  # seconds, as in the room
 # Which buttons fit what is believed of a vehicle. What doesn't is believed, too.
-FITS = {'off': (), 'free': ('return', 'home'), 'told': ('mobile',), 'mobile': ('mobile', 'scene'),
+FITS = {'off': (), 'free': ('return', 'home'), 'sent': ('mobile',), 'mobile': ('mobile', 'scene'),
         'scene': ('scene', 'leave', 'return'), 'leave': ('leave', 'hospital'),
         'hospital': ('hospital', 'return')}
 
@@ -142,7 +142,7 @@ class Model1992(System):
         incident.lacks -= 1
         incident.sent[name] = False
         belief.orders += 1
-        belief.status, belief.incident = 'told', incident
+        belief.status, belief.incident = 'sent', incident
         belief.order = Order(belief.orders, incident.key, incident.place)
         self.world.ordered(crew, belief.order)
         self.world.start(self.acknowledging(crew, belief.order), ACKNOWLEDGED_WITHIN)
@@ -168,7 +168,7 @@ class Model1992(System):
 
     def acknowledging(self, crew: Crew, order: Order):
         belief = self.beliefs[crew.callsign]
-        if belief.order is order and belief.status == 'told':
+        if belief.order is order and belief.status == 'sent':
             self.note(crew)
         yield from ()
 

@@ -68,12 +68,12 @@ def sentence(name: str, folder: pathlib.Path) -> str:
 
 def linked(text: str, folder: pathlib.Path) -> str:
     """Text of Markdown with links, as HTML. Links lead into the tree from the folder."""
-    told, at = '', 0
+    marked, at = '', 0
     for it in LINK.finditer(text):
         target = os.path.relpath(TOP / it[2], folder.resolve())
-        told += f'{html.escape(text[at:it.start()])}<a href="{html.escape(target)}">{it[1]}</a>'
+        marked += f'{html.escape(text[at:it.start()])}<a href="{html.escape(target)}">{it[1]}</a>'
         at = it.end()
-    return told + html.escape(text[at:])
+    return marked + html.escape(text[at:])
 
 
 # ---- tables
@@ -81,13 +81,13 @@ def linked(text: str, folder: pathlib.Path) -> str:
 
 def row(*cells, is_head: bool = False) -> str:
     """A row of a table, of text or numbers; text is HTML already."""
-    told = []
+    fields = []
     for it in cells:
         kind = 'th' if is_head else 'td'
         is_number = not isinstance(it, str)
-        told.append(f'<{kind}{" class=number" if is_number else ""}>'
-                    f'{f"{it:,}" if is_number else it}</{kind}>')
-    return f'<tr>{"".join(told)}</tr>'
+        fields.append(f'<{kind}{" class=number" if is_number else ""}>'
+                      f'{f"{it:,}" if is_number else it}</{kind}>')
+    return f'<tr>{"".join(fields)}</tr>'
 
 
 def table(head: tuple[str, ...], rows) -> str:

@@ -18,9 +18,9 @@ def look_for_gnuplot() -> None:
 
 def draw(folder: pathlib.Path) -> None:
     quoted = lambda path: "'" + str(path).replace("'", "''") + "'"
-    told = f'folder={quoted(folder)}; here={quoted(HERE)}'
+    variables = f'folder={quoted(folder)}; here={quoted(HERE)}'
     for name in NAMES:
-        done = subprocess.run(['gnuplot', '-e', told, HERE / f'{name}.gp'],
+        done = subprocess.run(['gnuplot', '-e', variables, HERE / f'{name}.gp'],
                               stdin=subprocess.DEVNULL, capture_output=True)
         if done.returncode:
             raise NoPicture(f'gnuplot: {done.stderr.decode().strip()}')

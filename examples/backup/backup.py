@@ -80,8 +80,8 @@ def said(*words: str | pathlib.Path, text: bytes = b'') -> list[str]:
     """The lines that a command of the program prints."""
     done = subprocess.run([PROGRAM, *map(str, words)], input=text, capture_output=True)
     if done.returncode != 0:
-        told = done.stderr.decode().strip() or f'status {done.returncode}'
-        raise Untrusted(f'{words[0]} {words[1]}: {told.splitlines()[-1]}')
+        reported = done.stderr.decode().strip() or f'status {done.returncode}'
+        raise Untrusted(f'{words[0]} {words[1]}: {reported.splitlines()[-1]}')
     return done.stdout.decode().splitlines()
 
 

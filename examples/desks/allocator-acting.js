@@ -16,19 +16,19 @@ export class Acting {
 
   /** Begins what a key stands for, with what a line of a panel is about. */
   async begin(action, panel, target = panel.line?.target ?? {}, isAgain = false) {
-    const told = this.reading.told();
+    const room = this.reading.room();
     if (action.of && target[action.of] === undefined) {
       panel.say(`This line has no ${action.of}: “${action.name}” needs one.`, true);
       return;
     }
-    const form = await action.form?.(target, told);
+    const form = await action.form?.(target, room);
     if (form?.refusal) {
       this.drawer.close();
       panel.say(refusalWords(form.refusal), true);
     } else if (form?.isEmpty && isAgain) {
       this.drawer.close();
-    } else if (form || action.confirm?.(target, told)) {
-      this.#open(action, panel, target, form ?? { note: action.confirm(target, told) });
+    } else if (form || action.confirm?.(target, room)) {
+      this.#open(action, panel, target, form ?? { note: action.confirm(target, room) });
     } else if (panel.hasJustMoved) {
       panel.say('The list has just moved. Look at the line, and press again.', true);
     } else {
@@ -51,10 +51,10 @@ export class Acting {
 
   /** Asks the room for it; gives words where it was not done. */
   async #do(action, panel, target, values) {
-    const told = this.reading.told();
-    const request = action.request(target, values, told);
+    const room = this.reading.room();
+    const request = action.request(target, values, room);
     if (request.words) return request.words;
-    const undo = action.undo?.(target, values, told);
+    const undo = action.undo?.(target, values, room);
     const answer = await this.reading.act(request.path, request.body);
     if (!answer.ok) return refusalWords(answer);
     this.#undone.push({ panel, undo });

@@ -1,4 +1,4 @@
-// A worker that answers a number of milliseconds once they are over, or is told another before.
+// A worker that answers a number of milliseconds once they are over, or is given another before.
 
 let timer;
 onmessage = ({ data }) => {

@@ -1,5 +1,5 @@
 // The form in which a desk chooses, fills in or confirms what it asked for. It opens in the list
-// where that began; Enter does it, Escape leaves it, and what the room refuses is told in it.
+// where that began; Enter does it, Escape leaves it, and what the room refuses is shown in it.
 
 import { element, fill } from './nodes.js';
 

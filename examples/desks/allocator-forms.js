@@ -10,16 +10,16 @@ export const vehicleAsk = ({ vehicle }, what, body = null) =>
 export const postAsk = (it, point) => vehicleAsk(it, 'standby', { point });
 
 /** The row of the vehicle that a line is about, where this desk holds it. */
-export const vehicleAt = (told, { vehicle }) => told.vehicleOf.get(vehicle);
+export const vehicleAt = (room, { vehicle }) => room.vehicleOf.get(vehicle);
 
-export function isFree(told, it) {
-  const vehicle = vehicleAt(told, it);
-  return vehicle !== undefined && isEligible(vehicle, told.moment);
+export function isFree(room, it) {
+  const vehicle = vehicleAt(room, it);
+  return vehicle !== undefined && isEligible(vehicle, room.moment);
 }
 
 /** What puts a vehicle's post back, where it had one. */
-export function postBack(it, told) {
-  const post = vehicleAt(told, it)?.post ?? null;
+export function postBack(it, room) {
+  const post = vehicleAt(room, it)?.post ?? null;
   return post === null ? [] : [postAsk(it, post)];
 }
 
@@ -33,13 +33,13 @@ export const numberField = (name, label, value = '', hint = '') =>
 export const placeField = (value) => ({ name: 'place', label: 'Place', value, size: 14 });
 
 /** A time of day, so many seconds from now where nothing else is written. */
-export const untilField = (told, seconds) => ({ name: 'until', label: 'Until', size: 6,
-  value: clock(told.moment + seconds).slice(0, 5), mode: 'numeric',
+export const untilField = (room, seconds) => ({ name: 'until', label: 'Until', size: 6,
+  value: clock(room.moment + seconds).slice(0, 5), mode: 'numeric',
   hint: 'the next such time of day' });
 
 /** The moment of a time that was written, or the words of what is wrong with it. */
-export function untilOf({ until }, told) {
-  const end = nextMoment(until, told.moment);
+export function untilOf({ until }, room) {
+  const end = nextMoment(until, room.moment);
   return end === null ? { words: 'Write the time as 17:30 or 1730.' } : { end };
 }
 

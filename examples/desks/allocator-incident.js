@@ -62,7 +62,7 @@ export class IncidentPage {
     fill(this.list);
     this.said.textContent = this.head.textContent = '';
     this.title.textContent = number === null ? '' : `Incident ${number}`;
-    this.told = null;
+    this.shown = null;
   }
 
   /** Asks the room for it, and shows what it answers or what the lists know. */
@@ -71,20 +71,20 @@ export class IncidentPage {
     if (number === null) return;
     const answer = await askInTurn(`/incidents/${number}`);
     if (this.number !== number) return;
-    if (answer.ok) this.#showHistory(answer.content, reading.told());
-    else if (answer.number === NO_PATH) this.#showLists(reading.told());
+    if (answer.ok) this.#showHistory(answer.content, reading.room());
+    else if (answer.number === NO_PATH) this.#showLists(reading.room());
     else if (!answer.isUnanswered) this.head.textContent = refusalWords(answer);
   }
 
-  #showHistory(it, told) {
+  #showHistory(it, room) {
     const state = STATES[it.state] + (it.into === null ? '' : ` into incident ${it.into}`);
     this.head.textContent = `Class ${it.class}, ${reference(it.place)}, ${state}; `
-      + `opened ${clock(it.opened)}, ${since(it.opened, told.moment)} ago; first order `
+      + `opened ${clock(it.opened)}, ${since(it.opened, room.moment)} ago; first order `
       + `${time(it.first_order)}; needs ${vehicles(it.needs)}; served by `
       + `${vehicles(it.served) || 'nobody'}.`;
     const content = JSON.stringify(it);
-    if (content === this.told) return;
-    this.told = content;
+    if (content === this.shown) return;
+    this.shown = content;
     fill(this.list, table('Calls', CALLS, it.calls.map((one) => [one.position, one.serial,
       time(one.moment), one.class, vehicles(one.needs), reference(one.place),
       one.linked ? `linked, ${far(distance(one.place, it.place))}` : 'first', one.note])),
@@ -94,16 +94,16 @@ export class IncidentPage {
   }
 
   /** Of a room without such a path: its line, and the vehicles that are sent to it now. */
-  #showLists(told) {
-    const it = told.incidentOf.get(this.number);
+  #showLists(room) {
+    const it = room.incidentOf.get(this.number);
     const words = it ? `Class ${it.class}, ${reference(it.place)}; opened ${clock(it.opened)}, `
-      + `${since(it.opened, told.moment)} ago; needs ${vehicles(it.needs)}; calls: ${it.calls}; `
-      + `${incidentWhy(told, it)}.` : 'No active incident has this number.';
-    this.head.textContent = 'This room does not tell calls, notes and moments of an incident. '
+      + `${since(it.opened, room.moment)} ago; needs ${vehicles(it.needs)}; calls: ${it.calls}; `
+      + `${incidentWhy(room, it)}.` : 'No active incident has this number.';
+    this.head.textContent = 'This room does not show calls, notes and moments of an incident. '
       + words;
     fill(this.list, table('Vehicles sent now', ['Vehicle', 'Kind', 'Place', ''],
-      told.sentTo(this.number).map((one) => [one.vehicle, KINDS[one.kind - 1],
-        reference(one.place), vehicleWhy(told, one)])));
+      room.sentTo(this.number).map((one) => [one.vehicle, KINDS[one.kind - 1],
+        reference(one.place), vehicleWhy(room, one)])));
   }
 }
 

@@ -4,19 +4,19 @@ import { byDistance, incidentAsk, numberField } from './allocator-forms.js';
 import { KINDS, far, isUnserved, servedOf, sum, vehicles } from './allocator-words.js';
 import { distance } from './grid.js';
 
-const incidentAt = (told, { incident }) => told.incidentOf.get(incident);
+const incidentAt = (room, { incident }) => room.incidentOf.get(incident);
 
 // ---- needs
 
-function needsForm(it, told) {
-  const { needs } = incidentAt(told, it) ?? { needs: [1, 0, 0] };
+function needsForm(it, room) {
+  const { needs } = incidentAt(room, it) ?? { needs: [1, 0, 0] };
   return { fields: KINDS.map((name, kind) => numberField(`need${kind}`, `${name}s`, needs[kind])) };
 }
 
 const needsOf = (values) => KINDS.map((_, kind) => Number(values[`need${kind}`]));
 
-function needsBack(it, _, told) {
-  const was = incidentAt(told, it);
+function needsBack(it, _, room) {
+  const was = incidentAt(room, it);
   return was && { words: `incident ${it.incident} needs ${vehicles(was.needs)}`,
     requests: [incidentAsk(it, 'needs', { needs: was.needs })] };
 }
@@ -24,9 +24,9 @@ function needsBack(it, _, told) {
 // ---- merging and closing
 
 /** Where to merge into, with the nearest incidents to choose from. */
-function mergeForm(it, told) {
-  const incident = incidentAt(told, it);
-  const others = told.incidents.filter((one) => one !== incident);
+function mergeForm(it, room) {
+  const incident = incidentAt(room, it);
+  const others = room.incidents.filter((one) => one !== incident);
   const near = incident ? byDistance(others, incident).slice(0, 4) : [];
   const words = near.map((one) =>
     `${one.number} (${far(distance(one.place, incident.place))}, class ${one.class})`).join(', ');
@@ -34,8 +34,8 @@ function mergeForm(it, told) {
     note: `Its calls become the other's. It can't be taken back. Nearest: ${words || 'none'}.` };
 }
 
-function closeWords(it, told) {
-  const incident = incidentAt(told, it);
+function closeWords(it, room) {
+  const incident = incidentAt(room, it);
   const served = incident && `${vehicles(servedOf(incident))} served it`;
   const lack = !incident ? '' : isUnserved(incident) ? ' Nobody served it.'
     : sum(incident.lack) ? ` It lacks ${vehicles(incident.lack)}; ${served}.` : '';
@@ -53,7 +53,7 @@ export const INCIDENTS = [
     request: (it, { into }) => incidentAsk(it, 'merge', { into: Number(into) }),
     done: (it, { into }) => `Incident ${it.incident} went into incident ${Number(into)}.` },
   { key: 'c', name: 'close', of: 'incident', button: 'Close', confirm: closeWords,
-    fits: (told, it) => !told.sentTo(it.incident).length,
+    fits: (room, it) => !room.sentTo(it.incident).length,
     request: (it) => incidentAsk(it, 'close'),
     done: (it) => `Incident ${it.incident} is closed.` },
 ];

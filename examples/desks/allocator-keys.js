@@ -19,12 +19,12 @@ export function move(panel, key) {
   return true;
 }
 
-const fits = (action, told, target) => (action.of === null || target[action.of] !== undefined)
-  && (action.fits?.(told, target) ?? true);
+const fits = (action, room, target) => (action.of === null || target[action.of] !== undefined)
+  && (action.fits?.(room, target) ?? true);
 
 /** The keys that are normal at a line, as buttons, and those of the page. */
-export function drawKeys(node, told, target, ofPage, press) {
-  const found = [...ACTIONS.filter((it) => fits(it, told, target)), ...ofPage];
+export function drawKeys(node, room, target, ofPage, press) {
+  const found = [...ACTIONS.filter((it) => fits(it, room, target)), ...ofPage];
   const names = found.map((it) => it.key).join(' ');
   if (node.names === names) return;
   node.names = names;

@@ -11,14 +11,14 @@ const UNTIMED = 7; // the rank of points, which have no moment
 
 const INCIDENT_RANKS = [1, 2, 3];
 
-function queueLine(told, entry) {
+function queueLine(room, entry) {
   const [what, why] = entryWords(entry);
-  const vehicle = told.vehicleOf.get(entry.vehicle);
+  const vehicle = room.vehicleOf.get(entry.vehicle);
   const number = INCIDENT_RANKS.includes(entry.rank) ? entry.number : vehicle?.incident;
-  const incident = told.incidentOf.get(number);
-  const point = entry.rank === UNTIMED ? told.pointOf.get(entry.number) : null;
+  const incident = room.incidentOf.get(number);
+  const point = entry.rank === UNTIMED ? room.pointOf.get(entry.number) : null;
   return line(`${entry.rank} ${entry.number} ${entry.vehicle}`, { what, why,
-    age: entry.rank === UNTIMED ? '' : since(entry.since, told.moment),
+    age: entry.rank === UNTIMED ? '' : since(entry.since, room.moment),
     sign: classWords(incident), level: entry.rank === 1 ? 'urgent' : '',
     place: (incident ?? point ?? vehicle)?.place ?? null,
     target: { incident: number ?? undefined, vehicle: entry.vehicle || undefined,
@@ -26,57 +26,57 @@ function queueLine(told, entry) {
       point: point ? entry.number : undefined } });
 }
 
-export const queueLines = (told) => told.queue.map((it) => queueLine(told, it));
+export const queueLines = (room) => room.queue.map((it) => queueLine(room, it));
 
 // ---- incidents, with what they lack
 
-const sentWords = (told, number) =>
-  told.sentTo(number).map((it) => `${it.vehicle} ${STATUSES[it.status]}`).join(', ');
+const sentWords = (room, number) =>
+  room.sentTo(number).map((it) => `${it.vehicle} ${STATUSES[it.status]}`).join(', ');
 
-export function incidentWhy(told, it) {
+export function incidentWhy(room, it) {
   const lack = sum(it.lack) ? `lacks ${vehicles(it.lack)}` : 'lacks nothing';
   const calls = it.calls > 1 ? `${it.calls} calls` : '';
-  return [isUnserved(it) ? `nobody sent, ${lack}` : lack, sentWords(told, it.number), calls]
+  return [isUnserved(it) ? `nobody sent, ${lack}` : lack, sentWords(room, it.number), calls]
     .filter(Boolean).join('; ');
 }
 
-export function incidentLines(told) {
-  return told.incidents.map((it) => line(`${it.number}`, { age: since(it.opened, told.moment),
-    sign: classWords(it), what: `Incident ${it.number}`, why: incidentWhy(told, it),
+export function incidentLines(room) {
+  return room.incidents.map((it) => line(`${it.number}`, { age: since(it.opened, room.moment),
+    sign: classWords(it), what: `Incident ${it.number}`, why: incidentWhy(room, it),
     place: it.place, level: sum(it.lack) ? 'urgent' : '', target: { incident: it.number } }));
 }
 
 // ---- vehicles
 
-export function vehicleWhy(told, it) {
-  const post = told.pointOf.get(it.post);
-  const isOver = it.status && it.shift_end <= told.moment;
+export function vehicleWhy(room, it) {
+  const post = room.pointOf.get(it.post);
+  const isOver = it.status && it.shift_end <= room.moment;
   return [STATUSES[it.status], it.incident === null ? '' : `incident ${it.incident}`,
     it.post === null ? '' : `point ${it.post}${post ? `, ${awayFrom(it, post)}` : ''}`,
-    it.home === told.division ? '' : `of division ${it.home}`,
+    it.home === room.division ? '' : `of division ${it.home}`,
     it.status ? `shift ${isOver ? 'over since' : 'until'} ${clock(it.shift_end)}` : '']
     .filter(Boolean).join('; ');
 }
 
 const awayFrom = (it, point) => `${farFrom(it.place, point.place)} away`;
 
-export function vehicleLines(told, { stays }) {
-  return told.vehicles.map((it) => line(it.vehicle, { age: stayWords(told, stays.of(it)),
-    sign: KIND_WORDS[it.kind - 1], what: it.vehicle, why: vehicleWhy(told, it), place: it.place,
-    level: isEligible(it, told.moment) ? 'free' : '',
+export function vehicleLines(room, { stays }) {
+  return room.vehicles.map((it) => line(it.vehicle, { age: stayWords(room, stays.of(it)),
+    sign: KIND_WORDS[it.kind - 1], what: it.vehicle, why: vehicleWhy(room, it), place: it.place,
+    level: isEligible(it, room.moment) ? 'free' : '',
     target: { vehicle: it.vehicle, incident: it.incident ?? undefined } }));
 }
 
 /** How long it has its status; what this page has not seen begin is marked. */
-const stayWords = (told, stay) =>
-  (stay ? `${stay.isExact ? '' : '>'}${since(stay.moment, told.moment)}` : '');
+const stayWords = (room, stay) =>
+  (stay ? `${stay.isExact ? '' : '>'}${since(stay.moment, room.moment)}` : '');
 
 // ---- points, with who holds them and how far off they are
 
-export function pointLines(told) {
-  return told.points.map((it) => {
-    const holders = told.vehicles.filter((one) =>
-      one.post === it.number && isEligible(one, told.moment));
+export function pointLines(room) {
+  return room.points.map((it) => {
+    const holders = room.vehicles.filter((one) =>
+      one.post === it.number && isEligible(one, room.moment));
     const words = holders.map((one) => `${one.vehicle} ${awayFrom(one, it)}`).join(', ');
     return line(`${it.number}`, { what: `Point ${it.number}`, place: it.place,
       why: `${it.held} of ${it.cover}${words ? `: ${words}` : ''}`,
@@ -86,18 +86,18 @@ export function pointLines(told) {
 
 // ---- offers and loans
 
-export function loanLines(told) {
+export function loanLines(room) {
   const words = (it, sort, more) => {
-    const isHeld = told.vehicleOf.has(it.vehicle);
+    const isHeld = room.vehicleOf.has(it.vehicle);
     const isOurs = isHeld === (sort === 'offer');
-    const end = it.until > told.moment ? `until ${clock(it.until)}` : `over ${clock(it.until)}`;
+    const end = it.until > room.moment ? `until ${clock(it.until)}` : `over ${clock(it.until)}`;
     const done = sort === 'offer' ? 'offered' : 'lent';
     const who = isOurs ? `to division ${it.borrower}` : `by division ${it.lender}`;
-    return line(`${sort} ${it.vehicle}`, { age: since(it.since, told.moment), what: it.vehicle,
+    return line(`${sort} ${it.vehicle}`, { age: since(it.since, room.moment), what: it.vehicle,
       why: [`${done} ${who}`, end, more].filter(Boolean).join(', '),
-      place: told.vehicleOf.get(it.vehicle)?.place ?? null, level: isOurs ? '' : 'warn',
+      place: room.vehicleOf.get(it.vehicle)?.place ?? null, level: isOurs ? '' : 'warn',
       target: { vehicle: it.vehicle } });
   };
-  return [...told.offers.map((it) => words(it, 'offer', '')),
-    ...told.loans.map((it) => words(it, 'loan', it.recalled ? 'recalled' : ''))];
+  return [...room.offers.map((it) => words(it, 'offer', '')),
+    ...room.loans.map((it) => words(it, 'loan', it.recalled ? 'recalled' : ''))];
 }

@@ -5,29 +5,29 @@ import { isFree, numberField, postBack, untilField, untilOf, vehicleAsk }
 
 const LOAN = 3600; // seconds that a loan lasts where nothing else is written
 
-const isHeld = (told, it) => told.vehicleOf.has(it.vehicle);
-const isOfferedAway = (told, it) => told.offerOf.has(it.vehicle) && isHeld(told, it);
-const isOfferedHere = (told, it) => told.offerOf.has(it.vehicle) && !isHeld(told, it);
-const isLentAway = (told, it) => told.loanOf.has(it.vehicle) && !isHeld(told, it);
-const isLentHere = (told, it) => told.loanOf.has(it.vehicle) && isHeld(told, it);
+const isHeld = (room, it) => room.vehicleOf.has(it.vehicle);
+const isOfferedAway = (room, it) => room.offerOf.has(it.vehicle) && isHeld(room, it);
+const isOfferedHere = (room, it) => room.offerOf.has(it.vehicle) && !isHeld(room, it);
+const isLentAway = (room, it) => room.loanOf.has(it.vehicle) && !isHeld(room, it);
+const isLentHere = (room, it) => room.loanOf.has(it.vehicle) && isHeld(room, it);
 
 const lendAsk = (it, to, until) => vehicleAsk(it, 'lend', { to, until });
 
 /** Another division that this one lends to or borrows from now stands there first. */
-function lendForm(_, told) {
-  const others = [...told.offers, ...told.loans].flatMap((it) => [it.lender, it.borrower])
-    .filter((it) => it !== told.division);
-  return { fields: [numberField('to', 'To division', others[0]), untilField(told, LOAN)] };
+function lendForm(_, room) {
+  const others = [...room.offers, ...room.loans].flatMap((it) => [it.lender, it.borrower])
+    .filter((it) => it !== room.division);
+  return { fields: [numberField('to', 'To division', others[0]), untilField(room, LOAN)] };
 }
 
-function lendRequest(it, values, told) {
-  const until = untilOf(values, told);
+function lendRequest(it, values, room) {
+  const until = untilOf(values, room);
   return until.words ? until : lendAsk(it, Number(values.to), until.end);
 }
 
 /** What offers a vehicle again as it was offered. */
-function offerAgain(it, _, told) {
-  const offer = told.offerOf.get(it.vehicle);
+function offerAgain(it, _, room) {
+  const offer = room.offerOf.get(it.vehicle);
   return offer && { words: `offer ${it.vehicle} again`,
     requests: [lendAsk(it, offer.borrower, offer.until)] };
 }
@@ -37,8 +37,8 @@ export const LOANS = [
     title: (it) => `Offer ${it.vehicle} to another division`,
     request: lendRequest,
     done: (it, { to }) => `${it.vehicle} is offered to division ${Number(to)}.`,
-    undo: (it, _, told) => ({ words: `withdraw ${it.vehicle}`,
-      requests: [vehicleAsk(it, 'withdraw'), ...postBack(it, told)] }) },
+    undo: (it, _, room) => ({ words: `withdraw ${it.vehicle}`,
+      requests: [vehicleAsk(it, 'withdraw'), ...postBack(it, room)] }) },
   { key: 'w', name: 'withdraw the offer', of: 'vehicle', button: 'Withdraw', fits: isOfferedAway,
     request: (it) => vehicleAsk(it, 'withdraw'),
     done: (it) => `The offer of ${it.vehicle} is withdrawn.`,

@@ -28,7 +28,7 @@ export function askInTurn(path, body) {
   return last;
 }
 
-/** The lists as they were told last, and when each was asked for. */
+/** The lists as the room answered them last, and when each was asked for. */
 export class Reading {
   #lists = Object.fromEntries(LISTS.map((it) => [it, []]));
   #asked = {};
@@ -36,7 +36,7 @@ export class Reading {
   #isHurried = false;
   round = 0; // the number of the last round that began
   fault = ''; // why the last round ended early
-  drawFault = ''; // why what it told is not shown
+  drawFault = ''; // why what it answered is not shown
 
   get isWhole() {
     return LISTS.every((it) => it in this.#asked);
@@ -91,14 +91,14 @@ export class Reading {
   }
 
   /** The lists with what is looked up in them, at the moment of now. */
-  told() {
+  room() {
     const by = (name, key) => new Map(this.#lists[name].map((it) => [it[key], it]));
     const sent = Map.groupBy(this.#lists.vehicles, (it) => it.incident);
-    const told = { ...this.#lists, moment: this.moment, incidentOf: by('incidents', 'number'),
+    const room = { ...this.#lists, moment: this.moment, incidentOf: by('incidents', 'number'),
       vehicleOf: by('vehicles', 'vehicle'), pointOf: by('points', 'number'),
       offerOf: by('offers', 'vehicle'), loanOf: by('loans', 'vehicle'),
       sentTo: (number) => sent.get(number) ?? [] };
-    return { ...told, division: divisionOf(told) };
+    return { ...room, division: divisionOf(room) };
   }
 }
 
@@ -120,7 +120,7 @@ export async function readOn(reading, show) {
       await show();
       reading.drawFault = '';
     } catch (fault) {
-      reading.drawFault = 'The page can not show what the room tells.';
+      reading.drawFault = 'The page can not show what the room answers.';
       console.error(fault);
     }
     await reading.pause(EVERY - (performance.now() - began));

@@ -17,9 +17,9 @@ async function proposals(it) {
 }
 
 /** The number of the nearest incident that lacks a vehicle's kind. */
-function nearestLacking(told, it) {
-  const vehicle = vehicleAt(told, it);
-  const lacking = told.incidents.filter((one) => vehicle && one.lack[vehicle.kind - 1]);
+function nearestLacking(room, it) {
+  const vehicle = vehicleAt(room, it);
+  const lacking = room.incidents.filter((one) => vehicle && one.lack[vehicle.kind - 1]);
   return byDistance(lacking, vehicle)[0]?.number;
 }
 
@@ -38,13 +38,13 @@ export const SENDING = [
     undo: (it, { vehicle }) => takenBack(vehicle) },
   { key: 'g', name: 'send it to an incident', of: 'vehicle', button: 'Send', fits: isFree,
     title: (it) => `Send ${it.vehicle}`,
-    form: (it, told) => ({ fields: [numberField('into', 'To incident', nearestLacking(told, it),
+    form: (it, room) => ({ fields: [numberField('into', 'To incident', nearestLacking(room, it),
       'the nearest that lacks its kind')] }),
     request: (it, { into }) => mobilise(Number(into), it.vehicle),
     done: (it, { into }, { order }) => sentWords(Number(into), it.vehicle, order),
     undo: (it) => takenBack(it.vehicle) },
   { key: 's', name: 'stand down', of: 'vehicle', button: 'Stand down',
-    fits: (told, it) => vehicleAt(told, it)?.status === 2,
+    fits: (room, it) => vehicleAt(room, it)?.status === 2,
     confirm: (it) => `Stand ${it.vehicle} down? Its crew loses the order.`,
     request: (it) => vehicleAsk(it, 'standdown'),
     done: (it) => `${it.vehicle} is stood down.` },

@@ -9,11 +9,11 @@ const SHIFT = 12 * 3600; // seconds that a shift lasts where nothing else is wri
 
 // ---- posts
 
-function standbyForm(it, told) {
-  const vehicle = vehicleAt(told, it);
-  const words = told.points.map((one) => `${one.number} (${one.held} of ${one.cover}`
+function standbyForm(it, room) {
+  const vehicle = vehicleAt(room, it);
+  const words = room.points.map((one) => `${one.number} (${one.held} of ${one.cover}`
     + `${vehicle ? `, ${farFrom(one.place, vehicle.place)}` : ''})`);
-  const short = told.points.find((one) => one.held < one.cover);
+  const short = room.points.find((one) => one.held < one.cover);
   return { fields: [numberField('point', 'Point', short?.number, 'empty: from its post')],
     note: `Points: ${words.join(', ') || 'none'}.` };
 }
@@ -26,43 +26,43 @@ const STANDBY = { key: 'p', name: 'to a standby point, or from it', of: 'vehicle
   request: (it, values) => postAsk(it, pointOf(values)),
   done: (it, values) => (pointOf(values) === null ? `${it.vehicle} has no post.`
     : `${it.vehicle} goes to point ${pointOf(values)}.`),
-  undo: (it, _, told) => ({ words: `${it.vehicle} as it was posted`,
-    requests: [postAsk(it, vehicleAt(told, it)?.post ?? null)] }) };
+  undo: (it, _, room) => ({ words: `${it.vehicle} as it was posted`,
+    requests: [postAsk(it, vehicleAt(room, it)?.post ?? null)] }) };
 
 // ---- shifts
 
 const dutyAsk = (it, place, until) => vehicleAsk(it, 'duty', { place, until });
 
-function dutyForm(it, told) {
-  const place = vehicleAt(told, it)?.place;
-  return { fields: [untilField(told, SHIFT), placeField(place ? reference(place) : '')] };
+function dutyForm(it, room) {
+  const place = vehicleAt(room, it)?.place;
+  return { fields: [untilField(room, SHIFT), placeField(place ? reference(place) : '')] };
 }
 
-function dutyRequest(it, values, told) {
+function dutyRequest(it, values, room) {
   const place = placeOf(values);
-  const until = untilOf(values, told);
+  const until = untilOf(values, room);
   const words = place.words ?? until.words;
   return words ? { words } : dutyAsk(it, place.text, until.end);
 }
 
 /** What puts a vehicle back on duty as it was, while its shift lasts. */
-function onDutyAgain(it, _, told) {
-  const was = vehicleAt(told, it);
-  if (!was || !isEligible(was, told.moment)) return null;
+function onDutyAgain(it, _, room) {
+  const was = vehicleAt(room, it);
+  if (!was || !isEligible(was, room.moment)) return null;
   return { words: `${it.vehicle} on duty again`,
-    requests: [dutyAsk(it, reference(was.place, 10), was.shift_end), ...postBack(it, told)] };
+    requests: [dutyAsk(it, reference(was.place, 10), was.shift_end), ...postBack(it, room)] };
 }
 
 const DUTY = { key: 'd', name: 'on duty', of: 'vehicle', button: 'On duty', form: dutyForm,
-  fits: (told, it) => vehicleAt(told, it)?.status === 0,
+  fits: (room, it) => vehicleAt(room, it)?.status === 0,
   title: (it) => `${it.vehicle} on duty`,
   request: dutyRequest,
   done: (it) => `${it.vehicle} is on duty.`,
   undo: (it) => ({ words: `${it.vehicle} off duty`, requests: [vehicleAsk(it, 'off')] }) };
 
 const OFF = { key: 'f', name: 'off duty', of: 'vehicle', button: 'Off duty',
-  fits: (told, it) => [1, 6].includes(vehicleAt(told, it)?.status),
-  confirm: (it, told) => (onDutyAgain(it, {}, told) ? ''
+  fits: (room, it) => [1, 6].includes(vehicleAt(room, it)?.status),
+  confirm: (it, room) => (onDutyAgain(it, {}, room) ? ''
     : `${it.vehicle} off duty? Its shift can't be taken up again as it was.`),
   request: (it) => vehicleAsk(it, 'off'),
   done: (it) => `${it.vehicle} is off duty.`,
@@ -70,8 +70,8 @@ const OFF = { key: 'f', name: 'off duty', of: 'vehicle', button: 'Off duty',
 
 // ---- points and reports
 
-function pointForm(it, told) {
-  const point = told.pointOf.get(it.point);
+function pointForm(it, room) {
+  const point = room.pointOf.get(it.point);
   return { fields: [numberField('point', 'Point', it.point, '1 to 99'),
     placeField(point ? reference(point.place) : ''),
     numberField('cover', 'Cover', point?.cover ?? 1, 'vehicles wanted there, 0 to 9')],
@@ -86,8 +86,8 @@ function pointRequest(_, values) {
     : pointAsk(Number(values.point), place.text, Number(values.cover));
 }
 
-function pointBack(_, { point }, told) {
-  const was = told.pointOf.get(Number(point));
+function pointBack(_, { point }, room) {
+  const was = room.pointOf.get(Number(point));
   return was && { words: `point ${was.number} as it was`,
     requests: [pointAsk(was.number, reference(was.place, 10), was.cover)] };
 }

@@ -51,13 +51,13 @@ const panel = () => (incidentPage.number === null ? current : incidentPage);
 function draw() {
   const { round } = reading;
   const began = performance.now();
-  const told = reading.told();
+  const room = reading.room();
   for (const [name, linesOf] of Object.entries(LINES)) {
-    lines[name] = linesOf(told, marks);
+    lines[name] = linesOf(room, marks);
     const { lists } = panels[name];
     panels[name].show(lines[name], reading.age(...lists), reading.isOld(...lists));
   }
-  drawHead(told);
+  drawHead(room);
   drawBar();
   requestAnimationFrame(() => setTimeout(() => {
     const { dataset } = document.documentElement;
@@ -79,7 +79,7 @@ function drawHead({ division, vehicles, incidents, moment }) {
 function drawBar() {
   const { line } = panel();
   setText(byId('line'), line?.what ? lineWords(line) : '');
-  drawKeys(byId('keys'), reading.told(), line?.target ?? {}, PAGE_KEYS, press);
+  drawKeys(byId('keys'), reading.room(), line?.target ?? {}, PAGE_KEYS, press);
 }
 
 /** The clock, how old each list is, and whether the room answers at all. */
@@ -99,11 +99,11 @@ function tick() {
 // ---- rounds
 
 async function afterRound() {
-  const told = reading.told();
+  const room = reading.room();
   if (reading.isWhole) {
-    marks.stays.note(told);
-    noteCalls(told);
-    alarm.note(told);
+    marks.stays.note(room);
+    noteCalls(room);
+    alarm.note(room);
   }
   draw();
   await incidentPage.read(reading);
@@ -132,7 +132,7 @@ function turned() {
   byId('lists').hidden = number > 0;
   if (number > 0) {
     alarm.looked(number);
-    noteCalls(reading.told());
+    noteCalls(reading.room());
     incidentPage.read(reading);
   }
   panel().focus();
@@ -258,7 +258,7 @@ function start() {
   addEventListener('keydown', pressed);
   addEventListener('click', drawBar);
   addEventListener('hashchange', turned);
-  addEventListener('beforeprint', () => writeHandover(byId('handover'), reading.told(), lines));
+  addEventListener('beforeprint', () => writeHandover(byId('handover'), reading.room(), lines));
   setInterval(tick, 500);
   turned();
   readOn(reading, afterRound);

@@ -12,7 +12,7 @@ export const BUTTONS = [
   { name: 'hospital', label: 'Hospital', words: 'arrived at the hospital', sets: 5 },
   { name: 'return', label: 'Return', words: 'free, on the way back', sets: 6 },
   { name: 'home', label: 'Home', words: 'back, or still available', sets: 1 },
-  { name: 'position', label: 'Position', words: 'only tells the place' },
+  { name: 'position', label: 'Position', words: 'only reports the place' },
 ];
 
 const [OFF_DUTY, MOBILISED, OFFERED] = [0, 2, 7];

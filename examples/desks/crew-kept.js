@@ -2,8 +2,8 @@
 // that it showed last. What was pressed is in the outbox.
 //
 //   keepFiles()               keeps the page's files; crew-worker.js gives them back
-//   keepTold(token, told)     keeps what the room told last, and when
-//   toldBefore(token)         gives it back: { told, heard }, or nulls
+//   keepRoom(token, room)     keeps what the room answered last, and when
+//   lastRoom(token)           gives it back: { room, heard }, or null and 0
 
 const FILES = 'desks crew';
 const nameOf = (token) => `desks crew told ${token}`;
@@ -20,10 +20,12 @@ export async function keepFiles() {
   }
 }
 
-export function keepTold(token, told) {
-  localStorage.setItem(nameOf(token), JSON.stringify({ told, heard: Date.now() }));
+export function keepRoom(token, room) {
+  localStorage.setItem(nameOf(token), JSON.stringify({ told: room, heard: Date.now() }));
 }
 
-export function toldBefore(token) {
-  return JSON.parse(localStorage.getItem(nameOf(token))) ?? { told: null, heard: 0 };
+export function lastRoom(token) {
+  const { told: room, heard } = JSON.parse(localStorage.getItem(nameOf(token)))
+    ?? { told: null, heard: 0 };
+  return { room, heard };
 }

@@ -3,7 +3,7 @@
 //   const place = new Place(section);
 //   place.now()      { text: 'TQ30008000' }, or { words } that say why there is none
 //   place.sent()     a report took the place: what was typed by hand counts once
-//   place.tell()     says again how old the position is
+//   place.show()     shows again how old the position is
 //   place.offer(['TQ300800'])   references that a tap takes over into the field
 
 import { gridOf, read, reference } from './grid.js';
@@ -26,13 +26,13 @@ export class Place {
     this.words = element('p', { id: 'fix' });
     this.field = element('input', { id: 'hand', autocomplete: 'off', spellcheck: 'false',
       autocapitalize: 'characters', placeholder: 'TQ 300 800', 'aria-describedby': 'fault',
-      oninput: () => this.tell() });
+      oninput: () => this.show() });
     this.wrong = element('p', { id: 'fault', class: 'bad', role: 'status' });
     this.offers = element('div', { class: 'row' });
     section.append(this.words, element('label', { for: 'hand' }, 'Or type it, for the next button'),
       this.field, this.wrong, this.offers);
     this.watch();
-    this.tell();
+    this.show();
   }
 
   watch() {
@@ -43,7 +43,7 @@ export class Place {
     navigator.geolocation.watchPosition((it) => this.found(it), (it) => {
       this.fault = FAULTS[it.code] ?? FAULTS[2];
       if (it.code === it.PERMISSION_DENIED) this.fix = null;
-      this.tell();
+      this.show();
     }, { enableHighAccuracy: true, maximumAge: 5000, timeout: 20000 });
   }
 
@@ -51,7 +51,7 @@ export class Place {
     const text = reference(gridOf(coords.latitude, coords.longitude), DIGITS);
     this.fix = text ? { text, within: Math.round(coords.accuracy), at: timestamp } : null;
     this.fault = 'The phone is outside of the squares TQ, TL, SU and SP. Type the place.';
-    this.tell();
+    this.show();
   }
 
   /** What was typed, in the letters that the room reads. */
@@ -68,7 +68,7 @@ export class Place {
 
   sent() {
     this.field.value = '';
-    this.tell();
+    this.show();
   }
 
   focus() {
@@ -77,10 +77,10 @@ export class Place {
 
   offer(references) {
     keep(this.offers, references, (it) => it, (it) => element('button', { type: 'button',
-      onclick: () => { this.field.value = it; this.tell(); } }, `Take ${it}`), () => {});
+      onclick: () => { this.field.value = it; this.show(); } }, `Take ${it}`), () => {});
   }
 
-  tell() {
+  show() {
     const text = this.typed();
     setText(this.wrong, text ? read(text).words ?? '' : '');
     this.words.className = this.fix && !this.isOld() ? '' : 'look';

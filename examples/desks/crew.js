@@ -2,7 +2,7 @@
 // outbox, which keeps it until its answer came.
 
 import { after, expected, inFront } from './crew-buttons.js';
-import { keepFiles, keepTold, toldBefore } from './crew-kept.js';
+import { keepFiles, keepRoom, lastRoom } from './crew-kept.js';
 import { Place } from './crew-place.js';
 import { drawReports } from './crew-reports.js';
 import { reference } from './grid.js';
@@ -25,9 +25,9 @@ const place = new Place(byId('place'));
 const opened = Date.now();
 let outbox = null;
 let messages = []; // of the outbox, in the order of their numbers
-let { told, heard } = toldBefore(token); // the order and the status of the room, and when they came
+let { room, heard } = lastRoom(token); // the order and the status, and when they came
 let refusal = null; // why the last question for them got no answer
-let greatest = told?.order?.order ?? 0; // the greatest order that was seen
+let greatest = room?.order?.order ?? 0; // the greatest order that was seen
 let answered = 0; // the number of the last report that is answered
 let pressed = 0; // when a button was pressed last
 
@@ -43,9 +43,9 @@ function isAcknowledged() {
   return messages.some(isMobile);
 }
 
-/** The status as the room told it, and then what waits unsent. */
+/** The status as the room answered it, and then what waits unsent. */
 function now() {
-  const start = { status: told.status, isAcknowledged: isAcknowledged() };
+  const start = { status: room.status, isAcknowledged: isAcknowledged() };
   return messages.filter((it) => !it.answer).reduce((it, { content }) => after(it, content.button),
     start);
 }
@@ -55,8 +55,8 @@ function now() {
 function draw() {
   drawTrouble();
   drawReports(byId('reports'), byId('waiting'), messages);
-  place.tell();
-  if (!told) return;
+  place.show();
+  if (!room) return;
   const { status } = now();
   const waits = messages.some((it) => !it.answer) ? ', not sent yet' : '';
   setText(byId('status'), `${STATUSES[status]}${waits}`);
@@ -78,11 +78,11 @@ function drawTrouble() {
 
 /** The order in large letters. It is drawn anew only where it changes, for it is read aloud. */
 function drawOrder() {
-  const { order, post } = told;
+  const { order, post } = room;
   const seen = JSON.stringify([order, post, isAcknowledged()]);
   if (byId('order').seen === seen) return;
   byId('order').seen = seen;
-  const isNew = order && told.status === MOBILISED && !isAcknowledged();
+  const isNew = order && room.status === MOBILISED && !isAcknowledged();
   const wanted = order ? orderWords(order) : [element('p', { class: 'loud' }, 'No order')];
   if (post !== null) wanted.push(element('p', {}, `Wait at standby point ${post}.`));
   byId('order').classList.toggle('new', Boolean(isNew));
@@ -159,7 +159,7 @@ async function changed() {
   const last = messages.filter((it) => it.answer).at(-1);
   if (last && last.number > answered) {
     answered = last.number;
-    if (told && last.answer.ok) told = { ...told, status: last.answer.content.status };
+    if (room && last.answer.ok) room = { ...room, status: last.answer.content.status };
     if (last.answer.content?.outcome === 'late') catchUp();
   }
   draw();
@@ -187,9 +187,9 @@ async function askOrder() {
   refusal = answer.ok ? null : answer;
   if (answer.ok) heard = Date.now();
   if (answer.ok && answered === before) {
-    told = answer.content;
-    keepTold(token, told);
-    greatest = Math.max(greatest, told.order?.order ?? 0);
+    room = answer.content;
+    keepRoom(token, room);
+    greatest = Math.max(greatest, room.order?.order ?? 0);
   }
   draw();
   setTimeout(askOrder, ASK_EVERY);

@@ -49,8 +49,8 @@ def rows_of(path, *members):
     try:
         with path.open(encoding='utf-8-sig', newline='') as file:
             rows = list(csv.DictReader(file))
-    except (OSError, ValueError, csv.Error) as told:
-        raise Refused(f'{path} can not be read: {told}') from None
+    except (OSError, ValueError, csv.Error) as error:
+        raise Refused(f'{path} can not be read: {error}') from None
     for number, row in enumerate(rows, 2):
         if any(row.get(it) is None for it in members):
             raise Refused(f'{path}:{number}: wanted {",".join(members)}')
@@ -104,16 +104,16 @@ def ask(room, method, path, token, body):
             content = answer.read(LONGEST_ANSWER)
             return answer.status, answer.headers['Date'], content
     except TimeoutError:
-        return 504, None, told('Unanswered', 0)
+        return 504, None, refusal('Unanswered', 0)
     except (OSError, http.client.HTTPException):
-        return 502, None, told('Unanswered', 0)
+        return 502, None, refusal('Unanswered', 0)
     except ValueError:  # what no request of HTTP can have, as letters of no ASCII in a path
-        return 400, None, told('BadMessage', 30)
+        return 400, None, refusal('BadMessage', 30)
     finally:
         connection.close()
 
 
-def told(name, number):
+def refusal(name, number):
     """A refusal in the room's form."""
     return json.dumps({'error': name, 'number': number}, separators=(',', ':')).encode()
 
@@ -153,12 +153,12 @@ class DesksPage(Page):
         """Hands a request on to the room, and its answer back."""
         length = self.headers.get('Content-Length', '0')
         if 'Transfer-Encoding' in self.headers:
-            return self.answer(501, 'application/json', told('Coding', 34))
+            return self.answer(501, 'application/json', refusal('Coding', 34))
         if not length.isdecimal():
-            return self.answer(400, 'application/json', told('BadMessage', 30))
+            return self.answer(400, 'application/json', refusal('BadMessage', 30))
         body = self.rfile.read(min(int(length), LONGEST_READ)) or None
         if int(length) > LONGEST_BODY:
-            return self.answer(413, 'application/json', told('BodyTooLong', 32))
+            return self.answer(413, 'application/json', refusal('BodyTooLong', 32))
         path, token = self.path.removeprefix('/room'), self.headers.get('X-Terminal')
         status, date, content = ask(self.server.room, self.command, path, token, body)
         return self.answer(status, 'application/json', content, Date=date)
@@ -181,8 +181,8 @@ def main():
         if found.write:
             return write(found.write, known)
         desks = Desks(found.listen, found.room, known)
-    except (Refused, OSError) as told:
-        parser.error(str(told))
+    except (Refused, OSError) as error:
+        parser.error(str(error))
     return desks.serve('desks')
 
 

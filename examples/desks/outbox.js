@@ -71,7 +71,7 @@ class Outbox {
     return found;
   }
 
-  tell() {
+  announce() {
     this.others.postMessage('changed');
     this.say();
   }
@@ -118,7 +118,7 @@ class Outbox {
       await done(last.put({ box: this.box, number: Math.max(number, kept?.number ?? 0) }));
     });
     this.begin();
-    this.tell();
+    this.announce();
   }
 
   begin() {
@@ -137,7 +137,7 @@ class Outbox {
       await done(messages.add(this.message(next, content, about, [])));
       return next;
     });
-    this.tell();
+    this.announce();
     this.send();
     return number;
   }
@@ -182,7 +182,7 @@ class Outbox {
     this.trouble = null;
     if (REUSED.includes(answer.number)) await this.passOver();
     else await this.keep(first, answer);
-    this.tell();
+    this.announce();
     return 'answered';
   }
 
@@ -196,10 +196,10 @@ class Outbox {
 
   /** Gives the first that waits and those behind it later numbers, in their order. */
   async passOver() {
-    const told = await ask('/last', undefined, { token: this.token });
+    const answer = await ask('/last', undefined, { token: this.token });
     await this.change(async (messages, last) => {
       const waiting = (await done(messages.getAll(rangeOf(this.box)))).filter((it) => !it.answer);
-      let number = Math.max(waiting[0].number, told.ok ? told.content[this.member] : 0);
+      let number = Math.max(waiting[0].number, answer.ok ? answer.content[this.member] : 0);
       for (const it of waiting) await done(messages.delete([it.box, it.number]));
       for (const it of waiting) {
         number += 1;
@@ -220,9 +220,9 @@ class Outbox {
 }
 
 /** Opens the outbox of a terminal. What waits in it is sent at once. */
-export async function openOutbox(told) {
+export async function openOutbox(options) {
   navigator.storage?.persist?.(); // not to be thrown away where the disk gets full
-  const outbox = new Outbox(await openStore(), told);
+  const outbox = new Outbox(await openStore(), options);
   outbox.open();
   return outbox;
 }

@@ -119,8 +119,8 @@ def get_queue(room, fields):
         connection.request('GET', '/queue', headers={'Connection': 'close'} | fields)
         with connection.getresponse() as answer:
             return answer.status, answer.read(LONGEST_ANSWER)
-    except (OSError, http.client.HTTPException) as told:
-        raise Unanswered from told
+    except (OSError, http.client.HTTPException) as error:
+        raise Unanswered from error
     finally:
         connection.close()
 
@@ -140,8 +140,8 @@ def length_of(room, desk, token):
         return None
     try:
         return len(json.loads(content)['queue'])
-    except (ValueError, KeyError, TypeError, RecursionError) as told:
-        raise Unanswered from told
+    except (ValueError, KeyError, TypeError, RecursionError) as error:
+        raise Unanswered from error
 
 
 class Room:
@@ -172,8 +172,8 @@ class Room:
 
 
 def sample(name, value, **labels):
-    told = ','.join(f'{label}="{it}"' for label, it in labels.items())
-    return f'{name}{{{told}}} {value}\n' if told else f'{name} {value}\n'
+    text = ','.join(f'{label}="{it}"' for label, it in labels.items())
+    return f'{name}{{{text}}} {value}\n' if text else f'{name} {value}\n'
 
 
 def family(name, kind, about, *samples):
@@ -252,8 +252,8 @@ def address(text):
     """An address with a port."""
     try:
         http.client.HTTPConnection(text)
-    except http.client.HTTPException as told:
-        raise argparse.ArgumentTypeError(str(told)) from None
+    except http.client.HTTPException as error:
+        raise argparse.ArgumentTypeError(str(error)) from None
     return text
 
 
@@ -261,8 +261,8 @@ def desks_in(text):
     """The tokens of a file, by the names of their desks."""
     try:
         rows = [it.split() for it in pathlib.Path(text).read_text().splitlines()]
-    except (OSError, ValueError) as told:
-        raise argparse.ArgumentTypeError(f'{text}: {told}') from None
+    except (OSError, ValueError) as error:
+        raise argparse.ArgumentTypeError(f'{text}: {error}') from None
     for place, row in enumerate(rows, 1):
         if len(row) != 2 or not re.fullmatch(r'\w+', row[0]) or not row[1].isalnum():
             raise argparse.ArgumentTypeError(f'{text}:{place}: a name and a token are wanted')
@@ -292,8 +292,8 @@ def main():
     if not found.prints:
         try:
             serve(found.port, log, found.room and Room(found.room, found.desks))
-        except (OSError, OverflowError) as told:
-            parser.error(f'port {found.port}: {told}')
+        except (OSError, OverflowError) as error:
+            parser.error(f'port {found.port}: {error}')
     sys.stdin.reconfigure(encoding='utf-8', errors='replace')
     with contextlib.suppress(KeyboardInterrupt):
         for line in sys.stdin:

@@ -130,8 +130,8 @@ class Channel:
         try:
             status, content = await self.sent(path, body)
             is_answered = True
-        except OSError as told:
-            raise Unreached(f'etcd: {str(told) or type(told).__name__}') from None
+        except OSError as error:
+            raise Unreached(f'etcd: {str(error) or type(error).__name__}') from None
         finally:
             timer.cancel()
             if not is_answered:
@@ -160,8 +160,8 @@ class Channel:
         """Hears an answer that has no end, line by line, until the member ends it."""
         try:
             status, content = await self.sent(path, json.dumps(asked).encode(), take_line)
-        except OSError as told:
-            raise Unreached(f'etcd: {str(told) or type(told).__name__}') from None
+        except OSError as error:
+            raise Unreached(f'etcd: {str(error) or type(error).__name__}') from None
         finally:
             self.close()
         raise fault_of(status, content)

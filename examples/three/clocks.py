@@ -1,5 +1,5 @@
 """The clocks of a machine: time that passes also while it sleeps, the moment that it gives, and the
-moments that the other machines tell."""
+moments that the other machines report."""
 import dataclasses
 import time
 
@@ -20,7 +20,7 @@ def moment() -> int:
 @dataclasses.dataclass(frozen=True)
 class Heard:
     """What a machine gave: by the revision of etcd that has it, its moment, and when it was heard
-    first. What stood there already is of unknown age, and tells nothing."""
+    first. What stood there already is of unknown age, and shows nothing."""
     revision: int
     moment: int
     at: float
@@ -29,17 +29,17 @@ class Heard:
 
 class OtherClocks:
     """The clocks of the other machines, as far as they were heard of. Each is known to be at least
-    what it told, and what has passed since."""
+    what it reported, and what has passed since."""
 
     def __init__(self) -> None:
         self.heard: dict[int, Heard] = {}
         self.began = passed()
 
-    def hear(self, machine: int, revision: int, told: int) -> None:
+    def hear(self, machine: int, revision: int, reported: int) -> None:
         before = self.heard.get(machine)
         if before and before.revision == revision:
             return
-        self.heard[machine] = Heard(revision, told, passed(), before is not None)
+        self.heard[machine] = Heard(revision, reported, passed(), before is not None)
 
     def silent_for(self, machine: int) -> float:
         """Seconds since a machine was heard of."""
@@ -49,5 +49,5 @@ class OtherClocks:
     def ahead(self, now: int) -> int | None:
         """By how many seconds a moment of this machine is above the clocks of all others, none
         where no other was heard."""
-        told = [it.moment + passed() - it.at for it in self.heard.values() if it.is_fresh]
-        return now - int(max(told)) if told else None
+        clocks = [it.moment + passed() - it.at for it in self.heard.values() if it.is_fresh]
+        return now - int(max(clocks)) if clocks else None

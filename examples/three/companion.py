@@ -33,7 +33,7 @@ from machine import Machine, Settings
 from played_room import Changed, Ended
 from playing import Playing
 from said import say
-from upkeep import OUT, OUTCOMES, WORDS, Upkeep, difference, digests_told, last_agreed
+from upkeep import OUT, OUTCOMES, WORDS, Upkeep, difference, last_agreed, reported_digests
 
 WAITS = 60.0  # seconds that a command waits for the machines
 HEARS = 10.0  # seconds in which a machine that runs reports on itself
@@ -129,10 +129,10 @@ def word_of(kept: KeptList, machine: int) -> list:
 def leave_out(given: argparse.Namespace) -> None:
     """Takes a machine out of the count of those whose copies keep records in the list."""
     kept, until = kept_list(given), time.monotonic() + HEARS
-    told = word_of(kept, given.number)
+    word = word_of(kept, given.number)
     while time.monotonic() < until:
         time.sleep(TRY_EVERY)
-        if told != word_of(kept, given.number):
+        if word != word_of(kept, given.number):
             raise Refused(f'machine {given.number} is not away')
     kept.change([], [put(f'{OUT}{given.number}', b'')])
     print(f'machine {given.number} is left out until it has a copy again')
@@ -150,8 +150,8 @@ def user(given: argparse.Namespace) -> None:
                 ('user/grant', {'user': given.user, 'role': 'root'})):
             try:
                 member.ask_once(f'/v3/auth/{path}', asked)
-            except Unreached as told:
-                if 'already exists' not in str(told):
+            except Unreached as error:
+                if 'already exists' not in str(error):
                     raise
         member.ask_once('/v3/auth/enable', {})
     print(f'etcd takes nothing without its user {given.user}')
@@ -159,7 +159,7 @@ def user(given: argparse.Namespace) -> None:
 
 def go_on(given: argparse.Namespace) -> None:
     kept = patient_list(given)
-    differs = difference(digests_told(kept))
+    differs = difference(reported_digests(kept))
     if differs:
         raise Refused(differs)
     kept.change([], [delete(span(STOPPED))])
@@ -175,7 +175,7 @@ def copy_in_list(kept: KeptList, given: argparse.Namespace) -> tuple[Copy, Place
     kept.change([], [delete(span(f'{OUT}{given.machine}'))])
     agreed = None
     if any(kept.values(STOPPED)):
-        agreed = last_agreed(digests_told(kept), given.machine)
+        agreed = last_agreed(reported_digests(kept), given.machine)
     found = copies.copies_in(given.folder)
     for nth, copy in enumerate(found):
         entry = kept.entry(copy.number)
@@ -194,8 +194,8 @@ def place_to_begin(given: argparse.Namespace) -> tuple[Copy, Place]:
     while True:
         try:
             return copy_in_list(kept_list(given), given)
-        except Unreached as told:
-            say(told)
+        except Unreached as error:
+            say(error)
             time.sleep(TRY_EVERY)
 
 
@@ -238,11 +238,11 @@ def main(line: list[str]) -> int:
     status = 0
     try:
         COMMANDS[given.command](given)
-    except* (Lost, Changed) as told:
-        say(told.exceptions[0])
+    except* (Lost, Changed) as error:
+        say(error.exceptions[0])
         status = LOST
-    except* (Refused, NoCopy, Unreached, Ended, OSError) as told:
-        say(told.exceptions[0])
+    except* (Refused, NoCopy, Unreached, Ended, OSError) as error:
+        say(error.exceptions[0])
         status = 1
     return status
 

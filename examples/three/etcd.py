@@ -1,5 +1,5 @@
 """One machine's member of etcd, asked over JSON, by TLS with a certificate and by a user where they
-are told."""
+are given."""
 import base64
 import dataclasses
 import http.client
@@ -53,12 +53,12 @@ def decoded(text: str) -> bytes:
 
 
 def fault_of(status: int, content: bytes) -> Unreached:
-    told = content[:300].decode(errors='replace').strip()
-    if 'space exceeded' in told:
-        return NoSpace(f'etcd: {told}')
-    if re.search('auth token|user name is empty|revision in header is old', told):
-        return NoUser(f'etcd: {told}')
-    return Unreached(f'etcd: {status} {told}')
+    text = content[:300].decode(errors='replace').strip()
+    if 'space exceeded' in text:
+        return NoSpace(f'etcd: {text}')
+    if re.search('auth token|user name is empty|revision in header is old', text):
+        return NoUser(f'etcd: {text}')
+    return Unreached(f'etcd: {status} {text}')
 
 
 class Member:
@@ -107,9 +107,9 @@ class Member:
             self.connection.request(method, path, body, fields)
             with self.connection.getresponse() as answer:
                 content = answer.read()
-        except (OSError, http.client.HTTPException) as told:
+        except (OSError, http.client.HTTPException) as error:
             self.connection.close()
-            raise Unreached(f'etcd: {str(told) or type(told).__name__}') from None
+            raise Unreached(f'etcd: {str(error) or type(error).__name__}') from None
         if answer.status != 200:
             raise fault_of(answer.status, content)
         return content
@@ -118,8 +118,8 @@ class Member:
 
     def sizes(self) -> tuple[int, int, int]:
         """Bytes of its file, those of them in use, and the quota."""
-        told = self.exchange('GET', '/metrics').decode()
-        found = dict(re.findall(r'^(etcd_\w+) (\S+)$', told, re.M))
+        text = self.exchange('GET', '/metrics').decode()
+        found = dict(re.findall(r'^(etcd_\w+) (\S+)$', text, re.M))
         names = ('etcd_mvcc_db_total_size_in_bytes', 'etcd_mvcc_db_total_size_in_use_in_bytes',
                  'etcd_server_quota_backend_bytes')
         file, used, quota = (int(float(found.get(it, 0))) for it in names)

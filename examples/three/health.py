@@ -33,7 +33,7 @@ class Health:
     def own(self, path: str) -> bytes:
         return self.metrics() if path == '/metrics' else self.health()
 
-    def told(self) -> dict:
+    def state(self) -> dict:
         """How the machine is, in numbers and a word."""
         machine, upkeep = self.machine, self.upkeep
         file, used, quota = upkeep.sizes
@@ -51,21 +51,21 @@ class Health:
 
     def health(self) -> bytes:
         """200 where terminals are served, and else 503."""
-        told = self.told()
-        return messages.answer_of(503 if told['refuses'] else 200, json.dumps(told))
+        state = self.state()
+        return messages.answer_of(503 if state['refuses'] else 200, json.dumps(state))
 
     # ---- metrics
 
     def metrics(self) -> bytes:
-        told, lines = self.told(), []
-        gauges = {'serving': int(not told['refuses']), 'record': told['record'],
-                  'records_behind': told['behind'], 'copy_record': told['copy'],
-                  'copy_age_seconds': told['copied'], 'foreign_values': told['foreign'],
-                  'waiting': told['waiting'], 'etcd_used_bytes': told['etcd']['used'],
-                  'etcd_file_bytes': told['etcd']['file'],
-                  'etcd_quota_bytes': told['etcd']['quota']}
-        if told['ahead'] is not None:
-            gauges['clock_ahead_seconds'] = told['ahead']
+        state, lines = self.state(), []
+        gauges = {'serving': int(not state['refuses']), 'record': state['record'],
+                  'records_behind': state['behind'], 'copy_record': state['copy'],
+                  'copy_age_seconds': state['copied'], 'foreign_values': state['foreign'],
+                  'waiting': state['waiting'], 'etcd_used_bytes': state['etcd']['used'],
+                  'etcd_file_bytes': state['etcd']['file'],
+                  'etcd_quota_bytes': state['etcd']['quota']}
+        if state['ahead'] is not None:
+            gauges['clock_ahead_seconds'] = state['ahead']
         for name, value in gauges.items():
             lines += [f'# TYPE dispatch_room_{name} gauge', f'dispatch_room_{name} {value}']
         lines.append('# TYPE dispatch_room_answers_total counter')

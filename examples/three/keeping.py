@@ -96,8 +96,8 @@ class Keeping:
         try:
             is_all = await self.keep(by, asks)
             is_reached = True
-        except Unreached as told:
-            say(told)
+        except Unreached as error:
+            say(error)
         if is_all:
             self.ask_room(questions)
         elif questions:
@@ -145,17 +145,17 @@ class Keeping:
 
     # ---- reading
 
-    async def found(self, known: Place, told: dict, is_latest: bool) -> Found:
+    async def found(self, known: Place, answer: dict, is_latest: bool) -> Found:
         """What a look at the list gave. Why it doesn't go on from what is known is looked into
         beside."""
-        return (kept_list.seen(known, told)
-                or await asyncio.to_thread(self.kept.found, known, told, is_latest))
+        return (kept_list.seen(known, answer)
+                or await asyncio.to_thread(self.kept.found, known, answer, is_latest))
 
     async def read(self, by: Channel, is_latest: bool) -> Found:
         """Learns what the list has, by the member's word or by that of most members."""
         known = self.machine.tail.place
-        told = await by.ask(TXN, kept_list.reading(known, is_latest))
-        found = await self.found(known, told, is_latest)
+        answer = await by.ask(TXN, kept_list.reading(known, is_latest))
+        found = await self.found(known, answer, is_latest)
         self.machine.learn(found)
         return found
 
@@ -165,8 +165,8 @@ class Keeping:
         while not (is_all or self.machine.is_stopping):
             try:
                 is_all = (await self.read(self.questioning, True)).is_all
-            except Unreached as told:
-                say(told)
+            except Unreached as error:
+                say(error)
                 await asyncio.sleep(TRY_EVERY)
 
     async def catch_up(self) -> None:
@@ -177,7 +177,7 @@ class Keeping:
             await asyncio.sleep(BEATS_EVERY / 2)
 
     async def follow(self) -> None:
-        """Learns of what other machines have had kept, by asking, since a member that tells by
+        """Learns of what other machines have had kept, by asking, since a member that reports by
         itself, and hangs, looks like a list that does not grow."""
         while not self.machine.is_stopping:
             self.to_follow.clear()
@@ -185,8 +185,8 @@ class Keeping:
                 found = await self.read(self.reading, False)
                 if not (found.is_all or found.entries):
                     await self.read(self.reading, True)  # it is behind, or the list went back
-            except Unreached as told:
-                say(told)
+            except Unreached as error:
+                say(error)
                 await asyncio.sleep(TRY_EVERY)
                 continue
             if found.is_all or not found.entries:
@@ -203,12 +203,12 @@ class Keeping:
                 await asyncio.sleep(TRY_EVERY)  # who asks finds out why, and says it
 
     def take_line(self, line: bytes) -> None:
-        """Takes what the member tells of the list's keys."""
-        told = json.loads(line).get('result', {})
-        if told.get('canceled'):
-            raise ValueError('it tells no more')
+        """Takes what the member reports of the list's keys."""
+        result = json.loads(line).get('result', {})
+        if result.get('canceled'):
+            raise ValueError('it reports no more')
         known, rows = self.machine.tail.place, []
-        for it in told.get('events', ()):
+        for it in result.get('events', ()):
             (key, value), = kept_list.pairs({'kvs': [it['kv']]})
             if key > kept_list.key_of(known.number) and value:
                 rows.append((key, value))

@@ -25,7 +25,7 @@ def answer_of(status: int, body: str, kind: str = 'application/json') -> bytes:
             f'Content-Length: {len(body.encode())}\r\n\r\n{body}').encode()
 
 
-def told(status: int, content: dict) -> bytes:
+def json_answer(status: int, content: dict) -> bytes:
     return answer_of(status, json.dumps(content, separators=(',', ':'), sort_keys=True))
 
 
@@ -34,7 +34,7 @@ class Refused(Exception):
 
     def __init__(self, status: int, number: int, name: str, is_last: bool = True):
         super().__init__(name)
-        self.answer = told(status, {'error': name, 'number': number})
+        self.answer = json_answer(status, {'error': name, 'number': number})
         self.is_last = is_last
 
 

@@ -165,11 +165,11 @@ class PlayedRoom:
         opens it."""
         with contextlib.closing(sqlite3.connect(self.file)) as room:
             try:
-                told = room.execute('UPDATE terminals SET token = ? WHERE token = ?', (new, old))
+                found = room.execute('UPDATE terminals SET token = ? WHERE token = ?', (new, old))
                 room.commit()
             except sqlite3.IntegrityError:
                 return b'refused: the token is given\n'
-            return b'changed\n' if told.rowcount else b'refused: no such terminal\n'
+            return b'changed\n' if found.rowcount else b'refused: no such terminal\n'
 
     def perform(self, record: Record) -> bytes:
         """Does what a record says that is no message; the program is ended."""

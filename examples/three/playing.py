@@ -72,7 +72,7 @@ class Player:
         self.is_awaited: collections.abc.Callable[[Entry], bool] = lambda _: False
         self.give: collections.abc.Callable[[Record, int, bytes], None] = lambda *_: None
         self.lose: collections.abc.Callable[[], None] = lambda: None
-        self.tell: collections.abc.Callable[[Copy], None] = lambda *_: None
+        self.report: collections.abc.Callable[[Copy], None] = lambda *_: None
         self.note: collections.abc.Callable[[int, bytes], None] = lambda *_: None
         self.look_at: collections.abc.Callable[[pathlib.Path], None] = lambda _: None
 
@@ -86,8 +86,8 @@ class Player:
         while not self.is_stopping:
             try:
                 await self.play_from_copy()
-            except (Ended, OSError) as told:
-                say(told)
+            except (Ended, OSError) as error:
+                say(error)
                 await asyncio.sleep(TRY_EVERY)
 
     async def play_from_copy(self) -> None:
@@ -152,9 +152,9 @@ class Player:
         """Does what a record says that is no message, while no program has the file open."""
         await self.quiet(room)
         await room.end()
-        told = await asyncio.to_thread(room.perform, record)
-        self.take_all([(record, told)])
-        await asyncio.to_thread(self.note, self.played, told)
+        outcome = await asyncio.to_thread(room.perform, record)
+        self.take_all([(record, outcome)])
+        await asyncio.to_thread(self.note, self.played, outcome)
         await self.start(room)
 
     def take_all(self, answered: list[tuple[Record | Question, bytes]]) -> None:
@@ -198,13 +198,13 @@ class Player:
             room = await asyncio.to_thread(close_room, self.how.program, part / 'room.db')
             copy = copies.copy_at(self.how.folder, place, answers, room)
             await asyncio.to_thread(copies.keep, part / 'room.db', copy)
-        except OSError as told:
-            say(f'no copy of record {place.number}: {told}')
+        except OSError as error:
+            say(f'no copy of record {place.number}: {error}')
             return
         finally:
             copies.drop_part(part)
         self.tail.begin_at(copy)
-        await asyncio.to_thread(self.tell, copy)
+        await asyncio.to_thread(self.report, copy)
 
     async def end(self, room: PlayedRoom) -> None:
         """Ends the program well, and keeps a copy of what it leaves."""

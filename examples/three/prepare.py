@@ -1,6 +1,6 @@
 #!/usr/bin/env python3
 """Makes what three real machines need, by their addresses: certificates, a password, and what the
-units of systemd are told. What is in FOLDER/N goes to machine N, as /etc/dispatch-room-three; the
+units of systemd are given. What is in FOLDER/N goes to machine N, as /etc/dispatch-room-three; the
 authority's key stays where it is.
 
   prepare.py FOLDER 192.0.2.1 192.0.2.2 192.0.2.3"""
@@ -52,8 +52,8 @@ def main() -> int:
             machine, folder = machine_at(number, addresses), words.folder / str(number)
             (folder / 'member.env').write_text(member_environment(machine))
             (folder / 'companion.env').write_text(companion_environment(machine))
-    except OSError as told:
-        print(f'prepare: {told}', file=sys.stderr)
+    except OSError as error:
+        print(f'prepare: {error}', file=sys.stderr)
         return 1
     print(f'prepared: {words.folder}/1, {words.folder}/2 and {words.folder}/3')
     return 0

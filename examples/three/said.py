@@ -4,9 +4,9 @@ import sys
 last_said = ''
 
 
-def say(told: object) -> None:
+def say(message: object) -> None:
     """Says something, and the same once."""
     global last_said
-    if str(told) != last_said:
-        last_said = str(told)
-        print(f'companion: {told}', file=sys.stderr, flush=True)
+    if str(message) != last_said:
+        last_said = str(message)
+        print(f'companion: {message}', file=sys.stderr, flush=True)

@@ -20,7 +20,7 @@ COPIES = f'{ROOM}copies/'  # up to which record each machine has a copy
 DIGESTS = f'{ROOM}digests/'  # of copies, by the number of their last record and the machine
 OUT = f'{ROOM}out/'  # machines that are not counted
 OUTCOMES = f'{ROOM}outcomes/'  # of records that are no messages
-TELLS_EVERY, TELLS_WITHIN = 1.0, 5.0  # seconds
+REPORTS_EVERY, REPORTS_WITHIN = 1.0, 5.0  # seconds
 MEASURES_EVERY = 5.0  # seconds between two looks at etcd's quota
 COPIES_APART = 10.0  # seconds between copies of a machine whose etcd is half full
 COMPACTS_EVERY = 300.0  # seconds: what machines report of themselves each second is let go
@@ -29,7 +29,7 @@ WARNED, FULL = 0.5, 0.8  # parts of the quota: it is reported, and no more is ta
 WASTED = 0.5  # the part of a member's file in use, below which it is made anew
 
 
-def digests_told(kept: KeptList) -> dict[int, dict[int, str]]:
+def reported_digests(kept: KeptList) -> dict[int, dict[int, str]]:
     """The digests that machines have reported, by the record and the machine."""
     found: dict[int, dict[int, str]] = collections.defaultdict(dict)
     for key, value, _ in kept.values(DIGESTS):
@@ -39,9 +39,9 @@ def digests_told(kept: KeptList) -> dict[int, dict[int, str]]:
     return found
 
 
-def difference(told: dict[int, dict[int, str]]) -> str:
+def difference(reported: dict[int, dict[int, str]]) -> str:
     """What two machines report differently of one record, or nothing."""
-    for number, by in sorted(told.items()):
+    for number, by in sorted(reported.items()):
         one = min(by)
         for other in sorted(by):
             if by[other] != by[one]:
@@ -50,11 +50,11 @@ def difference(told: dict[int, dict[int, str]]) -> str:
     return ''
 
 
-def last_agreed(told: dict[int, dict[int, str]], machine: int) -> int | None:
+def last_agreed(reported: dict[int, dict[int, str]], machine: int) -> int | None:
     """Where two others differ from a machine and not from each other: the last record before of
-    which it told the same as they. None where no machine is the odd one."""
+    which it reported the same as they. None where no machine is the odd one."""
     agreed = 0
-    for number, by in sorted(told.items()):
+    for number, by in sorted(reported.items()):
         others = [it for other, it in by.items() if other != machine]
         if machine in by and len(others) > 1 and set(others) != {by[machine]}:
             return agreed if len(set(others)) == 1 else None
@@ -79,18 +79,18 @@ class Upkeep:
         self.sizes = 0, 0, 0  # of etcd's file, what of it is in use, and the quota
         self.measured, self.compacted = float('-inf'), passed()
         self.copied = passed()
-        self.untold: Copy | None = None  # a copy of which the others have not been told
-        self.telling = threading.Lock()
-        machine.player.tell, machine.player.note = self.tell_copy, self.tell_outcome
+        self.unreported: Copy | None = None  # a copy of which the others have not heard
+        self.reporting = threading.Lock()
+        machine.player.report, machine.player.note = self.report_copy, self.report_outcome
 
     async def run(self) -> None:
         while not self.machine.is_stopping:
             try:
                 await asyncio.to_thread(self.tend)
-            except Unreached as told:
-                say(told)
+            except Unreached as error:
+                say(error)
             try:
-                async with asyncio.timeout(TELLS_EVERY):
+                async with asyncio.timeout(REPORTS_EVERY):
                     await self.machine.stopping.wait()
             except TimeoutError:
                 pass
@@ -98,8 +98,8 @@ class Upkeep:
     def tend(self) -> None:
         """One round of it, on a connection of its own."""
         try:
-            self.tell_word()
-            self.tell_again()
+            self.report_word()
+            self.report_again()
         finally:
             if passed() - self.measured > MEASURES_EVERY:
                 self.measured = passed()
@@ -107,7 +107,7 @@ class Upkeep:
 
     # ---- clocks
 
-    def tell_word(self) -> None:
+    def report_word(self) -> None:
         """Shows the others how this machine is, and hears them."""
         machine = self.machine
         word = {'clock': clocks.moment(), 'played': machine.player.played,
@@ -129,33 +129,33 @@ class Upkeep:
             self.machine.clocks.hear(other, revision, int(word['clock']))
             self.words[other] = word
         except (ValueError, KeyError, TypeError):
-            say(f'what machine {other} tells of itself is no word of a companion')
+            say(f'what machine {other} reports of itself is no word of a companion')
 
     # ---- copies
 
-    def tell_copy(self, copy: Copy) -> None:
+    def report_copy(self, copy: Copy) -> None:
         """Informs the others of a copy, or where etcd is silent with a later round."""
-        self.copied, self.untold = passed(), copy
-        with self.telling:
-            self.tell_untold(KeptList(Member(self.kept.member.reach, TELLS_WITHIN)))
+        self.copied, self.unreported = passed(), copy
+        with self.reporting:
+            self.report_unreported(KeptList(Member(self.kept.member.reach, REPORTS_WITHIN)))
 
-    def tell_again(self) -> None:
+    def report_again(self) -> None:
         """Informs the others of a copy of which they have not heard, unless that is under way."""
-        if self.untold and self.telling.acquire(blocking=False):
+        if self.unreported and self.reporting.acquire(blocking=False):
             try:
-                self.tell_untold(self.kept)
+                self.report_unreported(self.kept)
             finally:
-                self.telling.release()
+                self.reporting.release()
 
-    def tell_untold(self, kept: KeptList) -> None:
-        copy = self.untold
+    def report_unreported(self, kept: KeptList) -> None:
+        copy = self.unreported
         try:
             if copy:
                 self.compare(copy, kept)
         except Unreached as reason:
             say(reason)
         else:
-            self.untold = None if self.untold is copy else self.untold
+            self.unreported = None if self.unreported is copy else self.unreported
 
     def compare(self, copy: Copy, kept: KeptList) -> None:
         """Gives the others a copy's digests, unless the list went back behind it. Where two differ
@@ -164,11 +164,11 @@ class Upkeep:
         entry = kept.entry(copy.number)
         if not entry or entry.place.digest != copy.digest:
             return
-        told = f'room {copy.room} answers {copy.answers}'
+        digests = f'room {copy.room} answers {copy.answers}'
         kept.change([], [put(f'{COPIES}{self.me}', str(copy.number)),
-                         put(f'{DIGESTS}{copy.number:012}/{self.me}', told),
+                         put(f'{DIGESTS}{copy.number:012}/{self.me}', digests),
                          delete(span(f'{OUT}{self.me}'))])
-        differs = difference(digests_told(kept))
+        differs = difference(reported_digests(kept))
         if differs:
             say(differs)
             kept.change([is_none(span(STOPPED))], [put(STOPPED, differs)])
@@ -179,22 +179,22 @@ class Upkeep:
         """Lets go of what each machine that counts has in two copies, or where space is short in
         one: so a machine whose newest is damaged plays on from that before."""
         out = {int(key) for key, _, _ in kept.values(OUT) if key.isdigit()}
-        copies, told = numbers_of(kept, COPIES), digests_told(kept)
+        copies, reported = numbers_of(kept, COPIES), reported_digests(kept)
         counted = set(range(1, self.machine.settings.of + 1)) - out
         if counted and counted <= copies.keys():
             least = min(copies[it] for it in counted)
-            common = [it for it, by in told.items() if it < least and counted <= by.keys()]
+            common = [it for it, by in reported.items() if it < least and counted <= by.keys()]
             first = least if is_urgent else max(common, default=0)
             kept.change([], [delete(span(DIGESTS, f'{DIGESTS}{first:012}'))])
             history = 0 if is_urgent else self.machine.settings.history
             self.compact(kept, kept.drop_before(first) - history)
 
-    def tell_outcome(self, number: int, outcome: bytes) -> None:
+    def report_outcome(self, number: int, outcome: bytes) -> None:
         """Reports what became of a record that is no message."""
-        telling = KeptList(Member(self.kept.member.reach, TELLS_WITHIN))
+        kept = KeptList(Member(self.kept.member.reach, REPORTS_WITHIN))
         say(f'record {number}: {outcome.decode(errors="replace").strip() or "done"}')
         try:
-            telling.change([], [put(f'{OUTCOMES}{number:012}', outcome or b'done\n')])
+            kept.change([], [put(f'{OUTCOMES}{number:012}', outcome or b'done\n')])
         except Unreached as reason:
             say(reason)
 
@@ -204,8 +204,8 @@ class Upkeep:
         if revision > 0:
             try:
                 kept.member.compact(revision)
-            except Unreached as told:
-                if 'compacted' not in str(told):
+            except Unreached as error:
+                if 'compacted' not in str(error):
                     raise
 
     def keep_small(self) -> None:

@@ -65,14 +65,14 @@ def add_serve(parser: argparse.ArgumentParser) -> None:
     parser.add_argument('--work', metavar='FOLDER', type=pathlib.Path,
                         help='where the room is played; one in memory is faster (FOLDER)')
     parser.add_argument('--deadline', metavar='SECONDS', type=float, default=3.0,
-                        help='until a terminal is told that there is no answer (%(default)s)')
+                        help='until a terminal is answered NoAnswer (%(default)s)')
     parser.add_argument('--copy-every', metavar='RECORDS', type=int, default=30_000,
                         help='how often a copy of the room is made, the same on all machines '
                              '(%(default)s)')
     parser.add_argument('--history', metavar='REVISIONS', type=int, default=1000,
                         help='that etcd keeps of what was dropped (%(default)s)')
     parser.add_argument('--away-after', metavar='SECONDS', type=float, default=86_400.0,
-                        help="of another machine's silence, until it is told (%(default)s)")
+                        help="of another machine's silence, until it is reported (%(default)s)")
     parser.add_argument('--trust-clock', action='store_true',
                         help='take requests also where no other machine tells its clock')
     parser.add_argument('--log', action='store_true',
@@ -83,7 +83,7 @@ def words_of(line: list[str], about: str) -> argparse.Namespace:
     parser = argparse.ArgumentParser(prog='companion.py', description=about,
                                      formatter_class=argparse.RawDescriptionHelpFormatter)
     commands = parser.add_subparsers(required=True, metavar='COMMAND', dest='command')
-    found = {name: commands.add_parser(name, help=told) for name, told in {
+    found = {name: commands.add_parser(name, help=text) for name, text in {
         'begin': "make a room's file this machine's first copy",
         'serve': 'serve terminals', 'enrol': 'enrol vehicles on all machines',
         'token': 'give a terminal another token',

@@ -73,11 +73,11 @@ function areasOf(desks, { desks: all, areas }) {
   return desks === all || !theirs.length ? areas : theirs;
 }
 
-/** Draws what some of the desks were told, in the room that the map has now. */
-export function drawMap(svg, desks, told) {
-  const { offset } = told;
+/** Draws some of the desks of a picture, in the space that the map has now. */
+export function drawMap(svg, desks, picture) {
+  const { offset } = picture;
   const layers = layersOf(svg);
-  const areas = areasOf(desks, told);
+  const areas = areasOf(desks, picture);
   const view = viewOf(svg, areas);
   if (!(view.scale > 0)) return;
   drawGrid(layers, view);

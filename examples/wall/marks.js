@@ -1,5 +1,5 @@
 // The marks of vehicles, incidents and points. Each is drawn about its middle in a box of 34 by 12,
-// and is scaled; a line ends so far right of that middle as its `end` says. A shape tells the kind
+// and is scaled; a line ends so far right of that middle as its `end` says. A shape shows the kind
 // and a letter or figure the rest; colour only repeats it.
 
 import { set, setText, svgNode } from './nodes.js';

@@ -1,4 +1,4 @@
-// The wall: asks its server every two seconds for the last picture and draws it. It tells in its
+// The wall: asks its server every two seconds for the last picture and draws it. It says in its
 // largest words when the room has not answered, whoever failed on the way.
 
 import { drawKey } from './key.js';
@@ -24,15 +24,15 @@ const elapsed = () => (performance.now() - last.came) / 1000;
 // ---- drawing
 
 /** Draws a picture, and keeps how many milliseconds it took until it was shown. */
-function draw(told) {
+function draw(picture) {
   const began = performance.now();
-  const desks = told.desks ?? [];
+  const desks = picture.desks ?? [];
   const shown = pages.chosen(desks);
   setText(document.querySelector('h1'), shown === desks ? 'Control room'
     : `Division ${shown[0].division}`);
   drawCounts(byId('counts'), shown);
-  drawMap(byId('map'), shown, told);
-  pages.draw(desks, told.offset);
+  drawMap(byId('map'), shown, picture);
+  pages.draw(desks, picture.offset);
   requestAnimationFrame(() => setTimeout(() => {
     page.dataset.redrawMilliseconds = (performance.now() - began).toFixed(1);
   }));
@@ -56,8 +56,8 @@ function drawCounts(list, desks) {
 
 // ---- how old it is
 
-/** Tells since when the room has not answered, and greys what is shown. */
-function tellAge() {
+/** Says since when the room has not answered, and greys what is shown. */
+function showAge() {
   const isStale = elapsed() + last.age > STALE_AFTER;
   const box = byId('stale');
   setText(byId('clock'), timeOf(last.now + elapsed(), last.offset));
@@ -74,7 +74,7 @@ function tellAge() {
 
 // ---- asking
 
-async function picture() {
+async function nextPicture() {
   const answer = await fetch('picture', { cache: 'no-store',
     signal: AbortSignal.timeout(ANSWER_WITHIN) });
   if (!answer.ok) throw new Error(`status ${answer.status}`);
@@ -85,10 +85,10 @@ async function picture() {
 async function ask() {
   let doing = "The wall's own server does not answer.";
   try {
-    const told = await picture();
-    doing = 'The page can not draw what the room tells.';
-    draw(told);
-    last = told;
+    const picture = await nextPicture();
+    doing = 'The page can not draw what the room answers.';
+    draw(picture);
+    last = picture;
     trouble = '';
     page.dataset.pictures = Number(page.dataset.pictures ?? 0) + 1;
   } catch (fault) {
@@ -100,5 +100,5 @@ async function ask() {
 
 drawKey(byId('key'));
 new ResizeObserver(() => draw(last)).observe(byId('map'));
-setInterval(tellAge, 250);
+setInterval(showAge, 250);
 ask();

@@ -119,8 +119,8 @@ class Reader(threading.Thread):
                 self.is_wanted, self.began = False, time.monotonic()
             try:
                 self.keep([read_desk(self.room, *it) for it in sorted(self.divisions.items())])
-            except NoAnswer as told:
-                self.keep(None, str(told))
+            except NoAnswer as error:
+                self.keep(None, str(error))
 
     def keep(self, picture, fault=None):
         """Ends a reading. The last picture stays where the room gave no other."""
@@ -161,9 +161,9 @@ class WallPage(Page):
         if not self.is_named_so():
             self.answer(403, 'text/plain', b'This wall is shown on loopback only.\n')
         elif self.path == '/picture':
-            told = self.server.reader.latest()
-            told |= {'areas': self.server.areas, 'offset': offset_now(), 'now': int(time.time())}
-            self.answer(200, 'application/json', json.dumps(told).encode())
+            picture = self.server.reader.latest()
+            picture |= {'areas': self.server.areas, 'offset': offset_now(), 'now': int(time.time())}
+            self.answer(200, 'application/json', json.dumps(picture).encode())
         elif self.path in self.server.files:
             self.answer(200, *self.server.files[self.path])
         else:
@@ -187,8 +187,8 @@ def main():
         plan = Plan(found.plan)
         reader = Reader(found.room, plan.divisions_of(found.tokens))
         wall = Wall(found.listen, reader, plan.areas)
-    except (Refused, OSError) as told:
-        parser.error(str(told))
+    except (Refused, OSError) as error:
+        parser.error(str(error))
     os.environ['TZ'] = plan.zone
     time.tzset()
     reader.start()

@@ -31,7 +31,7 @@ SUMMARIES = {
     'Loans': 'The loans in which the division lends or borrows.',
     'Offers': 'The offers in which the division lends or borrows.',
     'Times': 'The incidents of a day, each with the seconds to its first order.',
-    'Order': 'What the vehicle was told, its post and its status.',
+    'Order': "The vehicle's order, its post and its status.",
     'Report': 'A button was pressed.',
     'Last': 'The last numbers of the terminal, where one that replaces it goes on.'}
 

@@ -78,29 +78,29 @@ def numbers_of(kind):
 def patterns():
     """The pattern of each path."""
     return dict(re.findall(r'Path::(\w+) => "([^"]+)"',
-                           crate('room_http_requests/src/paths.rt')))
+                           crate('room_http_requests/src/request_table.rt')))
 
 
 def methods():
     """Whether each path takes GET and HEAD, or POST: `GetHead` or `Post`."""
-    text = function(crate('room_http_requests/src/paths.rt'), 'allow')
+    text = function(crate('room_http_requests/src/request_table.rt'), 'allow')
     arms = re.findall(r'((?:\|?\s*Path::\w+\s*)+)=> Allow::(\w+)', text)
     return {path: allow for arm, allow in arms for path in re.findall(r'Path::(\w+)', arm)}
 
 
 def paths_of_history():
-    text = function(crate('room_http_requests/src/paths.rt'), 'is_of_history')
+    text = function(crate('room_http_requests/src/request_table.rt'), 'is_of_history')
     return re.findall(r'Path::(\w+)', re.search(r'matches!\((.*)\)', text)[1])
 
 
 def parameters():
     """The types of the parameters of each path."""
-    return variants('room_http_requests/src/targets.rt', 'Target')
+    return variants('room_http_requests/src/request_table.rt', 'Target')
 
 
 def roles(path):
     """The kinds of terminals that a path is for."""
-    text = crate('room_http_requests/src/roles.rt')
+    text = crate('room_http_requests/src/request_table.rt')
     arms = re.findall(r'((?:\|?\s*Target::\w+\s*)+|_ )=> Role::(\w+)', function(text, 'of'))
     role = next(role for arm, role in arms if arm == '_ ' or f'Target::{path} ' in arm)
     taken = re.search(rf'\(Role::{role}, (.*)\) => true', function(text, 'is_of'))[1]

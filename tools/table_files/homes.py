@@ -26,7 +26,7 @@ OF_ALL = {
     'Rattle.sqlite.specs.State': 'State Executes',
     f'{SCHEMA}.specs.Outcomes': 'Inside Only',
     f'{SCHEMA}.specs.Statements':
-        'Selects StandsAlone Inserts Upserts Overwrites Deletes Stores Covers equals '
+        'Selects StandsApart Inserts Upserts Overwrites Deletes Stores Covers equals '
         'equals_by_value at_least below row_values row_update rowid_values rowid_update',
     f'{SCHEMA}.specs.TypedRows': 'number',
     f'{SCHEMA}.proofs.ColumnValues': 'AreKept cast-Int cast-Null cast-number_or_null',

@@ -6,12 +6,12 @@ HELD = Text(r"""
 abbrev all_of : Configuration → Room → List $element
 all_of config room = $rows
 
-pub ${table}_alone : StandsAlone room_schema $number ${table}_table
-${table}_alone = record { is_there = refl; unreferenced = λ olds news. refl; uncounted = refl }
+pub ${table}_apart : StandsApart room_schema $number ${table}_table
+${table}_apart = record { is_there = refl; unreferenced = λ olds news. refl; uncounted = refl }
 
 abbrev pub ${table}_held : IsHeld $typed ${table}_table all_of
 ${table}_held = record { faithful = ${row}_faithful; others = $other_places; \
-    places_are = refl; at = $number; alone = ${table}_alone; \
+    places_are = refl; at = $number; apart = ${table}_apart; \
     held = λ trees config room h. h.$table }
 """)
 

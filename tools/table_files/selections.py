@@ -82,7 +82,7 @@ class Selection:
         return cons(f'{it.term} {table.place(it.column)} {parameter}'
                     for parameter, it in enumerate(self.conditions))
 
-    def tells(self, table):
+    def agrees(self, table):
         """That the terms ask of a row in the tree what the test asks."""
         placed = [(it, table.place(it.column)) for it in self.conditions]
         reasons = [it.reason(place) for it, place in placed]
@@ -93,8 +93,8 @@ class Selection:
     def chooses(self, table):
         """The test of a row's columns, and that the terms and the fields are asked the same."""
         test = conjunction([it.tested(table.index(it.column)) for it in self.conditions])
-        tells, same = self.tells(table), each([it.why for it in self.conditions]) + self.leads
-        return f'record {{ test = λ r. {test}; tells = λ r. {tells}; same = λ x. {same} }}'
+        agrees, same = self.agrees(table), each([it.why for it in self.conditions]) + self.leads
+        return f'record {{ test = λ r. {test}; agrees = λ r. {agrees}; same = λ x. {same} }}'
 
     def names(self, table):
         """What a text names of it, where it selects rows of this table."""

@@ -85,7 +85,7 @@ ${row}_covers x = covers_row room_schema ${table}_table $places $key_places $wid
 
 pub ${table}_overwritten : \
     IsOverwritten ${table}_table ${row}_row (λ room. $rows) OVERWRITE_$ROW.now
-${table}_overwritten = record { at = $number; alone = ${table}_alone; columns = $width; \
+${table}_overwritten = record { at = $number; apart = ${table}_apart; columns = $width; \
     overwrites = overwrite_${row}_means; covers = ${row}_covers; \
     stays = λ old new config room h only is. $after }
 """)
@@ -99,7 +99,7 @@ pub ${table}_dropped : \
     IsDropped $typed $cells ${table}_table (λ room. $rows) Drop$type DROP_$ROW.now
 ${table}_dropped = record {
   at = $number;
-  alone = ${table}_alone;
+  apart = ${table}_apart;
   deletes = λ k. record { terms = $terms; deletes = drop_${row}_means; chooses = $chooses };
   leads = λ old new config room k h only is. $after;
 }

@@ -169,7 +169,7 @@ static enum refusal answer_request(const struct request *request, long long now,
 
 static const struct {
     const char *name, *status;
-} told[] = {
+} refusal_parts[] = {
     [NO_REFUSAL] = {"", "200 OK"},
     [NO_SUCH_INCIDENT] = {"NoSuchIncident", "404 Not Found"},
     [INCIDENT_NOT_OPEN] = {"IncidentNotOpen", "409 Conflict"},
@@ -197,9 +197,9 @@ static void make_message(struct text *out, enum refusal refused, bool closes, ti
     char date[40];
     strftime(date, sizeof date, "%a, %d %b %Y %H:%M:%S GMT", gmtime(&now));
     if (refused)
-        add(answer, "{\"error\":\"%s\",\"number\":%d}", told[refused].name, refused);
+        add(answer, "{\"error\":\"%s\",\"number\":%d}", refusal_parts[refused].name, refused);
     add(out, "HTTP/1.1 %s\r\nDate: %s\r\n%sContent-Type: application/json\r\n"
-             "Content-Length: %zu\r\n\r\n%.*s", told[refused].status, date,
+             "Content-Length: %zu\r\n\r\n%.*s", refusal_parts[refused].status, date,
         closes ? "Connection: close\r\n" : "", answer->length, (int)answer->length, answer->at);
 }
 

@@ -152,14 +152,14 @@ static sqlite3_stmt *bound(enum statement which, const char *form, ...)
     va_list given;
     va_start(given, form);
     for (int at = 1; *form; form++, at++) {
-        int told = SQLITE_MISUSE;
+        int result = SQLITE_MISUSE;
         if (*form == 'i')
-            told = sqlite3_bind_int64(it, at, va_arg(given, long long));
+            result = sqlite3_bind_int64(it, at, va_arg(given, long long));
         else if (*form == 's')
-            told = sqlite3_bind_text(it, at, va_arg(given, const char *), -1, SQLITE_STATIC);
+            result = sqlite3_bind_text(it, at, va_arg(given, const char *), -1, SQLITE_STATIC);
         else if (*form == 'n' && (call = va_arg(given, const struct call_form *)))
-            told = sqlite3_bind_blob(it, at, call->note, call->note_length, SQLITE_STATIC);
-        expect(told == SQLITE_OK);
+            result = sqlite3_bind_blob(it, at, call->note, call->note_length, SQLITE_STATIC);
+        expect(result == SQLITE_OK);
     }
     va_end(given);
     return it;
@@ -167,11 +167,11 @@ static sqlite3_stmt *bound(enum statement which, const char *form, ...)
 
 static bool next(sqlite3_stmt *statement)
 {
-    int told = sqlite3_step(statement);
-    if (told == SQLITE_ROW)
+    int result = sqlite3_step(statement);
+    if (result == SQLITE_ROW)
         return true;
     sqlite3_reset(statement);
-    expect(told == SQLITE_DONE);
+    expect(result == SQLITE_DONE);
     return false;
 }
 
@@ -241,8 +241,8 @@ static long long distance(struct place place, struct place other)
     return root;
 }
 
-static enum refusal tell_call(struct text *answer, long long division, long long incident,
-                              bool linked)
+static enum refusal answer_call(struct text *answer, long long division, long long incident,
+                                bool linked)
 {
     add(answer, "{\"division\":%lld,\"incident\":%lld,\"linked\":%s}", division, incident,
         linked ? "true" : "false");
@@ -259,7 +259,7 @@ static bool is_kept_call(long long position, const struct call_form *form, struc
     bool found = next(row);
     if (found)
         *refused = number_in(row, 3)
-            ? tell_call(answer, number_in(row, 0), number_in(row, 1), number_in(row, 2))
+            ? answer_call(answer, number_in(row, 0), number_in(row, 1), number_in(row, 2))
             : SERIAL_REUSED;
     sqlite3_reset(row);
     return found;
@@ -312,7 +312,7 @@ enum refusal take_call(long long position, const struct call_form *form, long lo
         return NUMBERS_USED_UP;
     run(bound(PUT_CALL, "iiiiiiiiiiini", position, form->serial, division, incident, linked,
               place.east, place.north, form->class, needs[0], needs[1], needs[2], form, now));
-    return tell_call(answer, division, incident, linked);
+    return answer_call(answer, division, incident, linked);
 }
 
 /* ---- reports */
@@ -396,8 +396,8 @@ static void act(const char *callsign, long long order, enum turn turn, const str
     }
 }
 
-static enum refusal tell_report(struct text *answer, long long number, long long outcome,
-                                long long status)
+static enum refusal answer_report(struct text *answer, long long number, long long outcome,
+                                  long long status)
 {
     static const char *const names[] = {"normal", "skipped", "wrong", "late", "stale"};
     add(answer, "{\"number\":%lld,\"outcome\":\"%s\",\"status\":%lld}", number, names[outcome],
@@ -413,7 +413,7 @@ static bool is_kept_report(const char *callsign, const struct press *press, stru
     bool found = next(row);
     if (found)
         *refused = number_in(row, 2)
-            ? tell_report(answer, press->number, number_in(row, 0), number_in(row, 1))
+            ? answer_report(answer, press->number, number_in(row, 0), number_in(row, 1))
             : NUMBER_REUSED;
     sqlite3_reset(row);
     return found;
@@ -438,7 +438,7 @@ enum refusal take_report(const char *callsign, const struct press *press, long l
         act(callsign, vehicle.last_order, turn, press, status, now);
     else
         run(bound(COUNT_REPORT, "si", callsign, press->number));
-    return tell_report(answer, press->number, outcome, status);
+    return answer_report(answer, press->number, outcome, status);
 }
 
 /* ---- incidents */

@@ -207,10 +207,10 @@ item_is xs i (Some x) h = sym (at_index xs i x.now x.now h.3.0 h.1)
 module _ (since : ℕ) (calls : List Call) (at : ℕ) (c : Call) (inside : at < length calls)
     (here : c ≡ get_or calls at c) where
   -- the next call shows whether this one is recent
-  pub end_tells : (next : Option (Bor Call)) → IsKeyed pair_cmp call_key calls
+  pub end_shows : (next : Option (Bor Call)) → IsKeyed pair_cmp call_key calls
       → IsItemAt calls (at + 1) next
       → is_end c (option_copied next) ≡ (c.serial == greatest_of c.position calls)
-  end_tells next keyed item =
+  end_shows next keyed item =
       let on : at + 1 ≡ suc at = omega arith in
       ap (is_end c) (item_is calls (at + 1) next item ∙ ap (slice_get calls) on)
       ∙ end_is_last calls at c keyed (at_index calls at c c inside here)

@@ -17,30 +17,30 @@ use Rattle.dispatch_room_archive.specs.Examination.{HasChecked, failure_of, summ
 use Rattle.room_tables_schema.specs.FileConnections.{IsClean}
 
 module _ {S : Type 0} (g : Ghosts S) (old new : Held S) (before after : Option (List ℕ)) where
-  pub room_told : (plan : Layout) (summary : Summary) (done : Result Done Failure)
+  pub room_printed : (plan : Layout) (summary : Summary) (done : Result Done Failure)
       → (IsClean g new → IsSummaryOf (state g old).now.trees plan summary)
       → OnOk done (Appends before after (summary_text summary)) → IfOk done (λ d. d ≡ Whole)
       → OnOk done (IsSome (read_whole plan.zone))
       → IfErr done (λ f. (f ≡ Network) ⊎ ((f ≡ File) × ¬ IsSome (read_whole plan.zone)))
       → HasChecked g old new before after done
-  room_told plan summary (Ok d) holds text whole rule fault =
+  room_printed plan summary (Ok d) holds text whole rule fault =
       (whole, record { plan = plan; summary = summary; holds = holds; rule = rule; text = text })
-  room_told plan summary (Err f) holds text whole rule fault =
+  room_printed plan summary (Err f) holds text whole rule fault =
       elim fault [
         | inl network ↦ inl network
         | inr none ↦
-            inr (inr (record { told = none.0; plan = plan; summary = summary; holds = holds; no_rule = none.1 }))
+            inr (inr (record { failed = none.0; plan = plan; summary = summary; holds = holds; no_rule = none.1 }))
       ]
 
-  pub wrong_told : (wrong : Wrong) (done : Result Done Failure)
+  pub wrong_printed : (wrong : Wrong) (done : Result Done Failure)
       → (IsClean g new → ExplainsFile (state g old) (state g new) wrong)
       → (IsClean g new → HasCause g old new wrong)
       → (done ≡ Err (failure_of wrong)) ⊎ (done ≡ Err Network)
       → HasChecked g old new before after done
-  wrong_told wrong done explains why told =
-      elim told [
+  wrong_printed wrong done explains why stated =
+      elim stated [
         | inl is ↦
             subst (HasChecked g old new before after) (sym is)
-            (inr (inl (record { wrong = wrong; told = refl; explains = explains; why = why })))
+            (inr (inl (record { wrong = wrong; failed = refl; explains = explains; why = why })))
         | inr is ↦ subst (HasChecked g old new before after) (sym is) (inl refl)
       ]

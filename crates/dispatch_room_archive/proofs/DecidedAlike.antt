@@ -1,5 +1,5 @@
 -- An event that doesn't speak of what stayed behind is decided alike without it.
-use Rattle.std.proofs.Common.{ap, sym, ◌∙◌}
+use Rattle.std.proofs.Common.{ap, eqb-true, inl, inr, subst, sym, ◌∙◌}
 use Rattle.std.specs.Prelude.{Bool, Err, None, Option, Some, cond, false, refl, true, ℕ, ◌==◌, ◌||◌, ◌≡◌}
 use Rattle.room_place.specs.Plans.{division_of}
 use Rattle.room_types.specs.KeyedRows.{keep, row_at}
@@ -11,30 +11,30 @@ use Rattle.room_types.specs.declared.asks.Press.{Press}
 use Rattle.room_types.specs.declared.asks.Who.{Who}
 use Rattle.room_types.specs.declared.asks.Who.TheVariants.{Crew, Desk, Position}
 use Rattle.room_types.specs.declared.tables.Call.{Call}
-use Rattle.room_types.specs.declared.tables.Incident.{Incident}
 use Rattle.room_types.specs.declared.tables.Report.{Report}
 use Rattle.room_types.specs.declared.tables.Vehicle.{Vehicle}
-use Rattle.room_model.proofs.AskLaws.{accept_same, close_same, decline_same, duty_same, give_back_same}
-use Rattle.room_model.proofs.AskLaws.{incident_same as incident_asked, incidents_same, lend_same, loans_same}
-use Rattle.room_model.proofs.AskLaws.{merge_same, mobilise_same, needs_same, off_same, offers_same, points_same}
-use Rattle.room_model.proofs.AskLaws.{propose_same, queue_same, recall_same, stand_down_same, standby_same, times_same}
-use Rattle.room_model.proofs.AskLaws.{vehicles_same, withdraw_same}
+use Rattle.room_model.proofs.AskLaws.{asked_same}
+use Rattle.room_model.proofs.Tests.{either_true}
+use Rattle.room_model.proofs.Sights.{SeesAsked}
 use Rattle.room_model.specs.Calls.{call_in, call_kept, call_somewhere, call_taken, new_call, take_call}
 use Rattle.room_model.specs.Decisions.{refuse_if, show}
-use Rattle.room_model.specs.Queries.{all_held, assignment_at, assignment_of, borrowed, held, holders, kept_call}
-use Rattle.room_model.specs.Queries.{kept_report, last_number, loans_of, offered_by, offered_to, offers_of, point_of}
-use Rattle.room_model.specs.Queries.{points_of, report_of, vehicle_at}
+use Rattle.room_model.specs.Queries.{all_held, assignment_at, assignment_of, borrowed, held, kept_call, kept_report}
+use Rattle.room_model.specs.Queries.{last_number, loans_of, offered_by, offered_to, offers_of, point_of, points_of}
+use Rattle.room_model.specs.Queries.{report_of, vehicle_at}
 use Rattle.room_model.specs.Queue.{clear, clear_found}
 use Rattle.room_model.specs.Reports.{report_held, report_in, report_kept, report_somewhere, take_report}
 use Rattle.room_model.specs.Room.{Room}
 use Rattle.room_model.specs.Step.{crew_asks, desk_asks, position_asks, who_asks}
 use Rattle.room_model.specs.RoomAgreements.{IsWellFormed}
-use Rattle.dispatch_room_archive.proofs.AskedAlike.{actives_same, calls_same, cover_same, eligible_same, incident_same}
-use Rattle.dispatch_room_archive.proofs.AskedAlike.{kept_call_same, kept_report_same, open_turn_same, opened_same, sees_same}
+use Rattle.room_model.specs.WorkingRows.{NamedIncidents, NoIncident, OneIncident, TwoIncidents, incidents_named}
+use Rattle.room_model.specs.WorkingRows.{is_among}
+use Rattle.dispatch_room_archive.proofs.AskedAlike.{actives_same, calls_same, cover_same, eligible_same, kept_call_same}
+use Rattle.dispatch_room_archive.proofs.AskedAlike.{kept_report_same, open_turn_same, opened_same, sees_same}
 use Rattle.dispatch_room_archive.proofs.AskedAlike.{shown_stays, target_same, turns_same, vehicle_same}
 use Rattle.dispatch_room_archive.proofs.QueueAlike.{entries_same}
 use Rattle.dispatch_room_archive.proofs.RowsLeft.{report_gone}
-use Rattle.dispatch_room_archive.specs.Continuation.{IsSettled, StaysBehind, asks_back, looks_back, names_behind, sends_again}
+use Rattle.dispatch_room_archive.specs.Continuation.{IsSettled, StaysBehind, asks_back, looks_back, names_behind}
+use Rattle.dispatch_room_archive.specs.Continuation.{sends_again, stayed_behind}
 use Rattle.dispatch_room_archive.specs.Successor.{Behind, without}
 use Rattle.room_types.specs.declared.answers.Answer.TheVariants as answer
 use Rattle.room_types.specs.declared.asks.Ask.TheVariants as ask
@@ -74,50 +74,50 @@ module _ (since : ℕ) (b : Behind) (r : Room) (w : IsWellFormed r) (h : StaysBe
         λ e. ap (λ o. clear_found (keep (λ (x : Report). x.division == d) o)) (kept_report_same since b r w h c n e)
   ]) refl
 
+  -- an incident that is named is there, where none that stayed behind is named
+  spared : (d n : ℕ) (named : NamedIncidents) → stayed_behind b d named ≡ false
+      → is_among named n ≡ true → b.incident d n ≡ false
+  spared d n NoIncident e there = cc
+  spared d n (OneIncident m) e there = subst (λ k. b.incident d k ≡ false) (eqb-true m n there) e
+  spared d n (TwoIncidents m k) e there = elim (either_true (m == n) (k == n) there) [
+    | inl f ↦ subst (λ k. b.incident d k ≡ false) (eqb-true m n f) (left_false (b.incident d m) _ e)
+    | inr f ↦ subst (λ k. b.incident d k ≡ false) (eqb-true k n f) (right_false (b.incident d m) _ e)
+  ]
+
+  sees_new : (d : ℕ) (a : Ask) (at : ℕ) → names_behind b d a ≡ false → looks_back since a ≡ false
+      → SeesAsked d a at new r
+  unfolding all_held assignment_of point_of points_of offered_by offered_to offers_of loans_of borrowed
+  sees_new d a at e g =
+      record {
+        same_plan = refl;
+        vehicle = λ c f k. vehicle_same since b r w h d c;
+        same_borrowed = λ c f. refl;
+        same_offered_by = λ c f. refl;
+        same_offered_to = λ c f. refl;
+        same_point = λ n f. refl;
+        same_last_turn = λ c v f k. open_turn_same since b r w h d c;
+        cleared_alike = λ c n f. cleared_same d c n;
+        incident = λ n f. sees_same since b r w h d n (spared d n (incidents_named a) e f);
+        same_calls = λ n f k. calls_same since b r w h d n (spared d n (incidents_named a) e f);
+        same_turns = λ n f. turns_same since b r w h d n (spared d n (incidents_named a) e f);
+        same_active = λ f. actives_same since b r w h d;
+        active = λ f i m. sees_same since b r w h d i.number (shown_stays since b r w h d i m);
+        same_active_calls = λ f k i m. calls_same since b r w h d i.number (shown_stays since b r w h d i m);
+        same_opened = λ from to f.
+            opened_same since b r w h d from to (subst (λ x. looks_back since x ≡ false) f g);
+        same_entries = λ f. entries_same since b r w h d at;
+        same_all_held = λ f. refl;
+        same_assignment = λ f c. refl;
+        same_eligible = λ f k. eligible_same since b r w h d k at;
+        cover = λ f k. cover_same since b r w h d;
+        same_points = λ f. refl;
+        same_loans = λ f. refl;
+        same_offers = λ f. refl;
+      }
+
   desk_same : (d : ℕ) (a : Ask) (at : ℕ) → names_behind b d a ≡ false → looks_back since a ≡ false
       → desk_asks d a at new ≡ desk_asks d a at r
-  unfolding all_held assignment_of point_of points_of holders offered_by offered_to offers_of loans_of borrowed
-  desk_same d (ask.Call f) at e g = refl
-  desk_same d ask.Incidents at e g =
-      incidents_same d new r (actives_same since b r w h d)
-      (λ i m. sees_same since b r w h d i.number (shown_stays since b r w h d i m))
-      (λ i m. calls_same since b r w h d i.number (shown_stays since b r w h d i m))
-  desk_same d (ask.Incident n) at e g =
-      incident_asked d new r n (sees_same since b r w h d n e) (calls_same since b r w h d n e)
-      (turns_same since b r w h d n e)
-  desk_same d (ask.Propose n) at e g =
-      propose_same d new r n at (sees_same since b r w h d n e) (cover_same since b r w h d)
-      (λ k. eligible_same since b r w h d k at)
-  desk_same d (ask.Mobilise n c) at e g =
-      mobilise_same d new r n c at (vehicle_same since b r w h d c) (sees_same since b r w h d n e)
-  desk_same d (ask.Needs n needs) at e g = needs_same d new r n needs (sees_same since b r w h d n e)
-  desk_same d (ask.Merge n m) at e g =
-      let one = left_false (b.incident d n) _ e in
-      merge_same d new r n m (sees_same since b r w h d n one) (calls_same since b r w h d n one)
-      (incident_same since b r w h d m (right_false (b.incident d n) _ e))
-  desk_same d (ask.Close n) at e g = close_same d new r n (sees_same since b r w h d n e)
-  desk_same d ask.Vehicles at e g = vehicles_same d new r refl (λ c. refl)
-  desk_same d (ask.StandDown c) at e g =
-      stand_down_same d new r c at (vehicle_same since b r w h d c) (λ v f. open_turn_same since b r w h d c)
-  desk_same d (ask.Standby c p) at e g = standby_same d new r c p at (vehicle_same since b r w h d c) (λ n f. refl)
-  desk_same d (ask.Duty c place until) at e g = duty_same d new r c place until at (vehicle_same since b r w h d c)
-  desk_same d (ask.Off c) at e g = off_same d new r c (vehicle_same since b r w h d c)
-  desk_same d (ask.Lend c to until) at e g = lend_same d new r c to until at (vehicle_same since b r w h d c) refl
-  desk_same d (ask.Withdraw c) at e g = withdraw_same d new r c (vehicle_same since b r w h d c) refl
-  desk_same d (ask.Decline c) at e g = decline_same d new r c refl
-  desk_same d (ask.Accept c) at e g = accept_same d new r c at refl
-  desk_same d (ask.Recall c) at e g = recall_same d new r c (vehicle_same since b r w h d c)
-  desk_same d (ask.GiveBack c) at e g = give_back_same d new r c (vehicle_same since b r w h d c) refl
-  desk_same d ask.Queue at e g = queue_same d new r at (entries_same since b r w h d at)
-  desk_same d (ask.Clear c n) at e g = cleared_same d c n
-  desk_same d ask.Points at e g = points_same d new r at refl (λ n. refl)
-  desk_same d (ask.SetPoint n place cover) at e g = refl
-  desk_same d ask.Loans at e g = loans_same d new r refl
-  desk_same d ask.Offers at e g = offers_same d new r refl
-  desk_same d (ask.Times from to) at e g = times_same d new r from to (opened_same since b r w h d from to g)
-  desk_same d ask.Order at e g = refl
-  desk_same d (ask.Report p) at e g = refl
-  desk_same d ask.Last at e g = refl
+  desk_same d a at e g = asked_same d new r a at (sees_new d a at e g)
 
   -- ---- a call
   somewhere_same : (o : Option ℕ) (x : NewCall) → call_somewhere o x new ≡ call_somewhere o x r

@@ -1,10 +1,9 @@
 -- What becomes of events that speak of what stayed behind.
 use Rattle.std.proofs.Common.{ap, arith, eq-eqb, inl, inr, subst, sym, ◌∙◌}
 use Rattle.std.specs.Prelude.{Bool, Err, List, None, Option, Some, [], cond, false, filter, is_some, map, max, nat_lt}
-use Rattle.std.specs.Prelude.{not, refl, true, ℕ, ℤ, ◌<◌, ◌==◌, ◌||◌, ◌∷◌, ◌≡◌, ◌⊎◌}
+use Rattle.std.specs.Prelude.{not, refl, true, ℕ, ℤ, ◌<◌, ◌==◌, ◌∷◌, ◌≡◌}
 use Rattle.room_place.specs.Plans.{division_of}
 use Rattle.room_types.specs.KeyedRows.{keep, put_row, row_at}
-use Rattle.room_types.specs.Codes.{is_active}
 use Rattle.room_types.specs.Keys.{callsign_cmp, numbered_cmp, report_key, vehicle_key}
 use Rattle.room_types.specs.Orders.{callsigns_total, exact_callsigns}
 use Rattle.room_types.specs.Texts.{Callsign}
@@ -22,33 +21,28 @@ use Rattle.room_types.specs.declared.tables.Report.{Report}
 use Rattle.room_types.specs.declared.tables.Turn.{Turn}
 use Rattle.room_types.specs.declared.tables.Vehicle.{Vehicle}
 use Rattle.room_model.proofs.DecisionLaws.{by_refuse}
+use Rattle.room_model.proofs.NamedIncidents.{IsIdle, absent_is_refused, idle_changes_nothing}
 use Rattle.room_model.proofs.Others.{put_same}
 use Rattle.room_model.proofs.Questions.{ChangesNothing, IsQuiet, quiet_shows}
-use Rattle.room_model.proofs.Tests.{row_key}
+use Rattle.room_model.proofs.Tests.{either_true, or_left, or_right, row_key}
 use Rattle.room_model.specs.Calls.{call_kept, call_somewhere, new_call}
 use Rattle.room_model.specs.DayTimes.{show_times, times_line, times_of}
-use Rattle.room_model.specs.Decisions.{Verdict, answer_of, changes_of, show, tell, where_active}
+use Rattle.room_model.specs.Decisions.{answer_of, changes_of, show, with_changes}
 use Rattle.room_model.specs.Events.{by_crew, by_desk, by_position}
-use Rattle.room_model.specs.Incidents.{all_served, change_needs, close, close_active, history_of, merge, merge_of}
-use Rattle.room_model.specs.Incidents.{needs_changed, show_incident}
-use Rattle.room_model.specs.Proposals.{all_proposed, propose}
-use Rattle.room_model.specs.Queries.{borrowed, calls_of, held, incident_of, incidents_opened, is_attended, kept_call}
-use Rattle.room_model.specs.Queries.{kept_report, lent, open_turn, served, turns_of, vehicle_at}
+use Rattle.room_model.specs.Queries.{borrowed, held, incident_of, incidents_opened, kept_call, kept_report, open_turn}
+use Rattle.room_model.specs.Queries.{vehicle_at}
 use Rattle.room_model.specs.Reports.{report_held, report_in, report_kept, report_row, report_somewhere, with_report}
 use Rattle.room_model.specs.Room.{IsInOrder, Room, apply}
 use Rattle.room_model.specs.Step.{decided, desk_asks}
-use Rattle.room_model.specs.Vehicles.{mobilise, mobilise_held}
+use Rattle.room_model.specs.WorkingRows.{NamedIncidents, NoIncident, OneIncident, TwoIncidents, incidents_named}
+use Rattle.room_model.specs.WorkingRows.{is_among}
 use Rattle.dispatch_room_archive.proofs.RowsLeft.{call_gone, incident_gone, report_gone}
 use Rattle.dispatch_room_archive.specs.Continuation.{IsOver, IsSettled, IsTakenLate, StaysBehind, asks_back, looks_back}
-use Rattle.dispatch_room_archive.specs.Continuation.{names_behind, sends_again}
+use Rattle.dispatch_room_archive.specs.Continuation.{names_behind, sends_again, stayed_behind}
 use Rattle.dispatch_room_archive.specs.Successor.{Behind, without}
 use Rattle.room_types.specs.declared.answers.Answer.TheVariants as answer
 use Rattle.room_types.specs.declared.asks.Ask.TheVariants as ask
 use Rattle.room_types.specs.declared.refusal_statuses.Refusal.TheVariants as refusal
-
-either_true : (x y : Bool) → x || y ≡ true → (x ≡ true) ⊎ (y ≡ true)
-either_true true y e = inl e
-either_true false y e = inr e
 
 -- two filters, one way round and the other
 turned_at : {X : Type 0} (p q : X → Bool) (x : X) (us vs : List X) (y z : Bool) → p x ≡ y
@@ -64,34 +58,6 @@ filters_turned : {X : Type 0} (p q : X → Bool) (xs : List X)
 filters_turned p q [] = refl
 filters_turned p q (x ∷ xs) = turned_at p q x (filter q xs) (filter p xs) (p x) (q x) refl refl (filters_turned p q xs)
 
--- ---- what an incident that is over is asked for
-where_over : (since : ℕ) (o : Option Incident) (f : Incident → Verdict) → IsOver since o
-    → ChangesNothing (where_active o f)
-where_over since None f h = absurd h
-where_over since (Some i) f h =
-    by_refuse ChangesNothing (not (is_active i.state)) refusal.IncidentNotOpen (f i) refl
-    (λ e. let idle = h.0 in let active : not (is_active i.state) ≡ true = ap not idle in cc)
-
-merge_over : (since : ℕ) (x y : Option Incident) (attended : Bool) (calls : List Call)
-    → IsOver since x ⊎ IsOver since y → ChangesNothing (merge_of x y attended calls)
-merge_over since None y attended calls h = refl
-merge_over since (Some i) None attended calls h = refl
-merge_over since (Some i) (Some j) attended calls h =
-    by_refuse ChangesNothing _ _ _ refl (λ other.
-    by_refuse ChangesNothing _ _ _ refl
-    (λ first. by_refuse ChangesNothing _ _ _ refl (λ second. absurd (none first second))))
-  where
-    none : not (is_active i.state) ≡ false → not (is_active j.state) ≡ false → ⊥
-    none first second = elim h [
-      | inl over ↦ let idle : not (is_active i.state) ≡ true = ap not over.0 in cc
-      | inr over ↦ let idle : not (is_active j.state) ≡ true = ap not over.0 in cc
-    ]
-
-merge_none : (o : Option Incident) (attended : Bool) (calls : List Call)
-    → merge_of o None attended calls ≡ Err refusal.NoSuchIncident
-merge_none None attended calls = refl
-merge_none (Some i) attended calls = refl
-
 looks_quiet : (since d : ℕ) (a : Ask) → looks_back since a ≡ true → IsQuiet (Desk d) a
 looks_quiet since d (ask.Times from to) e = refl
 looks_quiet since d a e = cc
@@ -100,26 +66,27 @@ module _ (since : ℕ) (b : Behind) (r : Room) (h : StaysBehind since b r) where
   abbrev new : Room
   new = without b r
 
+  -- an incident that stayed behind is named
+  of_named : (d : ℕ) (named : NamedIncidents) → stayed_behind b d named ≡ true
+      → (n : ℕ) × ((is_among named n ≡ true) × (b.incident d n ≡ true))
+  of_named d NoIncident e = cc
+  of_named d (OneIncident n) e = (n, (eq-eqb n n refl, e))
+  of_named d (TwoIncidents n m) e = elim (either_true (b.incident d n) (b.incident d m) e) [
+    | inl f ↦ (n, (or_left _ _ (eq-eqb n n refl), f))
+    | inr f ↦ (m, (or_right (n == m) _ (eq-eqb m m refl), f))
+  ]
+
+  is_idle : (o : Option Incident) → IsOver since o → IsIdle o
+  is_idle None over = absurd over
+  is_idle (Some i) over = over.0
+
   -- ---- in the old room it changes nothing
   names_nothing : (d : ℕ) (a : Ask) (at : ℕ) → names_behind b d a ≡ true
       → ChangesNothing (desk_asks d a at r)
-  unfolding mobilise change_needs merge close
-  names_nothing d (ask.Incident n) at e = quiet_shows at r (Desk d) (ask.Incident n) refl
-  names_nothing d (ask.Propose n) at e = quiet_shows at r (Desk d) (ask.Propose n) refl
-  names_nothing d (ask.Mobilise n c) at e =
-      where_over since (incident_of d n r) (mobilise_held d (held d c r) (lent d c r) at (λ k. served d n k r))
-      (h.incidents d n e)
-  names_nothing d (ask.Needs n needs) at e =
-      where_over since (incident_of d n r) (needs_changed needs (λ k. served d n k r)) (h.incidents d n e)
-  names_nothing d (ask.Merge n m) at e =
-      merge_over since (incident_of d n r) (incident_of d m r) (is_attended d n r) (calls_of d n r)
-      (elim (either_true (b.incident d n) (b.incident d m) e) [
-        | inl f ↦ inl (h.incidents d n f)
-        | inr f ↦ inr (h.incidents d m f)
-      ])
-  names_nothing d (ask.Close n) at e =
-      where_over since (incident_of d n r) (close_active (is_attended d n r)) (h.incidents d n e)
-  names_nothing d a at e = cc
+  names_nothing d a at e =
+      let named = of_named d (incidents_named a) e in
+      idle_changes_nothing d r named.0 a at named.1.0
+      (is_idle (incident_of d named.0 r) (h.incidents d named.0 named.1.1))
 
   pub asks_nothing : (who : Who) (a : Ask) (at : ℕ) → asks_back since b who a ≡ true
       → changes_of (decided (record { who = who; ask = a; at = at }) r) ≡ []
@@ -157,24 +124,9 @@ module _ (since : ℕ) (b : Behind) (r : Room) (h : StaysBehind since b r) where
 
     pub names_none : (d : ℕ) (a : Ask) (at : ℕ) → names_behind b d a ≡ true
         → desk_asks d a at new ≡ Err refusal.NoSuchIncident
-    unfolding mobilise change_needs merge close show_incident propose
-    names_none d (ask.Incident n) at e =
-        ap (λ o. history_of o (all_served d n new) (calls_of d n new) (turns_of d n new)) (none_there d n e)
-    names_none d (ask.Propose n) at e =
-        ap (λ o. where_active o (λ i. show (answer.Proposals (all_proposed d i at new)))) (none_there d n e)
-    names_none d (ask.Mobilise n c) at e =
-        ap (λ o. where_active o (mobilise_held d (held d c new) (lent d c new) at (λ k. served d n k new)))
-        (none_there d n e)
-    names_none d (ask.Needs n needs) at e =
-        ap (λ o. where_active o (needs_changed needs (λ k. served d n k new))) (none_there d n e)
-    names_none d (ask.Merge n m) at e = elim (either_true (b.incident d n) (b.incident d m) e) [
-      | inl f ↦ ap (λ o. merge_of o (incident_of d m new) (is_attended d n new) (calls_of d n new)) (none_there d n f)
-      | inr f ↦
-          ap (λ o. merge_of (incident_of d n new) o (is_attended d n new) (calls_of d n new)) (none_there d m f)
-          ∙ merge_none (incident_of d n new) (is_attended d n new) (calls_of d n new)
-    ]
-    names_none d (ask.Close n) at e = ap (λ o. where_active o (close_active (is_attended d n new))) (none_there d n e)
-    names_none d a at e = cc
+    names_none d a at e =
+        let named = of_named d (incidents_named a) e in
+        absent_is_refused d new named.0 a at named.1.0 (none_there d named.0 named.1.1)
 
     pub asks_none : (who : Who) (a : Ask) (at : ℕ) → asks_back since b who a ≡ true
         → changes_of (decided (record { who = who; ask = a; at = at }) new) ≡ []
@@ -193,7 +145,7 @@ module _ (since : ℕ) (b : Behind) (r : Room) (h : StaysBehind since b r) where
 
     late_is : (v : Vehicle) (t : Option Turn) (l : Option Loan) (p : Press) (at : ℕ)
         → p.number < v.last_report → report_held (Some v) t l p at
-        ≡ tell (answer.Reported p.number Late v.status) (PutReport (report_row v p at Late v.status)
+        ≡ with_changes (answer.Reported p.number Late v.status) (PutReport (report_row v p at Late v.status)
         ∷ PutVehicle (with_report v p) ∷ [])
     late_is v t l p at less = rw (is_below p.number v.last_report less) refl
       where
@@ -215,7 +167,7 @@ module _ (since : ℕ) (b : Behind) (r : Room) (h : StaysBehind since b r) where
     late_decided : (c : Callsign) (p : Press) (at : ℕ) (v : Vehicle) → b.report c p.number ≡ true
         → vehicle_at c new ≡ Some v → p.number < v.last_report
         → decided (by_crew c (ask.Report p) at) new
-        ≡ tell (answer.Reported p.number Late v.status) (PutReport (report_row v p at Late v.status)
+        ≡ with_changes (answer.Reported p.number Late v.status) (PutReport (report_row v p at Late v.status)
         ∷ PutVehicle (with_report v p) ∷ [])
     unfolding kept_report report_in
     late_decided c p at v e there less =

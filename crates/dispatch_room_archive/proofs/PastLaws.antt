@@ -24,14 +24,14 @@ module _ (since : ℕ) (s : DivisionRows) (plan : List Area) where
   called_is : (set : BTreeSet (ℕ × ℕ)) (i : Incident) → AreCalled since s.calls s.calls set
       → contains pair_cmp set (i.division, i.number) ≡ has_recent_call since (room_of plan s) i
   unfolding last_serial
-  called_is set i tell = tell i.division i.number
+  called_is set i with_changes = with_changes i.division i.number
 
   pub over_is : (set : BTreeSet (ℕ × ℕ)) (i : Incident) → AreCalled since s.calls s.calls set
       → (not (is_active i.state) && nat_lt i.opened since)
       && not (contains pair_cmp set (i.division, i.number)) ≡ is_over since (room_of plan s) i
-  over_is set i tell =
+  over_is set i with_changes =
       grouped (not (is_active i.state)) (nat_lt i.opened since) (not (contains pair_cmp set (i.division, i.number)))
-      ∙ ap (λ x. not (is_active i.state) && (nat_lt i.opened since && not x)) (called_is set i tell)
+      ∙ ap (λ x. not (is_active i.state) && (nat_lt i.opened since && not x)) (called_is set i with_changes)
 
   pub found_stays : (d n : ℕ) (i : Incident)
       → row_at pair_cmp incident_key s.incidents (d, n) ≡ Some i

@@ -28,7 +28,7 @@ use Rattle.room_store_check_rows.specs.declared.summaries.Summary.{Summary}
 use Rattle.room_store_check_tables.specs.declared.whole_file.Configuration.{Configuration}
 use Rattle.room_store_check_tables.specs.declared.whole_file.ReadFile.{ReadFile}
 use Rattle.room_store_file.specs.ExaminedFile.{HoldsAll, IsSummaryOf}
-use Rattle.room_store_writes.specs.Houses.{config_of}
+use Rattle.room_store_writes.specs.Configurations.{config_of}
 use Rattle.room_store_writes.specs.NewRoom.{StandsWith, in_order, new_room, put_all}
 use Rattle.room_tables.specs.RoomsInTables.{Stands}
 use Rattle.dispatch_room_cli.specs.declared.exit_status.Failure.{Failure}

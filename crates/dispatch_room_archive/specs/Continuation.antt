@@ -20,6 +20,7 @@ use Rattle.room_model.specs.Queries.{incident_of, kept_call, kept_report, last_s
 use Rattle.room_model.specs.Reports.{report_row}
 use Rattle.room_model.specs.Room.{Room}
 use Rattle.room_model.specs.Step.{answer_to, room_after}
+use Rattle.room_model.specs.WorkingRows.{NamedIncidents, NoIncident, OneIncident, TwoIncidents, incidents_named}
 use Rattle.dispatch_room_archive.specs.Successor.{Behind, without}
 use Rattle.room_types.specs.declared.asks.Ask.TheVariants as ask
 
@@ -51,15 +52,15 @@ pub record IsSuccessor (since : ℕ) (b : Behind) (old new : Room) : Type 0 wher
   pub behind : StaysBehind since b old
 
 -- ---- events that speak of what stayed behind
+-- one of the named incidents of division d stayed behind
+abbrev pub stayed_behind : Behind → ℕ → NamedIncidents → Bool
+stayed_behind b d NoIncident = false
+stayed_behind b d (OneIncident n) = b.incident d n
+stayed_behind b d (TwoIncidents n m) = b.incident d n || b.incident d m
+
 -- the desk names an incident that stayed behind
 abbrev pub names_behind : Behind → ℕ → Ask → Bool
-names_behind b d (ask.Incident n) = b.incident d n
-names_behind b d (ask.Propose n) = b.incident d n
-names_behind b d (ask.Mobilise n c) = b.incident d n
-names_behind b d (ask.Needs n needs) = b.incident d n
-names_behind b d (ask.Merge n m) = b.incident d n || b.incident d m
-names_behind b d (ask.Close n) = b.incident d n
-names_behind b d a = false
+names_behind b d a = stayed_behind b d (incidents_named a)
 
 -- it asks for times from before that moment
 abbrev pub looks_back : ℕ → Ask → Bool

@@ -45,11 +45,11 @@ abbrev pub summary_text : Summary → List ℕ
 summary_text s = ((plan_text s ++ calls_text s) ++ fleet_text s) ++ reports_text s
 
 -- written is how much some room has
-abbrev pub IsTold : Option (List ℕ) → Option (List ℕ) → Type 0
-IsTold before after = (summary : Summary) × Appends before after (summary_text summary)
+abbrev pub IsPrinted : Option (List ℕ) → Option (List ℕ) → Type 0
+IsPrinted before after = (summary : Summary) × Appends before after (summary_text summary)
 
 -- Written is how much the room has that the file holds, and the zone of its plan is a rule.
-pub record HasToldRoom {S : Type 0} (g : Ghosts S) (old new : Held S)
+pub record HasPrintedRoom {S : Type 0} (g : Ghosts S) (old new : Held S)
     (before after : Option (List ℕ)) : Type 0 where
   pub plan : Layout
   pub summary : Summary
@@ -69,14 +69,14 @@ failure_of other = File
 pub record HasFault {S : Type 0} (g : Ghosts S) (old new : Held S)
     (failure : Failure) : Type 0 where
   pub wrong : Wrong
-  pub told : failure ≡ failure_of wrong
+  pub failed : failure ≡ failure_of wrong
   pub explains : IsClean g new → ExplainsFile (state g old) (state g new) wrong
   pub why : IsClean g new → HasCause g old new wrong
 
 -- or it holds a room whose days can't be reckoned
 pub record HasNoRule {S : Type 0} (g : Ghosts S) (old new : Held S)
     (failure : Failure) : Type 0 where
-  pub told : failure ≡ File
+  pub failed : failure ≡ File
   pub plan : Layout
   pub summary : Summary
   pub holds : IsClean g new → IsSummaryOf (state g old).now.trees plan summary
@@ -85,6 +85,6 @@ pub record HasNoRule {S : Type 0} (g : Ghosts S) (old new : Held S)
 -- what came of looking at the file of a database, unless the output fails
 abbrev pub HasChecked : {S : Type 0} → Ghosts S → Held S → Held S → Option (List ℕ)
     → Option (List ℕ) → Result Done Failure → Type 0
-HasChecked g old new before after (Ok done) = (done ≡ Whole) × HasToldRoom g old new before after
+HasChecked g old new before after (Ok done) = (done ≡ Whole) × HasPrintedRoom g old new before after
 HasChecked g old new before after (Err failure) =
     (failure ≡ Network) ⊎ (HasFault g old new failure ⊎ HasNoRule g old new failure)

@@ -71,9 +71,9 @@ pub record HasNoDay {S : Type 0} (g : Ghosts S) (old new : Held S) (division : �
 -- room has no such day.
 pub record LacksDay {S : Type 0} (g : Ghosts S) (old : Held S) (division : ℕ) (text : List ℕ)
     (failure : Failure) : Type 0 where
-  pub let_go : Held S
-  pub nothing : WritesNothing (state g old) (state g let_go)
-  pub why : HasFault g old let_go failure ⊎ HasNoDay g old let_go division text failure
+  pub released : Held S
+  pub nothing : WritesNothing (state g old) (state g released)
+  pub why : HasFault g old released failure ⊎ HasNoDay g old released division text failure
 
 -- ---- both rooms
 -- In the order of their numbers these are incidents of two rooms: all of the newer one, and of the
@@ -100,6 +100,6 @@ JoinsDay trees newer report =
 -- Why nothing is joined by a file, of which nothing is written: something is wrong with it, or
 -- memory fails.
 pub record JoinsNone {S : Type 0} (g : Ghosts S) (old : Held S) (failure : Failure) : Type 0 where
-  pub let_go : Held S
-  pub nothing : WritesNothing (state g old) (state g let_go)
-  pub why : HasFault g old let_go failure ⊎ (failure ≡ Memory)
+  pub released : Held S
+  pub nothing : WritesNothing (state g old) (state g released)
+  pub why : HasFault g old released failure ⊎ (failure ≡ Memory)

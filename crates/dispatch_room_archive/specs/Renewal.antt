@@ -23,7 +23,7 @@ use Rattle.room_store_check_rows.specs.Summaries.{latest}
 use Rattle.room_store_check_rows.specs.declared.summaries.Summary.{Summary}
 use Rattle.room_store_check_tables.specs.HeldRooms.{WritesNothing}
 use Rattle.room_store_file.specs.ExaminedFile.{IsSummaryOf}
-use Rattle.room_store_writes.specs.Houses.{config_of}
+use Rattle.room_store_writes.specs.Configurations.{config_of}
 use Rattle.room_store_writes.specs.Transactions.{StandsSettled}
 use Rattle.room_tables.specs.RoomsInTables.{Stands}
 use Rattle.room_tables_schema.specs.Schema.{no_schema}
@@ -103,9 +103,9 @@ pub record HoldsBack {S : Type 0} (g : Ghosts S) (old new : Held S) (day : List 
 -- room leaves nothing.
 pub record LeavesNone {S : Type 0} (g : Ghosts S) (old : Held S) (day : List ℕ)
     (failure : Failure) : Type 0 where
-  pub let_go : Held S
-  pub nothing : WritesNothing (state g old) (state g let_go)
-  pub why : HasFault g old let_go failure ⊎ HoldsBack g old let_go day failure
+  pub released : Held S
+  pub nothing : WritesNothing (state g old) (state g released)
+  pub why : HasFault g old released failure ⊎ HoldsBack g old released day failure
 
 -- ---- the new room
 -- whatever room it was left by, since whatever day, the tables stand for that room renewed, with
@@ -163,6 +163,8 @@ renewed_text changes =
     (length (filter puts_turn changes)) (length (filter puts_report changes))
 
 -- it is written, unless the output fails
-abbrev pub IsTold : List Change → Option (List ℕ) → Option (List ℕ) → Result Done Failure → Type 0
-IsTold changes before after (Ok done) = Appends before after (renewed_text changes) × (done ≡ Whole)
-IsTold changes before after (Err failure) = failure ≡ Network
+abbrev pub IsPrinted : List Change → Option (List ℕ) → Option (List ℕ) → Result Done Failure
+    → Type 0
+IsPrinted changes before after (Ok done) =
+    Appends before after (renewed_text changes) × (done ≡ Whole)
+IsPrinted changes before after (Err failure) = failure ≡ Network

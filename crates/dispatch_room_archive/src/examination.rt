@@ -8,7 +8,7 @@ ghost use Rattle.dispatch_room_cli.specs.declared.exit_status.Done.TheVariants.{
 ghost use Rattle.dispatch_room_cli.specs.declared.exit_status.Failure.TheVariants.{File, Network};
 ghost use Rattle.dispatch_room_archive.specs.Examination.{
   HasChecked,
-  IsTold,
+  IsPrinted,
   calls_text,
   failure_of,
   fleet_text,
@@ -37,20 +37,20 @@ pub fn check_in<S: Alter + Drop, O: Write>(
     requires outside { conn.in_transaction ≡ false }
     ensures checked { HasChecked S.Store conn result.1 (O.contents out.old) (O.contents out.new)
         result.0 }
-    ensures told { OnOk result.0 (IsTold (O.contents out.old) (O.contents out.new)) }
+    ensures printed { OnOk result.0 (IsPrinted (O.contents out.old) (O.contents out.new)) }
     ensures nothing { WritesNothing (state S.Store conn) (state S.Store result.1) }
 {
     let done = match examine(alloc, &mut conn) {
-        Ok((plan, summary)) => tell_room(&plan, &summary, out),
+        Ok((plan, summary)) => print_room(&plan, &summary, out),
         Err(Wrong::Memory) => Err(Failure::Memory),
-        Err(wrong) => tell_wrong(wrong, out),
+        Err(wrong) => print_wrong(wrong, out),
     };
     (done, conn)
 }
 
 // Prints how much a room has; or says that its days can't be reckoned, as the zone of its plan is
 // no rule.
-fn tell_room<O: Write>(plan: &Plan, summary: &Summary, out: &mut O) -> Result<Done, Failure>
+fn print_room<O: Write>(plan: &Plan, summary: &Summary, out: &mut O) -> Result<Done, Failure>
     ensures text { OnOk result (Appends (O.contents out.old) (O.contents out.new)
         (summary_text summary.now)) }
     ensures whole { IfOk result (λ done. done ≡ Whole) }
@@ -64,14 +64,14 @@ fn tell_room<O: Write>(plan: &Plan, summary: &Summary, out: &mut O) -> Result<Do
             Err(_) => Err(Failure::Network),
         };
     }
-    match tell_summary(summary, out) {
+    match print_summary(summary, out) {
         Ok(()) => Ok(Done::Whole),
         Err(_) => Err(Failure::Network),
     }
 }
 
 // Reports what is wrong with a file, by which the program fails.
-fn tell_wrong<O: Write>(wrong: Wrong, out: &mut O) -> Result<Done, Failure>
+fn print_wrong<O: Write>(wrong: Wrong, out: &mut O) -> Result<Done, Failure>
     ensures { (result ≡ Err (failure_of wrong)) ⊎ (result ≡ Err Network) }
 {
     match writeln!(out, "{wrong}") {
@@ -93,17 +93,17 @@ pub(crate) fn failure_of(wrong: Wrong) -> Failure
 }
 
 // The version, the rows of each table and how many may need an eye, and the newest moment.
-fn tell_summary<O: Write>(summary: &Summary, out: &mut O) -> io::Result<()>
+fn print_summary<O: Write>(summary: &Summary, out: &mut O) -> io::Result<()>
     ensures text { OnOk result (Appends (O.contents out.old) (O.contents out.new)
         (summary_text summary.now)) }
 {
-    tell_plan(summary, out)?;
-    tell_calls(summary, out)?;
-    tell_fleet(summary, out)?;
-    tell_reports(summary, out)
+    print_plan(summary, out)?;
+    print_calls(summary, out)?;
+    print_fleet(summary, out)?;
+    print_reports(summary, out)
 }
 
-fn tell_plan<O: Write>(summary: &Summary, out: &mut O) -> io::Result<()>
+fn print_plan<O: Write>(summary: &Summary, out: &mut O) -> io::Result<()>
     ensures text { OnOk result (Appends (O.contents out.old) (O.contents out.new)
         (plan_text summary.now)) }
 {
@@ -114,7 +114,7 @@ fn tell_plan<O: Write>(summary: &Summary, out: &mut O) -> io::Result<()>
     )
 }
 
-fn tell_calls<O: Write>(summary: &Summary, out: &mut O) -> io::Result<()>
+fn print_calls<O: Write>(summary: &Summary, out: &mut O) -> io::Result<()>
     ensures text { OnOk result (Appends (O.contents out.old) (O.contents out.new)
         (calls_text summary.now)) }
 {
@@ -125,7 +125,7 @@ fn tell_calls<O: Write>(summary: &Summary, out: &mut O) -> io::Result<()>
     )
 }
 
-fn tell_fleet<O: Write>(summary: &Summary, out: &mut O) -> io::Result<()>
+fn print_fleet<O: Write>(summary: &Summary, out: &mut O) -> io::Result<()>
     ensures text { OnOk result (Appends (O.contents out.old) (O.contents out.new)
         (fleet_text summary.now)) }
 {
@@ -141,7 +141,7 @@ fn tell_fleet<O: Write>(summary: &Summary, out: &mut O) -> io::Result<()>
     )
 }
 
-fn tell_reports<O: Write>(summary: &Summary, out: &mut O) -> io::Result<()>
+fn print_reports<O: Write>(summary: &Summary, out: &mut O) -> io::Result<()>
     ensures text { OnOk result (Appends (O.contents out.old) (O.contents out.new)
         (reports_text summary.now)) }
 {

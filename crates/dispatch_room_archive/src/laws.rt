@@ -2,7 +2,7 @@
 ghost use Rattle.std.specs.Prelude.{◌≡◌, ℕ, ℤ, List, Err, false, filter, map, not, true};
 ghost use Rattle.room_place.specs.Plans.{division_of};
 ghost use Rattle.room_types.specs.Texts.{Callsign};
-ghost use Rattle.room_types.specs.declared.answers.Answer.TheVariants.{Times as TimesTold};
+ghost use Rattle.room_types.specs.declared.answers.Answer.TheVariants.{Times as TimesAnswer};
 ghost use Rattle.room_types.specs.declared.asks.Ask.{Ask};
 ghost use Rattle.room_types.specs.declared.asks.Ask.TheVariants.{Call, Report, Times};
 ghost use Rattle.room_types.specs.declared.asks.CallForm.{CallForm};
@@ -77,7 +77,7 @@ pub fn the_past_is_not_found()
     ensures times { (since : ℕ) (b : Behind) (old new : Room) (d : ℕ) (from to : ℤ) (at : ℕ) →
         IsSuccessor since b old new →
         decided (by_desk d (Times from to) at) new
-        ≡ show (TimesTold (times_of from to (map times_line
+        ≡ show (TimesAnswer (times_of from to (map times_line
         (filter (λ i. not (b.incident i.division i.number)) (incidents_opened d from to old))))) }
     ensures old { (since : ℕ) (b : Behind) (old new : Room) (e : Event) →
         IsSuccessor since b old new →

@@ -1,5 +1,5 @@
 //! `renew`: what a room leaves to a new one, and the new one that is made of it.
-ghost use Rattle.std.specs.Prelude.{◌≡◌, ◌+◌, ◌<◌, ◌≤◌, false, filter, length, IfErr, IfNone, IfOk, IfSome, IsOk};
+ghost use Rattle.std.specs.Prelude.{◌≡◌, ◌+◌, ◌<◌, ◌≤◌, false, filter, length, IfErr, IfNone, IfOk, IfSome, IsOk, OnErr};
 ghost use Rattle.sqlite.specs.Held.{state};
 ghost use Rattle.room_http_time.specs.Days.{zone_of};
 ghost use Rattle.room_model.specs.RoomSlices.{room_of};
@@ -12,8 +12,8 @@ ghost use Rattle.dispatch_room_archive.specs.Renewal.{
   IsLeftSince,
   IsMomentOf,
   IsNoStart,
+  IsPrinted,
   IsStart,
-  IsTold,
   LeavesNone,
   puts_call,
   puts_incident,
@@ -55,7 +55,7 @@ pub struct Successor {
 }
 
 /// What the room of a database leaves to one that is made of it since a day. Nothing is written to
-/// the file. Where it leaves nothing the database is let go.
+/// the file. Where it leaves nothing the database is released.
 pub fn left_in<S: Alter + Drop>(
     alloc: Global,
     mut conn: Connection<S>,
@@ -169,9 +169,10 @@ pub fn begin_in<S: Alter + Drop, O: Write>(
 ) -> TaskResult<Done, S>
     requires outside { conn.in_transaction ≡ false }
     ensures begun { IfOk result (λ worked. IsBegun S.Store conn worked.1 left.now) }
-    ensures told { IfOk result (λ worked. IsTold left.now.changes.items
+    ensures printed { IfOk result (λ worked. IsPrinted left.now.changes.items
         (O.contents out.old) (O.contents out.new) worked.0) }
     ensures fault { IfErr result (ExplainsUnmade (state S.Store conn).now.schema) }
+    ensures unprinted { OnErr result (O.contents out.new ≡ O.contents out.old) }
 {
     lemma_committed(&conn);
     if !is_empty(conn.schema()) {
@@ -180,15 +181,15 @@ pub fn begin_in<S: Alter + Drop, O: Write>(
     let config = &left.config;
     let terminals = config.terminals.as_slice();
     match create_with(&mut conn, &config.plan, terminals, left.changes.as_slice()) {
-        Ok(()) => Ok((tell(left.changes.as_slice(), out), conn)),
+        Ok(()) => Ok((print_renewed(left.changes.as_slice(), out), conn)),
         Err(Fault::Memory) => Err(Failure::Memory),
         Err(Fault::Storage) => Err(Failure::Storage),
     }
 }
 
 // Prints how much of what happened a new room has that is made by these changes.
-fn tell<O: Write>(changes: &[Change], out: &mut O) -> Result<Done, Failure>
-    ensures { IsTold changes.now (O.contents out.old) (O.contents out.new) result }
+fn print_renewed<O: Write>(changes: &[Change], out: &mut O) -> Result<Done, Failure>
+    ensures { IsPrinted changes.now (O.contents out.old) (O.contents out.new) result }
 {
     let incidents = count_incidents(changes);
     let calls = count_calls(changes);

@@ -22,7 +22,7 @@ use Rattle.dispatch_room_board.specs.Boards.{Befalls, IsDatedAnswer, IsHeardAt, 
 use Rattle.dispatch_room_board.specs.AnswerRows.{IsJson, IsNoAnswer}
 use Rattle.dispatch_room_board.specs.Members.{IsRead}
 use Rattle.dispatch_room_board.specs.HeardAnswers.{Announces, HasNoMessage, IsDated, IsMessage, IsNoMessage, fields_in}
-use Rattle.dispatch_room_board.specs.BoardErrors.{IsTold}
+use Rattle.dispatch_room_board.specs.BoardErrors.{IsErrorIn}
 
 pub no_head : (bytes : List ℕ) → HasNoResponse bytes → MayBecomeResponse bytes
     → IsNoMessage bytes Unheard
@@ -124,11 +124,11 @@ given_or_not {T} gives m d r o is ok json found = rw is (either o m.moment refl 
 -- any other refuses as it says
 pub refused_or_not : {T : Type 0} (gives : Data → T → Type 0) (m : HeardAnswer) (d : Data)
     (t : BoardError) (o : Option BoardError)
-    → t ≡ unwrap_or o Foreign → m.code ≢ 200 → IsJson m.content.now d → IsRead (IsTold d) o
+    → t ≡ unwrap_or o Foreign → m.code ≢ 200 → IsJson m.content.now d → IsRead (IsErrorIn d) o
     → IsNoAnswer (IsDatedAnswer gives m) m t
 refused_or_not gives m d t o is bad json found = rw is (either o found)
   where
-    either : (o : Option BoardError) → IsRead (IsTold d) o
+    either : (o : Option BoardError) → IsRead (IsErrorIn d) o
         → IsNoAnswer (IsDatedAnswer gives m) m (unwrap_or o Foreign)
     either None found =
         (record { is = λ x h. bad h.0.1 }, record { is = λ t h. found.is t (rw (same_json _ d h.0 json h.2) h.3) })

@@ -9,7 +9,7 @@ use Rattle.dispatch_room_board.specs.declared.board_errors.BoardError.{BoardErro
 use Rattle.dispatch_room_board.specs.declared.board_errors.BoardError.TheVariants.{Unheard, Foreign, Refused}
 use Rattle.dispatch_room_board.specs.declared.board_errors.Name.{Name}
 use Rattle.dispatch_room_board.specs.Members.{HasMember, IsByte, IsRead}
-use Rattle.dispatch_room_board.specs.BoardErrors.{IsName, IsNameOf, IsTold}
+use Rattle.dispatch_room_board.specs.BoardErrors.{IsErrorIn, IsName, IsNameOf}
 
 -- two are read where each is
 pub read_both : {A B : Type 0} {P : A → Type 0} {Q : B → Type 0} {r : Option A} {s : Option B}
@@ -37,12 +37,12 @@ read_name d text None is read =
 read_name d text (Some name) is read = record { is = (text, sym is, read.is) }
 
 -- nothing is reported where there is no number with a name
-pub none_told : (d : Data) → IsRead {T = ℕ × Name}
+pub none_read : (d : Data) → IsRead {T = ℕ × Name}
     (λ x. HasMember IsByte (codes "number") d x.0 × HasMember IsName (codes "error") d x.1) None
-    → IsRead (IsTold d) None
-none_told d none = record { is = not }
+    → IsRead (IsErrorIn d) None
+none_read d none = record { is = not }
   where
-    not : (t : BoardError) → ¬ IsTold d t
+    not : (t : BoardError) → ¬ IsErrorIn d t
     not Unheard h = h
     not Foreign h = h
     not (Refused number name) h = none.is (number, name) (h.0, h.1)

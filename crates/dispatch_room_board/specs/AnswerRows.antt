@@ -7,7 +7,7 @@ use Rattle.dispatch_room_board.specs.declared.heard_answers.HeardAnswer.{HeardAn
 use Rattle.dispatch_room_board.specs.declared.board_errors.BoardError.{BoardError}
 use Rattle.dispatch_room_board.specs.declared.board_errors.BoardError.TheVariants.{Unheard, Foreign, Refused}
 use Rattle.dispatch_room_board.specs.Members.{IsRead}
-use Rattle.dispatch_room_board.specs.BoardErrors.{IsTold}
+use Rattle.dispatch_room_board.specs.BoardErrors.{IsErrorIn}
 
 -- the bytes are a text of JSON, and it says this
 abbrev pub IsJson : List ℕ → Data → Type 0
@@ -32,7 +32,7 @@ IsAnswered gives message it =
 -- the answer is a refusal, and reports this
 abbrev pub IsRefused : HeardAnswer → BoardError → Type 0
 IsRefused message board_error =
-    (d : Data) × (message.code ≢ 200) × IsJson message.content.now d × IsTold d board_error
+    (d : Data) × (message.code ≢ 200) × IsJson message.content.now d × IsErrorIn d board_error
 
 -- why an answer gives nothing of what is looked for: it refuses so, or gives nothing and does not
 -- refuse

@@ -18,14 +18,14 @@ abbrev pub IsName : Data → Name → Type 0
 IsName d name = (text : List ℕ) × IsText d text × IsNameOf text name
 
 -- it reports this refusal
-abbrev pub IsTold : Data → BoardError → Type 0
-IsTold d (Refused number name) =
+abbrev pub IsErrorIn : Data → BoardError → Type 0
+IsErrorIn d (Refused number name) =
     HasMember IsByte (codes "number") d number × HasMember IsName (codes "error") d name
-IsTold d other = ⊥
+IsErrorIn d other = ⊥
 
 -- what is said in place of the table of a title
-unfoldable pub told : List ℕ → BoardError → List ℕ
-told title Unheard = title ++ codes ": not reached: no whole answer came"
-told title Foreign = title ++ codes ": not reached: what came is no answer of a room"
-told title (Refused number name) =
+unfoldable pub error_text : List ℕ → BoardError → List ℕ
+error_text title Unheard = title ++ codes ": not reached: no whole answer came"
+error_text title Foreign = title ++ codes ": not reached: what came is no answer of a room"
+error_text title (Refused number name) =
     title ++ codes ": refused: " ++ decimal number ++ codes " " ++ name.text

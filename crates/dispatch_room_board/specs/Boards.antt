@@ -20,7 +20,7 @@ use Rattle.dispatch_room_board.specs.BoardRows.{IsEntry, IsIncidentLine, IsLoan,
 use Rattle.dispatch_room_board.specs.BoardRows.{IsVehicleLine}
 use Rattle.dispatch_room_board.specs.BoardTables.{Table, entry_table, incident_table, loan_table, offer_table}
 use Rattle.dispatch_room_board.specs.BoardTables.{point_table, proposal_table, table_lines, vehicle_table}
-use Rattle.dispatch_room_board.specs.BoardErrors.{told}
+use Rattle.dispatch_room_board.specs.BoardErrors.{error_text}
 
 -- what is reached where one error more is met: the worst of all
 abbrev pub reached_with : Reached → BoardError → Reached
@@ -57,7 +57,7 @@ Befalls gives heard rest board_error =
 
 -- what stands in place of a part
 abbrev pub board_error_lines : Bool → List ℕ → BoardError → List ℕ
-board_error_lines colour title board_error = spaced_line colour Alarm (told title board_error)
+board_error_lines colour title board_error = spaced_line colour Alarm (error_text title board_error)
 
 -- what the next answer gives is shown in these lines as it was at its moment
 pub record Shows {T : Type 0} (gives : Data → T → Type 0) (lines : Bool → ℕ → T → List ℕ)
@@ -69,7 +69,7 @@ pub record Shows {T : Type 0} (gives : Data → T → Type 0) (lines : Bool → 
   pub reached : new.reached ≡ old.reached
 
 -- it is reported why it gives nothing of the kind
-pub record TellsWhy {T : Type 0} (gives : Data → T → Type 0) (title : List ℕ)
+pub record ExplainsWhy {T : Type 0} (gives : Data → T → Type 0) (title : List ℕ)
     (old new : Renderer) : Type 0 where
   pub board_error : BoardError
   pub befalls : Befalls gives old.rest.now new.rest.now board_error
@@ -79,7 +79,7 @@ pub record TellsWhy {T : Type 0} (gives : Data → T → Type 0) (title : List �
 -- a part of the board is shown, or why it is not there
 abbrev pub IsPart : {T : Type 0} → (Data → T → Type 0) → List ℕ → (Bool → ℕ → T → List ℕ) → Renderer
     → Renderer → Type 0
-IsPart gives title lines old new = Shows gives lines old new ⊎ TellsWhy gives title old new
+IsPart gives title lines old new = Shows gives lines old new ⊎ ExplainsWhy gives title old new
 
 -- a table is shown: its rows, or why there are none
 abbrev pub IsShown : {T : Type 0} → (Data → T → Type 0) → Table T → Renderer → Renderer → Type 0

@@ -42,10 +42,10 @@ unfoldable pub requests : List ℕ → Option ℕ → List ℕ
 requests token incident = requests_with (fields_of token) incident
 
 -- all bytes were written, or the first of them before a write failed
-abbrev pub Tells : {W : Type 0} → (W → Option (List ℕ)) → (W → Bool) → W → W → List ℕ → Bool
+abbrev pub Sends : {W : Type 0} → (W → Option (List ℕ)) → (W → Bool) → W → W → List ℕ → Bool
     → Type 0
-Tells held has_failed old new bytes true =
+Sends held has_failed old new bytes true =
     Appends (held old) (held new) bytes × (has_failed new ≡ false)
-Tells held has_failed old new bytes false =
+Sends held has_failed old new bytes false =
     (front : List ℕ) × (rest : List ℕ) × (bytes ≡ front ++ rest)
     × Appends (held old) (held new) front × (has_failed new ≡ true)

@@ -4,7 +4,7 @@ ghost use Rattle.std.specs.List.{list_all};
 ghost use Rattle.serde_json.specs.View.{view};
 ghost use Rattle.room_types.specs.Texts.{is_token_letter};
 ghost use Rattle.dispatch_room_board.specs.Members.{IsRead};
-ghost use Rattle.dispatch_room_board.specs.BoardErrors.{IsName, IsNameOf, IsTold, told};
+ghost use Rattle.dispatch_room_board.specs.BoardErrors.{IsErrorIn, IsName, IsNameOf, error_text};
 
 use crate::json_members::{FromJson, member};
 use room_types::text::Text;
@@ -67,7 +67,7 @@ fn is_letter(byte: u8) -> bool
 
 /// The trouble that a refusal reports; none where the value reports none.
 pub fn refusal_in(value: &Value) -> Option<BoardError>
-    ensures { IsRead (IsTold (view value.now)) result }
+    ensures { IsRead (IsErrorIn (view value.now)) result }
 {
     match member(value, "number").zip(member(value, "error")) {
         Some((number, name)) => Some(BoardError::Refused(number, name)),
@@ -76,8 +76,12 @@ pub fn refusal_in(value: &Value) -> Option<BoardError>
 }
 
 /// What is said in place of the table of a title.
-pub fn told(alloc: Global, title: &str, board_error: &BoardError) -> Result<String, AllocError>
-    ensures { IfOk result (λ text. string_bytes text ≡ told title.now board_error.now) }
+pub fn error_text(
+    alloc: Global,
+    title: &str,
+    board_error: &BoardError,
+) -> Result<String, AllocError>
+    ensures { IfOk result (λ text. string_bytes text ≡ error_text title.now board_error.now) }
 {
     match board_error {
         BoardError::Unheard => format!(in alloc; "{title}: not reached: no whole answer came"),

@@ -35,7 +35,7 @@ impl FromJson for CallLine {
     ghost says = { IsCallLine };
 
     fn from_json(value: &Value) -> Option<CallLine> {
-        let told = member(value, "position")
+        let members = member(value, "position")
             .zip(member(value, "serial"))
             .zip(member(value, "linked"))
             .zip(member(value, "place"))
@@ -43,7 +43,7 @@ impl FromJson for CallLine {
             .zip(member(value, "needs"))
             .zip(member(value, "moment"))
             .zip(member(value, "note"));
-        match told {
+        match members {
             Some((((((((position, serial), linked), place), class), needs), moment), note)) => Some(
                 CallLine {
                     position,

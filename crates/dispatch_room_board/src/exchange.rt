@@ -2,7 +2,7 @@
 ghost use Rattle.std.specs.Prelude.{◌≡◌, ◌<◌, ◌≤◌, ◌+◌, ℕ, List, Option, IfErr, IfOk, OnOk, false, true, length};
 ghost use Rattle.std.specs.Io.KnownBytes.{Consumes, IsAtEnd};
 ghost use Rattle.room_http_messages.specs.Streams.{WritesAll};
-ghost use Rattle.dispatch_room_board.specs.Requests.{Tells, requests};
+ghost use Rattle.dispatch_room_board.specs.Requests.{Sends, requests};
 
 use crate::requests::{Asker, requests};
 use room_http_messages::limits::INBOX_ROOM;
@@ -19,9 +19,9 @@ pub const PIECE: usize = INBOX_ROOM;
 
 /// Asks: the requests are written and nothing else, or the first bytes of them before a write
 /// failed. Gives whether all were written.
-pub fn tell<W: Sink>(alloc: Global, asker: &Asker, writer: &mut W) -> Result<bool, AllocError>
+pub fn send<W: Sink>(alloc: Global, asker: &Asker, writer: &mut W) -> Result<bool, AllocError>
     requires { W.has_failed writer.old ≡ false }
-    ensures { IfOk result (Tells W.held W.has_failed writer.old writer.new
+    ensures { IfOk result (Sends W.held W.has_failed writer.old writer.new
         (requests asker.now.token asker.now.incident)) }
 {
     let text = requests(alloc, asker)?;

@@ -31,8 +31,8 @@ impl Given for History {
         let subject = Subject::from_json(value);
         let calls = rows_in(alloc, value, "calls")?;
         let turns = rows_in(alloc, value, "turns")?;
-        let told = subject.zip(calls).zip(turns);
-        match told {
+        let members = subject.zip(calls).zip(turns);
+        match members {
             Some(((subject, calls), turns)) => Ok(Some(History {
                 subject,
                 calls,

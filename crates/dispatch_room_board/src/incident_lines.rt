@@ -19,14 +19,14 @@ impl FromJson for IncidentLine {
     ghost says = { IsIncidentLine };
 
     fn from_json(value: &Value) -> Option<IncidentLine> {
-        let told = member(value, "number")
+        let members = member(value, "number")
             .zip(member(value, "place"))
             .zip(member(value, "class"))
             .zip(member(value, "needs"))
             .zip(member(value, "lack"))
             .zip(member(value, "opened"))
             .zip(member(value, "calls"));
-        match told {
+        match members {
             Some(((((((number, place), class), needs), lack), opened), calls)) => Some(
                 IncidentLine {
                     number,

@@ -154,8 +154,8 @@ impl FromJson for Counts {
     ghost says = { IsCounts };
 
     fn from_json(value: &Value) -> Option<Counts> {
-        let told = item(value, 0).zip(item(value, 1)).zip(item(value, 2));
-        match told {
+        let members = item(value, 0).zip(item(value, 1)).zip(item(value, 2));
+        match members {
             Some(((ambulances, cars), support)) => Some(Counts {
                 ambulances,
                 cars,

@@ -20,12 +20,12 @@ impl FromJson for Offer {
     ghost says = { IsOffer };
 
     fn from_json(value: &Value) -> Option<Offer> {
-        let told = member(value, "vehicle")
+        let members = member(value, "vehicle")
             .zip(member(value, "lender"))
             .zip(member(value, "borrower"))
             .zip(member(value, "since"))
             .zip(member(value, "until"));
-        match told {
+        match members {
             Some(((((callsign, lender), borrower), since), until)) => Some(Offer {
                 callsign,
                 lender,
@@ -67,13 +67,13 @@ impl FromJson for Loan {
     ghost says = { IsLoan };
 
     fn from_json(value: &Value) -> Option<Loan> {
-        let told = member(value, "vehicle")
+        let members = member(value, "vehicle")
             .zip(member(value, "lender"))
             .zip(member(value, "borrower"))
             .zip(member(value, "since"))
             .zip(member(value, "until"))
             .zip(member(value, "recalled"));
-        match told {
+        match members {
             Some((((((callsign, lender), borrower), since), until), recalled)) => Some(Loan {
                 callsign,
                 lender,

@@ -17,11 +17,11 @@ impl FromJson for PointLine {
     ghost says = { IsPointLine };
 
     fn from_json(value: &Value) -> Option<PointLine> {
-        let told = member(value, "number")
+        let members = member(value, "number")
             .zip(member(value, "place"))
             .zip(member(value, "cover"))
             .zip(member(value, "held"));
-        match told {
+        match members {
             Some((((number, place), cover), held)) => Some(PointLine {
                 number,
                 place,

@@ -17,11 +17,11 @@ impl FromJson for Proposal {
     ghost says = { IsProposal };
 
     fn from_json(value: &Value) -> Option<Proposal> {
-        let told = member(value, "breaks")
+        let members = member(value, "breaks")
             .zip(member(value, "distance"))
             .zip(member(value, "kind"))
             .zip(member(value, "vehicle"));
-        match told {
+        match members {
             Some((((breaks, distance), kind), callsign)) => Some(Proposal {
                 breaks,
                 distance,

@@ -21,11 +21,11 @@ impl FromJson for Entry {
     ghost says = { IsEntry };
 
     fn from_json(value: &Value) -> Option<Entry> {
-        let told = member(value, "rank")
+        let members = member(value, "rank")
             .zip(member(value, "since"))
             .zip(member(value, "number"))
             .zip(member::<About>(value, "vehicle"));
-        match told {
+        match members {
             Some((((rank, since), number), about)) => Some(Entry {
                 rank,
                 since,

@@ -5,7 +5,7 @@ ghost use Rattle.dispatch_room_board.specs.Boards.{IsHeardAt};
 ghost use Rattle.dispatch_room_board.specs.Members.{IsRead};
 
 use crate::answer_contents::{Found, Given, found_in};
-use crate::board_errors::{BoardError, told};
+use crate::board_errors::{BoardError, error_text};
 use crate::board_pages::{Page, Paint};
 use crate::board_tables::{Tabled, put_rows};
 use crate::boards::{Board, Reached};
@@ -108,7 +108,7 @@ impl<'a> Renderer<'a> {
         ensures rest { self.new.rest ≡ self.old.rest }
     {
         self.reached = self.reached.with(&board_error);
-        let line = told(self.alloc, title, &board_error)?;
+        let line = error_text(self.alloc, title, &board_error)?;
         self.page.put_spaced(Paint::Alarm, line.as_str())
     }
 

@@ -39,7 +39,7 @@ impl FromJson for Subject {
     ghost says = { IsSubject };
 
     fn from_json(value: &Value) -> Option<Subject> {
-        let told = member(value, "number")
+        let members = member(value, "number")
             .zip(member(value, "state"))
             .zip(member(value, "into"))
             .zip(member(value, "class"))
@@ -48,7 +48,7 @@ impl FromJson for Subject {
             .zip(member(value, "served"))
             .zip(member(value, "opened"))
             .zip(member(value, "first_order"));
-        match told {
+        match members {
             Some(
                 (
                     (((((((number, state), into), class), place), needs), served), opened),

@@ -43,8 +43,8 @@ impl FromJson for TurnLine {
             .zip(member(value, "left"))
             .zip(member(value, "hospital"));
         let end = member(value, "ended").zip(member(value, "stood_down"));
-        let told = sent.zip(steps).zip(end);
-        match told {
+        let members = sent.zip(steps).zip(end);
+        match members {
             Some(((sent, steps), (ended, stood_down))) => {
                 let (((callsign, kind), order), ordered) = sent;
                 let (((acknowledged, scene), left), hospital) = steps;

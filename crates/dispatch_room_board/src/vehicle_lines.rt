@@ -19,7 +19,7 @@ impl FromJson for VehicleLine {
     ghost says = { IsVehicleLine };
 
     fn from_json(value: &Value) -> Option<VehicleLine> {
-        let told = member(value, "vehicle")
+        let members = member(value, "vehicle")
             .zip(member(value, "home"))
             .zip(member(value, "incident"))
             .zip(member(value, "kind"))
@@ -27,7 +27,7 @@ impl FromJson for VehicleLine {
             .zip(member(value, "post"))
             .zip(member(value, "shift_end"))
             .zip(member(value, "status"));
-        match told {
+        match members {
             Some((((((((callsign, home), incident), kind), place), post), shift_end), status)) =>
                 Some(VehicleLine {
                     callsign,

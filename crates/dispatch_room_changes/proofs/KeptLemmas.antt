@@ -1,11 +1,13 @@
 -- What is kept, and why it is not.
-use Rattle.std.proofs.Common.{Bool, Err, Ok, Result, arith, false, inl, inr, length, refl, sym, true, ◌<◌, ◌≤◌, ◌≡◌, ◌⊎◌}
-use Rattle.std.proofs.Common.{List, [], ℕ, ◌++◌, ◌∷◌}
-use Rattle.std.proofs.lemmas.List.{length-append}
+use Rattle.std.proofs.Common.{Bool, Err, Ok, Result, ap, arith, false, inl, inr, length, refl, sym, true, ◌<◌, ◌≤◌}
+use Rattle.std.proofs.Common.{List, [], ℕ, ◌++◌, ◌∙◌, ◌∷◌, ◌≡◌, ◌⊎◌}
+use Rattle.std.proofs.lemmas.List.{append-nil, length-append}
 use Rattle.std.specs.List.{flat_map}
 use Rattle.std.specs.Prelude.{OnErr, OnOk, is_err, ◌||◌}
 use Rattle.dispatch_room_changes.proofs.LineLemmas.{AreTaken}
-use Rattle.dispatch_room_changes.specs.KeptImports.{LacksRows}
+use Rattle.dispatch_room_changes.specs.KeptImports.{HasLongLine, LacksRow, LacksRows}
+use Rattle.dispatch_room_journal.specs.TextParts.{Lacks}
+use Rattle.dispatch_room_journal.specs.declared.row_runs.TheConstants.{ROW_ROOM}
 use Rattle.dispatch_room_changes.specs.declared.kept_fleets.FleetList.{FleetList}
 
 -- what holds where a call failed, once it is known that it did
@@ -30,23 +32,43 @@ line_short : (left line rest : List ℕ) → (left ≡ line ++ 10 ∷ rest) ⊎ 
 line_short left line rest (inl cut) = rw cut (omega (arith, length-append line (10 ∷ rest)))
 line_short left line rest (inr last) = rw last.0 (omega arith)
 
-taken_short : (text left : List ℕ) (lines : List (List ℕ)) → AreTaken text left lines
-    → length left ≤ length text
-taken_short text left lines taken = elim taken.is [
-  | inl is ↦
-      rw (sym is) (omega (arith, length-append (flat_map (λ line. line ++ 10 ∷ []) lines) left))
-  | inr none ↦ rw none.0 (omega arith)
-]
+-- a line that is taken next, and is too long, is one of the text
+long_line : (text left line rest : List ℕ) (lines : List (List ℕ)) → AreTaken text left lines
+    → (left ≡ line ++ 10 ∷ rest) ⊎ ((left ≡ line) × (rest ≡ [])) → Lacks 10 line
+    → ROW_ROOM < length line → HasLongLine text
+long_line text left line rest lines taken next one long =
+    let taken_lines = flat_map (λ line. line ++ 10 ∷ []) lines in
+    elim taken.is [
+      | inl is ↦ elim next [
+        | inl cut ↦ record {
+          front = taken_lines;
+          line = line;
+          rest = 10 ∷ rest;
+          is = sym is ∙ ap (λ l. taken_lines ++ l) cut;
+          one = one;
+          long = long;
+        }
+        | inr last ↦ record {
+          front = taken_lines;
+          line = line;
+          rest = [];
+          is = sym is ∙ ap (λ l. taken_lines ++ l) (last.0 ∙ sym (append-nil line));
+          one = one;
+          long = long;
+        }
+      ]
+      | inr none ↦ absurd (omega (arith, long, line_short left line rest next, ap length none.0))
+    ]
 
--- a line that lacks room as a row is no longer than the text of which it was taken
-pub lacks_more : {F : Type 0} (list : FleetList F) (text left line rest : List ℕ) (lines : List (List ℕ))
-    → AreTaken text left lines → (left ≡ line ++ 10 ∷ rest) ⊎ ((left ≡ line) × (rest ≡ []))
-    → LacksRows list line → LacksRows list text
-lacks_more list text left line rest lines taken front lacks = elim lacks [
+-- where a line could not be kept, the lines of its text were not all kept
+pub lacks_more : {F : Type 0} (list : FleetList F) (text left line rest : List ℕ)
+    (lines : List (List ℕ)) → AreTaken text left lines
+    → (left ≡ line ++ 10 ∷ rest) ⊎ ((left ≡ line) × (rest ≡ [])) → Lacks 10 line
+    → LacksRow list line → LacksRows list text
+lacks_more list text left line rest lines taken next one lacks = elim lacks [
   | inl failed ↦ inl failed
   | inr other ↦ elim other [
     | inl plain ↦ inr (inl plain)
-    | inr long ↦
-        inr (inr (omega (arith, long, line_short left line rest front, taken_short text left lines taken)))
+    | inr long ↦ inr (inr (long_line text left line rest lines taken next one long))
   ]
 ]

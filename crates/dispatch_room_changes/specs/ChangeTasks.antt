@@ -21,17 +21,18 @@ use Rattle.room_tables_schema.specs.FileConnections.{IsClean}
 -- the room of a plan is created, and reported
 abbrev pub Creates : PlanFile → Saying Done
 Creates plan = λ S g old new before after done.
-    created.IsCreated g old new plan × created.IsTold plan before after done
+    created.IsCreated g old new plan × created.IsPrinted plan before after done
 
--- or none is, for this
+-- or none is, for this, and nothing is printed
 abbrev pub CreatesNone : PlanFile → Refusing
-CreatesNone plan = λ S g conn. created.ExplainsNone (state g conn).now.schema plan
+CreatesNone plan = λ S g conn before after fault.
+    created.ExplainsNone (state g conn).now.schema plan fault × (after ≡ before)
 
 -- the good rows of a fleet are enrolled, and what became of each line is reported
 abbrev pub Enrols : List FleetLine → Saying Done
 Enrols lines = λ S g old new before after done.
     (IsClean g new → imported.HasImportedIn g old new lines before after done)
-    × IfOk done (imported.IsTold lines before after)
+    × IfOk done (imported.IsPrinted lines before after)
 
 -- The same once the fleet lasts in a list, and then it is kept where the room is. What the file of
 -- a list holds no contract can say.
@@ -40,9 +41,10 @@ EnrolsKept lines text = λ S g old new before after done.
     (from to : FleetList SystemFile)
     × ImportsKeptIn g (λ _. None) (λ _. None) old new from to lines text before after done
 
--- or memory fails, or no room is opened
+-- or memory fails, or no room is opened, and nothing is printed
 abbrev pub EnrolsNone : Refusing
-EnrolsNone = λ S g conn fault. (fault ≡ Memory) ⊎ IsUnopened g conn fault
+EnrolsNone = λ S g conn before after fault.
+    ((fault ≡ Memory) ⊎ IsUnopened g conn fault) × (after ≡ before)
 
 -- who has a terminal is listed, and the room stays as it is
 abbrev pub Lists : Saying Done
@@ -59,11 +61,12 @@ ChangesKept change text = λ S g old new before after done.
     ((from to : FleetList SystemFile)
     × MakesKeptIn g (λ _. None) (λ _. None) old new from to change text done) × (after ≡ before)
 
--- or no room is opened for it, or none is again once the text was kept
+-- or no room is opened for it, or none is again once the text was kept, and nothing is printed
 abbrev pub LosesKeptRoom : RoomChange → List ℕ → Refusing
-LosesKeptRoom change text = λ S g conn.
-    OpensNoneKept g {F = SystemFile} (λ _. None) (λ _. None) conn change text
+LosesKeptRoom change text = λ S g conn before after fault.
+    OpensNoneKept g {F = SystemFile} (λ _. None) (λ _. None) conn change text fault
+    × (after ≡ before)
 
--- or the file holds no room, for this
+-- or the file holds no room, for this, and nothing is printed
 abbrev pub HoldsNoRoom : Refusing
-HoldsNoRoom = λ S g conn. HoldsNone g conn
+HoldsNoRoom = λ S g conn before after fault. HoldsNone g conn fault × (after ≡ before)

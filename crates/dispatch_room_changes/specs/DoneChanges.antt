@@ -109,14 +109,14 @@ module _ (before after : Option (List ℕ)) (done : Done) where
       : Type 0 where
     pub between : Option (List ℕ)
     pub is : IsMade before between kept (reissue_of who token)
-    pub told : Appends between after text
+    pub printed : Appends between after text
     pub whole : done ≡ Whole
 
   -- all that a list names were given its terminals, and then it was printed how many these are
   pub record IsSet (kept : Bool) (listed : Vec Terminal Global) : Type 0 where
     pub between : Option (List ℕ)
     pub is : IsMade before between kept (change.Terminals listed)
-    pub told : Appends between after
+    pub printed : Appends between after
         (codes "set: terminals " ++ (decimal (length listed.items) ++ codes "\n"))
     pub whole : done ≡ Whole
 

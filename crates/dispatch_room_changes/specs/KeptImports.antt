@@ -24,7 +24,7 @@ use Rattle.dispatch_room_journal.specs.declared.list_ends.ListEnd.{ListEnd}
 use Rattle.dispatch_room_journal.specs.declared.list_ends.ListEnd.TheVariants.{Plain}
 use Rattle.dispatch_room_journal.specs.declared.row_runs.TheConstants.{ROW_ROOM}
 use Rattle.dispatch_room_changes.specs.declared.kept_fleets.FleetList.{FleetList}
-use Rattle.dispatch_room_tasks.specs.Enrolment.{HasImported, IsTold}
+use Rattle.dispatch_room_tasks.specs.Enrolment.{HasImported, IsPrinted}
 use Rattle.dispatch_room_tasks.specs.OpenedRoom.{OpensRoom}
 use Rattle.dispatch_room_lists.specs.StoodRooms.{Stays, digits_in}
 use Rattle.room_tables_schema.specs.FileConnections.{IsClean}
@@ -43,12 +43,23 @@ PutsRows end now before after (line ∷ lines) =
     × PutsRows next now between after lines
 
 -- ---- why something is not kept
+-- a line of a text is longer than a row has room for
+pub record HasLongLine (text : List ℕ) : Type 0 where
+  pub front : List ℕ
+  pub line : List ℕ
+  pub rest : List ℕ
+  pub is : text ≡ front ++ (line ++ rest)
+  pub one : Lacks 10 line
+  pub long : ROW_ROOM < length line
+
 module _ {F : Type 0} where
-  -- the lines of a text were not all kept as rows: the list failed, or it is no chain, or the text
-  -- is longer than a row has room for
+  -- a line was not kept as a row: the list failed, or it is no chain, or the line is too long
+  abbrev pub LacksRow : FleetList F → List ℕ → Type 0
+  LacksRow list line = (list.out.failed ≡ true) ⊎ (list.end ≡ Plain) ⊎ (ROW_ROOM < length line)
+
+  -- the lines of a text were not all kept as rows: the same, or one of them is too long
   abbrev pub LacksRows : FleetList F → List ℕ → Type 0
-  LacksRows list text =
-      (list.out.failed ≡ true) ⊎ (list.end ≡ Plain) ⊎ (ROW_ROOM < length text)
+  LacksRows list text = (list.out.failed ≡ true) ⊎ (list.end ≡ Plain) ⊎ HasLongLine text
 
   -- the room can't be read, for memory or storage, and the list stays as it is
   abbrev pub IsUnshown : FleetList F → FleetList F → Failure → Type 0
@@ -111,14 +122,14 @@ module _ {S : Type 0} (g : Ghosts S) where
     pub imported : IsClean g new.conn → (terminals : List Terminal) (room : Room)
         → IsRoom g old terminals room
         → HasImported g old new lines before after came terminals room
-    pub told : IfOk came (IsTold lines before after)
+    pub printed : IfOk came (IsPrinted lines before after)
 
   module _ {F : Type 0} (contents lasting : F → Option (List ℕ)) where
     -- nothing was enrolled: memory, storage or the list fails
     pub record EnrolsNothing (old new : Store S) (from to : FleetList F) (text : List ℕ)
         (before after : Option (List ℕ)) (done : Result Done Failure) : Type 0 where
       pub stays : Stays g old new
-      pub untold : after ≡ before
+      pub unprinted : after ≡ before
       pub fault : Failure
       pub done_is : done ≡ Err fault
       pub why : IsUnkept from to text fault

@@ -20,7 +20,7 @@ module _ {S : Type 0} (g : Ghosts S) where
       (done : Result (Unit {0}) Failure) : Type 0 where
     pub stays : Stays g old new
     pub fault : Failure
-    pub told : done ≡ Err fault
+    pub failed : done ≡ Err fault
     pub why : IsUnkept from to text fault
 
   module _ {F : Type 0} (contents lasting : F → Option (List ℕ)) where

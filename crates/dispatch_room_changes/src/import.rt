@@ -1,7 +1,8 @@
 //! `import`: the rows of a fleet are enrolled in a room.
 ghost use Rattle.std.specs.Prelude.{IfErr, IfOk};
 ghost use Rattle.dispatch_room_csv.specs.FleetFile.{IsFleetText};
-ghost use Rattle.dispatch_room_changes.specs.DoneChanges.{FailsImport, FailsImportOf, IsImport, IsImportOf};
+ghost use Rattle.dispatch_room_changes.specs.DoneChanges.{FailsImport, FailsImportOf, IsImport};
+ghost use Rattle.dispatch_room_changes.specs.DoneChanges.{IsImportOf};
 ghost use Rattle.dispatch_room_changes.specs.ChangeTasks.{Enrols, EnrolsNone};
 ghost use Rattle.dispatch_room_changes.specs.TerminalFiles.{GivesNoFleet};
 

@@ -1,14 +1,15 @@
 //! A change of a room, made in its file, and kept in a list before it, where there is one.
 ghost use Rattle.std.specs.Prelude.{IfErr, OnOk, is_some};
 ghost use Rattle.dispatch_room_changes.specs.DoneChanges.{IsMade, IsUnmade};
-ghost use Rattle.dispatch_room_changes.specs.ChangeTasks.{Changes, ChangesKept, HoldsNoRoom, LosesKeptRoom};
+ghost use Rattle.dispatch_room_changes.specs.ChangeTasks.{Changes, ChangesKept, HoldsNoRoom};
+ghost use Rattle.dispatch_room_changes.specs.ChangeTasks.{LosesKeptRoom};
 ghost use Rattle.dispatch_room_lists.specs.RoomChanges.{IsTextOf};
 
 use crate::kept_fleets::FleetList;
 use crate::kept_import::opened_list;
 use crate::made_changes::make_kept_in;
 use dispatch_room_cli::exit_status::Failure;
-use dispatch_room_cli::explainer::Explainer;
+use dispatch_room_cli::failure_causes::Explainer;
 use dispatch_room_disk::room_files::{RoomFile, RoomTask};
 use dispatch_room_lists::room_changes::{RoomChange, make};
 use dispatch_room_serving::journal_files::{OpenedList, SystemFile};

@@ -1,16 +1,17 @@
 //! A fleet that is kept in the list of a room, and enrolled.
-ghost use Rattle.std.specs.Prelude.{◌≡◌, ◌⊎◌, false, IfErr, IfOk};
+ghost use Rattle.std.specs.Prelude.{◌≡◌, ◌⊎◌, false, IfErr, IfOk, OnErr};
 ghost use Rattle.dispatch_room_cli.specs.declared.exit_status.Failure.TheVariants.{Memory, Storage};
 ghost use Rattle.dispatch_room_journal.specs.Entries.{IsDigest};
 ghost use Rattle.room_store.specs.StoredRoom.{IsReady};
 ghost use Rattle.dispatch_room_tasks.specs.OpenedRoom.{IsUnopened};
 ghost use Rattle.dispatch_room_tasks.specs.RowOutcomes.{good_rows};
-ghost use Rattle.dispatch_room_changes.specs.KeptImports.{EndsKept, ImportsKept, ImportsKeptIn, PlacesRoom, ShowsHead};
+ghost use Rattle.dispatch_room_changes.specs.KeptImports.{EndsKept, ImportsKept, ImportsKeptIn};
+ghost use Rattle.dispatch_room_changes.specs.KeptImports.{PlacesRoom, ShowsHead};
 ghost use Rattle.dispatch_room_lists.specs.StoodRooms.{Stays};
 
 use crate::kept_fleets::{FleetList, keep_fleet, keep_place};
 use dispatch_room_cli::exit_status::{Done, Failure, refused};
-use dispatch_room_cli::explainer::Explainer;
+use dispatch_room_cli::failure_causes::Explainer;
 use dispatch_room_csv::fleet_file::FleetLine;
 use dispatch_room_csv::sheets::Sheet;
 use dispatch_room_journal::journal_digests::digest_of;
@@ -48,6 +49,7 @@ pub fn import_in<S: Alter + Drop, F: Lasting, O: Write>(
         worked.1 list.old list.new fleet.now.lines.now fleet.now.sheet.text.now
         (O.contents out.old) (O.contents out.new) worked.0) }
     ensures fault { IfErr result (λ fault. (fault ≡ Memory) ⊎ IsUnopened S.Store conn fault) }
+    ensures unprinted { OnErr result (O.contents out.new ≡ O.contents out.old) }
 {
     let Ok(rows) = good_rows(alloc, fleet.lines) else {
         return Err(Failure::Memory);

@@ -1,11 +1,14 @@
 //! The list of a room, in which a fleet is kept before it is enrolled.
-ghost use Rattle.std.specs.Prelude.{◌≡◌, ◌≤◌, ◌<◌, ◌⊎◌, ◌∷◌, ◌++◌, ◌||◌, [], IfOk, List, OnErr, OnOk, Some, is_err, length};
+ghost use Rattle.std.specs.Prelude.{◌≡◌, ◌≤◌, ◌<◌, ◌⊎◌, ◌∷◌, ◌++◌, ◌||◌, [], IfOk, List, OnErr};
+ghost use Rattle.std.specs.Prelude.{OnOk, Some, is_err, length};
 ghost use Rattle.std.specs.Prelude.{slice_get, take, true, false, ℕ};
 ghost use Rattle.dispatch_room_journal.specs.Entries.{IsDigest};
 ghost use Rattle.dispatch_room_journal.specs.JournalRecords.{room_text};
 ghost use Rattle.dispatch_room_journal.specs.RowRuns.{PutsRow};
 ghost use Rattle.dispatch_room_journal.specs.TextParts.{Lacks};
-ghost use Rattle.dispatch_room_changes.specs.KeptImports.{AreLinesOf, KeepsFleet, KeepsHead, LacksRows, PutsHead, PutsRows};
+ghost use Rattle.dispatch_room_changes.specs.KeptImports.{AreLinesOf, KeepsFleet, KeepsHead};
+ghost use Rattle.dispatch_room_changes.specs.KeptImports.{LacksRow};
+ghost use Rattle.dispatch_room_changes.specs.KeptImports.{LacksRows, PutsHead, PutsRows};
 
 use dispatch_room_journal::entry_texts::EntryText;
 use dispatch_room_journal::entry_writer::put_room;
@@ -145,7 +148,7 @@ fn keep_row<F: Lasting>(list: &mut FleetList<F>, line: &[u8]) -> Result<(), Unke
     ensures sound { OnOk result (list.new.out.failed ≡ false) }
     ensures kept { OnOk result (PutsRow list.old.end list.new.end
         (F.contents list.old.out.file) (F.contents list.new.out.file) line.now) }
-    ensures unkept { OnErr result (LacksRows list.new line.now) }
+    ensures unkept { OnErr result (LacksRow list.new line.now) }
 {
     let link = match list.end {
         ListEnd::Chain(link) => link,

@@ -1,7 +1,8 @@
 //! `import` with a list: a fleet is kept in the list of a room, and then enrolled.
 ghost use Rattle.std.specs.Prelude.{◌≡◌, ◌⊎◌, IfErr, IfOk};
 ghost use Rattle.dispatch_room_cli.specs.declared.exit_status.Failure.TheVariants as failure;
-ghost use Rattle.dispatch_room_changes.specs.DoneChanges.{FailsKeptImport, FailsKeptImportOf, IsKeptImport, IsKeptImportOf};
+ghost use Rattle.dispatch_room_changes.specs.DoneChanges.{FailsKeptImport, FailsKeptImportOf};
+ghost use Rattle.dispatch_room_changes.specs.DoneChanges.{IsKeptImport, IsKeptImportOf};
 ghost use Rattle.dispatch_room_changes.specs.ChangeTasks.{EnrolsKept, EnrolsNone};
 
 use crate::files::read_text;

@@ -2,13 +2,14 @@
 ghost use Rattle.std.specs.Prelude.{◌≡◌, IfErr, IfOk, OnOk, false};
 ghost use Rattle.room_store.specs.StoredRoom.{IsReady};
 ghost use Rattle.dispatch_room_changes.specs.KeptImports.{IsUnkept};
-ghost use Rattle.dispatch_room_changes.specs.MadeChanges.{EndsMade, KeepsText, MakesKeptIn, OpensNoneKept};
+ghost use Rattle.dispatch_room_changes.specs.MadeChanges.{EndsMade, KeepsText, MakesKeptIn};
+ghost use Rattle.dispatch_room_changes.specs.MadeChanges.{OpensNoneKept};
 ghost use Rattle.dispatch_room_lists.specs.StoodRooms.{Stays};
 
 use crate::kept_enrolments::{end_kept, head_of};
 use crate::kept_fleets::{FleetList, keep_fleet};
 use dispatch_room_cli::exit_status::Failure;
-use dispatch_room_cli::explainer::Explainer;
+use dispatch_room_cli::failure_causes::Explainer;
 use dispatch_room_lists::room_changes::{Remade, RoomChange, remake};
 use dispatch_room_serving::journal_files::Lasting;
 use dispatch_room_tasks::opened_room::{TaskResult, open_room};

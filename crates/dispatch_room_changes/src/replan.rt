@@ -1,7 +1,9 @@
 //! `replan`: a room gets another plan.
 ghost use Rattle.std.specs.Prelude.{is_some, IfErr, IfOk};
 ghost use Rattle.dispatch_room_csv.specs.PlanFile.{IsPlanText};
-ghost use Rattle.dispatch_room_changes.specs.DoneChanges.{FailsReplan, FailsReplanBy, FailsReplanOf, IsReplan, IsReplanOf, IsReplanned};
+ghost use Rattle.dispatch_room_changes.specs.DoneChanges.{FailsReplan, FailsReplanBy};
+ghost use Rattle.dispatch_room_changes.specs.DoneChanges.{FailsReplanOf, IsReplan, IsReplanOf};
+ghost use Rattle.dispatch_room_changes.specs.DoneChanges.{IsReplanned};
 
 use crate::files::read_text;
 use crate::init::plan_in;

@@ -1,7 +1,9 @@
 //! The terminals that a plan's or a fleet's file gives.
 ghost use Rattle.std.specs.List.{list_any};
 ghost use Rattle.std.specs.Prelude.{◌≡◌, filter_map, IfErr, IfOk};
-ghost use Rattle.dispatch_room_changes.specs.TerminalFiles.{AreCrewsOf, AreGiven, AreOfPlan, GiveNone, GivesNoPlan, GivesNone, begins_as_fleet, crew_of, is_bad};
+ghost use Rattle.dispatch_room_changes.specs.TerminalFiles.{AreCrewsOf, AreGiven, AreOfPlan};
+ghost use Rattle.dispatch_room_changes.specs.TerminalFiles.{GiveNone, GivesNoPlan, GivesNone};
+ghost use Rattle.dispatch_room_changes.specs.TerminalFiles.{begins_as_fleet, crew_of, is_bad};
 
 use crate::init::plan_in;
 use dispatch_room_cli::exit_status::Failure;

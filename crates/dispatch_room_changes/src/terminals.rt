@@ -4,8 +4,10 @@ ghost use Rattle.std.specs.Prelude.{◌≡◌, ◌⊎◌, codes, is_some, true, 
 ghost use Rattle.room_types.specs.Texts.{Token as TokenText};
 ghost use Rattle.dispatch_room_cli.specs.declared.exit_status.Failure.TheVariants as failure;
 ghost use Rattle.dispatch_room_cli.specs.declared.tasks.Terminals.TheVariants as wanted;
-ghost use Rattle.dispatch_room_changes.specs.DoneChanges.{FailsReissue, FailsSetting, FailsSettingBy, FailsSettingOf};
-ghost use Rattle.dispatch_room_changes.specs.DoneChanges.{FailsTerminals, IsMade, IsReissued, IsSet, IsSetting, IsSettingOf};
+ghost use Rattle.dispatch_room_changes.specs.DoneChanges.{FailsReissue, FailsSetting};
+ghost use Rattle.dispatch_room_changes.specs.DoneChanges.{FailsSettingBy, FailsSettingOf};
+ghost use Rattle.dispatch_room_changes.specs.DoneChanges.{FailsTerminals, IsMade, IsReissued};
+ghost use Rattle.dispatch_room_changes.specs.DoneChanges.{IsSet, IsSetting, IsSettingOf};
 ghost use Rattle.dispatch_room_changes.specs.DoneChanges.{IsTerminals, is_a_crew, reissue_of};
 ghost use Rattle.dispatch_room_changes.specs.ChangeTasks.{HoldsNoRoom, Lists};
 

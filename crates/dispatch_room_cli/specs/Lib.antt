@@ -4,3 +4,9 @@ pub mod ExitStatus
 pub mod Addresses
 -- what a command line asks for
 pub mod Tasks
+-- how those who have a terminal are named
+pub mod TerminalNames
+-- what a command asks for
+pub mod AskedTasks
+-- the names of a database's files
+pub mod DatabaseNames

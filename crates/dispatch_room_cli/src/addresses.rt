@@ -40,7 +40,7 @@ impl fmt::Display for AddressFault {
         f.write_str(match self {
             AddressFault::NoPort => "no port",
             AddressFault::HighPort => "port above 65535",
-            AddressFault::NoNumbers => "an address in numbers is wanted",
+            AddressFault::NoNumbers => "an address in numbers is expected",
             AddressFault::Elsewhere => "other machines reach it",
         })
     }

@@ -1,7 +1,12 @@
 //! What reads the words of a command line.
 
-ghost use Rattle.std.specs.Prelude.{IfOk};
+ghost use Rattle.std.specs.Prelude.{◌≡◌, codes, IfOk, List, MatchResult, ℕ};
+ghost use Rattle.clap.specs.declared.parser.matches.ArgMatches.{ArgMatches as Given};
+ghost use Rattle.dispatch_room_cli.specs.AskedTasks.{Has, IsAmiss, IsAsked, IsCommand};
+ghost use Rattle.dispatch_room_cli.specs.AskedTasks.{IsJournal, IsList, IsNamed, IsOver};
 ghost use Rattle.dispatch_room_cli.specs.Tasks.{IsServedHere};
+ghost use Rattle.dispatch_room_cli.specs.declared.argument_parser.Mistake.TheVariants.{NoCommand};
+ghost use Rattle.dispatch_room_cli.specs.declared.argument_parser.Mistake.TheVariants.{TwoChanges};
 
 use crate::addresses::{AddressFault, fault_in, loopback};
 use crate::builder::program;
@@ -133,14 +138,16 @@ fn task<'a>(
     match read {
         Ok(task) => Ok(task),
         Err(mistake) => {
-            let told = format!(in alloc; "{mistake}")?;
-            Err(program.error(mistake.kind(), told.as_str())?)
+            let mistake_text = format!(in alloc; "{mistake}")?;
+            Err(program.error(mistake.kind(), mistake_text.as_str())?)
         }
     }
 }
 
 fn task_of<'a>(matches: &ArgMatches<'a>) -> Result<Task<'a>, Mistake<'a>>
-    ensures { IfOk result IsServedHere }
+    ensures served_here { IfOk result IsServedHere }
+    ensures asked { IfOk result (λ task. (name : List ℕ) × (given : Given)
+        × IsCommand matches.now name given × IsAsked given name task) }
 {
     let Some((name, given)) = matches.subcommand() else {
         return Err(Mistake::NoCommand);
@@ -161,7 +168,8 @@ fn task_of<'a>(matches: &ArgMatches<'a>) -> Result<Task<'a>, Mistake<'a>>
 
 // What a command over a room's file asks for.
 fn task_over<'a>(file: &'a str, name: &str, given: &ArgMatches<'a>) -> Result<Task<'a>, Mistake<'a>>
-    ensures { IfOk result IsServedHere }
+    ensures served_here { IfOk result IsServedHere }
+    ensures asked { IfOk result (IsOver given.now name.now file.now) }
 {
     match name {
         "init" => Ok(Task::Init {
@@ -193,7 +201,8 @@ fn task_over<'a>(file: &'a str, name: &str, given: &ArgMatches<'a>) -> Result<Ta
 }
 
 fn times_of<'a>(file: &'a str, given: &ArgMatches<'a>) -> Result<Task<'a>, Mistake<'a>>
-    ensures { IfOk result IsServedHere }
+    ensures served_here { IfOk result IsServedHere }
+    ensures asked { IfOk result (IsOver given.now (codes "times") file.now) }
 {
     let division = division_of(given)?;
     let day = text(given, "DAY")?;
@@ -213,7 +222,10 @@ fn times_of<'a>(file: &'a str, given: &ArgMatches<'a>) -> Result<Task<'a>, Mista
 }
 
 fn terminals_of<'a>(file: &'a str, given: &ArgMatches<'a>) -> Result<Task<'a>, Mistake<'a>>
-    ensures { IfOk result IsServedHere }
+    ensures served_here { IfOk result IsServedHere }
+    ensures asked { MatchResult result
+        (IsOver given.now (codes "terminals") file.now)
+        (IsAmiss given.now file.now) }
 {
     let new = named(given, "new")?;
     let revoked = named(given, "revoke")?;
@@ -231,12 +243,18 @@ fn terminals_of<'a>(file: &'a str, given: &ArgMatches<'a>) -> Result<Task<'a>, M
     Ok(Task::Terminals { file, wanted, list })
 }
 
-fn conflict<'a>(one: &'a str, other: &'a str) -> Mistake<'a> {
+fn conflict<'a>(one: &'a str, other: &'a str) -> Mistake<'a>
+    ensures { result ≡ TwoChanges one.entry other.entry }
+{
     Mistake::TwoChanges { one, other }
 }
 
 // Whom the word behind an option names, where the option is given.
-fn named<'a>(given: &ArgMatches<'a>, option: &'a str) -> Result<Option<Who>, Mistake<'a>> {
+fn named<'a>(given: &ArgMatches<'a>, option: &'a str) -> Result<Option<Who>, Mistake<'a>>
+    ensures { MatchResult result
+        (IsNamed given.now option.now)
+        (λ mistake. (file : List ℕ) → IsAmiss given.now file mistake) }
+{
     let Some(who) = given.get_str(option) else {
         return Ok(None);
     };
@@ -247,7 +265,8 @@ fn named<'a>(given: &ArgMatches<'a>, option: &'a str) -> Result<Option<Who>, Mis
 }
 
 fn serve_of<'a>(file: &'a str, given: &ArgMatches<'a>) -> Result<Task<'a>, Mistake<'a>>
-    ensures { IfOk result IsServedHere }
+    ensures served_here { IfOk result IsServedHere }
+    ensures asked { IfOk result (IsOver given.now (codes "serve") file.now) }
 {
     let address = text(given, "ADDRESS")?;
     let Some(address) = loopback(address) else {
@@ -270,17 +289,18 @@ fn serve_of<'a>(file: &'a str, given: &ArgMatches<'a>) -> Result<Task<'a>, Mista
 }
 
 // The list that is kept of a room's file, where there is one.
-fn list_of<'a>(file: &'a str, given: &ArgMatches<'a>) -> Result<Option<&'a str>, Mistake<'a>> {
+fn list_of<'a>(file: &'a str, given: &ArgMatches<'a>) -> Result<Option<&'a str>, Mistake<'a>>
+    ensures { MatchResult result (IsList given.now file.now) (IsAmiss given.now file.now) }
+{
     match given.get_str("journal") {
         Some(list) if is_of_database(file, list) => Err(Mistake::OfDatabase { list, file }),
         list => Ok(list),
     }
 }
 
-fn journal_of<'a>(
-    file: &'a str,
-    given: &ArgMatches<'a>,
-) -> Result<Option<Journal<'a>>, Mistake<'a>> {
+fn journal_of<'a>(file: &'a str, given: &ArgMatches<'a>) -> Result<Option<Journal<'a>>, Mistake<'a>>
+    ensures { IfOk result (IsJournal given.now file.now) }
+{
     let Some(list) = list_of(file, given)? else {
         return Ok(None);
     };
@@ -302,7 +322,8 @@ fn replay_of(given: &ArgMatches<'_>) -> Replay {
 }
 
 fn renew_of<'a>(given: &ArgMatches<'a>) -> Result<Task<'a>, Mistake<'a>>
-    ensures { IfOk result IsServedHere }
+    ensures served_here { IfOk result IsServedHere }
+    ensures asked { IfOk result (IsAsked given.now (codes "renew")) }
 {
     Ok(Task::Renew {
         file: text(given, "OLD")?,
@@ -312,7 +333,8 @@ fn renew_of<'a>(given: &ArgMatches<'a>) -> Result<Task<'a>, Mistake<'a>>
 }
 
 fn board_of<'a>(given: &ArgMatches<'a>) -> Result<Task<'a>, Mistake<'a>>
-    ensures { IfOk result IsServedHere }
+    ensures served_here { IfOk result IsServedHere }
+    ensures asked { IfOk result (IsAsked given.now (codes "board")) }
 {
     let look = Look {
         address: text(given, "ADDRESS")?,
@@ -337,7 +359,11 @@ fn division_of<'a>(given: &ArgMatches<'a>) -> Result<DivisionNumber, Mistake<'a>
     DivisionNumber::new(u32::from(digit)).ok_or(Mistake::NoCommand)
 }
 
-fn text<'a>(given: &ArgMatches<'a>, name: &str) -> Result<&'a str, Mistake<'a>> {
+fn text<'a>(given: &ArgMatches<'a>, name: &str) -> Result<&'a str, Mistake<'a>>
+    ensures { MatchResult result
+        (λ text. Has given.now name.now text.now)
+        (λ mistake. mistake ≡ NoCommand) }
+{
     given.get_str(name).ok_or(Mistake::NoCommand)
 }
 

@@ -8,6 +8,6 @@ mod builder;
 mod command_options;
 mod database_names;
 pub mod exit_status;
-pub mod explainer;
+pub mod failure_causes;
 pub mod tasks;
 pub mod who;

@@ -1,8 +1,8 @@
 -- What a task of the command line comes to, where it is done.
 use Rattle.std.specs.Global.{Global}
 use Rattle.std.specs.Io.KnownBytes.{Appends}
-use Rattle.std.specs.Prelude.{true, Bool, Err, List, MatchResult, Ok, Option, Result, Some, Vec, codes}
-use Rattle.std.specs.Prelude.{is_some, ℕ, ◌≡◌, ◌⊎◌, None}
+use Rattle.std.specs.Prelude.{Bool, Err, List, MatchResult, None, Ok, Option, Result, Some, Vec, codes}
+use Rattle.std.specs.Prelude.{is_some, true, ℕ, ◌≡◌, ◌⊎◌}
 use Rattle.clap.specs.Words.{kind_of}
 use Rattle.clap.specs.declared.error.Error.{Error}
 use Rattle.dispatch_room_disk.specs.DiskFaults.{IsFileFault}

@@ -19,17 +19,17 @@ use Rattle.dispatch_room_archive.specs.Renewal as renewed
 use Rattle.dispatch_room_archive.specs.declared.renewal.Successor.{Successor}
 use Rattle.room_tables_schema.specs.FileConnections.{IsClean}
 
--- no room is opened, for this
+-- no room is opened, for this, and nothing is printed
 abbrev pub OpensNone : Refusing
-OpensNone = λ S g conn. IsUnopened g conn
+OpensNone = λ S g conn before after fault. IsUnopened g conn fault × (after ≡ before)
 
 -- the room is moved from the first version to this one
 abbrev pub Moves : Saying (Unit {0})
 Moves = λ S g old new before after done. IsMigrated g old new done
 
--- or none is, for this
+-- or none is, for this, and nothing is printed
 abbrev pub MovesNone : Refusing
-MovesNone = λ S g conn. IsUnmoved g conn
+MovesNone = λ S g conn before after fault. IsUnmoved g conn fault × (after ≡ before)
 
 -- what the room leaves to one that is made of it since a day is read
 abbrev pub LeavesRows : List ℕ → Saying Successor
@@ -37,28 +37,29 @@ LeavesRows day = λ S g old new before after done.
     IsOk done × (IsClean g new → IfOk done (IsLeftBy (state g old).now.trees day))
     × WritesNothing (state g old) (state g new)
 
--- or it leaves nothing, for this
+-- or it leaves nothing, for this, and nothing is printed
 abbrev pub LeavesNothing : List ℕ → Refusing
-LeavesNothing day = λ S g conn. LeavesNone g conn day
+LeavesNothing day = λ S g conn before after fault. LeavesNone g conn day fault × (after ≡ before)
 
 -- the room of what was left is made, and how much it has is reported
 abbrev pub Begins : Successor → Saying Done
 Begins left = λ S g old new before after done.
-    IsBegun g old new left × renewed.IsTold left.changes.items before after done
+    IsBegun g old new left × renewed.IsPrinted left.changes.items before after done
 
--- or none is: the file is not empty, or the machine fails
+-- or none is, and nothing is printed: the file is not empty, or the machine fails
 abbrev pub BeginsNone : Refusing
-BeginsNone = λ S g conn. ExplainsUnmade (state g conn).now.schema
+BeginsNone = λ S g conn before after fault.
+    ExplainsUnmade (state g conn).now.schema fault × (after ≡ before)
 
 -- how much the room has is reported, or what is wrong with its file; the file stays as it is
 abbrev pub Examines : Saying Done
 Examines = λ S g old new before after done.
     checked.HasChecked g old new before after done
-    × OnOk done (checked.IsTold before after) × WritesNothing (state g old) (state g new)
+    × OnOk done (checked.IsPrinted before after) × WritesNothing (state g old) (state g new)
 
 -- there is always something to report
 abbrev pub ExaminesNone : Refusing
-ExaminesNone = λ S g conn fault. ⊥
+ExaminesNone = λ S g conn before after fault. ⊥
 
 -- the digest of the room is printed, and the room stays as it is
 abbrev pub Digests : Saying Done
@@ -75,9 +76,10 @@ FindsDay division day = λ S g old new before after done.
     IsOk done × (IsClean g new → IfOk done (IsDayIn (state g old).now.trees division day))
     × WritesNothing (state g old) (state g new)
 
--- or there is none, for this
+-- or there is none, for this, and nothing is printed
 abbrev pub FindsNoDay : ℕ → List ℕ → Refusing
-FindsNoDay division day = λ S g conn. LacksDay g conn division day
+FindsNoDay division day = λ S g conn before after fault.
+    LacksDay g conn division day fault × (after ≡ before)
 
 -- that day is reported with an older room's incidents, and no row is written
 abbrev pub ReportsBoth : DivisionDay → Saying (Vec ℕ Global)
@@ -86,16 +88,16 @@ ReportsBoth newer = λ S g old new before after done.
     → IfOk done (λ report. JoinsDay (state g old).now.trees newer report.items))
     × WritesNothing (state g old) (state g new)
 
--- or it is not, for this
+-- or it is not, for this, and nothing is printed
 abbrev pub ReportsNone : Refusing
-ReportsNone = λ S g conn. JoinsNone g conn
+ReportsNone = λ S g conn before after fault. JoinsNone g conn fault × (after ≡ before)
 
 -- a list was replayed to the room, or its messages answered
 abbrev pub Replays : How → Saying Done
 Replays how = λ S g old new before after done.
     (list : Option (List ℕ)) × HasReplayed g old new how list before after done
 
--- no room was opened, or, behind a leg of a list, none was opened again
+-- no room was opened, and nothing is printed; or, behind a leg of a list, none was opened again
 abbrev pub ReplaysNone : How → Refusing
-ReplaysNone how = λ S g conn fault. IsUnopened g conn fault
-    ⊎ ((list : Option (List ℕ)) × LosesReplayed g conn how list fault)
+ReplaysNone how = λ S g conn before after fault. (IsUnopened g conn fault × (after ≡ before))
+    ⊎ ((list : Option (List ℕ)) × LosesReplayed g conn how list before after fault)

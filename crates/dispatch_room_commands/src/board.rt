@@ -3,12 +3,12 @@ ghost use Rattle.std.specs.Prelude.{◌≡◌, ◌*◌, Bool, IfErr, IfOk, IfSom
 ghost use Rattle.std.specs.Duration.{as_nanos};
 ghost use Rattle.std.specs.Io.KnownBytes.{Consumes};
 ghost use Rattle.room_types.specs.Texts.{is_token};
-ghost use Rattle.dispatch_room_board.specs.Requests.{Tells, requests};
+ghost use Rattle.dispatch_room_board.specs.Requests.{Sends, requests};
 ghost use Rattle.dispatch_room_commands.specs.CommandEnds.{FailsToPrint, IsColour, IsPrinted, end_of_board};
 ghost use Rattle.dispatch_room_commands.specs.DoneTasks.{FailsBoard, IsBoardOf};
 
 use dispatch_room_board::boards::{Reached, board_of};
-use dispatch_room_board::exchange::{hear, tell};
+use dispatch_room_board::exchange::{hear, send};
 use dispatch_room_board::requests::Asker;
 use dispatch_room_cli::exit_status::{Done, Failure};
 use dispatch_room_cli::tasks::{Color, Look};
@@ -137,11 +137,11 @@ fn ask<R: Source, W: Sink>(
     writer: &mut W,
 ) -> Result<Vec<u8>, AllocError>
     requires { W.has_failed writer.old ≡ false }
-    ensures asked { OnOk result ((is_whole : Bool) × Tells W.held W.has_failed writer.old writer.new
+    ensures asked { OnOk result ((is_whole : Bool) × Sends W.held W.has_failed writer.old writer.new
         (requests asker.now.token asker.now.incident) is_whole) }
     ensures heard { IfOk result (λ heard.
         Consumes (R.left reader.old) (R.left reader.new) heard.items) }
 {
-    let _told = tell(alloc, asker, writer)?;
+    let _sent = send(alloc, asker, writer)?;
     hear(alloc, reader)
 }

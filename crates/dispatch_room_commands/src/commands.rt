@@ -30,7 +30,7 @@ use dispatch_room_changes::replan::replan;
 use dispatch_room_changes::terminals::{set_terminals, terminals};
 use dispatch_room_cli::argument_parser;
 use dispatch_room_cli::exit_status::{Done, Failure, end};
-use dispatch_room_cli::explainer::Explainer;
+use dispatch_room_cli::failure_causes::Explainer;
 use dispatch_room_cli::tasks::Task;
 use dispatch_room_tcp::hosts::Host;
 use dispatch_room_tcp::serve::serve_file;

@@ -5,7 +5,7 @@ ghost use Rattle.dispatch_room_commands.specs.RoomTasks.{Digests, OpensNone};
 
 use dispatch_room_cli::exit_status::{Done, Failure};
 use dispatch_room_disk::room_files::{RoomFile, RoomTask};
-use dispatch_room_lists::digest_lines::tell_digest;
+use dispatch_room_lists::digest_lines::print_digest;
 use dispatch_room_tasks::opened_room::{TaskResult, open_room};
 use dispatch_room_tcp::hosts::Host;
 use sqlite::{Alter, Connection};
@@ -38,7 +38,7 @@ impl RoomTask for Digesting {
         out: &mut O,
     ) -> TaskResult<Done, S> {
         let (mut room, _zone) = open_room(alloc, conn)?;
-        let done = tell_digest(&mut room, out);
+        let done = print_digest(&mut room, out);
         Ok((done, room.close()))
     }
 }

@@ -1,7 +1,7 @@
 //! Why a task fails, in words, where what was asked for makes it clear.
 
 use dispatch_room_cli::exit_status::{Done, Failure};
-use dispatch_room_cli::explainer::Explainer;
+use dispatch_room_cli::failure_causes::Explainer;
 use dispatch_room_cli::tasks::{Task, Terminals};
 use room_types::asks::Who;
 
@@ -48,7 +48,7 @@ pub fn explain(explainer: Explainer<'_>, task: &Task<'_>, done: &Result<Done, Fa
         Task::Verify { list } => {
             if let Failure::Record(number) = fault {
                 explainer.explain(format_args!(
-                    "{list}: record {number} is none of a journal, or not the one that was written"
+                    "{list}: record {number} is not of a journal, or not the one that was written"
                 ));
             }
         }
@@ -62,7 +62,7 @@ pub fn explain(explainer: Explainer<'_>, task: &Task<'_>, done: &Result<Done, Fa
 fn explain_replay(explainer: Explainer<'_>, file: &str, fault: Failure) {
     match fault {
         Failure::Record(number) => explainer.explain(format_args!(
-            "standard input: record {number} is none of a journal, or its message is none"
+            "standard input: record {number} is not of a journal, or its message is none"
         )),
         Failure::OtherRoom(number) => explainer.explain(format_args!(
             "standard input: at record {number} the journal goes on from another room than {file}"

@@ -8,9 +8,9 @@ ghost use Rattle.dispatch_room_commands.specs.DoneTasks.{FailsVerify, FailsVerif
 ghost use Rattle.dispatch_room_commands.specs.VerifiedLists.{fails_by, span_text, tally_text};
 
 use dispatch_room_cli::exit_status::{Done, Failure};
-use dispatch_room_journal::chain_source::Unchained;
 use dispatch_room_journal::entry_reader::EntryFault;
 use dispatch_room_journal::journal_inbox::JournalInbox;
+use dispatch_room_journal::list_source::Unchained;
 use dispatch_room_journal::list_tallies::{Flaw, Span, Tally};
 use dispatch_room_journal::verification::verify;
 use dispatch_room_tcp::hosts::Host;
@@ -79,7 +79,7 @@ fn verify_in<R: Source, O: Write>(
         return Err(Failure::Memory);
     };
     match verify(&mut inbox, list) {
-        Ok(tally) => tell(&tally, list.ended_well(), out),
+        Ok(tally) => print_tally(&tally, list.ended_well(), out),
         Err(flaw) => Err(failure_of(&flaw)),
     }
 }
@@ -95,8 +95,8 @@ fn failure_of(flaw: &Flaw) -> Failure
 }
 
 // Prints what a list holds.
-fn tell<O: Write>(tally: &Tally, has_ended: bool, out: &mut O) -> Result<Done, Failure>
-    ensures told { OnOk result (Appends (O.contents out.old) (O.contents out.new)
+fn print_tally<O: Write>(tally: &Tally, has_ended: bool, out: &mut O) -> Result<Done, Failure>
+    ensures printed { OnOk result (Appends (O.contents out.old) (O.contents out.new)
         (tally_text tally.now has_ended)) }
     ensures whole { IfOk result (λ done. done ≡ Whole) }
     ensures failed { IfErr result (λ fault. fault ≡ Network) }
@@ -105,7 +105,7 @@ fn tell<O: Write>(tally: &Tally, has_ended: bool, out: &mut O) -> Result<Done, F
         return Err(Failure::Network);
     }
     if let Some(span) = tally.span {
-        tell_span(&span, out)?;
+        print_span(&span, out)?;
     }
     let end = if has_ended { "ended\n" } else { "not ended\n" };
     match out.write_all(end.as_bytes()) {
@@ -115,8 +115,8 @@ fn tell<O: Write>(tally: &Tally, has_ended: bool, out: &mut O) -> Result<Done, F
 }
 
 // Prints when the messages of a list came.
-fn tell_span<O: Write>(span: &Span, out: &mut O) -> Result<(), Failure>
-    ensures told { OnOk result
+fn print_span<O: Write>(span: &Span, out: &mut O) -> Result<(), Failure>
+    ensures printed { OnOk result
         (Appends (O.contents out.old) (O.contents out.new) (span_text (Some span.now))) }
     ensures failed { IfErr result (λ fault. fault ≡ Network) }
 {

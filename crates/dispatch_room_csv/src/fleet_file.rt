@@ -40,7 +40,7 @@ impl From<RecordsFault> for FleetFileFault {
     ghost use Rattle.std.specs.Prelude.{◌≡◌};
     ghost use Rattle.dispatch_room_csv.specs.FleetFile.{fleet_fault_of};
 
-    ghost from_gives = { λ fault told. told ≡ fleet_fault_of fault };
+    ghost from_gives = { λ fault cause. cause ≡ fleet_fault_of fault };
 
     fn from(fault: RecordsFault) -> FleetFileFault {
         match fault {
@@ -54,7 +54,7 @@ impl From<AllocError> for FleetFileFault {
     ghost use Rattle.std.specs.Prelude.{◌≡◌};
     ghost use Rattle.dispatch_room_csv.specs.declared.fleet_file.FleetFileFault.TheVariants.{Memory};
 
-    ghost from_gives = { λ _ told. told ≡ Memory };
+    ghost from_gives = { λ _ cause. cause ≡ Memory };
 
     fn from(_: AllocError) -> FleetFileFault {
         FleetFileFault::Memory
@@ -65,7 +65,7 @@ impl From<FleetFileFault> for Failure {
     ghost use Rattle.std.specs.Prelude.{◌≡◌};
     ghost use Rattle.dispatch_room_csv.specs.CsvFaults.{fleet_failure};
 
-    ghost from_gives = { λ fault told. told ≡ fleet_failure fault };
+    ghost from_gives = { λ fault cause. cause ≡ fleet_failure fault };
 
     fn from(fault: FleetFileFault) -> Failure {
         match fault {

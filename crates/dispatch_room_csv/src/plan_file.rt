@@ -42,7 +42,7 @@ impl From<RecordsFault> for PlanFileFault {
     ghost use Rattle.std.specs.Prelude.{◌≡◌};
     ghost use Rattle.dispatch_room_csv.specs.PlanFile.{plan_fault_of};
 
-    ghost from_gives = { λ fault told. told ≡ plan_fault_of fault };
+    ghost from_gives = { λ fault cause. cause ≡ plan_fault_of fault };
 
     fn from(fault: RecordsFault) -> PlanFileFault {
         match fault {
@@ -56,7 +56,7 @@ impl From<AllocError> for PlanFileFault {
     ghost use Rattle.std.specs.Prelude.{◌≡◌};
     ghost use Rattle.dispatch_room_csv.specs.declared.plan_file.PlanFileFault.TheVariants.{Memory};
 
-    ghost from_gives = { λ _ told. told ≡ Memory };
+    ghost from_gives = { λ _ cause. cause ≡ Memory };
 
     fn from(_: AllocError) -> PlanFileFault {
         PlanFileFault::Memory
@@ -67,7 +67,7 @@ impl From<PlanFileFault> for Failure {
     ghost use Rattle.std.specs.Prelude.{◌≡◌};
     ghost use Rattle.dispatch_room_csv.specs.CsvFaults.{plan_failure};
 
-    ghost from_gives = { λ fault told. told ≡ plan_failure fault };
+    ghost from_gives = { λ fault cause. cause ≡ plan_failure fault };
 
     fn from(fault: PlanFileFault) -> Failure {
         match fault {

@@ -2,7 +2,7 @@
 
 use crate::csv_records::has_names;
 use csv::{ReaderBuilder, StringRecord};
-use dispatch_room_cli::explainer::Explainer;
+use dispatch_room_cli::failure_causes::Explainer;
 use std::alloc::Global;
 use std::fmt::{self, Display};
 use std::str;
@@ -163,6 +163,6 @@ impl Display for Length {
     fn fmt<W: fmt::Write>(&self, f: &mut fmt::Formatter<W>) -> fmt::Result {
         let (found, wanted) = (self.found, self.wanted);
         let fields = if found == 1 { "field" } else { "fields" };
-        write!(f, "{found} {fields} where {wanted} are wanted")
+        write!(f, "{found} {fields} where {wanted} are expected")
     }
 }

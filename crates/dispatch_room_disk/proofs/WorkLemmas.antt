@@ -1,6 +1,6 @@
 -- What a call gives, said by two of its clauses, and what is handed on where it fails.
 use Rattle.std.proofs.Common.{Err, IfErr, IfOk, MatchResult, Ok, Result, false, ◌≡◌}
-use Rattle.std.specs.Prelude.{OnOk, is_err}
+use Rattle.std.specs.Prelude.{OnErr, OnOk, is_err}
 use Rattle.std.specs.Result.{IsErrAnd}
 
 pub both : {T E : Type 0} (r : Result T E) (P Q : T → Type 0) → IfOk r P → IfOk r Q → IfOk r (λ x. P x × Q x)
@@ -26,3 +26,9 @@ where_well (Err e) P well holds = absurd (cc)
 pub once_done : {E : Type 0} (r : Result (Unit {0}) E) (P : Unit {0} → Type 0) (Q : Type 0) → IfOk r P → (P tt → Q) → OnOk r Q
 once_done (Ok done) P Q is by = by is
 once_done (Err e) P Q is by = tt
+
+-- what holds where a call failed, of why and beside
+pub failed_so : {T E : Type 0} (r : Result T E) (P : E → Type 0) (Q : Type 0) → IfErr r P → OnErr r Q
+    → IfErr r (λ e. P e × Q)
+failed_so (Ok x) P Q why beside = tt
+failed_so (Err e) P Q why beside = (why, beside)

@@ -26,14 +26,16 @@ Saying T =
     (S : Type 0) → Ghosts S → Held S → Held S → Option (List ℕ) → Option (List ℕ)
     → Result T Failure → Type 0
 
--- What is said of a database, over any storage, in which there is nothing to be done, and of why.
+-- What is said of a database, over any storage, in which there is nothing to be done, of what the
+-- output held before and after, and of why.
 abbrev pub Refusing : Type 1
-Refusing = (S : Type 0) → Ghosts S → Held S → Failure → Type 0
+Refusing =
+    (S : Type 0) → Ghosts S → Held S → Option (List ℕ) → Option (List ℕ) → Failure → Type 0
 
 -- no connection came of these files, and what is left of them holds what they held
 pub record IsUnharmed {D : Type 0} (g : Disk D) (files : Files D) (failure : Failure) : Type 0 where
   pub error : Error
-  pub told : failure ≡ fault_of error
+  pub failed : failure ≡ fault_of error
   pub left : Leftover D g
   pub kept : IsCleanLeft left → LeavesFiles files left
 
@@ -55,7 +57,7 @@ module _ {D : Type 0} {g : Disk D} where
   -- The file could not be closed with all that was committed, for this: it is as the store left it.
   pub record IsUnclosed (conn : Held (FileStore D g)) (fault : Failure) : Type 0 where
     pub error : Error
-    pub told : fault ≡ fault_of error
+    pub failed : fault ≡ fault_of error
     pub last : FileStore D g
     pub left : IsClosed conn last
     pub why : IsClean (view last) → FailsToClose conn last error
@@ -87,7 +89,8 @@ module _ {D : Type 0} {g : Disk D} where
   -- failed, or its file could not be closed
   abbrev pub IsUndone : {T : Type 0} → Saying T → Refusing → Held (FileStore D g)
       → Option (List ℕ) → Option (List ℕ) → Failure → Type 0
-  IsUndone says refuses conn before after fault = refuses (FileStore D g) over_files conn fault
+  IsUndone says refuses conn before after fault =
+      refuses (FileStore D g) over_files conn before after fault
       ⊎ (HasFailed says conn before after fault ⊎ IsLeftOpen says conn before after fault)
 
 -- work was done in the database of a file of the system
@@ -100,7 +103,7 @@ pub record IsDoneInFile {T : Type 0} (says : Saying T) (before after : Option (L
 -- no database was found in a file of the system, and nothing is reported
 pub record IsUnfound (before after : Option (List ℕ)) (fault : Failure) : Type 0 where
   pub why : (fault ≡ failure.File) ⊎ IsFileFault fault
-  pub untold : after ≡ before
+  pub unprinted : after ≡ before
 
 -- work was not done in a file of the system: no database was found in it, or this became of the one
 -- that was

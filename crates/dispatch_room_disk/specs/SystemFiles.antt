@@ -21,19 +21,19 @@ abbrev pub SystemFile : Type 0
 SystemFile = Modelled Host Unknown host unknown
 
 -- what is known of such a file, by all calls so far
-abbrev pub told : SystemFile → Model
-told f = replay (start_of unknown f) f.calls.log.events
+abbrev pub known : SystemFile → Model
+known f = replay (start_of unknown f) f.calls.log.events
 
 abbrev pub system : Disk SystemFile
 system = record {
-  seen = λ f. (told f).seen;
-  may_leave = λ f. MayLeave true (told f).seen (told f).synced (told f).steps;
-  is_usable = λ f. (told f).is_usable;
-  faults = λ f. (told f).faults;
-  tally_of = λ f. record { caught = (told f).caught; refused = (told f).refused };
-  is_clean = λ f. (told f).is_honest;
-  key_of = λ f. (told f).key;
-  is_fair = λ f. (told f).is_fair;
+  seen = λ f. (known f).seen;
+  may_leave = λ f. MayLeave true (known f).seen (known f).synced (known f).steps;
+  is_usable = λ f. (known f).is_usable;
+  faults = λ f. (known f).faults;
+  tally_of = λ f. record { caught = (known f).caught; refused = (known f).refused };
+  is_clean = λ f. (known f).is_honest;
+  key_of = λ f. (known f).key;
+  is_fair = λ f. (known f).is_fair;
   is_frozen = λ _. false;
   is_rotten = λ _ _ _. false;
   is_mixing = λ _. true;

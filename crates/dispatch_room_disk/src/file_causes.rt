@@ -3,7 +3,7 @@
 use crate::holders::holder;
 use crate::room_files::RoomFile;
 use dispatch_room_cli::exit_status::Failure;
-use dispatch_room_cli::explainer::Explainer;
+use dispatch_room_cli::failure_causes::Explainer;
 use sqlite_std_file::OpenError;
 use std::io::{self, ErrorKind};
 
@@ -57,7 +57,7 @@ pub(crate) fn explain_undone(explainer: Explainer<'_>, file: RoomFile<'_>, fault
             explainer.explain(format_args!("{path} can't be written"));
         }
         (_, Failure::Storage) => explainer.explain(format_args!(
-            "{path} can't be read, or a row is none of its table"
+            "{path} can't be read, or a row is not of its table"
         )),
         _ => {}
     }

@@ -9,7 +9,7 @@ ghost use Rattle.dispatch_room_disk.specs.NewFiles.{IsBegun, IsSpared};
 
 use crate::opened_files::open_files;
 use dispatch_room_cli::exit_status::Failure;
-use dispatch_room_cli::explainer::Explainer;
+use dispatch_room_cli::failure_causes::Explainer;
 use sqlite::{Files, Options, Unknown};
 use sqlite_disk::Disk;
 use sqlite_pager::{PageSize, Pager};

@@ -6,7 +6,7 @@ ghost use Rattle.dispatch_room_disk.specs.DiskFaults.{IsFaultBy, IsFileFault};
 
 use crate::file_causes::explain_unopened;
 use dispatch_room_cli::exit_status::Failure;
-use dispatch_room_cli::explainer::Explainer;
+use dispatch_room_cli::failure_causes::Explainer;
 use sqlite::{File, Files, Unknown};
 use sqlite_std_file::OpenError;
 use std::fs::{self, OpenOptions};

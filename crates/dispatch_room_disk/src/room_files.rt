@@ -12,7 +12,7 @@ use crate::new_files::make_file;
 use crate::new_logs::{lacked_log, remove_unused};
 use crate::opened_files::open_files;
 use dispatch_room_cli::exit_status::Failure;
-use dispatch_room_cli::explainer::Explainer;
+use dispatch_room_cli::failure_causes::Explainer;
 use dispatch_room_tasks::opened_room::TaskResult;
 use sqlite::{Alter, Connection, Error, ErrorCode, File, FileStore, Files, Options, Unknown};
 use sqlite_disk::Disk;
@@ -50,7 +50,8 @@ pub trait RoomTask: Drop {
     // and after, and of what came of it.
     ghost says: { Self → Saying Self.Done };
 
-    // What holds of a database in which there is nothing to be done, and of why.
+    // What holds of a database in which there is nothing to be done, of what the output held before
+    // and after, and of why.
     ghost refuses: { Self → Refusing };
 
     /// Does it in a database, and writes to the output what it reports.
@@ -63,7 +64,8 @@ pub trait RoomTask: Drop {
         requires outside { conn.in_transaction ≡ false }
         ensures done { IfOk result (λ worked. says self S S.Store conn worked.1
             (O.contents out.old) (O.contents out.new) worked.0) }
-        ensures refused { IfErr result (refuses self S S.Store conn) };
+        ensures refused { IfErr result (refuses self S S.Store conn
+            (O.contents out.old) (O.contents out.new)) };
 }
 
 /// Does what is to be done in a room's file, and closes the file with all that was committed in it.

@@ -2,5 +2,5 @@
 pub mod ExampleLemmas
 -- a fleet of which every row was enrolled
 pub mod EnrolLemmas
--- a talk that is described only by the room at its beginning
+-- a dialogue that is described only by the room at its beginning
 pub mod ServeLemmas

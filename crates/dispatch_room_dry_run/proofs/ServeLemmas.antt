@@ -12,104 +12,104 @@ use Rattle.room_http.specs.declared.session.ServeEnd.TheVariants.{Closed, Cut, R
 use Rattle.room_http.specs.declared.session.ServeEnd.TheVariants.{Unkept, ReadsSpent, Memory}
 use Rattle.room_http.specs.Arrivals.{Arrival, is_head_only}
 use Rattle.room_http.specs.Session.{Sides, Finish, Answered, HasActed, Unserved, Unwritten, Broken, Untimed, ServeIs}
-use Rattle.dispatch_room_dry_run.specs.Example.{untold}
+use Rattle.dispatch_room_dry_run.specs.Example.{unstated}
 use Rattle.room_http.specs.Course.{Course}
-use Rattle.room_http.specs.Talk.{Timed, IsCaused, IsFront, BreaksOff, Talks}
+use Rattle.room_http.specs.Dialogues.{Timed, IsCaused, IsFront, BreaksOff, WritesDialogue}
 
 module _ (step : Step) (setting : Setting) (old : Sides) (new : Finish) (trusted : Type 0)
     (trust : trusted) (stood stands : List Terminal → Room → Type 0)
-    (wants : Timed → List Terminal → Room → Type 0) (failed : Type 0) (asked : List Terminal → Room → Type 0)
+    (unserved : Timed → List Terminal → Room → Type 0) (failed : Type 0) (asked : List Terminal → Room → Type 0)
     (is : (terminals : List Terminal) (room : Room) → asked terminals room → stood terminals room) where
-  -- what is written is the talk of each room that the one at the beginning was asked to be
-  talks : (outs : List Timed) (says less : List Terminal → Room → List ℕ → Type 0)
+  -- what is written is the dialogue of each room that the one at the beginning was asked to be
+  dialogues : (outs : List Timed) (says less : List Terminal → Room → List ℕ → Type 0)
       → ((terminals : List Terminal) (room : Room) (tail : List ℕ) → says terminals room tail
       → less terminals room tail)
-      → Talks step setting trusted stood old.held new.held outs says
-      → Talks step setting ⊤ asked old.held new.held outs less
-  talks outs says less tells talk _ terminals room begins =
-      let x = talk trust terminals room (is terminals room begins) in
-      (x.0, x.1, x.2, x.3, tells terminals x.0 x.2 x.4, x.5)
+      → WritesDialogue step setting trusted stood old.held new.held outs says
+      → WritesDialogue step setting ⊤ asked old.held new.held outs less
+  dialogues outs says less states dialogue _ terminals room begins =
+      let x = dialogue trust terminals room (is terminals room begins) in
+      (x.0, x.1, x.2, x.3, states terminals x.0 x.2 x.4, x.5)
 
   answered : (outs : List Timed) (follows : List ℕ → Type 0)
       → Answered step setting old new trusted stood stands outs follows
-      → Answered step setting old new ⊤ asked untold outs follows
+      → Answered step setting old new ⊤ asked unstated outs follows
   answered outs follows a = record {
     begins = a.begins;
     timed = a.timed;
-    talk =
-        talks outs (λ terminals after tail. stands terminals after × (tail ≡ []))
-        (λ terminals after tail. untold terminals after × (tail ≡ []))
-        (λ terminals after tail said. (tt, said.1)) a.talk;
+    dialogue =
+        dialogues outs (λ terminals after tail. stands terminals after × (tail ≡ []))
+        (λ terminals after tail. unstated terminals after × (tail ≡ []))
+        (λ terminals after tail said. (tt, said.1)) a.dialogue;
   }
 
   some : (r : Refusal) → IsCaused failed r → IsCaused ⊤ r
   some r (inl memory) = inl memory
   some r (inr storage) = inr (storage.0, tt)
 
-  wanted : (outs : List Timed) (x : Timed) (so_much : List ℕ → List ℕ → Type 0)
-      → Unserved step setting old new trusted stood stands wants failed outs x so_much
-      → Unserved step setting old new ⊤ asked untold (λ y. untold) ⊤ outs x so_much
-  wanted outs x so_much w = record {
+  unserved_at : (outs : List Timed) (x : Timed) (so_much : List ℕ → List ℕ → Type 0)
+      → Unserved step setting old new trusted stood stands unserved failed outs x so_much
+      → Unserved step setting old new ⊤ asked unstated (λ y. unstated) ⊤ outs x so_much
+  unserved_at outs x so_much w = record {
     begins = w.begins;
     timed = w.timed;
     next = w.next;
     refusal = w.refusal;
-    want = some w.refusal w.want;
-    talk =
-        talks outs
-        (λ terminals after tail. wants x terminals after × so_much tail (fixed_bytes w.refusal (is_head_only x.0)))
-        (λ terminals after tail. untold terminals after × so_much tail (fixed_bytes w.refusal (is_head_only x.0)))
-        (λ terminals after tail said. (tt, said.1)) w.talk;
+    caused = some w.refusal w.caused;
+    dialogue =
+        dialogues outs
+        (λ terminals after tail. unserved x terminals after × so_much tail (fixed_bytes w.refusal (is_head_only x.0)))
+        (λ terminals after tail. unstated terminals after × so_much tail (fixed_bytes w.refusal (is_head_only x.0)))
+        (λ terminals after tail said. (tt, said.1)) w.dialogue;
   }
 
   broken : (outs : List Timed) (x : Timed) → Broken step setting old new trusted stood stands outs x
-      → Broken step setting old new ⊤ asked untold outs x
+      → Broken step setting old new ⊤ asked unstated outs x
   broken outs x b = record {
     begins = b.begins;
     timed = b.timed;
-    talk =
-        talks outs (λ terminals after tail. BreaksOff step setting terminals stands after x tail)
-        (λ terminals after tail. BreaksOff step setting terminals untold after x tail)
-        (λ terminals after tail said. (said.0, said.1, said.2, tt, said.4)) b.talk;
+    dialogue =
+        dialogues outs (λ terminals after tail. BreaksOff step setting terminals stands after x tail)
+        (λ terminals after tail. BreaksOff step setting terminals unstated after x tail)
+        (λ terminals after tail said. (said.0, said.1, said.2, tt, said.4)) b.dialogue;
   }
 
   untimed : (outs : List Timed) (o : Arrival)
       → Untimed step setting old new trusted stood stands outs o
-      → Untimed step setting old new ⊤ asked untold outs o
+      → Untimed step setting old new ⊤ asked unstated outs o
   untimed outs o u = record {
     begins = u.begins;
     timed = u.timed;
     clock = u.clock;
-    talk =
-        talks outs (λ terminals after tail. stands terminals after × (tail ≡ []))
-        (λ terminals after tail. untold terminals after × (tail ≡ []))
-        (λ terminals after tail said. (tt, said.1)) u.talk;
+    dialogue =
+        dialogues outs (λ terminals after tail. stands terminals after × (tail ≡ []))
+        (λ terminals after tail. unstated terminals after × (tail ≡ []))
+        (λ terminals after tail said. (tt, said.1)) u.dialogue;
   }
 
   unwritten : (outs : List Timed) (x : Timed) (says less : List Terminal → Room → Type 0)
       → ((terminals : List Terminal) (room : Room) → says terminals room → less terminals room)
       → Unwritten step setting old new trusted stood stands outs x says
-      → Unwritten step setting old new ⊤ asked untold outs x less
-  unwritten outs x says less tells u = record {
+      → Unwritten step setting old new ⊤ asked unstated outs x less
+  unwritten outs x says less states u = record {
     begins = u.begins;
     next = u.next;
     timed = u.timed;
-    talk =
-        talks outs (λ terminals after tail. says terminals after × (tail ≡ []))
+    dialogue =
+        dialogues outs (λ terminals after tail. says terminals after × (tail ≡ []))
         (λ terminals after tail. less terminals after × (tail ≡ []))
-        (λ terminals after tail said. (tells terminals after said.0, said.1)) u.talk;
+        (λ terminals after tail said. (states terminals after said.0, said.1)) u.dialogue;
   }
 
   -- however it ended
   pub serves : (course : Course) (budget : ℕ) (end : ServeEnd)
-      → ServeIs step setting old new trusted stood stands wants failed course budget end
-      → ServeIs step setting old new ⊤ asked untold (λ x. untold) ⊤ course budget end
+      → ServeIs step setting old new trusted stood stands unserved failed course budget end
+      → ServeIs step setting old new ⊤ asked unstated (λ x. unstated) ⊤ course budget end
   serves course budget Closed (inl ended) =
       inl ((ended.0.0, answered course.outs (λ rest. rest ≡ []) ended.0.1), ended.1)
   serves course budget Closed (inr (inl closed)) =
       inr (inl ((closed.0.0, answered course.outs (λ rest. ⊤) closed.0.1), closed.1))
-  serves course budget Closed (inr (inr want)) =
-      inr (inr (want.0, want.1, wanted course.outs want.0 (λ tail fixed. tail ≡ fixed) want.2))
+  serves course budget Closed (inr (inr cause)) =
+      inr (inr (cause.0, cause.1, unserved_at course.outs cause.0 (λ tail fixed. tail ≡ fixed) cause.2))
   serves course budget Cut cut = ((cut.0.0, answered course.outs _ cut.0.1), cut.1)
   serves course budget ReadFault fault = ((fault.0.0, answered course.outs (λ rest. ⊤) fault.0.1), fault.1)
   serves course budget WriteFault fault = (
@@ -118,7 +118,7 @@ module _ (step : Step) (setting : Setting) (old : Sides) (new : Finish) (trusted
       fault.0.1,
       elim fault.0.2 [
         | inl b ↦ inl (broken course.outs fault.0.0 b)
-        | inr w ↦ inr (wanted course.outs fault.0.0 IsFront w)
+        | inr w ↦ inr (unserved_at course.outs fault.0.0 IsFront w)
       ],
     ),
     fault.1,
@@ -128,10 +128,10 @@ module _ (step : Step) (setting : Setting) (old : Sides) (new : Finish) (trusted
       cut.0.0,
       cut.0.1,
       elim cut.0.2 [
-        | inl u ↦ inl (unwritten course.outs cut.0.0 stands untold (λ terminals room is_so. tt) u)
+        | inl u ↦ inl (unwritten course.outs cut.0.0 stands unstated (λ terminals room is_so. tt) u)
         | inr u ↦
             inr (unwritten course.outs cut.0.0 (HasActed step setting old new trusted stood stands cut.0.0)
-            (HasActed step setting old new ⊤ asked untold cut.0.0)
+            (HasActed step setting old new ⊤ asked unstated cut.0.0)
             (λ terminals room acted. (acted.0, acted.1, acted.2, tt, acted.4)) u)
       ],
     ),

@@ -25,7 +25,7 @@ ended end.Unkept = Err Journal
 -- the same where no room could be made to serve
 abbrev pub end_of : Result ServeEnd Refusal → Result Done Failure
 end_of (Ok end) = ended end
-end_of (Err want) = Err (refused want)
+end_of (Err refused_as) = Err (refused refused_as)
 
 -- standard input and output were served so, or no room could be made to serve, and this is the exit
 -- status by how that ended

@@ -117,18 +117,18 @@ abbrev pub IsExampleSetting : Setting → Type 0
 IsExampleSetting = IsSetting example_plan.zone false
 
 -- of the room afterwards, and of what a stop leaves, nothing is stated
-abbrev pub untold : List Terminal → Room → Type 0
-untold terminals room = ⊤
+abbrev pub unstated : List Terminal → Room → Type 0
+unstated terminals room = ⊤
 
--- what is written is the talk of the example room with the messages that are read, in so many reads
--- at most
-abbrev pub IsExampleTalk : Sides → Finish → ℕ → ServeEnd → Type 0
-IsExampleTalk old new budget end = (setting : Setting) × IsExampleSetting setting
+-- what is written is the dialogue of the example room with the messages that are read, in so many
+-- reads at most
+abbrev pub IsExampleDialogue : Sides → Finish → ℕ → ServeEnd → Type 0
+IsExampleDialogue old new budget end = (setting : Setting) × IsExampleSetting setting
     × ((course : Course)
-    × ServeIs machine setting old new ⊤ IsExample untold (λ x. untold) ⊤ course budget end)
+    × ServeIs machine setting old new ⊤ IsExample unstated (λ x. unstated) ⊤ course budget end)
 
 -- the example room was served so, in as many reads as the dry run makes at most; how its clock was
 -- left is given by how often it was asked
 abbrev pub IsDryRun : Sides → (ℕ → Bool → Finish) → ServeEnd → Type 0
 IsDryRun old new end =
-    (count : ℕ) × (was_none : Bool) × IsExampleTalk old (new count was_none) most_reads end
+    (count : ℕ) × (was_none : Bool) × IsExampleDialogue old (new count was_none) most_reads end

@@ -1,8 +1,8 @@
 //! The dry run: the example room in memory, served over one connection, always at the same moment.
 ghost use Rattle.std.specs.Prelude.{◌≡◌, ℕ, Bool, false, [], Some, replicate, IfOk, IfErr, OnOk, OnErr};
 ghost use Rattle.room_http.specs.Session.{ReadsAtMost};
-ghost use Rattle.room_model.specs.Rooms.{IsWant};
-ghost use Rattle.dispatch_room_dry_run.specs.Example.{IsExampleTalk};
+ghost use Rattle.room_model.specs.Rooms.{IsUnavailable};
+ghost use Rattle.dispatch_room_dry_run.specs.Example.{IsExampleDialogue};
 ghost use Rattle.dispatch_room_dry_run.specs.DryRun.{example_moment, most_reads};
 
 use crate::example_session::serve_example;
@@ -29,9 +29,9 @@ pub fn dry_run<R: Source, W: Sink>(
     requires writer { W.has_failed connection.old.writer ≡ false }
     ensures reads { OnOk result (ReadsAtMost most_reads (R.reads connection.old.reader)
         (R.reads connection.new.reader)) }
-    // What is written is the talk of the example room with the messages that are read, all at one
-    // moment.
-    ensures talk { IfOk result (λ end. (count : ℕ) × (was_none : Bool) × IsExampleTalk
+    // What is written is the dialogue of the example room with the messages that are read, all at
+    // one moment.
+    ensures dialogue { IfOk result (λ end. (count : ℕ) × (was_none : Bool) × IsExampleDialogue
         (record {
           left = R.left connection.old.reader;
           reads = R.reads connection.old.reader;
@@ -50,7 +50,7 @@ pub fn dry_run<R: Source, W: Sink>(
           observer_failed = false;
         })
         most_reads end) }
-    ensures wants { IfErr result IsWant }
+    ensures unavailable { IfErr result IsUnavailable }
     ensures unused { OnErr result (connection.new ≡ connection.old) }
 {
     let mut clock = FixedClock::<MOMENT>::new();

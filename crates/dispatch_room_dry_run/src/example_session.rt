@@ -1,8 +1,8 @@
 //! A connection that the example room serves.
 ghost use Rattle.std.specs.Prelude.{◌≡◌, false, IfOk, IfErr, OnOk, OnErr};
 ghost use Rattle.room_http.specs.Session.{ReadsAtMost};
-ghost use Rattle.room_model.specs.Rooms.{IsWant};
-ghost use Rattle.dispatch_room_dry_run.specs.Example.{IsExampleTalk};
+ghost use Rattle.room_model.specs.Rooms.{IsUnavailable};
+ghost use Rattle.dispatch_room_dry_run.specs.Example.{IsExampleDialogue};
 
 use crate::memory_room::example_room;
 use room_http::clocks::Clock;
@@ -29,8 +29,8 @@ pub fn serve_example<R: Source, W: Sink, C: Clock>(
     requires writer { W.has_failed connection.old.writer ≡ false }
     ensures reads { OnOk result (ReadsAtMost budget (R.reads connection.old.reader)
         (R.reads connection.new.reader)) }
-    // What is written is the talk of the example room with the messages that are read.
-    ensures talk { IfOk result (IsExampleTalk
+    // What is written is the dialogue of the example room with the messages that are read.
+    ensures dialogue { IfOk result (IsExampleDialogue
         (record {
           left = R.left connection.old.reader;
           reads = R.reads connection.old.reader;
@@ -48,7 +48,7 @@ pub fn serve_example<R: Source, W: Sink, C: Clock>(
           observer_failed = false;
         })
         budget) }
-    ensures wants { IfErr result IsWant }
+    ensures unavailable { IfErr result IsUnavailable }
     ensures unused { OnErr result ((connection.new ≡ connection.old) × (clock.new ≡ clock.old)) }
 {
     let mut store = example_room(alloc)?;

@@ -2,7 +2,7 @@
 ghost use Rattle.std.specs.Prelude.{◌≡◌, ◌⊎◌, IfOk, IfErr};
 ghost use Rattle.sqlite.specs.Steps.{over_memory};
 ghost use Rattle.room_types.specs.declared.refusal_statuses.Refusal.TheVariants as refusal;
-ghost use Rattle.room_model.specs.Rooms.{IsWant};
+ghost use Rattle.room_model.specs.Rooms.{IsUnavailable};
 ghost use Rattle.room_store_writes.specs.NewRoom.{in_order, new_room};
 ghost use Rattle.room_store.specs.StoredRoom.{IsReady, IsRoom};
 ghost use Rattle.room_store.specs.declared.store_creation.CreateFault.TheVariants.{Memory, Storage};
@@ -22,7 +22,7 @@ pub fn example_room(alloc: Global) -> Result<Store<MemStore>, Refusal>
     ensures zone { IfOk result (λ store. store.plan.zone ≡ example_plan.zone) }
     ensures room { IfOk result (λ store.
         IsRoom over_memory store terminals_with_crews room_with_fleet) }
-    ensures wants { IfErr result IsWant }
+    ensures unavailable { IfErr result IsUnavailable }
 {
     let mut store = empty_room(alloc)?;
     let mut fates = Vec::new(alloc);
@@ -41,7 +41,7 @@ fn empty_room(alloc: Global) -> Result<Store<MemStore>, Refusal>
     ensures zone { IfOk result (λ store. store.plan.zone ≡ example_plan.zone) }
     ensures room { IfOk result (λ store.
         IsRoom over_memory store (in_order example_terminals) (new_room example_plan)) }
-    ensures wants { IfErr result IsWant }
+    ensures unavailable { IfErr result IsUnavailable }
 {
     let Ok(plan) = plan(alloc) else {
         return Err(Refusal::Memory);
@@ -51,12 +51,12 @@ fn empty_room(alloc: Global) -> Result<Store<MemStore>, Refusal>
     };
     match Store::create(alloc, conn, &plan, &terminals()) {
         Ok(store) => Ok(store),
-        Err((fault, _)) => Err(want_of(fault)),
+        Err((fault, _)) => Err(refusal_of(fault)),
     }
 }
 
-// What a fault of making the room wants.
-fn want_of(fault: CreateFault) -> Refusal
+// Why making the room failed.
+fn refusal_of(fault: CreateFault) -> Refusal
     requires { (fault ≡ Memory) ⊎ (fault ≡ Storage) }
     ensures memory { fault ≡ Memory → result ≡ refusal.Memory }
     ensures storage { fault ≡ Storage → result ≡ refusal.Storage }

@@ -1,7 +1,7 @@
 //! The dry run over the standard input and output of a program.
 ghost use Rattle.std.specs.Prelude.{◌≡◌, [], false, replicate, IfOk, Result, Some};
 ghost use Rattle.room_http.specs.declared.session.ServeEnd.{ServeEnd as End};
-ghost use Rattle.room_types.specs.declared.refusal_statuses.Refusal.{Refusal as Want};
+ghost use Rattle.room_types.specs.declared.refusal_statuses.Refusal.{Refusal as Refused};
 ghost use Rattle.dispatch_room_dry_run.specs.DryRun.{example_moment};
 ghost use Rattle.dispatch_room_dry_run.specs.DryRunEnds.{IsRun, end_of, ended};
 ghost use Rattle.dispatch_room_dry_run.specs.Example.{IsDryRun};
@@ -33,7 +33,7 @@ fn over_streams<R: Source, W: Sink>(
 ) -> Result<Done, Failure>
     requires reader { R.has_failed connection.old.reader ≡ false }
     requires writer { W.has_failed connection.old.writer ≡ false }
-    ensures { (served : Result End Want) × (result ≡ end_of served) × IfOk served (IsDryRun
+    ensures { (served : Result End Refused) × (result ≡ end_of served) × IfOk served (IsDryRun
         (record {
           left = R.left connection.old.reader;
           reads = R.reads connection.old.reader;
@@ -53,7 +53,7 @@ fn over_streams<R: Source, W: Sink>(
 {
     match dry_run(alloc, connection) {
         Ok(end) => ended(end),
-        Err(want) => Err(refused(want)),
+        Err(refused_as) => Err(refused(refused_as)),
     }
 }
 

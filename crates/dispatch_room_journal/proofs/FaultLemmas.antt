@@ -5,13 +5,13 @@ use Rattle.std.specs.Io.KnownBytes.{Consumes}
 use Rattle.room_types.specs.declared.refusal_statuses.Refusal.{Refusal}
 use Rattle.room_http_messages.specs.declared.messages.Layout.{Layout as MessageLayout}
 use Rattle.room_http_messages.specs.declared.message_prefixes.MessagePrefix.{MessagePrefix}
-use Rattle.room_http_messages.specs.declared.message_prefixes.MessagePrefix.TheVariants.{Whole, Refused, Wants}
+use Rattle.room_http_messages.specs.declared.message_prefixes.MessagePrefix.TheVariants.{Whole, Refused, Needs}
 use Rattle.room_http_messages.specs.declared.read_faults.Unread.TheVariants as unread
 use Rattle.room_http_messages.specs.Layouts.{IsWhole, LookIs}
 use Rattle.room_http_messages.specs.Messages.{IsRefused, IsPart as IsPartOfMessage}
 use Rattle.room_http_messages.proofs.LawLemmas.{one_message_law, no_end_law}
-use Rattle.room_http.specs.Talk.{IsCaused}
-use Rattle.room_model.specs.Rooms.{IsWant}
+use Rattle.room_http.specs.Dialogues.{IsCaused}
+use Rattle.room_model.specs.Rooms.{IsUnavailable}
 use Rattle.room_model.specs.declared.digests.Miss.{Miss}
 use Rattle.room_model.specs.declared.digests.Miss.TheVariants as miss
 use Rattle.room_model.specs.declared.digests.Head.{Head}
@@ -21,11 +21,12 @@ use Rattle.dispatch_room_journal.specs.Entries.{Entry, message, IsEntry, text_of
 use Rattle.dispatch_room_journal.specs.EntryReadings.{SaysOf, FirstIs}
 use Rattle.dispatch_room_journal.specs.declared.replay_faults.ReplayFault.{ReplayFault}
 use Rattle.dispatch_room_journal.specs.declared.replay_faults.ReplayFault.TheVariants.{Bad, Differs, Another}
-use Rattle.dispatch_room_journal.specs.declared.replay_faults.ReplayFault.TheVariants.{ReadFailed, WriteFailed, Want}
+use Rattle.dispatch_room_journal.specs.declared.replay_faults.ReplayFault.TheVariants.{ReadFailed, WriteFailed}
+use Rattle.dispatch_room_journal.specs.declared.replay_faults.ReplayFault.TheVariants.{Unavailable}
 use Rattle.dispatch_room_journal.specs.declared.replay_faults.Stopped.{Stopped}
 use Rattle.dispatch_room_journal.specs.ReplayedTurns.{Open, Turn, BeginsWith}
 use Rattle.dispatch_room_journal.specs.Replays.{Unless}
-use Rattle.dispatch_room_journal.specs.ReplayFaults.{read_fault, miss_fault, IsBroken, IsNoMessage, IsWanting}
+use Rattle.dispatch_room_journal.specs.ReplayFaults.{read_fault, miss_fault, IsBroken, IsNoMessage, IsUnavailableFault}
 use Rattle.dispatch_room_journal.specs.ReplayFaults.{IsPlayedFor, IsBad, broken, unasked, headless, no_message}
 use Rattle.dispatch_room_journal.specs.ReplayFaults.{broken_after, too_many, Explains, IsDueTo, Refuses}
 
@@ -61,7 +62,7 @@ pub look_none : (bytes : List ℕ) (look : MessagePrefix) → LookIs bytes look
     → ((layout : MessageLayout) → look ≢ Whole layout) → IsNoMessage bytes
 look_none bytes (Whole layout) is other = absurd (other layout refl)
 look_none bytes (Refused r head_only) is other = refused_none bytes r head_only is
-look_none bytes (Wants count) is other = part_none bytes count is.0 is.2
+look_none bytes (Needs count) is other = part_none bytes count is.0 is.2
 
 -- what is known of the text
 pub known_after : (a b : Option (List ℕ)) (bs text : List ℕ) → Consumes a b bs → a ≡ Some text
@@ -106,7 +107,7 @@ explains_more waits none full other whole E F last Differs rest n f e x = x
 explains_more waits none full other whole E F last Another rest n f e x = (x.0, x.1, x.2, x.3, e x.1 x.2 x.4)
 explains_more waits none full other whole E F last ReadFailed rest n f e x = tt
 explains_more waits none full other whole E F last WriteFailed rest n f e x = tt
-explains_more waits none full other whole E F last (Want r) rest n f e x = tt
+explains_more waits none full other whole E F last (Unavailable r) rest n f e x = tt
 
 pub begins_explain : (left : Option (List ℕ)) (entries : List Entry) (waits : Bool)
     (none full other whole : Type 0) (E F : Option Open → Head → Type 0) (last : List Turn)
@@ -132,16 +133,16 @@ read_due kept failed ended left Cut x = (x.4, refl)
 read_due kept failed ended left Foreign x = (x.1, refl)
 read_due kept failed ended left Read x = (x, refl)
 
--- memory or storage is wanting
-pub wanting_explains : (waits : Bool) (none full : Type 0) (E : Option Open → Head → Type 0) (last : List Turn)
-    (fault : ReplayFault) (rest : List ℕ) → IsWanting fault
+-- memory or storage is unavailable
+pub unavailable_explains : (waits : Bool) (none full : Type 0) (E : Option Open → Head → Type 0) (last : List Turn)
+    (fault : ReplayFault) (rest : List ℕ) → IsUnavailableFault fault
     → Explains waits none full E last fault rest
-wanting_explains waits none full E last fault rest x =
+unavailable_explains waits none full E last fault rest x =
     subst (λ (f : ReplayFault). Explains waits none full E last f rest) (sym x.1) tt
 
-pub wanting_due : (read_failed write_failed : Bool) (fault : ReplayFault) → read_failed ≡ false
-    → write_failed ≡ false → IsWanting fault → IsDueTo read_failed write_failed fault
-wanting_due read_failed write_failed fault read write x =
+pub unavailable_due : (read_failed write_failed : Bool) (fault : ReplayFault) → read_failed ≡ false
+    → write_failed ≡ false → IsUnavailableFault fault → IsDueTo read_failed write_failed fault
+unavailable_due read_failed write_failed fault read write x =
     subst (λ (f : ReplayFault). IsDueTo read_failed write_failed f) (sym x.1) (read, write, x.2)
 
 -- a message that was not played
@@ -153,7 +154,7 @@ refuses_explains waits none full E at sent fault text rest begins (inl x) played
     subst (λ (f : ReplayFault). Explains waits none full E [] f text) (sym x.0)
     (no_message at sent rest refl begins x.1 (λ wait. played wait x.0))
 refuses_explains waits none full E at sent fault text rest begins (inr x) played =
-    wanting_explains waits none full E [] fault text x
+    unavailable_explains waits none full E [] fault text x
 
 pub refuses_due : (read_failed write_failed : Bool) (sent : List ℕ) (fault : ReplayFault)
     → read_failed ≡ false → write_failed ≡ false → Refuses sent fault
@@ -161,14 +162,14 @@ pub refuses_due : (read_failed write_failed : Bool) (sent : List ℕ) (fault : R
 refuses_due read_failed write_failed sent fault read write (inl x) =
     subst (λ (f : ReplayFault). IsDueTo read_failed write_failed f) (sym x.0) (read, write)
 refuses_due read_failed write_failed sent fault read write (inr x) =
-    wanting_due read_failed write_failed fault read write x
+    unavailable_due read_failed write_failed fault read write x
 
 -- what a failed write says is said only of the writer
 pub due_with : (read_failed write_failed : Bool) (fault : ReplayFault) → write_failed ≡ false
     → IsDueTo read_failed false fault → IsDueTo read_failed write_failed fault
 due_with read_failed write_failed fault is x = subst (λ (b : Bool). IsDueTo read_failed b fault) (sym is) x
 
--- what was kept before, and then unless memory or storage was wanting
+-- what was kept before, and then unless memory or storage was unavailable
 pub unless_after : (fault : ReplayFault) (A B C : Type 0) → (A → B) → Unless fault (B → C)
     → Unless fault (A → C)
 unless_after Bad A B C first then = λ a. then (first a)
@@ -176,7 +177,7 @@ unless_after Differs A B C first then = λ a. then (first a)
 unless_after Another A B C first then = λ a. then (first a)
 unless_after ReadFailed A B C first then = λ a. then (first a)
 unless_after WriteFailed A B C first then = λ a. then (first a)
-unless_after (Want r) A B C first then = tt
+unless_after (Unavailable r) A B C first then = tt
 
 -- what holds whatever the fault is
 pub unless_known : (fault : ReplayFault) (P : Type 0) → P → Unless fault P
@@ -185,7 +186,7 @@ unless_known Differs P x = x
 unless_known Another P x = x
 unless_known ReadFailed P x = x
 unless_known WriteFailed P x = x
-unless_known (Want r) P x = tt
+unless_known (Unavailable r) P x = tt
 
 -- where the replay stopped by this fault
 pub stopped_kept : (s : Stopped) (fault : ReplayFault) (number : ℕ) (P : Type 0)
@@ -196,9 +197,9 @@ stopped_kept s fault number P is x = subst (λ (t : Stopped). Unless t.fault P) 
 pub unless_missed : (m : Miss) (fault : ReplayFault) (P : Type 0) → fault ≡ miss_fault m
     → (m ≡ miss.Another → P) → Unless fault P
 unless_missed miss.Another fault P is x = subst (λ (f : ReplayFault). Unless f P) (sym is) (x refl)
-unless_missed (miss.Want r) fault P is x = subst (λ (f : ReplayFault). Unless f P) (sym is) tt
+unless_missed (miss.Unavailable r) fault P is x = subst (λ (f : ReplayFault). Unless f P) (sym is) tt
 
--- what is wanting, whatever caused it
-pub caused_want : {failed : Type 0} (r : Refusal) → IsCaused failed r → IsWant r
-caused_want r (inl memory) = inl memory
-caused_want r (inr storage) = inr storage.0
+-- what is unavailable, whatever caused it
+pub caused_unavailable : {failed : Type 0} (r : Refusal) → IsCaused failed r → IsUnavailable r
+caused_unavailable r (inl memory) = inl memory
+caused_unavailable r (inr storage) = inr storage.0

@@ -9,7 +9,7 @@ use Rattle.room_types.specs.declared.fleet.Terminal.{Terminal}
 use Rattle.room_model.specs.Room.{Room}
 use Rattle.room_http_messages.proofs.StreamLemmas.{Appends-more}
 use Rattle.room_http.specs.declared.settings.Setting.{Setting}
-use Rattle.room_http.specs.Talk.{IsFront}
+use Rattle.room_http.specs.Dialogues.{IsFront}
 use Rattle.room_model.specs.Rooms.{Step}
 use Rattle.dispatch_room_journal.specs.declared.entry_prefixes.EntryLayout.{EntryLayout}
 use Rattle.dispatch_room_journal.specs.Entries.{message, answer, IsEntry, texts_of}
@@ -33,8 +33,8 @@ use Rattle.dispatch_room_journal.proofs.TurnLemmas.{Leads-after, passes_one}
 -- frames, one after another
 pub frames_append : (us ts : List Turn) → frames_of us ++ frames_of ts ≡ frames_of (us ++ ts)
 frames_append us ts =
-    sym (ap (λ (ps : List Play). flat_map (λ p. frame_of p.told) ps) (flat_map-append plays_in us ts)
-    ∙ flat_map-append (λ p. frame_of p.told) (plays_of us) (plays_of ts))
+    sym (ap (λ (ps : List Play). flat_map (λ p. frame_of p.response) ps) (flat_map-append plays_in us ts)
+    ∙ flat_map-append (λ p. frame_of p.response) (plays_of us) (plays_of ts))
 
 pub frames_more : (a b c : Option (List ℕ)) (us ts : List Turn) → Appends a b (frames_of us)
     → Appends b c (frames_of ts) → Appends a c (frames_of (us ++ ts))
@@ -44,8 +44,8 @@ frames_more a b c us ts first second =
 
 module _ (step : Step) (setting : Setting) (digest_of : DigitsOf) (trusted : Type 0)
     (stood stands : List Terminal → Room → Type 0) (before : Option (List ℕ))
-    (held holds : Option (List ℕ)) (at : ℕ) (sent told slice : List ℕ)
-    (x : WasPlayed step setting trusted stood stands at sent told) (same : slice ≡ told)
+    (held holds : Option (List ℕ)) (at : ℕ) (sent response slice : List ℕ)
+    (x : WasPlayed step setting trusted stood stands at sent response) (same : slice ≡ response)
     (is : IsEntry (message at sent)) where
   leads_tried : Leads step setting digest_of trusted stood stands (tried x.0 ∷ [])
   leads_tried trust terminals room stood_for =
@@ -56,8 +56,8 @@ module _ (step : Step) (setting : Setting) (digest_of : DigitsOf) (trusted : Typ
   leads_answered status trust terminals room stood_for =
       let y = x.5 trust terminals room stood_for in (y.0, (y.0, y.1, refl), y.2)
 
-  told_same : x.0.told ≡ slice
-  told_same = x.3 ∙ sym same
+  response_same : x.0.response ≡ slice
+  response_same = x.3 ∙ sym same
 
   -- the answer was not written wholly, or what follows it was no entry, or another status
   pub each_stops : (fault : ReplayFault) (read_failed write_failed : Bool)
@@ -73,16 +73,17 @@ module _ (step : Step) (setting : Setting) (digest_of : DigitsOf) (trusted : Typ
     played_stops false step setting digest_of trusted stood stands before at sent is read_failed write_failed x.0 fault
         x.1 x.2 x.4 leads_tried begins due,
     front,
-    (rest, append-nil (frame_of x.0.told) ∙ ap frame_of told_same ∙ split),
+    (rest, append-nil (frame_of x.0.response) ∙ ap frame_of response_same ∙ split),
     wrote,
   )
 
   module _ (mid after : Option (List ℕ)) (failed : Bool)
       (took_message : Consumes before mid (texts_of (message at sent ∷ [])))
       (wrote : Appends held holds (frame_of slice)) where
-    wrote_one : Appends held holds (frame_of x.0.told ++ [])
+    wrote_one : Appends held holds (frame_of x.0.response ++ [])
     wrote_one =
-        subst (λ (t : List ℕ). Appends held holds t) (sym (append-nil (frame_of x.0.told) ∙ ap frame_of told_same))
+        subst (λ (t : List ℕ). Appends held holds t)
+        (sym (append-nil (frame_of x.0.response) ∙ ap frame_of response_same))
         wrote
 
     -- the answer was written, and a status that follows it is the answer's
@@ -93,7 +94,7 @@ module _ (step : Step) (setting : Setting) (digest_of : DigitsOf) (trusted : Typ
     each_done true f = (
       answered x.0 f.0,
       passes_one step setting digest_of trusted stood stands before after None IsPlayed (answered x.0 f.0)
-          (message at sent ∷ answer f.0 ∷ []) (x.4, ap status_in told_same ∙ f.1) tt
+          (message at sent ∷ answer f.0 ∷ []) (x.4, ap status_in response_same ∙ f.1) tt
           (λ i. message (x.1 i) (x.2 i) ∷ answer f.0 ∷ []) (two_by None at sent sent (answer f.0) tt is tt f.2)
           (taken_two before mid after (message at sent) (answer f.0) took_message f.3)
           (leads_answered f.0) (λ never. absurd (cc)) (λ never. absurd (cc)),
@@ -119,8 +120,8 @@ module _ (step : Step) (setting : Setting) (digest_of : DigitsOf) (trusted : Typ
 pub each_follows : (step : Step) (setting : Setting) (digest_of : DigitsOf) (trusted : Type 0)
     (stood stands : List Terminal → Room → Type 0) (before mid : Option (List ℕ)) (at : ℕ)
     (sent slice : List ℕ)
-    (p : Play) (fault : ReplayFault) → p.told ≡ slice → Consumes before mid (texts_of (message at sent ∷ []))
-    → ((p : Play) → p.told ≡ slice → BeginsWith mid []
+    (p : Play) (fault : ReplayFault) → p.response ≡ slice → Consumes before mid (texts_of (message at sent ∷ []))
+    → ((p : Play) → p.response ≡ slice → BeginsWith mid []
     (Explains false ⊥ ⊥ (λ open_ head. ⊥) (tried p ∷ []) fault))
     → BeginsWith before (message at sent ∷ [])
     (Shows false step setting digest_of trusted stood stands fault (tried p ∷ []))

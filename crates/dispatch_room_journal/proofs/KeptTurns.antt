@@ -18,8 +18,8 @@ use Rattle.room_http.specs.declared.settings.Setting.{Setting}
 use Rattle.room_model.specs.Rooms.{Step}
 use Rattle.room_model.specs.declared.digests.Head.{Head}
 use Rattle.room_http.specs.Arrivals.{message as arrived, refused, is_closing, is_head_only}
-use Rattle.room_http.specs.KeptMessages.{AreKept, AreReplies, IsCutShort, IsRecord, IsUnwritten, IsWanting}
-use Rattle.room_http.specs.Talk.{IsFront, IsReplyTo, Timed, replied}
+use Rattle.room_http.specs.KeptMessages.{AreKept, AreReplies, IsCutShort, IsRecord, IsUnwritten, KeepsUnserved}
+use Rattle.room_http.specs.Dialogues.{IsFront, IsReplyTo, Timed, replied}
 use Rattle.dispatch_room_journal.specs.declared.entry_lines.TheConstants.{LEAST_STATUS, GREATEST_STATUS}
 use Rattle.dispatch_room_journal.specs.WholeEntries.{Follows}
 use Rattle.dispatch_room_journal.specs.Entries.{Entry, room as head_entry, message, answer, IsEntry, IsPart, text_of}
@@ -37,7 +37,7 @@ use Rattle.dispatch_room_journal.specs.ReplayedTurns.{IsPlay, IsReplayed, IsTurn
 abbrev IsStatus : ℕ → Type 0
 IsStatus n = (LEAST_STATUS ≤ n) × (n ≤ GREATEST_STATUS)
 
-status_fits : (told : Result Answer Refusal) → IsStatus (status_of told)
+status_fits : (response : Result Answer Refusal) → IsStatus (status_of response)
 status_fits (Ok a) = (omega arith, omega arith)
 status_fits (Err NoSuchIncident) = (omega arith, omega arith)
 status_fits (Err r) = (omega arith, omega arith)
@@ -57,32 +57,32 @@ three_digits n fits =
 front_more : (d x y : List ℕ) → IsFront d x → IsFront d (x ++ y)
 front_more d x y front = (front.0 ++ y, ap (λ t. t ++ y) front.1 ∙ append_assoc d front.0 y)
 
-status_front : (told : Result Answer Refusal) (date : List ℕ) (head_only closing : Bool)
-    → IsFront (decimal (status_of told)) (drop 9 (reply_bytes told date head_only closing))
+status_front : (response : Result Answer Refusal) (date : List ℕ) (head_only closing : Bool)
+    → IsFront (decimal (status_of response)) (drop 9 (reply_bytes response date head_only closing))
 unfolding line
-status_front told date head_only closing =
-    let d = decimal (status_of told) in
+status_front response date head_only closing =
+    let d = decimal (status_of response) in
     front_more d _ _ (front_more d _ _ (front_more d _ _ (front_more d _ _
     (front_more d _ _ (front_more d _ _ (front_more d _ _ (front_more d _ _ (front_more d _ _ (codes " ", refl)))))))))
 
-status_first : (told : Result Answer Refusal) (date : List ℕ) (head_only closing : Bool)
-    → status_in (reply_bytes told date head_only closing) ≡ decimal (status_of told)
-status_first told date head_only closing =
-    let d = decimal (status_of told) in
-    let front = status_front told date head_only closing in
-    ap (take 3) front.1 ∙ take_at d front.0 3 (three_digits (status_of told) (status_fits told))
+status_first : (response : Result Answer Refusal) (date : List ℕ) (head_only closing : Bool)
+    → status_in (reply_bytes response date head_only closing) ≡ decimal (status_of response)
+status_first response date head_only closing =
+    let d = decimal (status_of response) in
+    let front = status_front response date head_only closing in
+    ap (take 3) front.1 ∙ take_at d front.0 3 (three_digits (status_of response) (status_fits response))
 
 -- an answer's bytes give its status
-pub status_told : (step : Step) (setting : Setting) (terminals : List Terminal) (room : Room) (x : Timed)
+pub status_shown : (step : Step) (setting : Setting) (terminals : List Terminal) (room : Room) (x : Timed)
     (after : Room) (bytes : List ℕ) → IsReplyTo step setting terminals room x after bytes
     → (status : ℕ) × IsEntry (answer status) × (status_in bytes ≡ decimal status)
-status_told step setting terminals room x after bytes reply =
-    let told = (replied step reply.0 room).1 in
-    let fits = status_fits told in
+status_shown step setting terminals room x after bytes reply =
+    let response = (replied step reply.0 room).1 in
+    let fits = status_fits response in
     let date = reply.3 in (
-      status_of told,
+      status_of response,
       (fits.0, fits.1),
-      ap status_in date.2 ∙ status_first told date.0 (is_head_only x.0) (is_closing x.0),
+      ap status_in date.2 ∙ status_first response date.0 (is_head_only x.0) (is_closing x.0),
     )
 
 -- ---- a text that is cut within an entry
@@ -151,7 +151,7 @@ whole_front entries others e tail rest a is end front follows = elim (front_tail
 
 -- ---- turns of a text, from a room to another
 module _ (step : Step) (setting : Setting) (digits : DigitsOf) (terminals : List Terminal) where
-  pub record Told (room : Room) (list : List ℕ) (turns : List Turn) (after : Room) : Type 0 where
+  pub record Recorded (room : Room) (list : List ℕ) (turns : List Turn) (after : Room) : Type 0 where
     pub are_turns : All IsTurn turns
     pub replayed : All IsReplayed turns
     pub entries : All IsEntry (entries_of turns)
@@ -167,9 +167,9 @@ module _ (step : Step) (setting : Setting) (digits : DigitsOf) (terminals : List
   replay_join held mid after (u ∷ us) ts first second =
       (first.0, first.1, replay_join first.0 mid after us ts first.2 second)
 
-  told_join : (held mid after : Room) (list more : List ℕ) (us ts : List Turn)
-      → Told held list us mid → Told mid more ts after → Told held (list ++ more) (us ++ ts) after
-  told_join held mid after list more us ts first second =
+  recorded_join : (held mid after : Room) (list more : List ℕ) (us ts : List Turn)
+      → Recorded held list us mid → Recorded mid more ts after → Recorded held (list ++ more) (us ++ ts) after
+  recorded_join held mid after list more us ts first second =
       let all = flat_map-append entries_in us ts in
       record {
         are_turns = All-append IsTurn us ts first.are_turns second.are_turns;
@@ -183,8 +183,8 @@ module _ (step : Step) (setting : Setting) (digits : DigitsOf) (terminals : List
         replay = replay_join held mid after us ts first.replay second.replay;
       }
 
-  told_none : (held : Room) → Told held [] [] held
-  told_none held = record {
+  recorded_none : (held : Room) → Recorded held [] [] held
+  recorded_none held = record {
     are_turns = All-nil IsTurn;
     replayed = All-nil IsReplayed;
     entries = All-nil IsEntry;
@@ -192,10 +192,10 @@ module _ (step : Step) (setting : Setting) (digits : DigitsOf) (terminals : List
     replay = refl;
   }
 
-  told_one : (held after : Room) (t : Turn) → IsTurn t → IsReplayed t → All IsEntry (entries_in t)
+  recorded_one : (held after : Room) (t : Turn) → IsTurn t → IsReplayed t → All IsEntry (entries_in t)
       → Does step setting digits terminals held t after
-      → Told held (texts_of (entries_in t)) (t ∷ []) after
-  told_one held after t turn kind entries does = record {
+      → Recorded held (texts_of (entries_in t)) (t ∷ []) after
+  recorded_one held after t turn kind entries does = record {
     are_turns = All-cons IsTurn t [] turn (All-nil IsTurn);
     replayed = All-cons IsReplayed t [] kind (All-nil IsReplayed);
     entries = subst (λ (es : List Entry). All IsEntry es) (sym (append-nil (entries_in t))) entries;
@@ -204,14 +204,14 @@ module _ (step : Step) (setting : Setting) (digits : DigitsOf) (terminals : List
   }
 
   -- one turn more
-  told_push : (held mid after : Room) (list more : List ℕ) (us : List Turn) (t : Turn)
-      → Told held list us mid → IsTurn t → IsReplayed t → All IsEntry (entries_in t)
+  recorded_push : (held mid after : Room) (list more : List ℕ) (us : List Turn) (t : Turn)
+      → Recorded held list us mid → IsTurn t → IsReplayed t → All IsEntry (entries_in t)
       → Does step setting digits terminals mid t after → list ++ texts_of (entries_in t) ≡ more
-      → Told held more (us ++ t ∷ []) after
-  told_push held mid after list more us t told turn kind entries does is =
-      subst (λ (text : List ℕ). Told held text (us ++ t ∷ []) after) is
-      (told_join held mid after list (texts_of (entries_in t)) us (t ∷ []) told
-      (told_one mid after t turn kind entries does))
+      → Recorded held more (us ++ t ∷ []) after
+  recorded_push held mid after list more us t response turn kind entries does is =
+      subst (λ (text : List ℕ). Recorded held text (us ++ t ∷ []) after) is
+      (recorded_join held mid after list (texts_of (entries_in t)) us (t ∷ []) response
+      (recorded_one mid after t turn kind entries does))
 
 all_one : (e : Entry) → IsEntry e → All IsEntry (e ∷ [])
 all_one e is = All-cons IsEntry e [] is (All-nil IsEntry)
@@ -222,33 +222,36 @@ all_two e f is also = All-cons IsEntry e (f ∷ []) is (all_one f also)
 -- the answers of turns, one after another
 answers_join : (us ts : List Turn) → answers_of (us ++ ts) ≡ answers_of us ++ answers_of ts
 answers_join us ts =
-    ap (map (λ (p : Play). p.told)) (flat_map-append plays_in us ts)
-    ∙ map-append (λ (p : Play). p.told) (plays_of us) (plays_of ts)
+    ap (map (λ (p : Play). p.response)) (flat_map-append plays_in us ts)
+    ∙ map-append (λ (p : Play). p.response) (plays_of us) (plays_of ts)
 
 -- the text of a status
-status_text_is : (told : List ℕ) (status : ℕ) → status_in told ≡ decimal status
-    → text_of (answer status) ≡ answer_text told
-status_text_is told status is = ap (λ (t : List ℕ). (codes "answer " ++ t) ++ 10 ∷ []) (sym is)
+status_text_is : (response : List ℕ) (status : ℕ) → status_in response ≡ decimal status
+    → text_of (answer status) ≡ answer_text response
+status_text_is response status is = ap (λ (t : List ℕ). (codes "answer " ++ t) ++ 10 ∷ []) (sym is)
 
 -- ---- what was kept of arrivals that were answered
 module _ (step : Step) (setting : Setting) (digits : DigitsOf) (terminals : List Terminal) where
   abbrev TurnsOf : Room → List ℕ → Room → List (List ℕ) → Type 0
-  TurnsOf held text after told = (turns : List Turn)
-      × Told step setting digits terminals held text turns after × (answers_of turns ≡ told)
+  TurnsOf held text after response = (turns : List Turn)
+      × Recorded step setting digits terminals held text turns after × (answers_of turns ≡ response)
 
   -- a message that was answered
   answered_one : (held after : Room) (p : Play) → IsPlay p → IsEntry (message p.at p.sent)
       → Answers step setting digits terminals held p after
-      → TurnsOf held (message_text p.at p.sent ++ answer_text p.told) after (p.told ∷ [])
+      → TurnsOf held (message_text p.at p.sent ++ answer_text p.response) after (p.response ∷ [])
   answered_one held after p is entry reply =
-      let status = status_told step setting terminals held (arrived p.whole, p.at) after p.told reply in
+      let status = status_shown step setting terminals held (arrived p.whole, p.at) after p.response reply in
       let turn = answered p status.0 in
-      let text : texts_of (entries_in turn) ≡ message_text p.at p.sent ++ answer_text p.told =
+      let text : texts_of (entries_in turn) ≡ message_text p.at p.sent ++ answer_text p.response =
       ap (λ t. message_text p.at p.sent ++ t)
-      (append-nil (text_of (answer status.0)) ∙ status_text_is p.told status.0 status.2) in
-      let one = told_one step setting digits terminals held after turn (is, status.2) tt
-      (all_two (message p.at p.sent) (answer status.0) entry status.1) reply in
-      (turn ∷ [], subst (λ (t : List ℕ). Told step setting digits terminals held t (turn ∷ []) after) text one, refl)
+      (append-nil (text_of (answer status.0)) ∙ status_text_is p.response status.0 status.2) in
+      let one = recorded_one step setting digits terminals held after turn (is, status.2) tt
+      (all_two (message p.at p.sent) (answer status.0) entry status.1) reply in (
+        turn ∷ [],
+        subst (λ (t : List ℕ). Recorded step setting digits terminals held t (turn ∷ []) after) text one,
+        refl,
+      )
 
   pub kept_turns : (outs : List Timed) (answers : List (List ℕ)) (text : List ℕ)
       (held after : Room)
@@ -256,29 +259,29 @@ module _ (step : Step) (setting : Setting) (digits : DigitsOf) (terminals : List
       → AreKept message_text answer_text outs answers text
       → TurnsOf held text after (answers_to_messages outs answers)
   kept_turns [] [] text held after replies kept =
-      ([], rw (kept, replies) (told_none step setting digits terminals held), refl)
-  kept_turns [] (told ∷ answers) text held after replies kept = absurd replies
+      ([], rw (kept, replies) (recorded_none step setting digits terminals held), refl)
+  kept_turns [] (response ∷ answers) text held after replies kept = absurd replies
   kept_turns (x ∷ outs) [] text held after replies kept = absurd replies
-  kept_turns ((arrived m, at) ∷ outs) (told ∷ answers) text held after replies (first, more, is, joined, kept) =
+  kept_turns ((arrived m, at) ∷ outs) (response ∷ answers) text held after replies (first, more, is, joined, kept) =
       let came = is.1 in
-      let p : Play = record { at = at; sent = came.0; whole = m; told = told } in
+      let p : Play = record { at = at; sent = came.0; whole = m; response = response } in
       let one = answered_one held replies.0 p came.1.whole (came.2, came.1.some, came.1.fits) replies.1 in
       let rest = kept_turns outs answers more replies.0 after replies.2 kept in
-      let same : (message_text at came.0 ++ answer_text told) ++ more ≡ text =
-      sym (joined ∙ ap (λ (t : List ℕ). t ++ more) (is.2 ∙ ap (λ (t : List ℕ). t ++ answer_text told) came.3)) in (
+      let same : (message_text at came.0 ++ answer_text response) ++ more ≡ text =
+      sym (joined ∙ ap (λ (t : List ℕ). t ++ more) (is.2 ∙ ap (λ (t : List ℕ). t ++ answer_text response) came.3)) in (
         one.0 ++ rest.0,
-        subst (λ (t : List ℕ). Told step setting digits terminals held t (one.0 ++ rest.0) after) same
-            (told_join step setting digits terminals held replies.0 after _ more one.0 rest.0 one.1 rest.1),
+        subst (λ (t : List ℕ). Recorded step setting digits terminals held t (one.0 ++ rest.0) after) same
+            (recorded_join step setting digits terminals held replies.0 after _ more one.0 rest.0 one.1 rest.1),
         answers_join one.0 rest.0 ∙ (λ i. one.2 i ++ rest.2 i),
       )
-  kept_turns ((refused r head_only, at) ∷ outs) (told ∷ answers) text held after replies
+  kept_turns ((refused r head_only, at) ∷ outs) (response ∷ answers) text held after replies
       (first, more, is, joined, kept) =
       let nothing : first ≡ [] = is.2 ∙ append-nil is.0 ∙ is.1 in
       let alike : more ≡ text = sym (joined ∙ ap (λ (t : List ℕ). t ++ more) nothing) in
       let still : replies.0 ≡ held = replies.1.2 ∙ ap (λ found. (replied step found held).0) replies.1.1 in
       let rest = kept_turns outs answers more held after
       (subst (λ (r : Room). AreReplies step setting terminals r outs answers after) still replies.2) kept in
-      (rest.0, subst (λ (t : List ℕ). Told step setting digits terminals held t rest.0 after) alike rest.1, rest.2)
+      (rest.0, subst (λ (t : List ℕ). Recorded step setting digits terminals held t rest.0 after) alike rest.1, rest.2)
 
 -- ---- the rooms to which a list has come
 same_or_not : (xs ys : List ℕ) → (xs ≡ ys) ⊎ (¬ (xs ≡ ys))
@@ -314,7 +317,7 @@ module _ (step : Step) (setting : Setting) (digits : DigitsOf) (terminals : List
   -- the list is of turns that lead to the room
   pub record Settled (list : List ℕ) (now : Room) : Type 0 where
     pub turns : List Turn
-    pub told : Told step setting digits terminals held list turns now
+    pub recorded : Recorded step setting digits terminals held list turns now
     pub begun : IsBegun turns
     pub given : Given (answers_of turns)
 
@@ -328,7 +331,7 @@ module _ (step : Step) (setting : Setting) (digits : DigitsOf) (terminals : List
     pub turns : List Turn
     pub text : List ℕ
     pub after : Room
-    pub told : Told step setting digits terminals held text turns after
+    pub recorded : Recorded step setting digits terminals held text turns after
     pub begun : IsBegun turns
     pub given : Given (answers_of turns)
     pub p : Play
@@ -336,29 +339,29 @@ module _ (step : Step) (setting : Setting) (digits : DigitsOf) (terminals : List
     pub entry : IsEntry (message p.at p.sent)
     pub list_is : text ++ message_text p.at p.sent ≡ list
     pub reply : Answers step setting digits terminals after p now
-    pub more : Given (answers_of turns ++ p.told ∷ [])
+    pub more : Given (answers_of turns ++ p.response ∷ [])
 
   abbrev pub Come : List ℕ → Room → Type 0
   Come list now = Fresh list now ⊎ Settled list now ⊎ Waits list now
 
-  abbrev IsTold : List ℕ → List Turn → Room → Type 0
-  IsTold = Told step setting digits terminals held
+  abbrev IsRecorded : List ℕ → List Turn → Room → Type 0
+  IsRecorded = Recorded step setting digits terminals held
 
   -- the open message is left out
   pub left_open : (list more : List ℕ) (turns : List Turn) (after : Room) (at : ℕ) (sent : List ℕ)
-      → IsTold list turns after → IsEntry (message at sent) → list ++ message_text at sent ≡ more
-      → IsTold more (turns ++ left_out at sent ∷ []) after
-  left_open list more turns after at sent told entry is =
-      told_push step setting digits terminals held after after list more turns (left_out at sent) told tt tt
+      → IsRecorded list turns after → IsEntry (message at sent) → list ++ message_text at sent ≡ more
+      → IsRecorded more (turns ++ left_out at sent ∷ []) after
+  left_open list more turns after at sent response entry is =
+      recorded_push step setting digits terminals held after after list more turns (left_out at sent) response tt tt
       (all_one (message at sent) entry) refl
       (ap (λ t. list ++ t) (append-nil (text_of (message at sent))) ∙ is)
 
   settle_open : (list more : List ℕ) (turns : List Turn) (after : Room) (at : ℕ) (sent : List ℕ)
-      → IsTold list turns after → IsEntry (message at sent) → list ++ message_text at sent ≡ more
+      → IsRecorded list turns after → IsEntry (message at sent) → list ++ message_text at sent ≡ more
       → IsBegun turns → Given (answers_of turns) → Settled more after
-  settle_open list more turns after at sent told entry is begun given = record {
+  settle_open list more turns after at sent response entry is begun given = record {
     turns = turns ++ left_out at sent ∷ [];
-    told = left_open list more turns after at sent told entry is;
+    recorded = left_open list more turns after at sent response entry is;
     begun = begun-append turns (left_out at sent ∷ []) begun;
     given = subst Given (sym (no_answer turns (left_out at sent) refl)) given;
   }
@@ -371,8 +374,8 @@ module _ (step : Step) (setting : Setting) (digits : DigitsOf) (terminals : List
     whole_is : (list : List ℕ) (now : Room) → Settled list now → Follows list others rest
         → list ≡ texts_of others
     whole_is list now s follows =
-        sym (whole_all (entries_of s.turns) others rest s.told.entries end (follows.0, s.told.text ∙ follows.1)
-        ∙ s.told.text)
+        sym (whole_all (entries_of s.turns) others rest s.recorded.entries end (follows.0, s.recorded.text ∙ follows.1)
+        ∙ s.recorded.text)
 
     pub come_settled : (list : List ℕ) (now : Room) → Settled list now → Follows list others rest
         → Come (texts_of others) now
@@ -382,12 +385,13 @@ module _ (step : Step) (setting : Setting) (digits : DigitsOf) (terminals : List
   come_entries : (list : List ℕ) (now : Room) → Come list now
       → (entries : List Entry) × All IsEntry entries × (texts_of entries ≡ list)
   come_entries list now (inl fresh) = ([], All-nil IsEntry, sym fresh.list_is)
-  come_entries list now (inr (inl s)) = (entries_of s.turns, s.told.entries, s.told.text)
+  come_entries list now (inr (inl s)) = (entries_of s.turns, s.recorded.entries, s.recorded.text)
   come_entries list now (inr (inr w)) = (
     entries_of w.turns ++ message w.p.at w.p.sent ∷ [],
-    All-append IsEntry (entries_of w.turns) (message w.p.at w.p.sent ∷ []) w.told.entries
+    All-append IsEntry (entries_of w.turns) (message w.p.at w.p.sent ∷ []) w.recorded.entries
         (all_one (message w.p.at w.p.sent) w.entry),
-    texts_push (entries_of w.turns) (message w.p.at w.p.sent) ∙ ap (λ t. t ++ message_text w.p.at w.p.sent) w.told.text
+    texts_push (entries_of w.turns) (message w.p.at w.p.sent)
+        ∙ ap (λ t. t ++ message_text w.p.at w.p.sent) w.recorded.text
         ∙ w.list_is,
   )
 
@@ -401,11 +405,12 @@ module _ (step : Step) (setting : Setting) (digits : DigitsOf) (terminals : List
 
   -- ---- a head
   module _ (h : Head) (entry : IsEntry (head_entry h)) where
-    head_next : (list : List ℕ) (turns : List Turn) (now : Room) → IsTold list turns now
+    head_next : (list : List ℕ) (turns : List Turn) (now : Room) → IsRecorded list turns now
         → IsHeadOf digits h terminals now
-        → IsTold (list ++ room_text h) (turns ++ compared h ∷ []) now
-    head_next list turns now told is =
-        told_push step setting digits terminals held now now list (list ++ room_text h) turns (compared h) told tt tt
+        → IsRecorded (list ++ room_text h) (turns ++ compared h ∷ []) now
+    head_next list turns now response is =
+        recorded_push step setting digits terminals held now now list (list ++ room_text h) turns (compared h) response
+        tt tt
         (all_one (head_entry h) entry) (refl, is)
         (ap (λ t. list ++ t) (append-nil (room_text h)))
 
@@ -413,7 +418,7 @@ module _ (step : Step) (setting : Setting) (digits : DigitsOf) (terminals : List
         → Settled (list ++ room_text h) now
     settle_head list now is s = record {
       turns = s.turns ++ compared h ∷ [];
-      told = head_next list s.turns now s.told is;
+      recorded = head_next list s.turns now s.recorded is;
       begun = begun-append s.turns (compared h ∷ []) s.begun;
       given = subst Given (sym (no_answer s.turns (compared h) refl)) s.given;
     }
@@ -432,9 +437,9 @@ module _ (step : Step) (setting : Setting) (digits : DigitsOf) (terminals : List
         → Come list now → Settled (list ++ room_text h) now
     come_head list now is twin (inl fresh) = record {
       turns = compared h ∷ [];
-      told =
+      recorded =
           rw (fresh.list_is, fresh.now_is)
-          (head_next [] [] held (told_none step setting digits terminals held)
+          (head_next [] [] held (recorded_none step setting digits terminals held)
           (subst (λ (r : Room). IsHeadOf digits h terminals r) fresh.now_is is));
       begun = (h, [], refl);
       given = fresh.given;
@@ -442,14 +447,14 @@ module _ (step : Step) (setting : Setting) (digits : DigitsOf) (terminals : List
     come_head list now is twin (inr (inl s)) = settle_head list now is s
     come_head list now is twin (inr (inr w)) = elim (same_or_not (digits h.version terminals w.after) h.digits) [
       | inl same ↦
-          let one : w.after ≡ now = twin w.after (arrived w.p.whole, w.p.at) w.p.told w.reply same in
+          let one : w.after ≡ now = twin w.after (arrived w.p.whole, w.p.at) w.p.response w.reply same in
           settle_head list now is (subst (λ (r : Room). Settled list r) one
-          (settle_open w.text list w.turns w.after w.p.at w.p.sent w.told w.entry w.list_is w.begun w.given))
+          (settle_open w.text list w.turns w.after w.p.at w.p.sent w.recorded w.entry w.list_is w.begun w.given))
       | inr other ↦ record {
         turns = w.turns ++ caught_up w.p h ∷ [];
-        told =
-            told_push step setting digits terminals held w.after now w.text (list ++ room_text h) w.turns
-            (caught_up w.p h) w.told w.is_play tt
+        recorded =
+            recorded_push step setting digits terminals held w.after now w.text (list ++ room_text h) w.turns
+            (caught_up w.p h) w.recorded w.is_play tt
             (all_two (message w.p.at w.p.sent) (head_entry h) w.entry entry) (other, w.reply, is)
             (then_head w.text (message_text w.p.at w.p.sent) list w.list_is);
         begun = begun-append w.turns (caught_up w.p h ∷ []) w.begun;
@@ -482,7 +487,7 @@ module _ (step : Step) (setting : Setting) (digits : DigitsOf) (terminals : List
     message_left : (at : ℕ) (sent : List ℕ) → IsEntry (message at sent)
         → Settled (list ++ message_text at sent) now
     message_left at sent entry =
-        settle_open list (list ++ message_text at sent) turns now at sent r.settled.told entry refl r.settled.begun
+        settle_open list (list ++ message_text at sent) turns now at sent r.settled.recorded entry refl r.settled.begun
         r.settled.given
 
     module _ (p : Play) (after : Room) (is : IsPlay p) (entry : IsEntry (message p.at p.sent))
@@ -492,7 +497,7 @@ module _ (step : Step) (setting : Setting) (digits : DigitsOf) (terminals : List
         turns = turns;
         text = list;
         after = now;
-        told = r.settled.told;
+        recorded = r.settled.recorded;
         begun = r.settled.begun;
         given = r.settled.given;
         p = p;
@@ -500,28 +505,30 @@ module _ (step : Step) (setting : Setting) (digits : DigitsOf) (terminals : List
         entry = entry;
         list_is = refl;
         reply = reply;
-        more = r.more p.told;
+        more = r.more p.response;
       }
 
-      message_answered : Settled (list ++ (message_text p.at p.sent ++ answer_text p.told)) after
+      message_answered : Settled (list ++ (message_text p.at p.sent ++ answer_text p.response)) after
       message_answered =
           let one = answered_one step setting digits terminals now after p is entry reply in
           record {
             turns = turns ++ one.0;
-            told = told_join step setting digits terminals held now after list _ turns one.0 r.settled.told one.1;
+            recorded =
+                recorded_join step setting digits terminals held now after list _ turns one.0 r.settled.recorded one.1;
             begun = begun-append turns one.0 r.settled.begun;
             given =
-                subst Given (sym (answers_join turns one.0 ∙ ap (λ a. answers_of turns ++ a) one.2)) (r.more p.told);
+                subst Given (sym (answers_join turns one.0 ∙ ap (λ a. answers_of turns ++ a) one.2))
+                (r.more p.response);
           }
 
-    -- memory or storage was wanting for it
-    pub settle_wanting : (x : Timed) (tail wrote : List ℕ)
-        → IsWanting message_text answer_text x tail wrote → Settled (list ++ tail) now
-    settle_wanting (arrived m, at) tail wrote is =
+    -- memory or storage was unavailable for it
+    pub settle_unavailable : (x : Timed) (tail wrote : List ℕ)
+        → KeepsUnserved message_text answer_text x tail wrote → Settled (list ++ tail) now
+    settle_unavailable (arrived m, at) tail wrote is =
         let came = is.0 in
         settled_as _ (list ++ tail) now (ap (λ t. list ++ t) (sym came.3))
         (message_left at came.0 (came.2, came.1.some, came.1.fits))
-    settle_wanting (refused why head_only, at) tail wrote is =
+    settle_unavailable (refused why head_only, at) tail wrote is =
         settled_as list (list ++ tail) now (sym (ap (λ t. list ++ t) is.0 ∙ append-nil list)) r.settled
 
     -- a refusal in the place of a message leaves the room
@@ -530,17 +537,18 @@ module _ (step : Step) (setting : Setting) (digits : DigitsOf) (terminals : List
     still why head_only at after bytes reply = sym (reply.2 ∙ ap (λ found. (replied step found now).0) reply.1)
 
     -- its record is kept
-    pub settle_record : (x : Timed) (told tail : List ℕ) (after : Room)
-        → IsRecord message_text answer_text x told tail
-        → IsReplyTo step setting terminals now x after told → Settled (list ++ tail) after
-    settle_record (arrived m, at) told tail after is reply =
+    pub settle_record : (x : Timed) (response tail : List ℕ) (after : Room)
+        → IsRecord message_text answer_text x response tail
+        → IsReplyTo step setting terminals now x after response → Settled (list ++ tail) after
+    settle_record (arrived m, at) response tail after is reply =
         let came = is.1 in
-        let p : Play = record { at = at; sent = came.0; whole = m; told = told } in
-        settled_as _ (list ++ tail) after (ap (λ t. list ++ t) (sym (is.2 ∙ ap (λ t. t ++ answer_text told) came.3)))
+        let p : Play = record { at = at; sent = came.0; whole = m; response = response } in
+        settled_as _ (list ++ tail) after
+        (ap (λ t. list ++ t) (sym (is.2 ∙ ap (λ t. t ++ answer_text response) came.3)))
         (message_answered p after came.1.whole (came.2, came.1.some, came.1.fits) reply)
-    settle_record (refused why head_only, at) told tail after is reply =
+    settle_record (refused why head_only, at) response tail after is reply =
         let none : tail ≡ [] = is.2 ∙ append-nil is.0 ∙ is.1 in
-        subst (λ (room : Room). Settled (list ++ tail) room) (still why head_only at after told reply)
+        subst (λ (room : Room). Settled (list ++ tail) room) (still why head_only at after response reply)
         (settled_as list (list ++ tail) now (sym (ap (λ t. list ++ t) none ∙ append-nil list)) r.settled)
 
     -- ---- what is whole of the list
@@ -550,10 +558,10 @@ module _ (step : Step) (setting : Setting) (digits : DigitsOf) (terminals : List
           → IsEntry e → IsFront tail (text_of e) → Follows (more ++ tail) others rest
           → (more ≡ texts_of others) ⊎ (more ++ text_of e ≡ texts_of others)
       whole_next more room e tail s is front follows =
-          elim (whole_front (entries_of s.turns) others e tail rest s.told.entries is end front
-          (follows.0, ap (λ t. t ++ tail) s.told.text ∙ follows.1)) [
-            | inl same ↦ inl (sym (same ∙ s.told.text))
-            | inr same ↦ inr (sym (same ∙ ap (λ t. t ++ text_of e) s.told.text))
+          elim (whole_front (entries_of s.turns) others e tail rest s.recorded.entries is end front
+          (follows.0, ap (λ t. t ++ tail) s.recorded.text ∙ follows.1)) [
+            | inl same ↦ inl (sym (same ∙ s.recorded.text))
+            | inr same ↦ inr (sym (same ∙ ap (λ t. t ++ text_of e) s.recorded.text))
           ]
 
       -- no arrival, or a refusal, of which nothing is kept
@@ -577,32 +585,32 @@ module _ (step : Step) (setting : Setting) (digits : DigitsOf) (terminals : List
           come_nothing tail now (no_front tail is.0 is.1 is.2) refl follows
 
       pub come_still : (x : Timed) (tail wrote : List ℕ)
-          → IsWanting message_text answer_text x tail wrote → Follows (list ++ tail) others rest
+          → KeepsUnserved message_text answer_text x tail wrote → Follows (list ++ tail) others rest
           → Come (texts_of others) now
       come_still x tail wrote is follows =
-          come_settled others rest end (list ++ tail) now (settle_wanting x tail wrote is) follows
+          come_settled others rest end (list ++ tail) now (settle_unavailable x tail wrote is) follows
 
       pub come_moved : (x : Timed) (tail wrote bytes : List ℕ) (after : Room)
-          → IsWanting message_text answer_text x tail wrote → Follows (list ++ tail) others rest
+          → KeepsUnserved message_text answer_text x tail wrote → Follows (list ++ tail) others rest
           → IsReplyTo step setting terminals now x after bytes → Come (texts_of others) after
       come_moved (arrived m, at) tail wrote bytes after is follows reply =
           let came = is.0 in
           let entry : IsEntry (message at came.0) = (came.2, came.1.some, came.1.fits) in
-          let p : Play = record { at = at; sent = came.0; whole = m; told = bytes } in
+          let p : Play = record { at = at; sent = came.0; whole = m; response = bytes } in
           let text = ap (λ t. list ++ t) (sym came.3)
-          ∙ whole_is others rest end (list ++ tail) now (settle_wanting (arrived m, at) tail wrote is) follows in
+          ∙ whole_is others rest end (list ++ tail) now (settle_unavailable (arrived m, at) tail wrote is) follows in
           inr (inr (subst (λ (t : List ℕ). Waits t after) text (message_waits p after came.1.whole entry reply)))
       come_moved (refused why head_only, at) tail wrote bytes after is follows reply =
           come_nothing tail after is.0 (still why head_only at after bytes reply) follows
 
-      pub come_unwritten : (x : Timed) (told tail wrote : List ℕ) (after : Room)
-          → IsUnwritten message_text answer_text x told tail wrote → Follows (list ++ tail) others rest
-          → IsReplyTo step setting terminals now x after told → Come (texts_of others) after
-      come_unwritten (arrived m, at) told tail wrote after (coming, front, came, first, is, none) follows reply =
+      pub come_unwritten : (x : Timed) (response tail wrote : List ℕ) (after : Room)
+          → IsUnwritten message_text answer_text x response tail wrote → Follows (list ++ tail) others rest
+          → IsReplyTo step setting terminals now x after response → Come (texts_of others) after
+      come_unwritten (arrived m, at) response tail wrote after (coming, front, came, first, is, none) follows reply =
           let entry : IsEntry (message at came.0) = (came.2, came.1.some, came.1.fits) in
-          let p : Play = record { at = at; sent = came.0; whole = m; told = told } in
-          let status = status_told step setting terminals now (arrived m, at) after told reply in
-          let line_is = status_text_is told status.0 status.2 in
+          let p : Play = record { at = at; sent = came.0; whole = m; response = response } in
+          let status = status_shown step setting terminals now (arrived m, at) after response reply in
+          let line_is = status_text_is response status.0 status.2 in
           let base = list ++ message_text at came.0 in
           let joined : base ++ front
           ≡ list ++ tail =
@@ -613,22 +621,24 @@ module _ (step : Step) (setting : Setting) (digits : DigitsOf) (terminals : List
             | inl same ↦
                 inr (inr (subst (λ (t : List ℕ). Waits t after) same (message_waits p after came.1.whole entry reply)))
             | inr same ↦
-                let whole : list ++ (message_text at came.0 ++ answer_text told) ≡ texts_of others =
-                sym (append_assoc list (message_text at came.0) (answer_text told)) ∙ ap (λ t. base ++ t) (sym line_is)
+                let whole : list ++ (message_text at came.0 ++ answer_text response) ≡ texts_of others =
+                sym (append_assoc list (message_text at came.0) (answer_text response))
+                ∙ ap (λ t. base ++ t) (sym line_is)
                 ∙ same in
                 inr
                 (inl (settled_as _ (texts_of others) after whole (message_answered p after came.1.whole entry reply)))
           ]
-      come_unwritten (refused why head_only, at) told tail wrote after (coming, front, came, first, is, none) follows
+      come_unwritten (refused why head_only, at) response tail wrote after (coming, front, came, first, is, none)
+          follows
           reply =
           come_nothing tail after (is ∙ ap (λ t. t ++ front) came ∙ no_front front [] refl first)
-          (still why head_only at after told reply) follows
+          (still why head_only at after response reply) follows
 
-      pub come_record : (x : Timed) (told tail : List ℕ) (after : Room)
-          → IsRecord message_text answer_text x told tail → Follows (list ++ tail) others rest
-          → IsReplyTo step setting terminals now x after told → Come (texts_of others) after
-      come_record x told tail after is follows reply =
-          come_settled others rest end (list ++ tail) after (settle_record x told tail after is reply) follows
+      pub come_record : (x : Timed) (response tail : List ℕ) (after : Room)
+          → IsRecord message_text answer_text x response tail → Follows (list ++ tail) others rest
+          → IsReplyTo step setting terminals now x after response → Come (texts_of others) after
+      come_record x response tail after is follows reply =
+          come_settled others rest end (list ++ tail) after (settle_record x response tail after is reply) follows
 
       -- no arrival more
       pub come_none : Follows list others rest → Come (texts_of others) now
@@ -654,20 +664,21 @@ module _ (step : Step) (setting : Setting) (digits : DigitsOf) (terminals : List
       → Ready step setting digits terminals Next held (list ++ text) after
   come_course list text now after outs answers goes s replies kept =
       let k = kept_turns step setting digits terminals outs answers text now after replies kept in
-      let told = answers_to_messages outs answers in
+      let response = answers_to_messages outs answers in
       let same : answers_of (s.turns ++ k.0)
-      ≡ answers_of s.turns ++ told = answers_join s.turns k.0 ∙ ap (λ a. answers_of s.turns ++ a) k.2 in
+      ≡ answers_of s.turns ++ response = answers_join s.turns k.0 ∙ ap (λ a. answers_of s.turns ++ a) k.2 in
       record {
         settled = record {
           turns = s.turns ++ k.0;
-          told = told_join step setting digits terminals held now after list text s.turns k.0 s.told k.1;
+          recorded = recorded_join step setting digits terminals held now after list text s.turns k.0 s.recorded k.1;
           begun = begun-append s.turns k.0 s.begun;
           given =
-              subst Next (sym (same ∙ ap (λ a. answers_of s.turns ++ a) (sym (append-nil told))))
+              subst Next (sym (same ∙ ap (λ a. answers_of s.turns ++ a) (sym (append-nil response))))
               (goes (answers_of s.turns) [] s.given (omega arith));
         };
         more =
             λ answer.
-            subst Next (sym (ap (λ a. a ++ answer ∷ []) same ∙ append_assoc (answers_of s.turns) told (answer ∷ [])))
+            subst Next
+            (sym (ap (λ a. a ++ answer ∷ []) same ∙ append_assoc (answers_of s.turns) response (answer ∷ [])))
             (goes (answers_of s.turns) (answer ∷ []) s.given (omega arith));
       }

@@ -10,10 +10,10 @@ use Rattle.room_model.specs.Rooms.{Step, machine}
 use Rattle.room_http_messages.specs.Messages.{HasMessage}
 use Rattle.room_http_messages.proofs.LawLemmas.{one_message_law}
 use Rattle.room_http.specs.Arrivals.{message as arrived}
-use Rattle.room_http.specs.Talk.{Timed, IsReplyTo}
-use Rattle.room_http.proofs.LawLemmas.{one_talk_law}
-use Rattle.room_http.proofs.TalkLemmas.{IsTalk-one}
-use Rattle.room_http.proofs.RunLemmas.{talk_run}
+use Rattle.room_http.specs.Dialogues.{Timed, IsReplyTo}
+use Rattle.room_http.proofs.LawLemmas.{one_dialogue_law}
+use Rattle.room_http.proofs.DialogueLemmas.{IsDialogue-one}
+use Rattle.room_http.proofs.RunLemmas.{dialogue_run}
 use Rattle.room_http.proofs.PromiseLaws.{promises_kept}
 use Rattle.room_model.specs.declared.digests.Head.{Head}
 use Rattle.dispatch_room_journal.specs.Entries.{Entry, room, answer}
@@ -22,7 +22,7 @@ use Rattle.dispatch_room_journal.specs.ReplayedTurns.{entries_in, entries_of, is
 use Rattle.dispatch_room_journal.specs.ReplayedTurns.{bytes_of, IsPlay, IsTurn, IsReplayed, IsPlayed}
 use Rattle.dispatch_room_journal.specs.Replays.{DigitsOf, Answers, Does, IsReplay, IsHeadOf}
 use Rattle.dispatch_room_journal.specs.ReplayLaws.{IsOneReplay, IsOneAnswering, IsKept}
-use Rattle.dispatch_room_journal.proofs.TurnLemmas.{talk_of}
+use Rattle.dispatch_room_journal.proofs.TurnLemmas.{dialogue_of}
 
 -- its message is played without a look at what follows it
 abbrev is_tried : Turn → Bool
@@ -56,12 +56,12 @@ module _ (step : Step) (setting : Setting) (digest_of : DigitsOf) (terminals : L
       (one_message_law p.sent p.whole q.whole [] [] p_is
       (subst (λ (t : List ℕ). HasMessage t q.whole []) (sym sent) q_is)).0 in
       let arrives : timed p ≡ timed q = λ i. (arrived (whole i), at i) in
-      let again : IsReplyTo step setting terminals held (timed p) other q.told = subst
-      (λ (x : Timed). IsReplyTo step setting terminals held x other q.told) (sym arrives) second in
-      let same = one_talk_law step setting terminals held (timed p ∷ []) after other p.told q.told
-      (IsTalk-one step setting terminals held after (timed p) p.told first)
-      (IsTalk-one step setting terminals held other (timed p) q.told again) in
-      (λ i. record { at = at i; sent = sent i; whole = whole i; told = same.1 i }, same.0)
+      let again : IsReplyTo step setting terminals held (timed p) other q.response = subst
+      (λ (x : Timed). IsReplyTo step setting terminals held x other q.response) (sym arrives) second in
+      let same = one_dialogue_law step setting terminals held (timed p ∷ []) after other p.response q.response
+      (IsDialogue-one step setting terminals held after (timed p) p.response first)
+      (IsDialogue-one step setting terminals held other (timed p) q.response again) in
+      (λ i. record { at = at i; sent = sent i; whole = whole i; response = same.1 i }, same.0)
 
   -- no turn begins with a status
   pub no_status_first : (t : Turn) (entries : List Entry) (status : ℕ) (more : List Entry)
@@ -216,6 +216,6 @@ one_answering_law step setting digest_of terminals held after other ts us a b c 
 
 pub kept_law : IsKept
 kept_law setting digest_of terminals held after ts fit formed x =
-    let run = talk_run setting terminals held (arrivals_of ts) after (bytes_of ts) fit
-    (talk_of machine setting digest_of terminals held ts after x) in
+    let run = dialogue_run setting terminals held (arrivals_of ts) after (bytes_of ts) fit
+    (dialogue_of machine setting digest_of terminals held ts after x) in
     (run.0, run.1, promises_kept setting terminals run.0 held formed run.1.run)

@@ -19,7 +19,7 @@ use Rattle.dispatch_room_journal.specs.RecordFronts.{said_in, said_with, says, s
 use Rattle.dispatch_room_journal.specs.ChainLaws.{AreBodies, IsReadAgain, IsWritten, says_rest}
 use Rattle.dispatch_room_journal.proofs.SaysLemmas.{list_chain}
 
--- what a choice came to tells how it was made
+-- what a choice came to shows how it was made
 chose_first : {A : Type 0} (test : Bool) (x y z : A) → (if test then x else y) ≡ z → y ≢ z
     → (test ≡ true) × (x ≡ z)
 chose_first true x y z is other = (refl, is)

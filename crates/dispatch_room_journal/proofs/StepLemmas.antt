@@ -10,7 +10,7 @@ use Rattle.room_model.specs.Digests.{IsMiss}
 use Rattle.room_model.specs.Rooms.{Step}
 use Rattle.room_model.specs.declared.digests.Miss.{Miss}
 use Rattle.room_model.specs.declared.digests.Miss.TheVariants as miss
-use Rattle.room_http.specs.Talk.{IsReplyTo}
+use Rattle.room_http.specs.Dialogues.{IsReplyTo}
 use Rattle.room_model.specs.declared.digests.Head.{Head}
 use Rattle.dispatch_room_journal.specs.declared.entry_lines.EntryLine.{EntryLine}
 use Rattle.dispatch_room_journal.specs.declared.entry_prefixes.EntryLayout.{EntryLayout}
@@ -19,7 +19,7 @@ use Rattle.dispatch_room_journal.specs.Entries.{Entry, room, message, answer, Is
 use Rattle.dispatch_room_journal.specs.EntryPrefixes.{IsLayout}
 use Rattle.dispatch_room_journal.specs.EntryReadings.{FirstIs, ReadsEntry}
 use Rattle.dispatch_room_journal.specs.declared.replay_faults.ReplayFault.{ReplayFault}
-use Rattle.dispatch_room_journal.specs.declared.replay_faults.ReplayFault.TheVariants.{Bad, Differs, Want}
+use Rattle.dispatch_room_journal.specs.declared.replay_faults.ReplayFault.TheVariants.{Bad, Differs, Unavailable}
 use Rattle.dispatch_room_journal.specs.declared.journal_messages.Turned.TheVariants.{Played, LeftOut}
 use Rattle.dispatch_room_journal.specs.JournalRecords.{status_in}
 use Rattle.dispatch_room_journal.specs.ReplayedTurns.{Play, Turn, answered, caught_up, tried, left_out, timed, IsPlay}
@@ -37,24 +37,24 @@ use Rattle.dispatch_room_journal.proofs.TurnLemmas.{one_by}
 -- the message was played, with this answer
 abbrev pub WasPlayed : Step → Setting → Type 0 → (List Terminal → Room → Type 0)
     → (List Terminal → Room → Type 0) → ℕ → List ℕ → List ℕ → Type 0
-WasPlayed step setting trusted stood stands at sent told =
-    (p : Play) × (p.at ≡ at) × (p.sent ≡ sent) × (p.told ≡ told) × IsPlay p
+WasPlayed step setting trusted stood stands at sent response =
+    (p : Play) × (p.at ≡ at) × (p.sent ≡ sent) × (p.response ≡ response) × IsPlay p
     × (trusted → (terminals : List Terminal) (room : Room) → stood terminals room
-    → (after : Room) × IsReplyTo step setting terminals room (timed p) after p.told
+    → (after : Room) × IsReplyTo step setting terminals room (timed p) after p.response
     × stands terminals after)
 
 -- the digest of the room is that of this head, or it is not
-abbrev pub Tells : DigitsOf → Type 0 → (List Terminal → Room → Type 0) → Head → Bool → Type 0
-Tells digest_of trusted stood head is =
+abbrev pub ShowsDigest : DigitsOf → Type 0 → (List Terminal → Room → Type 0) → Head → Bool → Type 0
+ShowsDigest digest_of trusted stood head is =
     trusted → (terminals : List Terminal) (room : Room) → stood terminals room
     → (IsTrue is ↔ (IsHeadOf digest_of head terminals room))
 
 module _ (step : Step) (setting : Setting) (digest_of : DigitsOf) (trusted : Type 0)
     (stood stands : List Terminal → Room → Type 0) (at : ℕ) (sent : List ℕ) where
-  pub answered_turn : (told : List ℕ) (status : ℕ)
-      → WasPlayed step setting trusted stood stands at sent told → status_in told ≡ decimal status
+  pub answered_turn : (response : List ℕ) (status : ℕ)
+      → WasPlayed step setting trusted stood stands at sent response → status_in response ≡ decimal status
       → TurnOf step setting digest_of trusted stood stands at sent (answer status ∷ []) false
-  answered_turn told status x same = record {
+  answered_turn response status x same = record {
     turn = answered x.0 status;
     is = (x.4, ap status_in x.3 ∙ same);
     replayed = tt;
@@ -65,17 +65,18 @@ module _ (step : Step) (setting : Setting) (digest_of : DigitsOf) (trusted : Typ
         λ trust terminals room stood_for. let y = x.5 trust terminals room stood_for in (y.0, (y.0, y.1, refl), y.2);
   }
 
-  leads_tried : (told : List ℕ) (x : WasPlayed step setting trusted stood stands at sent told)
+  leads_tried : (response : List ℕ) (x : WasPlayed step setting trusted stood stands at sent response)
       → Leads step setting digest_of trusted stood stands (tried x.0 ∷ [])
-  leads_tried told x trust terminals held stood_for =
+  leads_tried response x trust terminals held stood_for =
       let y = x.5 trust terminals held stood_for in (y.0, (y.0, y.1, refl), y.2)
 
   -- the status is another
-  pub differs_stops : (told : List ℕ) (status : ℕ)
-      → WasPlayed step setting trusted stood stands at sent told → ¬ (status_in told ≡ decimal status)
+  pub differs_stops : (response : List ℕ) (status : ℕ)
+      → WasPlayed step setting trusted stood stands at sent response → ¬ (status_in response ≡ decimal status)
       → StopsAt step setting digest_of trusted stood stands at sent (line_of (answer status)) Differs
-  differs_stops told status x other =
-      inr (x.0, x.1, x.2, x.4, leads_tried told x, (refl, status, refl, λ same. other (ap status_in (sym x.3) ∙ same)))
+  differs_stops response status x other =
+      inr
+      (x.0, x.1, x.2, x.4, leads_tried response x, (refl, status, refl, λ same. other (ap status_in (sym x.3) ∙ same)))
 
   -- the room did not come to the digest of a head
   pub missed : (head : Head) (m : Miss) (fault : ReplayFault)
@@ -83,16 +84,16 @@ module _ (step : Step) (setting : Setting) (digest_of : DigitsOf) (trusted : Typ
       → (m ≡ miss.Another → Misses step setting digest_of trusted stood stands at sent head)
       → PlaysTowards step setting digest_of trusted stood stands {A = Unit {0}} at sent head (Err fault)
   missed head miss.Another fault is why stays misses = (stays, inr (is, misses refl))
-  missed head (miss.Want r) fault is (inl never) stays misses = absurd (cc)
-  missed head (miss.Want r) fault is (inr want) stays misses =
-      let same : r ≡ want.0 = cc in (stays, inl (inr (want.0, is ∙ ap Want same, want.2)))
+  missed head (miss.Unavailable r) fault is (inl never) stays misses = absurd (cc)
+  missed head (miss.Unavailable r) fault is (inr cause) stays misses =
+      let same : r ≡ cause.0 = cc in (stays, inl (inr (cause.0, is ∙ ap Unavailable same, cause.2)))
 
   -- a message is not played that is to be played for a line
   pub refuses_at : (line : EntryLine) (fault : ReplayFault)
       → IsPlayedForLine step setting digest_of trusted stood stands line → Refuses sent fault
       → RefusesAt step setting digest_of trusted stood stands sent line fault
   refuses_at line fault played (inl bad) = inr (bad.0, bad.1, played)
-  refuses_at line fault played (inr want) = inl want
+  refuses_at line fault played (inr cause) = inl cause
 
   -- a line is that of its entry
   pub settles_line : (line other : EntryLine) (result : Result Bool ReplayFault) → line ≡ other
@@ -118,10 +119,10 @@ module _ (step : Step) (setting : Setting) (digest_of : DigitsOf) (early late : 
     (earlier : late → early) (stood mid stands : List Terminal → Room → Type 0) (at : ℕ)
     (sent : List ℕ) where
   pub caught_turn : (head : Head) (is : Bool) → Stays early stood mid
-      → Tells digest_of early stood head is → is ≡ false
+      → ShowsDigest digest_of early stood head is → is ≡ false
       → ComesTo step setting digest_of late mid stands at sent head
       → TurnOf step setting digest_of late stood stands at sent (room head ∷ []) false
-  caught_turn head is stays tells said x = record {
+  caught_turn head is stays states said x = record {
     turn = caught_up (x.0) head;
     is = x.3;
     replayed = tt;
@@ -131,16 +132,16 @@ module _ (step : Step) (setting : Setting) (digest_of : DigitsOf) (early late : 
     leads = λ trust terminals held stood_for.
         let y = x.4 trust terminals held (stays (earlier trust) terminals held stood_for) in
         let differs : ¬ (IsHeadOf digest_of head terminals held) = λ same.
-        not_both is said ((tells (earlier trust) terminals held stood_for).1 same) in
+        not_both is said ((states (earlier trust) terminals held stood_for).1 same) in
         (y.0, (y.0, (differs, y.1, y.2), refl), y.3);
   }
 
   -- the message was not done, and what the room has then is as it was
   pub stops_open : (head : Head) (is : Bool) (fault : ReplayFault)
-      → Stays early stood mid → Tells digest_of early stood head is → is ≡ false
+      → Stays early stood mid → ShowsDigest digest_of early stood head is → is ≡ false
       → PlaysTowards step setting digest_of late mid stands {A = Unit {0}} at sent head (Err fault)
       → StopsAt step setting digest_of late stood stands at sent (line_of (room head)) fault
-  stops_open head is fault stays tells said (still, inl refuses) =
+  stops_open head is fault stays states said (still, inl refuses) =
       inl (
         λ trust terminals held stood_for. still trust terminals held (stays (earlier trust) terminals held stood_for),
         inl (refuses_at step setting digest_of late stood stands at sent (line_of (room head)) fault (inr (
@@ -149,11 +150,11 @@ module _ (step : Step) (setting : Setting) (digest_of : DigitsOf) (early late : 
           λ trust terminals held stood_for.
               let now = stays (earlier trust) terminals held stood_for in
               let differs : ¬ (IsHeadOf digest_of head terminals held) = λ same.
-              not_both is said ((tells (earlier trust) terminals held stood_for).1 same) in
+              not_both is said ((states (earlier trust) terminals held stood_for).1 same) in
               (held, refl, differs, tt, still trust terminals held now),
         )) refuses),
       )
-  stops_open head is fault stays tells said (still, inr astray) =
+  stops_open head is fault stays states said (still, inr astray) =
       inl (
         λ trust terminals held stood_for. still trust terminals held (stays (earlier trust) terminals held stood_for),
         inr (
@@ -163,7 +164,7 @@ module _ (step : Step) (setting : Setting) (digest_of : DigitsOf) (early late : 
           λ trust terminals held stood_for.
               let now = stays (earlier trust) terminals held stood_for in
               let differs : ¬ (IsHeadOf digest_of head terminals held) = λ same.
-              not_both is said ((tells (earlier trust) terminals held stood_for).1 same) in
+              not_both is said ((states (earlier trust) terminals held stood_for).1 same) in
               (held, refl, differs, astray.1 trust terminals held now differs, still trust terminals held now),
         ),
       )
@@ -220,7 +221,7 @@ module _ (waits : Bool) (step : Step) (setting : Setting) (digest_of : DigitsOf)
 
   module _ (mid : Option (List ℕ)) (took : Consumes before mid
       (texts_of (message at sent ∷ []))) where
-    -- it was not played, since its bytes are no message, or memory or storage is wanting
+    -- it was not played, since its bytes are no message, or memory or storage is unavailable
     pub refused_stops : (fault : ReplayFault) → read_failed ≡ false → write_failed ≡ false
         → Stays trusted stood stands → Refuses sent fault
         → ((rest : List ℕ) → mid ≡ Some rest → waits ≡ true → fault ≡ Bad
@@ -320,8 +321,8 @@ module _ (waits : Bool) (step : Step) (setting : Setting) (digest_of : DigitsOf)
         → read_failed ≡ false → write_failed ≡ false → Stays trusted stood stands
         → RefusesAt step setting digest_of trusted stood stands sent layout.line fault
         → Stops fault []
-    refused_at layout fault first read write stays (inl want) =
-        refused_stops fault read write stays (inr want) (λ rest known wait bad. absurd (cc (want.1, bad)))
+    refused_at layout fault first read write stays (inl cause) =
+        refused_stops fault read write stays (inr cause) (λ rest known wait bad. absurd (cc (cause.1, bad)))
     refused_at layout fault first read write stays (inr x) =
         refused_stops fault read write stays (inl (x.0, x.1))
         (λ rest known wait bad. played_for layout first x.2 rest known)

@@ -38,7 +38,7 @@ ends_as read_failed entries rest Cut failed first = first
 ends_as read_failed entries rest Foreign failed first = first
 ends_as read_failed entries rest Read failed first = inl (failed refl)
 
--- a read failed, where that is told
+-- a read failed, where that is known
 pub failed_by : (kept : List ℕ) (failed ended : Bool) (left : Option (List ℕ)) (fault : EntryFault)
     → SaysOf kept failed ended left (Err fault) → fault ≡ Read → failed ≡ true
 failed_by kept failed ended left Cut says is = cc

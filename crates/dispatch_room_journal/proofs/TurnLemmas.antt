@@ -13,14 +13,14 @@ use Rattle.room_types.specs.declared.refusal_statuses.Refusal.TheVariants.{Memor
 use Rattle.room_model.specs.Room.{Room}
 use Rattle.room_http.specs.declared.settings.Setting.{Setting}
 use Rattle.room_model.specs.Rooms.{Step}
-use Rattle.room_http.specs.Talk.{IsTalk}
+use Rattle.room_http.specs.Dialogues.{IsDialogue}
 use Rattle.room_model.specs.declared.digests.Head.{Head as RoomHead}
 use Rattle.dispatch_room_journal.specs.declared.entry_prefixes.EntryLayout.{EntryLayout}
 use Rattle.dispatch_room_journal.specs.Entries.{Entry, room, message, answer, IsEntry, text_of, texts_of}
 use Rattle.dispatch_room_journal.specs.declared.next_entry.Next.{Next}
 use Rattle.dispatch_room_journal.specs.declared.next_entry.Next.TheVariants.{Head, Message}
 use Rattle.dispatch_room_journal.specs.declared.replay_faults.ReplayFault.{ReplayFault}
-use Rattle.dispatch_room_journal.specs.declared.replay_faults.ReplayFault.TheVariants.{Bad, Want}
+use Rattle.dispatch_room_journal.specs.declared.replay_faults.ReplayFault.TheVariants.{Bad, Unavailable}
 use Rattle.dispatch_room_journal.specs.declared.replay_faults.Stopped.{Stopped}
 use Rattle.dispatch_room_journal.specs.declared.journal_messages.Turned.{Turned}
 use Rattle.dispatch_room_journal.specs.declared.journal_messages.Turned.TheVariants.{Played, LeftOut, Last}
@@ -32,7 +32,7 @@ use Rattle.dispatch_room_journal.specs.ReplayedTurns.{ends_open, ends_unanswered
 use Rattle.dispatch_room_journal.specs.ReplayedTurns.{AreBy, IsBegun, StartsBy, HasNoStatus, BeginsWith, EndsAt}
 use Rattle.dispatch_room_journal.specs.ReplayedTurns.{AreTurns}
 use Rattle.dispatch_room_journal.specs.ReplayFaults.{too_many, Explains, IsDueTo}
-use Rattle.dispatch_room_journal.specs.Replays.{DigitsOf, IsReplay, Leads, LeadsElsewhere, LeadsTalking, MeetsHead}
+use Rattle.dispatch_room_journal.specs.Replays.{DigitsOf, IsReplay, Leads, LeadsDialogue, LeadsElsewhere, MeetsHead}
 use Rattle.dispatch_room_journal.specs.Replays.{StopsAfter, WouldMiss}
 use Rattle.dispatch_room_journal.specs.ReplaySteps.{Stays, HasItsHead, IsMark, TurnOf, MessageIs, IsElsewhere, NextIs}
 use Rattle.dispatch_room_journal.specs.ReplaySteps.{IsProgress, Progresses, Passes, StopsIn, TakesTurn}
@@ -485,20 +485,22 @@ module _ (step : Step) (setting : Setting) (digest_of : DigitsOf) (terminals : L
   IsReplay-append held mid after (u ∷ us) ts first second =
       (first.0, first.1, IsReplay-append first.0 mid after us ts first.2 second)
 
-  -- what is played is a talk
-  pub talk_of : (held : Room) (ts : List Turn) (after : Room)
+  -- what is played is a dialogue
+  pub dialogue_of : (held : Room) (ts : List Turn) (after : Room)
       → IsReplay step setting digest_of terminals held ts after
-      → IsTalk step setting terminals held (arrivals_of ts) after (bytes_of ts)
-  talk_of held [] after x = (x, refl)
-  talk_of held (compared head ∷ ts) after x =
-      subst (λ (r : Room). IsTalk step setting terminals r (arrivals_of ts) after (bytes_of ts)) x.1.0
-      (talk_of x.0 ts after x.2)
-  talk_of held (answered p status ∷ ts) after x = (x.0, p.told, bytes_of ts, refl, x.1, talk_of x.0 ts after x.2)
-  talk_of held (caught_up p head ∷ ts) after x = (x.0, p.told, bytes_of ts, refl, x.1.1, talk_of x.0 ts after x.2)
-  talk_of held (tried p ∷ ts) after x = (x.0, p.told, bytes_of ts, refl, x.1, talk_of x.0 ts after x.2)
-  talk_of held (left_out at sent ∷ ts) after x =
-      subst (λ (r : Room). IsTalk step setting terminals r (arrivals_of ts) after (bytes_of ts)) x.1
-      (talk_of x.0 ts after x.2)
+      → IsDialogue step setting terminals held (arrivals_of ts) after (bytes_of ts)
+  dialogue_of held [] after x = (x, refl)
+  dialogue_of held (compared head ∷ ts) after x =
+      subst (λ (r : Room). IsDialogue step setting terminals r (arrivals_of ts) after (bytes_of ts)) x.1.0
+      (dialogue_of x.0 ts after x.2)
+  dialogue_of held (answered p status ∷ ts) after x =
+      (x.0, p.response, bytes_of ts, refl, x.1, dialogue_of x.0 ts after x.2)
+  dialogue_of held (caught_up p head ∷ ts) after x =
+      (x.0, p.response, bytes_of ts, refl, x.1.1, dialogue_of x.0 ts after x.2)
+  dialogue_of held (tried p ∷ ts) after x = (x.0, p.response, bytes_of ts, refl, x.1, dialogue_of x.0 ts after x.2)
+  dialogue_of held (left_out at sent ∷ ts) after x =
+      subst (λ (r : Room). IsDialogue step setting terminals r (arrivals_of ts) after (bytes_of ts)) x.1
+      (dialogue_of x.0 ts after x.2)
 
 module _ (step : Step) (setting : Setting) (digest_of : DigitsOf) (early late : Type 0)
     (earlier : late → early) (stood mid stands : List Terminal → Room → Type 0)
@@ -528,12 +530,12 @@ module _ (step : Step) (setting : Setting) (digest_of : DigitsOf) (early late : 
       let y = met head more begins trust terminals x.0 x.2 in
       (y.0, IsReplay-append step setting digest_of terminals held x.0 y.0 us ts x.1 y.1, y.2)
 
-  pub Talks-append : Leads step setting digest_of early stood mid us
+  pub WritesDialogue-append : Leads step setting digest_of early stood mid us
       → Leads step setting digest_of late mid stands ts
-      → LeadsTalking step setting digest_of late stood stands (us ++ ts)
-  Talks-append first second trust terminals held stood_for =
+      → LeadsDialogue step setting digest_of late stood stands (us ++ ts)
+  WritesDialogue-append first second trust terminals held stood_for =
       let x = Leads-append first second trust terminals held stood_for in
-      (x.0, x.1, talk_of step setting digest_of terminals held (us ++ ts) x.0 x.1, x.2)
+      (x.0, x.1, dialogue_of step setting digest_of terminals held (us ++ ts) x.0 x.1, x.2)
 
   module _ (a b : Option (List ℕ)) (until : Option ℕ) (Kind : Turn → Type 0)
       (first : Passes step setting digest_of early stood mid a b until Kind us) where
@@ -584,11 +586,11 @@ module _ (step : Step) (setting : Setting) (digest_of : DigitsOf) (early late : 
         → Passes step setting digest_of late mid stands b c until Kind ts
         → BeginsWith b (entries_of ts) (EndsAt until) → IsProgress new (us ++ ts)
         → All Kind (us ++ ts) × AreTurns a until (us ++ ts) (EndsAt until)
-        × LeadsTalking step setting digest_of late stood stands (us ++ ts)
+        × LeadsDialogue step setting digest_of late stood stands (us ++ ts)
     ended c new second begins progress = (
       All-append Kind us ts first.kinds second.kinds,
       are_turns (EndsAt until) second.turns second.entries begins (starts_begun new.is_begun (us ++ ts) progress.begun),
-      Talks-append first.leads second.leads,
+      WritesDialogue-append first.leads second.leads,
     )
 
     -- the turns of a replay that has stopped
@@ -623,7 +625,7 @@ module _ (step : Step) (setting : Setting) (digest_of : DigitsOf) (early late : 
                 (begins_more b [] (MeetsHead step setting digest_of early stood us)
                 (MeetsHead step setting digest_of late stood us)
                 (λ rest met head more begins trust. met head more begins (earlier trust)) (first.met ends)));
-            leads = Talks-append first.leads leads;
+            leads = WritesDialogue-append first.leads leads;
             due = due;
             number = number;
           })
@@ -681,7 +683,7 @@ pub nothing_done : (waits : Bool) (step : Step) (setting : Setting) (digest_of :
     (trusted : Type 0) (stands : List Terminal → Room → Type 0) (left : Option (List ℕ))
     (until : Option ℕ)
     (Kind : Turn → Type 0) (read_failed write_failed : Bool) (s : Stopped)
-    → s ≡ record { fault = Want Memory; number = 1 } → read_failed ≡ false → write_failed ≡ false
+    → s ≡ record { fault = Unavailable Memory; number = 1 } → read_failed ≡ false → write_failed ≡ false
     → StopsAfter step setting digest_of trusted stands stands left until waits Kind read_failed
     write_failed s [] []
 nothing_done waits step setting digest_of trusted stands left until Kind read_failed write_failed s is read write =

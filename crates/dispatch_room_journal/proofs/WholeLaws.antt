@@ -15,14 +15,15 @@ use Rattle.room_http_messages.specs.Messages.{WholeMessage, HasMessage}
 use Rattle.room_http.specs.ReplyMessages.{IsDateOf, reply_bytes}
 use Rattle.room_model.specs.Rooms.{Step}
 use Rattle.room_http.specs.Arrivals.{message as arrived, is_head_only, is_closing}
-use Rattle.room_http.specs.Talk.{Finds, replied}
+use Rattle.room_http.specs.Dialogues.{Finds, replied}
 use Rattle.room_model.specs.declared.digests.Head.{Head}
 use Rattle.dispatch_room_journal.specs.Entries.{Entry, room, message, answer, IsEntry, text_of, texts_of, Begins}
 use Rattle.dispatch_room_journal.specs.JournalRecords.{status_in}
 use Rattle.dispatch_room_journal.proofs.EntryLemmas.{no_end_law, one_entry_law}
 use Rattle.dispatch_room_journal.specs.declared.replay_faults.ReplayFault.{ReplayFault}
 use Rattle.dispatch_room_journal.specs.declared.replay_faults.ReplayFault.TheVariants.{Bad, Differs, Another}
-use Rattle.dispatch_room_journal.specs.declared.replay_faults.ReplayFault.TheVariants.{ReadFailed, WriteFailed, Want}
+use Rattle.dispatch_room_journal.specs.declared.replay_faults.ReplayFault.TheVariants.{ReadFailed, WriteFailed}
+use Rattle.dispatch_room_journal.specs.declared.replay_faults.ReplayFault.TheVariants.{Unavailable}
 use Rattle.dispatch_room_journal.specs.declared.replay_faults.Stopped.{Stopped}
 use Rattle.dispatch_room_journal.specs.ReplayedTurns.{Open, Play, Turn, compared, answered, caught_up, tried, left_out}
 use Rattle.dispatch_room_journal.specs.ReplayedTurns.{entries_in, entries_of, ends_open, ends_unanswered, is_left_out}
@@ -31,7 +32,7 @@ use Rattle.dispatch_room_journal.specs.ReplayedTurns.{IsPlay, IsTurn, IsReplayed
 use Rattle.dispatch_room_journal.specs.ReplayedTurns.{HasNoStatus, AreTurns, EndsAt}
 use Rattle.dispatch_room_journal.specs.ReplayFaults.{IsBroken, IsNoMessage, IsPlayedFor, IsBad, broken, broken_after}
 use Rattle.dispatch_room_journal.specs.ReplayFaults.{unasked, headless, no_message, too_many, IsHead, Explains, IsDueTo}
-use Rattle.dispatch_room_journal.specs.Replays.{DigitsOf, Answers, IsReplay, LeadsElsewhere, LeadsTalking, StopsAfter}
+use Rattle.dispatch_room_journal.specs.Replays.{DigitsOf, Answers, IsReplay, LeadsElsewhere, LeadsDialogue, StopsAfter}
 use Rattle.dispatch_room_journal.specs.Replays.{WouldMiss, IsHeadOf}
 use Rattle.dispatch_room_journal.specs.ReplayLaws.{GivesThese, IsExcused, IsWhole, IsWholeUpTo}
 use Rattle.dispatch_room_journal.proofs.FaultLemmas.{begins_one}
@@ -180,7 +181,8 @@ module _ (step : Step) (setting : Setting) (digest_of : DigitsOf) (terminals : L
         at = at;
         sent = sent;
         whole = whole;
-        told = reply_bytes (replied step found held).1 date (is_head_only (arrived whole)) (is_closing (arrived whole));
+        response =
+            reply_bytes (replied step found held).1 date (is_head_only (arrived whole)) (is_closing (arrived whole));
       } in
       (same_play step setting digest_of terminals held next (replied step found held).0 p q is has same_at same_sent x
       (found, finds, refl, (date, subst (λ (n : ℕ). IsDateOf n date) same_at x.3.1, refl))).1
@@ -189,7 +191,7 @@ module _ (step : Step) (setting : Setting) (digest_of : DigitsOf) (terminals : L
   -- status nor a head of another room stands after it
   abbrev IsFor : Room → Room → Play → List ℕ → Type 0
   IsFor held next p more =
-      ((status : ℕ) × (rest : List ℕ) × Begins more (answer status) rest × (status_in p.told ≡ decimal status))
+      ((status : ℕ) × (rest : List ℕ) × Begins more (answer status) rest × (status_in p.response ≡ decimal status))
       ⊎ ((head : Head) × (rest : List ℕ) × Begins more (room head) rest × (IsHeadOf digest_of head terminals next))
 
   abbrev IsDone : Room → ℕ → List ℕ → List ℕ → Type 0
@@ -326,21 +328,21 @@ module _ (step : Step) (setting : Setting) (digest_of : DigitsOf) (terminals : L
 
     same_status : (p : Play) (next : Room) (status : ℕ) (more : List ℕ) → IsPlay p
         → Answers step setting digest_of terminals mid p next → Begins rest (answer status) more
-        → IsDone mid p.at p.sent rest → status_in p.told ≡ decimal status
+        → IsDone mid p.at p.sent rest → status_in p.response ≡ decimal status
     same_status p next status more p_is first begins
-        (inl (q, then, q_is, at, sent, second, inl (s, left, mark, told))) =
+        (inl (q, then, q_is, at, sent, second, inl (s, left, mark, response))) =
         let same : answer s ≡ answer status = (one_entry_law rest (answer s) (answer status) left more mark begins).0 in
         let statuses : s ≡ status = cc in
-        ap (λ (r : Play). status_in r.told)
+        ap (λ (r : Play). status_in r.response)
         (same_play step setting digest_of terminals mid next then p q p_is q_is (sym at) (sym sent) first second).0
-        ∙ told ∙ ap decimal statuses
+        ∙ response ∙ ap decimal statuses
     same_status p next status more p_is first begins
         (inl (q, then, q_is, at, sent, second, inr (head, left, mark, comes))) =
         absurd (cc ((one_entry_law rest (room head) (answer status) left more mark begins).0))
     same_status p next status more p_is first begins (inr left) = absurd (left.0 status more begins)
 
     not_different : (p : Play) (status : ℕ) (more : List ℕ) → last ≡ tried p ∷ []
-        → Begins rest (answer status) more → ¬ (¬ (status_in p.told ≡ decimal status))
+        → Begins rest (answer status) more → ¬ (¬ (status_in p.response ≡ decimal status))
     not_different p status more one begins other =
         let turn : IsPlay p = All-head IsTurn (tried p) [] (All-same IsTurn (tried p ∷ []) last (sym one) last_turns) in
         let entry : IsEntry (message p.at p.sent) = All-head IsEntry (message p.at p.sent) []
@@ -358,7 +360,8 @@ module _ (step : Step) (setting : Setting) (digest_of : DigitsOf) (terminals : L
         → ¬ (IsHeadOf digest_of head terminals mid)
         → WouldMiss step setting digest_of terminals mid (Some o) head
         → Begins mid_text (room head) more → ¬ (IsDone mid o.0 o.1 mid_text)
-    not_astray o head mid_text more other miss begins (inl (p, next, p_is, at, sent, ans, inl (s, left, mark, told))) =
+    not_astray o head mid_text more other miss begins
+        (inl (p, next, p_is, at, sent, ans, inl (s, left, mark, response))) =
         absurd (cc ((one_entry_law mid_text (answer s) (room head) left more mark begins).0))
     not_astray o head mid_text more other miss begins (inl (p, next, p_is, at, sent, ans, inr (d, left, mark, comes))) =
         let same : room d ≡ room head = (one_entry_law mid_text (room d) (room head) left more mark begins).0 in
@@ -458,7 +461,7 @@ module _ (step : Step) (setting : Setting) (digest_of : DigitsOf) (terminals : L
       → IsReplay step setting digest_of terminals held us then → AreBy until (entries_of us)
       → EndsAt until (texts_of (entries_of vs)) → (ws : List Turn) → All IsReplayed ws
       → AreTurns (Some (texts_of (entries_of ts))) until ws (EndsAt until)
-      → LeadsTalking step setting digest_of trusted stood stands ws
+      → LeadsDialogue step setting digest_of trusted stood stands ws
       → (ws ≡ us) × stands terminals then
   done_are us vs then split first by ends ws replayed are leads =
       let found = are.begins (texts_of (entries_of ts)) refl in
@@ -568,7 +571,7 @@ module _ (step : Step) (setting : Setting) (digest_of : DigitsOf) (terminals : L
           why.1 why.2 why.0 why.3 why.4
       excused ReadFailed why due = due.0
       excused WriteFailed why due = absurd (cc (due.1))
-      excused (Want r) why due = due.2
+      excused (Unavailable r) why due = due.2
 
     excused_after : (mid end : Room) (es : List Entry) (rest : List ℕ)
         → IsReplay step setting digest_of terminals held us mid

@@ -7,7 +7,7 @@ use Rattle.room_types.specs.declared.fleet.Terminal.{Terminal}
 use Rattle.room_model.specs.Room.{Room}
 use Rattle.room_http.specs.declared.settings.Setting.{Setting}
 use Rattle.room_model.specs.Rooms.{Step}
-use Rattle.room_http.specs.Talk.{IsFront}
+use Rattle.room_http.specs.Dialogues.{IsFront}
 use Rattle.dispatch_room_journal.specs.Entries.{answer, IsEntry, texts_of}
 use Rattle.dispatch_room_journal.specs.declared.replay_faults.ReplayFault.{ReplayFault}
 use Rattle.dispatch_room_journal.specs.declared.replay_faults.Stopped.{Stopped}
@@ -16,32 +16,33 @@ use Rattle.dispatch_room_journal.specs.JournalRecords.{status_in}
 use Rattle.dispatch_room_journal.specs.ReplayedTurns.{Play, Turn, tried, plays_of, entries_of, has_message, is_left_out}
 use Rattle.dispatch_room_journal.specs.ReplayedTurns.{IsPlayed, HasNoStatus, AreTurns, BeginsWith, EndsAt}
 use Rattle.dispatch_room_journal.specs.ReplayFaults.{Explains, IsDueTo}
-use Rattle.dispatch_room_journal.specs.Replays.{DigitsOf, LeadsTalking, StopsAfter}
+use Rattle.dispatch_room_journal.specs.Replays.{DigitsOf, LeadsDialogue, StopsAfter}
 use Rattle.dispatch_room_journal.specs.ReplaySteps.{Progresses, Passes, StopsIn}
 
 -- the line before an answer: its status, and the number of its bytes
 abbrev pub frame_line : List ℕ → List ℕ
-frame_line told = codes "answer " ++ status_in told ++ 32 ∷ [] ++ decimal (length told) ++ 10 ∷ []
+frame_line response =
+    codes "answer " ++ status_in response ++ 32 ∷ [] ++ decimal (length response) ++ 10 ∷ []
 
 -- an answer in its frame: the line, its bytes, and a line end
 abbrev pub frame_of : List ℕ → List ℕ
-frame_of told = frame_line told ++ (told ++ 10 ∷ [])
+frame_of response = frame_line response ++ (response ++ 10 ∷ [])
 
 -- the answers of turns in their frames, one after another
 abbrev pub frames_of : List Turn → List ℕ
-frames_of ts = flat_map (λ p. frame_of p.told) (plays_of ts)
+frames_of ts = flat_map (λ p. frame_of p.response) (plays_of ts)
 
 -- a status that follows an answer is the answer's, and was taken; or something else follows; or why
 -- it stopped
 abbrev pub FollowIs : Option (List ℕ) → Option (List ℕ) → Bool → List ℕ → Result Bool ReplayFault
     → Type 0
-FollowIs before after failed told (Ok true) =
-    (status : ℕ) × (status_in told ≡ decimal status) × IsEntry (answer status)
+FollowIs before after failed response (Ok true) =
+    (status : ℕ) × (status_in response ≡ decimal status) × IsEntry (answer status)
     × Consumes before after (texts_of (answer status ∷ [])) × (failed ≡ false)
-FollowIs before after failed told (Ok false) =
+FollowIs before after failed response (Ok false) =
     Keeps before after × (failed ≡ false) × BeginsWith after [] HasNoStatus
-FollowIs before after failed told (Err fault) =
-    ((p : Play) → p.told ≡ told → BeginsWith before []
+FollowIs before after failed response (Err fault) =
+    ((p : Play) → p.response ≡ response → BeginsWith before []
     (Explains false ⊥ ⊥ (λ open_ head. ⊥) (tried p ∷ []) fault)) × IsDueTo failed false fault
 
 module _ (step : Step) (setting : Setting) (digest_of : DigitsOf) (trusted : Type 0)
@@ -82,7 +83,7 @@ module _ (step : Step) (setting : Setting) (digest_of : DigitsOf) (trusted : Typ
   abbrev pub AnswersEach : Bool → Bool → Result ℕ Stopped → Type 0
   AnswersEach read_failed write_failed (Ok records) =
       (ts : List Turn) × All IsPlayed ts × AreTurns left None ts (EndsAt None)
-      × LeadsTalking step setting digest_of trusted stood stands ts
+      × LeadsDialogue step setting digest_of trusted stood stands ts
       × (records ≡ min (count_by has_message ts) (2 ^ 64 - 1)) × Appends held holds (frames_of ts)
   AnswersEach read_failed write_failed (Err stopped) =
       (ts last : List Turn) × StopsAfter step setting digest_of trusted stood stands left None false

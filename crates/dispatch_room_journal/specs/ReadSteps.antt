@@ -157,9 +157,9 @@ module _ (mode : Mode) (kept : List ℕ) (new_mode : Mode) (new_vouched : ℕ) (
 -- not found what is left, this holds
 abbrev pub Advances : {E : Type 0} → Option (List ℕ) → Option (List ℕ) → Option (List ℕ) → Type 0
     → Result Step E → Type 0
-Advances before after told Near (Ok More) = Keeps before after × Near
-Advances before after told Near (Ok Moved) = Keeps before after × Near
-Advances before after told Near (Ok Passed) = Keeps before after × Near
-Advances before after told Near (Ok Wrong) = Consumes before told (0 ∷ [])
-Advances before after told Near (Ok Ended) = Keeps before after × IsAtEnd after
-Advances before after told Near (Err e) = Keeps before after
+Advances before after response Near (Ok More) = Keeps before after × Near
+Advances before after response Near (Ok Moved) = Keeps before after × Near
+Advances before after response Near (Ok Passed) = Keeps before after × Near
+Advances before after response Near (Ok Wrong) = Consumes before response (0 ∷ [])
+Advances before after response Near (Ok Ended) = Keeps before after × IsAtEnd after
+Advances before after response Near (Err e) = Keeps before after

@@ -3,7 +3,7 @@ use Rattle.std.specs.Prelude.{◌≡◌, ◌⊎◌, ⊤, ℕ, ◌<◌, List, [],
 use Rattle.std.specs.Prelude.{None}
 use Rattle.room_types.specs.declared.refusal_statuses.Refusal.{Refusal}
 use Rattle.room_http_messages.specs.Messages.{WholeMessage, HasMessage}
-use Rattle.room_model.specs.Rooms.{IsWant}
+use Rattle.room_model.specs.Rooms.{IsUnavailable}
 use Rattle.room_model.specs.declared.digests.Miss.{Miss}
 use Rattle.room_model.specs.declared.digests.Miss.TheVariants as miss
 use Rattle.room_model.specs.declared.digests.Head.{Head}
@@ -12,7 +12,7 @@ use Rattle.dispatch_room_journal.specs.declared.entry_reader.EntryFault.TheVaria
 use Rattle.dispatch_room_journal.specs.Entries.{room, message, answer, Begins, IsPart, IsForeign}
 use Rattle.dispatch_room_journal.specs.declared.replay_faults.ReplayFault.{ReplayFault}
 use Rattle.dispatch_room_journal.specs.declared.replay_faults.ReplayFault.TheVariants.{Bad, Differs, Another}
-use Rattle.dispatch_room_journal.specs.declared.replay_faults.ReplayFault.TheVariants.{ReadFailed, WriteFailed, Want}
+use Rattle.dispatch_room_journal.specs.declared.replay_faults.ReplayFault.TheVariants.{ReadFailed, WriteFailed, Unavailable}
 use Rattle.dispatch_room_journal.specs.JournalRecords.{status_in}
 use Rattle.dispatch_room_journal.specs.ReplayedTurns.{Open, Play, Turn, tried}
 
@@ -31,8 +31,8 @@ abbrev pub IsNoMessage : List ℕ → Type 0
 IsNoMessage sent = (m : WholeMessage) → ¬ (HasMessage sent m [])
 
 -- memory or storage fails
-abbrev pub IsWanting : ReplayFault → Type 0
-IsWanting fault = (r : Refusal) × (fault ≡ Want r) × IsWant r
+abbrev pub IsUnavailableFault : ReplayFault → Type 0
+IsUnavailableFault fault = (r : Refusal) × (fault ≡ Unavailable r) × IsUnavailable r
 
 -- what stands after a message is what it is played for: a status, or a head of another room than
 -- the one before the message (`Elsewhere`)
@@ -79,13 +79,13 @@ module _ (waits : Bool) (none full : Type 0) (Elsewhere : Option Open → Head �
   Explains Bad rest = IsBad waits none full Elsewhere last rest
   Explains Differs rest =
       (p : Play) × (status : ℕ) × (more : List ℕ) × (last ≡ tried p ∷ [])
-      × Begins rest (answer status) more × (¬ (status_in p.told ≡ decimal status))
+      × Begins rest (answer status) more × (¬ (status_in p.response ≡ decimal status))
   Explains Another rest =
       (last ≡ []) × (open_ : Option Open) × (head : Head) × IsHead waits rest open_ head
       × Elsewhere open_ head
   Explains ReadFailed rest = ⊤
   Explains WriteFailed rest = ⊤
-  Explains (Want r) rest = ⊤
+  Explains (Unavailable r) rest = ⊤
 
 -- What has failed, by the reported fault: just what it says.
 module _ (read_failed write_failed : Bool) where
@@ -95,13 +95,13 @@ module _ (read_failed write_failed : Bool) where
   IsDueTo Another = (read_failed ≡ false) × (write_failed ≡ false)
   IsDueTo ReadFailed = (read_failed ≡ true) × (write_failed ≡ false)
   IsDueTo WriteFailed = (read_failed ≡ false) × (write_failed ≡ true)
-  IsDueTo (Want r) = (read_failed ≡ false) × (write_failed ≡ false) × IsWant r
+  IsDueTo (Unavailable r) = (read_failed ≡ false) × (write_failed ≡ false) × IsUnavailable r
 
 -- how it is reported that a room did not come to a digest
 abbrev pub miss_fault : Miss → ReplayFault
 miss_fault miss.Another = Another
-miss_fault (miss.Want r) = Want r
+miss_fault (miss.Unavailable r) = Unavailable r
 
 -- why a message is not played: its bytes are none, or memory or storage fails
 abbrev pub Refuses : List ℕ → ReplayFault → Type 0
-Refuses sent fault = ((fault ≡ Bad) × IsNoMessage sent) ⊎ IsWanting fault
+Refuses sent fault = ((fault ≡ Bad) × IsNoMessage sent) ⊎ IsUnavailableFault fault

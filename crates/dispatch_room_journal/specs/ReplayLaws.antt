@@ -6,23 +6,23 @@ use Rattle.room_model.specs.FleetRows.{AreTerminals}
 use Rattle.room_model.specs.Room.{Room}
 use Rattle.room_model.specs.RoomAgreements.{IsWellFormed}
 use Rattle.room_http.specs.declared.settings.Setting.{Setting}
-use Rattle.room_model.specs.Rooms.{Step, IsWant, machine}
+use Rattle.room_model.specs.Rooms.{Step, IsUnavailable, machine}
 use Rattle.dispatch_room_journal.specs.Entries.{IsEntry, texts_of}
 use Rattle.dispatch_room_journal.specs.JournalRecords.{answer_text, message_text}
 use Rattle.room_http.specs.Arrivals.{message, refused}
 use Rattle.room_http.specs.KeptMessages.{AreKept, AreReplies}
 use Rattle.room_http.specs.Promises.{Promises}
 use Rattle.room_http.specs.Runs.{Exchange, IsRunOf}
-use Rattle.room_http.specs.Talk.{Timed}
+use Rattle.room_http.specs.Dialogues.{Timed}
 use Rattle.dispatch_room_journal.specs.declared.replay_faults.ReplayFault.{ReplayFault}
 use Rattle.dispatch_room_journal.specs.declared.replay_faults.ReplayFault.TheVariants.{Bad, Differs, Another}
-use Rattle.dispatch_room_journal.specs.declared.replay_faults.ReplayFault.TheVariants.{ReadFailed, WriteFailed, Want}
+use Rattle.dispatch_room_journal.specs.declared.replay_faults.ReplayFault.TheVariants.{ReadFailed, WriteFailed, Unavailable}
 use Rattle.dispatch_room_journal.specs.declared.replay_faults.Stopped.{Stopped}
 use Rattle.dispatch_room_journal.specs.declared.replayed_journal.Replayed.{Replayed}
 use Rattle.dispatch_room_journal.specs.ReplayedTurns.{Turn, answers_of, entries_of, arrivals_of, bytes_of, has_message}
 use Rattle.dispatch_room_journal.specs.ReplayedTurns.{ends_open, IsTurn, IsReplayed, IsPlayed}
 use Rattle.dispatch_room_journal.specs.ReplayedTurns.{IsBegun, AreBy, AreTurns, EndsAt}
-use Rattle.dispatch_room_journal.specs.Replays.{DigitsOf, IsReplay, LeadsTalking, Replays}
+use Rattle.dispatch_room_journal.specs.Replays.{DigitsOf, IsReplay, LeadsDialogue, Replays}
 
 -- two rooms that begin equal and replay the same entries play the same messages, answer them
 -- equally, and end equal
@@ -61,9 +61,9 @@ IsKept =
 abbrev pub answers_to_messages : List Timed → List (List ℕ) → List (List ℕ)
 answers_to_messages [] answers = []
 answers_to_messages (x ∷ outs) [] = []
-answers_to_messages ((message m, at) ∷ outs) (told ∷ answers) =
-    told ∷ answers_to_messages outs answers
-answers_to_messages ((refused r head_only, at) ∷ outs) (told ∷ answers) =
+answers_to_messages ((message m, at) ∷ outs) (response ∷ answers) =
+    response ∷ answers_to_messages outs answers
+answers_to_messages ((refused r head_only, at) ∷ outs) (response ∷ answers) =
     answers_to_messages outs answers
 
 -- a room was served, and a journal kept what it keeps of it: replayed to an equal room, it gives
@@ -87,7 +87,7 @@ IsExcused read_failed ts Differs = ⊥
 IsExcused read_failed ts Another = ⊥
 IsExcused read_failed ts ReadFailed = read_failed ≡ true
 IsExcused read_failed ts WriteFailed = ⊥
-IsExcused read_failed ts (Want r) = IsWant r
+IsExcused read_failed ts (Unavailable r) = IsUnavailable r
 
 module _ {M : Type 0} (step : Step) (digest_of : DigitsOf) (is_trusted : M → Type 0)
     (stands : M → List Terminal → Room → Type 0) where
@@ -106,7 +106,7 @@ module _ {M : Type 0} (step : Step) (digest_of : DigitsOf) (is_trusted : M → T
       × (done.records ≡ min (count_by has_message us) (2 ^ 64 - 1))
       × ((ws : List Turn) → All IsReplayed ws
       → AreTurns (Some (texts_of (entries_of ts))) until ws (EndsAt until)
-      → LeadsTalking step setting digest_of (is_trusted new) (stands old) (stands new) ws
+      → LeadsDialogue step setting digest_of (is_trusted new) (stands old) (stands new) ws
       → ws ≡ us))
       (λ stopped. IsExcused read_failed ts stopped.fault)
 

@@ -6,7 +6,7 @@ use Rattle.room_types.specs.declared.fleet.Terminal.{Terminal}
 use Rattle.room_model.specs.Room.{Room}
 use Rattle.room_http.specs.declared.settings.Setting.{Setting}
 use Rattle.room_model.specs.Rooms.{Step}
-use Rattle.room_http.specs.Talk.{IsReplyTo}
+use Rattle.room_http.specs.Dialogues.{IsReplyTo}
 use Rattle.room_model.specs.declared.digests.Head.{Head}
 use Rattle.dispatch_room_journal.specs.declared.entry_lines.EntryLine.{EntryLine}
 use Rattle.dispatch_room_journal.specs.Entries.{Entry, room, message, answer, IsEntry, line_of, texts_of, Begins}
@@ -23,7 +23,7 @@ use Rattle.dispatch_room_journal.specs.ReplayedTurns.{has_message, is_left_out, 
 use Rattle.dispatch_room_journal.specs.ReplayedTurns.{IsTurn, IsReplayed, IsBy}
 use Rattle.dispatch_room_journal.specs.ReplayedTurns.{AreBy, StartsBy, HasNoStatus, BeginsWith, EndsAt}
 use Rattle.dispatch_room_journal.specs.declared.replay_progress.Progress.{Progress}
-use Rattle.dispatch_room_journal.specs.ReplayFaults.{IsNoMessage, IsWanting, Refuses, Explains, IsDueTo}
+use Rattle.dispatch_room_journal.specs.ReplayFaults.{IsNoMessage, IsUnavailableFault, Refuses, Explains, IsDueTo}
 use Rattle.dispatch_room_journal.specs.Replays.{DigitsOf, Leads, LeadsElsewhere, MeetsHead, WouldMiss, IsHeadOf}
 
 -- what it stands for is what it stood for
@@ -46,10 +46,10 @@ HasItsHead digest_of trusted stood rest =
 -- The bytes are one message, and the room answered it; or nothing was done, and why.
 abbrev pub Plays : {A : Type 0} → Step → Setting → Type 0 → (List Terminal → Room → Type 0)
     → (List Terminal → Room → Type 0) → ℕ → List ℕ → Result (Vec ℕ A) ReplayFault → Type 0
-Plays step setting trusted stood stands at sent (Ok told) =
-    (p : Play) × (p.at ≡ at) × (p.sent ≡ sent) × (p.told ≡ told.items) × IsPlay p
+Plays step setting trusted stood stands at sent (Ok response) =
+    (p : Play) × (p.at ≡ at) × (p.sent ≡ sent) × (p.response ≡ response.items) × IsPlay p
     × (trusted → (terminals : List Terminal) (room : Room) → stood terminals room
-    → (after : Room) × IsReplyTo step setting terminals room (timed p) after p.told
+    → (after : Room) × IsReplyTo step setting terminals room (timed p) after p.response
     × stands terminals after)
 Plays step setting trusted stood stands at sent (Err fault) =
     Stays trusted stood stands × Refuses sent fault
@@ -76,7 +76,7 @@ module _ (step : Step) (setting : Setting) (digest_of : DigitsOf) (trusted : Typ
   abbrev pub Deviates : Play → EntryLine → ReplayFault → Type 0
   Deviates p line fault =
       (fault ≡ Differs) × (status : ℕ) × (line ≡ line_of (answer status))
-      × (¬ (status_in p.told ≡ decimal status))
+      × (¬ (status_in p.response ≡ decimal status))
 
   -- this line is a head of another room than the message would lead to
   abbrev pub IsAstray : ℕ → List ℕ → EntryLine → ReplayFault → Type 0
@@ -95,7 +95,7 @@ module _ (step : Step) (setting : Setting) (digest_of : DigitsOf) (trusted : Typ
   -- message, and it was to be played
   abbrev pub RefusesAt : List ℕ → EntryLine → ReplayFault → Type 0
   RefusesAt sent line fault =
-      IsWanting fault ⊎ ((fault ≡ Bad) × IsNoMessage sent × IsPlayedForLine line)
+      IsUnavailableFault fault ⊎ ((fault ≡ Bad) × IsNoMessage sent × IsPlayedForLine line)
 
   -- a message before this line was not done, or it was and is not as the line says
   abbrev pub StopsAt : ℕ → List ℕ → EntryLine → ReplayFault → Type 0
@@ -109,7 +109,7 @@ module _ (step : Step) (setting : Setting) (digest_of : DigitsOf) (trusted : Typ
   ComesTo at sent head =
       (p : Play) × (p.at ≡ at) × (p.sent ≡ sent) × IsPlay p
       × (trusted → (terminals : List Terminal) (room : Room) → stood terminals room
-      → (after : Room) × IsReplyTo step setting terminals room (timed p) after p.told
+      → (after : Room) × IsReplyTo step setting terminals room (timed p) after p.response
       × (IsHeadOf digest_of head terminals after) × stands terminals after)
 
   -- where the room has another digest than this head gives, so it would have after the message

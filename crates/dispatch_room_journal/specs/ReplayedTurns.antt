@@ -7,7 +7,7 @@ use Rattle.dispatch_room_journal.specs.Entries.{Entry, room, message, answer, Is
 use Rattle.dispatch_room_journal.specs.JournalRecords.{status_in}
 use Rattle.room_http_messages.specs.Messages.{WholeMessage, HasMessage}
 use Rattle.room_http.specs.Arrivals.{message as arrived}
-use Rattle.room_http.specs.Talk.{Timed}
+use Rattle.room_http.specs.Dialogues.{Timed}
 
 -- an open message, which has no status: its moment, and its bytes
 abbrev pub Open : Type 0
@@ -19,7 +19,7 @@ pub record Play : Type 0 where
   pub at : ℕ
   pub sent : List ℕ
   pub whole : WholeMessage
-  pub told : List ℕ
+  pub response : List ℕ
 
 -- What is done with the next entry, or with the next two. A head is compared with the room. A
 -- message that has a status after it is played, and its status compared. An open one, which has
@@ -90,11 +90,11 @@ arrivals_of ts = map timed (plays_of ts)
 
 -- the answers, each by itself
 abbrev pub answers_of : List Turn → List (List ℕ)
-answers_of ts = map (λ p. p.told) (plays_of ts)
+answers_of ts = map (λ p. p.response) (plays_of ts)
 
 -- the same, one after another
 abbrev pub bytes_of : List Turn → List ℕ
-bytes_of ts = flat_map (λ p. p.told) (plays_of ts)
+bytes_of ts = flat_map (λ p. p.response) (plays_of ts)
 
 -- the bytes of what is played are one message and nothing else
 abbrev pub IsPlay : Play → Type 0
@@ -103,7 +103,7 @@ IsPlay p = HasMessage p.sent p.whole []
 -- what is played is a message, and the status that was recorded is that of the answer
 abbrev pub IsTurn : Turn → Type 0
 IsTurn (compared head) = ⊤
-IsTurn (answered p status) = IsPlay p × (status_in p.told ≡ decimal status)
+IsTurn (answered p status) = IsPlay p × (status_in p.response ≡ decimal status)
 IsTurn (caught_up p head) = IsPlay p
 IsTurn (tried p) = IsPlay p
 IsTurn (left_out at sent) = ⊤

@@ -7,7 +7,7 @@ use Rattle.room_http.specs.declared.settings.Setting.{Setting}
 pub use Rattle.room_model.specs.Digests.{DigitsOf, IsHeadOf, digits_of}
 use Rattle.room_model.specs.Rooms.{Step}
 use Rattle.room_http.specs.Arrivals.{message as arrived}
-use Rattle.room_http.specs.Talk.{IsReplyTo, IsTalk}
+use Rattle.room_http.specs.Dialogues.{IsDialogue, IsReplyTo}
 use Rattle.room_http.specs.DigestReplies.{LeadsToAnother}
 use Rattle.room_http_messages.specs.Messages.{WholeMessage, HasMessage}
 use Rattle.room_model.specs.declared.digests.Head.{Head}
@@ -15,7 +15,7 @@ use Rattle.dispatch_room_journal.specs.Entries.{Begins}
 use Rattle.dispatch_room_journal.specs.Entries as entry
 use Rattle.dispatch_room_journal.specs.declared.replay_faults.ReplayFault.{ReplayFault}
 use Rattle.dispatch_room_journal.specs.declared.replay_faults.ReplayFault.TheVariants.{Bad, Differs, Another}
-use Rattle.dispatch_room_journal.specs.declared.replay_faults.ReplayFault.TheVariants.{ReadFailed, WriteFailed, Want}
+use Rattle.dispatch_room_journal.specs.declared.replay_faults.ReplayFault.TheVariants.{ReadFailed, WriteFailed, Unavailable}
 use Rattle.dispatch_room_journal.specs.declared.replay_faults.Stopped.{Stopped}
 use Rattle.dispatch_room_journal.specs.declared.replayed_journal.Replayed.{Replayed}
 use Rattle.dispatch_room_journal.specs.ReplayedTurns.{Open, Play, Turn, compared, answered, caught_up, tried, left_out}
@@ -27,7 +27,7 @@ use Rattle.dispatch_room_journal.specs.ReplayFaults.{Explains, IsDueTo}
 module _ (step : Step) (setting : Setting) (digest_of : DigitsOf) (terminals : List Terminal) where
   -- the room after a message, and its answer
   abbrev pub Answers : Room → Play → Room → Type 0
-  Answers room p after = IsReplyTo step setting terminals room (timed p) after p.told
+  Answers room p after = IsReplyTo step setting terminals room (timed p) after p.response
 
   -- the room after a turn: a head's digest is that of the room
   abbrev pub Does : Room → Turn → Room → Type 0
@@ -79,13 +79,13 @@ LeadsElsewhere step setting digest_of trusted stood stands ts open_ head =
     × (¬ (IsHeadOf digest_of head terminals after))
     × WouldMiss step setting digest_of terminals after open_ head × stands terminals after
 
--- as `Leads`, and what is played is a talk
-abbrev pub LeadsTalking : Step → Setting → DigitsOf → Type 0 → (List Terminal → Room → Type 0)
+-- as `Leads`, and what is played is a dialogue
+abbrev pub LeadsDialogue : Step → Setting → DigitsOf → Type 0 → (List Terminal → Room → Type 0)
     → (List Terminal → Room → Type 0) → List Turn → Type 0
-LeadsTalking step setting digest_of trusted stood stands ts =
+LeadsDialogue step setting digest_of trusted stood stands ts =
     trusted → (terminals : List Terminal) (room : Room) → stood terminals room
     → (after : Room) × IsReplay step setting digest_of terminals room ts after
-    × IsTalk step setting terminals room (arrivals_of ts) after (bytes_of ts)
+    × IsDialogue step setting terminals room (arrivals_of ts) after (bytes_of ts)
     × stands terminals after
 
 module _ (step : Step) (setting : Setting) (digest_of : DigitsOf) (trusted : Type 0)
@@ -105,7 +105,7 @@ module _ (step : Step) (setting : Setting) (digest_of : DigitsOf) (trusted : Typ
     pub unanswered : ends_unanswered ts ≡ true → BeginsWith left (entries_of ts) HasNoStatus
     pub met : ends_open ts ≡ true → BeginsWith left (entries_of ts)
         (MeetsHead step setting digest_of trusted stood ts)
-    pub leads : LeadsTalking step setting digest_of trusted stood stands (ts ++ last)
+    pub leads : LeadsDialogue step setting digest_of trusted stood stands (ts ++ last)
     pub due : IsDueTo read_failed write_failed stopped.fault
     pub number : stopped.number ≡ min (count_by has_message ts + 1) (2 ^ 64 - 1)
 
@@ -114,7 +114,7 @@ module _ (step : Step) (setting : Setting) (digest_of : DigitsOf) (trusted : Typ
   abbrev pub Replays : Bool → Result Replayed Stopped → Type 0
   Replays read_failed (Ok done) =
       (ts : List Turn) × All IsReplayed ts × AreTurns left until ts (EndsAt until)
-      × LeadsTalking step setting digest_of trusted stood stands ts
+      × LeadsDialogue step setting digest_of trusted stood stands ts
       × (done.records ≡ min (count_by has_message ts) (2 ^ 64 - 1)) × (done.is_open ≡ ends_open ts)
   Replays read_failed (Err stopped) =
       (ts last : List Turn) × StopsAfter true IsReplayed read_failed false stopped ts last
@@ -126,7 +126,7 @@ Unless Differs P = P
 Unless Another P = P
 Unless ReadFailed P = P
 Unless WriteFailed P = P
-Unless (Want r) P = ⊤
+Unless (Unavailable r) P = ⊤
 
 -- the same of a result
 abbrev pub UnlessOutOfMemory : {T : Type 0} → Result T ReplayFault → Type 0 → Type 0

@@ -52,7 +52,7 @@ pub fn replay_message<R: Source, M: Digested>(
         → M.is_kept room.new) }
 {
     let Ok(sent) = inbox.message(&entry.layout).to_vec(handler.alloc) else {
-        return Err(ReplayFault::Want(Refusal::Memory));
+        return Err(ReplayFault::Unavailable(Refusal::Memory));
     };
     inbox.remove(&entry.layout);
     match read_entry(inbox, reader) {

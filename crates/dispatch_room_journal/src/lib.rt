@@ -42,7 +42,6 @@
 pub mod answer_frames;
 pub mod answer_statuses;
 pub mod chain_laws;
-pub mod chain_source;
 pub mod entry_lines;
 pub mod entry_prefixes;
 pub mod entry_reader;
@@ -55,6 +54,7 @@ pub mod journal_numbers;
 pub mod laws;
 pub mod line_prefixes;
 pub mod list_ends;
+pub mod list_source;
 pub mod list_tallies;
 pub mod next_entry;
 pub mod played_message;

@@ -6,7 +6,7 @@ ghost use Rattle.room_model.specs.Room.{Room as Held};
 ghost use Rattle.room_http_messages.specs.declared.limits.TheConstants.{INBOX_ROOM};
 ghost use Rattle.room_http_messages.specs.Layouts.{Shows};
 ghost use Rattle.room_http_messages.specs.Messages.{WholeMessage, HasMessage};
-ghost use Rattle.dispatch_room_journal.specs.ReplayFaults.{IsNoMessage, IsWanting, miss_fault};
+ghost use Rattle.dispatch_room_journal.specs.ReplayFaults.{IsNoMessage, IsUnavailableFault, miss_fault};
 ghost use Rattle.dispatch_room_journal.specs.JournalRecords.{status_in};
 ghost use Rattle.dispatch_room_journal.specs.Replays.{IsHeadOf, UnlessOutOfMemory, digits_of};
 ghost use Rattle.dispatch_room_journal.specs.ReplaySteps.{Plays, PlaysTowards};
@@ -79,8 +79,8 @@ pub fn play<M: Room>(
         at,
         &mut asker,
     ) {
-        Ok(told) => Ok(told),
-        Err(refusal) => Err(ReplayFault::Want(refusal)),
+        Ok(response) => Ok(response),
+        Err(refusal) => Err(ReplayFault::Unavailable(refusal)),
     }
 }
 
@@ -117,8 +117,8 @@ pub fn play_towards<M: Digested>(
         at,
         head,
     ) {
-        Ok(told) => {
-            drop(told);
+        Ok(response) => {
+            drop(response);
             Ok(())
         }
         Err(miss) => Err(fault_of(miss)),
@@ -131,7 +131,7 @@ fn fault_of(miss: Miss) -> ReplayFault
 {
     match miss {
         Miss::Another => ReplayFault::Another,
-        Miss::Want(refusal) => ReplayFault::Want(refusal),
+        Miss::Unavailable(refusal) => ReplayFault::Unavailable(refusal),
     }
 }
 
@@ -156,10 +156,10 @@ pub fn is_at<M: Digested>(room: &mut M, head: &Head) -> Result<bool, ReplayFault
         terminals room_then)) }
     ensures kept { M.is_trusted room.new → UnlessOutOfMemory result (M.is_kept room.old
         → M.is_kept room.new) }
-    ensures wants { IfErr result IsWanting }
+    ensures unavailable { IfErr result IsUnavailableFault }
 {
     match room.digest(head.version) {
         Ok(hash) => Ok(digest_of(&hash).as_slice() == head.digits.as_slice()),
-        Err(refusal) => Err(ReplayFault::Want(refusal)),
+        Err(refusal) => Err(ReplayFault::Unavailable(refusal)),
     }
 }

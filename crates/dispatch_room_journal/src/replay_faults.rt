@@ -16,7 +16,7 @@ pub enum ReplayFault {
     /// A write failed, or took nothing.
     WriteFailed,
     /// Memory was refused, or storage failed.
-    Want(Refusal),
+    Unavailable(Refusal),
 }
 
 /// Why a replay stopped, and at which message.

@@ -33,8 +33,8 @@ fn play_answered<M: Digested>(
         → M.is_kept room.new) }
 {
     match play(handler, room, sent, at) {
-        Ok(told) => {
-            if has_status(told.as_slice(), status) {
+        Ok(response) => {
+            if has_status(response.as_slice(), status) {
                 Ok(true)
             } else {
                 Err(ReplayFault::Differs)

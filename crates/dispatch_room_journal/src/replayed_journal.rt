@@ -2,7 +2,7 @@
 ghost use Rattle.std.specs.Prelude.{◌≡◌, ◌+◌, [], false, min};
 ghost use Rattle.std.specs.Io.KnownBytes.{prepend_known};
 ghost use Rattle.room_types.specs.declared.refusal_statuses.Refusal.TheVariants.{Memory};
-ghost use Rattle.dispatch_room_journal.specs.declared.replay_faults.ReplayFault.TheVariants.{Want};
+ghost use Rattle.dispatch_room_journal.specs.declared.replay_faults.ReplayFault.TheVariants.{Unavailable};
 ghost use Rattle.dispatch_room_journal.specs.Replays.{Replays, UnlessStopped, UnlessOutOfMemory, digits_of};
 ghost use Rattle.dispatch_room_journal.specs.ReplaySteps.{TakesTurn};
 ghost use Rattle.dispatch_room_journal.specs.ReplayedTurns.{IsReplayed};
@@ -159,10 +159,10 @@ fn done(progress: &Progress) -> Replayed
 
 /// Memory was refused before anything was read.
 pub fn memory() -> Stopped
-    ensures { result ≡ record { fault = Want Memory; number = 1 } }
+    ensures { result ≡ record { fault = Unavailable Memory; number = 1 } }
 {
     Stopped {
-        fault: ReplayFault::Want(Refusal::Memory),
+        fault: ReplayFault::Unavailable(Refusal::Memory),
         number: 1,
     }
 }

@@ -26,11 +26,11 @@ use std::alloc::Global;
 fn follow<R: Source>(
     inbox: &mut JournalInbox,
     reader: &mut R,
-    told: &[u8],
+    response: &[u8],
 ) -> Result<bool, ReplayFault>
     requires { R.has_failed reader.old ≡ false }
     ensures { FollowIs (prepend_known inbox.old.kept (R.left reader.old))
-        (prepend_known inbox.new.kept (R.left reader.new)) (R.has_failed reader.new) told.now
+        (prepend_known inbox.new.kept (R.left reader.new)) (R.has_failed reader.new) response.now
         result }
 {
     match read_entry(inbox, reader) {
@@ -38,7 +38,7 @@ fn follow<R: Source>(
         Ok(None) => Ok(false),
         Ok(Some(next)) => match &next.line {
             EntryLine::Answer(status) => {
-                if has_status(told, *status) {
+                if has_status(response, *status) {
                     inbox.remove(&next);
                     Ok(true)
                 } else {
@@ -78,11 +78,11 @@ fn answer_message<R: Source, W: Sink, M: Digested>(
 {
     match play(handler, room, inbox.message(&entry.layout), entry.at) {
         Err(fault) => Err(fault),
-        Ok(told) => {
+        Ok(response) => {
             inbox.remove(&entry.layout);
-            match put_frame(writer, told.as_slice()) {
+            match put_frame(writer, response.as_slice()) {
                 Err(_) => Err(ReplayFault::WriteFailed),
-                Ok(()) => match follow(inbox, reader, told.as_slice()) {
+                Ok(()) => match follow(inbox, reader, response.as_slice()) {
                     Ok(_) => Ok(()),
                     Err(fault) => Err(fault),
                 },

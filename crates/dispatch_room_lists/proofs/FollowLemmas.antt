@@ -1,21 +1,14 @@
 -- What becomes of rows that stand behind a leg, and of the room.
 use Rattle.std.proofs.Common.{Bool, IfErr, List, None, Ok, Option, Result, Some, false, inl, inr, refl, true, ℕ, ◌≡◌}
 use Rattle.std.specs.Prelude.{Err, IfNone, IfOk, OnErr}
-use Rattle.std.specs.Result.{IsErrAnd}
 use Rattle.sqlite_trees.specs.declared.store.Store.{Ghosts}
 use Rattle.room_types.specs.declared.fleet.FleetRow.{FleetRow}
 use Rattle.room_model.specs.declared.digests.Head.{Head}
 use Rattle.room_store.specs.declared.store.Store.{Store}
-use Rattle.dispatch_room_journal.specs.ReplayFaults.{IsWanting}
+use Rattle.dispatch_room_journal.specs.ReplayFaults.{IsUnavailableFault}
 use Rattle.dispatch_room_journal.specs.declared.replay_faults.ReplayFault.{ReplayFault}
 use Rattle.dispatch_room_lists.specs.ListedRows.{AreRowsIn, EnrolsSome, FindsHead, IsElsewhere, IsUnfollowed}
 use Rattle.dispatch_room_lists.specs.StoodRooms.{Stays}
-
--- what a call that failed said of its fault, of what is handed on
-pub handed_on : {T E : Type 0} {P : E → Type 0} (r : Result T E) (Q : E → Type 0) → IsErrAnd r P → ((e : E) → P e → Q e)
-    → IfErr r Q
-handed_on (Ok x) Q is by = tt
-handed_on (Err e) Q is by = by e is
 
 -- a result that is none holds nothing else
 pub if_none : {T E : Type 0} (found : Result (Option T) E) (P : Type 0) → P → IfOk found (λ it. IfNone it P)
@@ -34,7 +27,7 @@ module _ {S : Type 0} (g : Ghosts S) (old new : Store S) where
 
   -- rows of a fleet that were enrolled in part
   pub in_part : (text : List ℕ) (head : Head) (rows : List FleetRow) (done : Result (Unit {0}) ReplayFault)
-      → AreRowsIn text rows → OnErr done (EnrolsSome g old new rows head) → IfErr done IsWanting
+      → AreRowsIn text rows → OnErr done (EnrolsSome g old new rows head) → IfErr done IsUnavailableFault
       → IfErr done (IsUnfollowed g old new text head)
   in_part text head rows (Ok well) its some wants = tt
   in_part text head rows (Err fault) its some wants = inr (inl (wants, (rows, its, some)))

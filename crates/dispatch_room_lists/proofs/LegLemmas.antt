@@ -9,7 +9,7 @@ use Rattle.room_http.specs.Settings.{IsSetting}
 use Rattle.room_model.specs.declared.digests.Head.{Head}
 use Rattle.room_store.specs.declared.store.Store.{Store}
 use Rattle.dispatch_room_cli.specs.declared.tasks.Replay.{Replay as How}
-use Rattle.dispatch_room_journal.specs.declared.chain_source.Unchained.{Unchained}
+use Rattle.dispatch_room_journal.specs.declared.list_source.Unchained.{Unchained}
 use Rattle.dispatch_room_journal.specs.Legs.{TakesIn}
 use Rattle.dispatch_room_journal.specs.declared.replay_faults.ReplayFault.{ReplayFault}
 use Rattle.dispatch_room_journal.specs.declared.replay_faults.Stopped.{Stopped}

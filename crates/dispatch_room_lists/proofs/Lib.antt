@@ -1,4 +1,4 @@
 pub mod DueLemmas
 pub mod FollowLemmas
 pub mod LegLemmas
-pub mod PrintLemmas
+pub mod RefusalLemmas

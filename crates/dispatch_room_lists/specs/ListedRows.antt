@@ -18,9 +18,9 @@ use Rattle.dispatch_room_csv.specs.declared.fleet_file.FleetFileFault.TheVariant
 use Rattle.dispatch_room_csv.specs.declared.plan_file.PlanFileFault.TheVariants as plan
 use Rattle.dispatch_room_cli.specs.declared.exit_status.Failure.{Failure}
 use Rattle.dispatch_room_cli.specs.declared.exit_status.Failure.TheVariants as failure
-use Rattle.dispatch_room_journal.specs.ReplayFaults.{IsWanting}
+use Rattle.dispatch_room_journal.specs.ReplayFaults.{IsUnavailableFault}
 use Rattle.dispatch_room_journal.specs.declared.replay_faults.ReplayFault.{ReplayFault}
-use Rattle.dispatch_room_journal.specs.declared.replay_faults.ReplayFault.TheVariants.{Another, Bad, Want}
+use Rattle.dispatch_room_journal.specs.declared.replay_faults.ReplayFault.TheVariants.{Another, Bad, Unavailable}
 use Rattle.dispatch_room_tasks.specs.RowOutcomes.{good_rows}
 use Rattle.dispatch_room_lists.specs.RoomChanges.{IsTextOf, LosesRoom, Remakes}
 use Rattle.dispatch_room_lists.specs.StoodRooms.{Stays, digits_in}
@@ -121,14 +121,14 @@ module _ {S : Type 0} (g : Ghosts S) (old new : Store S) where
 
   -- memory or storage fails before anything is done, and the room stays as it is
   abbrev pub IsUnread : ReplayFault → Type 0
-  IsUnread fault = IsWanting fault × Stays g old new
+  IsUnread fault = IsUnavailableFault fault × Stays g old new
 
 -- ---- a change that is no fleet
 -- How it is reported that a change was not made: memory or storage failed; or else the room does
 -- not allow it, so the list is that of another room.
 abbrev pub unmade_fault : Failure → ReplayFault
-unmade_fault failure.Memory = Want refusal.Memory
-unmade_fault failure.Storage = Want refusal.Storage
+unmade_fault failure.Memory = Unavailable refusal.Memory
+unmade_fault failure.Storage = Unavailable refusal.Storage
 unmade_fault other = Another
 
 module _ {S : Type 0} (g : Ghosts S) (old new : Store S) (change : RoomChange) (head : Head) where
@@ -144,7 +144,7 @@ module _ {S : Type 0} (g : Ghosts S) (old new : Store S) (change : RoomChange) (
     pub elsewhere : IsElsewhere g old begun head
     pub failure : Failure
     pub remakes : Remakes g begun new change (Err failure)
-    pub told : fault ≡ unmade_fault failure
+    pub failed : fault ≡ unmade_fault failure
 
 -- The room has another digest, and none is opened again, for this, before the change or after it.
 pub record LosesStage {S : Type 0} (g : Ghosts S) (old : Store S) (change : RoomChange)
@@ -167,7 +167,7 @@ module _ {S : Type 0} (g : Ghosts S) (old new : Store S) (text : List ℕ) (head
 
   -- a row of a fleet can't be enrolled, for memory or storage: the room has some of those before it
   abbrev pub IsPart : ReplayFault → Type 0
-  IsPart fault = IsWanting fault × EnrolsSomeIn g old new text head
+  IsPart fault = IsUnavailableFault fault × EnrolsSomeIn g old new text head
 
   -- the text is of no change, and the room is another than the head's: the list is bad
   abbrev pub IsOfNone : ReplayFault → Type 0

@@ -8,28 +8,28 @@ use Rattle.dispatch_room_cli.specs.declared.exit_status.Done.TheVariants.{Whole}
 use Rattle.dispatch_room_cli.specs.declared.exit_status.Failure.{Failure}
 use Rattle.dispatch_room_cli.specs.declared.exit_status.Failure.TheVariants.{Network, Record}
 use Rattle.dispatch_room_cli.specs.declared.tasks.Replay.{Replay as How}
-use Rattle.dispatch_room_lists.specs.RoomDigests.{TellsDigest}
+use Rattle.dispatch_room_lists.specs.RoomDigests.{PrintsDigest}
 
 module _ (before after : Option (List ℕ)) where
   -- how many messages were replayed before this record is reported
-  abbrev pub TellsBefore : ℕ → Result Done Failure → Type 0
-  TellsBefore number (Ok done) = (done ≡ Whole)
+  abbrev pub PrintsBefore : ℕ → Result Done Failure → Type 0
+  PrintsBefore number (Ok done) = (done ≡ Whole)
       × Appends before after (codes "replayed " ++ (decimal (number - 1) ++ codes "\n"))
-  TellsBefore number (Err fault) = fault ≡ Network
+  PrintsBefore number (Err fault) = fault ≡ Network
 
   -- Where the list may be cut off, a record that is none is the one that is: it is left out. Else
   -- a replay comes to what it came to.
   abbrev pub IsLeftOut : Bool → Result Done Failure → Result Done Failure → Type 0
-  IsLeftOut true (Err (Record number)) done = TellsBefore number done
+  IsLeftOut true (Err (Record number)) done = PrintsBefore number done
   IsLeftOut may_be_cut came done = (done ≡ came) × (after ≡ before)
 
 module _ {S : Type 0} (g : Ghosts S) (old new : Store S) where
   -- The digest of the room is printed where it is wanted, and all before was done.
   abbrev pub EndsWithDigest : Bool → Option (List ℕ) → Option (List ℕ) → Result Done Failure
       → Result Done Failure → Type 0
-  EndsWithDigest true before after (Ok _) done = TellsDigest g old new before after done
-  EndsWithDigest wanted before after told done =
-      (done ≡ told) × (after ≡ before) × (new ≡ old)
+  EndsWithDigest true before after (Ok _) done = PrintsDigest g old new before after done
+  EndsWithDigest wanted before after ended done =
+      (done ≡ ended) × (after ≡ before) × (new ≡ old)
 
   -- A replay ends so that came to this: at a list that ended, and that may be open, a record that
   -- is none was cut off.
@@ -38,9 +38,9 @@ module _ {S : Type 0} (g : Ghosts S) (old new : Store S) where
   ConcludesBy true may_be_cut wanted came before after done =
       (done ≡ came) × (after ≡ before) × (new ≡ old)
   ConcludesBy false may_be_cut wanted came before after done =
-      (between : Option (List ℕ)) × (told : Result Done Failure)
-      × IsLeftOut before between may_be_cut came told
-      × EndsWithDigest wanted between after told done
+      (between : Option (List ℕ)) × (ended : Result Done Failure)
+      × IsLeftOut before between may_be_cut came ended
+      × EndsWithDigest wanted between after ended done
 
   abbrev pub Concludes : How → Result Done Failure → Bool → Option (List ℕ) → Option (List ℕ)
       → Result Done Failure → Type 0

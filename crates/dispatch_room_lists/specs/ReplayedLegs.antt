@@ -17,9 +17,9 @@ use Rattle.dispatch_room_journal.specs.AnswerFrames.{AnswersEach}
 use Rattle.dispatch_room_journal.specs.Legs.{TakesIn}
 use Rattle.dispatch_room_journal.specs.ReadSteps.{left_in}
 use Rattle.dispatch_room_journal.specs.Replays as replay
-use Rattle.dispatch_room_journal.specs.declared.chain_source.Unchained.{Unchained}
+use Rattle.dispatch_room_journal.specs.declared.list_source.Unchained.{Unchained}
 use Rattle.dispatch_room_journal.specs.declared.replay_faults.ReplayFault.{ReplayFault}
-use Rattle.dispatch_room_journal.specs.declared.replay_faults.ReplayFault.TheVariants.{ReadFailed, Want}
+use Rattle.dispatch_room_journal.specs.declared.replay_faults.ReplayFault.TheVariants.{ReadFailed, Unavailable}
 use Rattle.dispatch_room_journal.specs.declared.replay_faults.Stopped.{Stopped}
 use Rattle.dispatch_room_journal.specs.declared.replayed_journal.Replayed.{Replayed}
 use Rattle.dispatch_room_journal.specs.declared.row_runs.Behind.{Behind}
@@ -108,7 +108,7 @@ module _ {S : Type 0} (g : Ghosts S) where
       → Type 0
   StopsBehind Stand read_failed old new fault =
       ((fault ≡ ReadFailed) × (read_failed ≡ true) × (new ≡ old))
-      ⊎ ((fault ≡ Want Memory) × (new ≡ old))
+      ⊎ ((fault ≡ Unavailable Memory) × (new ≡ old))
       ⊎ ((rows : List ℕ) × (head : Head) × Stand rows (behind.Room head)
       × IsUnfollowed g old new rows head fault)
 
@@ -163,7 +163,7 @@ module _ {S : Type 0} (g : Ghosts S) where
       pub clean : IsClean g last.conn → IsClean g stood.conn
       pub fault : ReplayFault
       pub why : StopsBehind (λ rows which. ⊤) read_failed stood last fault
-      pub told : result ≡ Err (record {
+      pub failed : result ≡ Err (record {
         fault = fault;
         number = sum_of (sum_of before replayed.records) 1;
       })

@@ -29,20 +29,20 @@ failure_at replay.Differs number = Differs number
 failure_at replay.Another number = OtherRoom number
 failure_at replay.ReadFailed number = Network
 failure_at replay.WriteFailed number = Network
-failure_at (replay.Want refusal) number = refused refusal
+failure_at (replay.Unavailable refusal) number = refused refusal
 
 abbrev pub failure_of : Stopped → Failure
 failure_of stopped = failure_at stopped.fault stopped.number
 
 -- what is reported of a replay: how many records it took, or why it stopped
-abbrev pub IsTold : Result Replayed Stopped → Option (List ℕ) → Option (List ℕ)
+abbrev pub IsPrinted : Result Replayed Stopped → Option (List ℕ) → Option (List ℕ)
     → Result Done Failure → Type 0
-IsTold (Ok replayed) before after (Ok done) =
+IsPrinted (Ok replayed) before after (Ok done) =
     Appends before after (codes "replayed " ++ (decimal replayed.records ++ codes "\n"))
     × (done ≡ Whole)
-IsTold (Ok replayed) before after (Err fault) = fault ≡ Network
-IsTold (Err stopped) before after (Ok done) = ⊥
-IsTold (Err stopped) before after (Err fault) = fault ≡ failure_of stopped
+IsPrinted (Ok replayed) before after (Err fault) = fault ≡ Network
+IsPrinted (Err stopped) before after (Ok done) = ⊥
+IsPrinted (Err stopped) before after (Err fault) = fault ≡ failure_of stopped
 
 -- how the program ends by how answering each message did
 abbrev pub EndsAs : Result ℕ Stopped → Result Done Failure → Type 0
@@ -60,7 +60,7 @@ module _ {S : Type 0} (g : Ghosts S) (how : How) (first : Store S) (setting : Se
     pub result : Result Replayed Stopped
     pub is : ReplaysLegs g how (begins_leg first setting list None) last None read_failed
         write_failed spent result
-    pub told : IsTold result before after done
+    pub printed : IsPrinted result before after done
 
   -- each of its messages is answered, leg by leg, and the answers are written
   pub record AreAnswered : Type 0 where
@@ -103,12 +103,21 @@ pub record HasReplayed {S : Type 0} (g : Ghosts S) (old new : Held S) (how : How
   pub ends : Concludes g last ended how came has_ended between after done
   pub closed : new ≡ ended.conn
 
+-- Behind a leg of a list no room was opened again, for this. Where no answers are asked for,
+-- nothing is printed; else they begin behind what the output held, and what is written of them is
+-- said by who writes them.
+pub record LosesPlayed {S : Type 0} (g : Ghosts S) (how : How) (first : Store S) (setting : Setting)
+    (list before after : Option (List ℕ)) (fault : Failure) : Type 0 where
+  pub held : Option (List ℕ)
+  pub unprinted : how.answers ≡ false → after ≡ before
+  pub behind : how.answers ≡ true → held ≡ before
+  pub loses : LosesLeg g how (begins_leg first setting list held) fault
+
 -- no room was opened, or, behind a leg of a list, none was opened again
 pub record LosesReplayed {S : Type 0} (g : Ghosts S) (old : Held S) (how : How)
-    (list : Option (List ℕ)) (fault : Failure) : Type 0 where
+    (list before after : Option (List ℕ)) (fault : Failure) : Type 0 where
   pub first : Store S
   pub setting : Setting
   pub opens : IsClean g first.conn → OpensRoom g old first
   pub is_set : IsSetting first.plan.zone how.history setting
-  pub held : Option (List ℕ)
-  pub loses : LosesLeg g how (begins_leg first setting list held) fault
+  pub loses : LosesPlayed g how first setting list before after fault

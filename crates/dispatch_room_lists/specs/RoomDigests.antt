@@ -1,5 +1,5 @@
 -- The digest of a room that is printed, or why it is not.
-use Rattle.std.specs.Prelude.{Bool, Err, List, Ok, Option, Result, codes, false, length, true, ℕ, ◌++◌, ◌<◌, ◌≡◌, ◌⊎◌}
+use Rattle.std.specs.Prelude.{Err, List, Ok, Option, Result, codes, ℕ, ◌++◌, ◌≡◌, ◌⊎◌}
 use Rattle.std.specs.Io.KnownBytes.{Appends}
 use Rattle.sqlite.specs.Held.{Held}
 use Rattle.sqlite_trees.specs.declared.store.Store.{Ghosts}
@@ -23,23 +23,11 @@ use Rattle.room_tables_schema.specs.FileConnections.{IsClean}
 abbrev pub digest_line : List ℕ → List ℕ
 digest_line digits = codes "digest " ++ (digits ++ codes "\n")
 
--- an output took the first of these bytes, and not all of them
-abbrev pub TakesLess : Option (List ℕ) → Option (List ℕ) → List ℕ → Type 0
-TakesLess before after bytes =
-    (front : List ℕ) × (rest : List ℕ) × (bytes ≡ front ++ rest) × (0 < length rest)
-    × Appends before after front
-
--- an output took all of these bytes, or less of them
-abbrev pub TakesBytes : Bool → Option (List ℕ) → Option (List ℕ) → List ℕ → Type 0
-TakesBytes true before after bytes = Appends before after bytes
-TakesBytes false before after bytes = TakesLess before after bytes
-
--- The line of a digest is printed. Only where the output doesn't take all of it, that fails.
+-- the line of a digest is printed, or the output fails
 abbrev pub PrintsDigits : Option (List ℕ) → Option (List ℕ) → List ℕ → Result Done Failure → Type 0
 PrintsDigits before after digits (Ok done) =
     (done ≡ Whole) × Appends before after (digest_line digits)
-PrintsDigits before after digits (Err fault) =
-    (fault ≡ Network) × TakesLess before after (digest_line digits)
+PrintsDigits before after digits (Err fault) = fault ≡ Network
 
 -- the room can't be read, for memory or storage, and nothing is printed
 abbrev pub PrintsNothing : Option (List ℕ) → Option (List ℕ) → Result Done Failure → Type 0
@@ -58,13 +46,13 @@ AreDigits g old new digits = IsClean g new.conn → (terminals : List Terminal) 
 
 -- The digest of a store's room is printed, unless the output fails; or the room can't be read. The
 -- room stays as it was, and the store may be called again.
-pub record TellsDigest {S : Type 0} (g : Ghosts S) (old new : Store S)
+pub record PrintsDigest {S : Type 0} (g : Ghosts S) (old new : Store S)
     (before after : Option (List ℕ)) (done : Result Done Failure) : Type 0 where
   pub ready : IsReady g new
   pub clean : IsClean g new.conn → IsClean g old.conn
   pub same : IsClean g new.conn → (terminals : List Terminal) (room : Room)
       → IsRoom g old terminals room → IsRoom g new terminals room
-  pub told : PrintsNothing before after done
+  pub printed : PrintsNothing before after done
       ⊎ ((digits : List ℕ) × IsDigest digits × AreDigits g old new digits
       × PrintsDigits before after digits done)
 
@@ -74,5 +62,5 @@ pub record HasDigest {S : Type 0} (g : Ghosts S) (old new : Held S)
   pub opened : Store S
   pub last : Store S
   pub opens : IsClean g opened.conn → OpensRoom g old opened
-  pub tells : TellsDigest g opened last before after done
+  pub prints : PrintsDigest g opened last before after done
   pub closed : new ≡ last.conn

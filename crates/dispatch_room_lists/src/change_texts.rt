@@ -1,7 +1,9 @@
 //! The text by which a list has a change of a room.
-ghost use Rattle.std.specs.Prelude.{◌≡◌, ◌++◌, flat_map, unwrap_or, IfNone, IfOk, IfSome, OnOk, [], string_bytes};
+ghost use Rattle.std.specs.Prelude.{◌≡◌, ◌++◌, flat_map, unwrap_or, IfNone, IfOk, IfSome, OnOk, []};
+ghost use Rattle.std.specs.Prelude.{string_bytes};
 ghost use Rattle.dispatch_room_lists.specs.ListedRows.{IsNoPlan};
-ghost use Rattle.dispatch_room_lists.specs.RoomChanges.{IsTextOf, line_of, terminal_line, terminals_text};
+ghost use Rattle.dispatch_room_lists.specs.RoomChanges.{IsTextOf, line_of, terminal_line};
+ghost use Rattle.dispatch_room_lists.specs.RoomChanges.{terminals_text};
 
 use crate::room_changes::RoomChange;
 use dispatch_room_cli::who::who_of;

@@ -3,10 +3,12 @@
 ghost use Rattle.std.specs.Prelude.{◌≡◌, ◌⊎◌, Err, IfErr, IfOk, Ok, OnErr, OnOk};
 ghost use Rattle.room_store.specs.StoredRoom.{IsReady};
 ghost use Rattle.dispatch_room_cli.specs.declared.exit_status.Failure.{Failure as Why};
-ghost use Rattle.dispatch_room_journal.specs.ReplayFaults.{IsWanting};
+ghost use Rattle.dispatch_room_journal.specs.ReplayFaults.{IsUnavailableFault};
 ghost use Rattle.dispatch_room_journal.specs.declared.replay_faults.ReplayFault.TheVariants.{Bad};
-ghost use Rattle.dispatch_room_lists.specs.ListedRows.{EnrolsDue, EnrolsSome, Follows, IsElsewhere, IsMadeTowards};
-ghost use Rattle.dispatch_room_lists.specs.ListedRows.{IsThere, IsUnfollowed, IsUnmadeTowards, IsUnread, LosesStage};
+ghost use Rattle.dispatch_room_lists.specs.ListedRows.{EnrolsDue, EnrolsSome, Follows, IsElsewhere};
+ghost use Rattle.dispatch_room_lists.specs.ListedRows.{IsMadeTowards};
+ghost use Rattle.dispatch_room_lists.specs.ListedRows.{IsThere, IsUnfollowed, IsUnmadeTowards};
+ghost use Rattle.dispatch_room_lists.specs.ListedRows.{IsUnread, LosesStage};
 ghost use Rattle.dispatch_room_lists.specs.ListedRows.{LosesText, unmade_fault};
 ghost use Rattle.dispatch_room_lists.specs.StoodRooms.{GoesOn, StageGoesOn};
 
@@ -14,7 +16,7 @@ use crate::listed_changes::{ListedChange, listed_in};
 use crate::listed_rows::{enrol_rows, has_come_to};
 use crate::room_changes::{Remade, RoomChange, remake};
 use dispatch_room_cli::exit_status::Failure;
-use dispatch_room_cli::explainer::Explainer;
+use dispatch_room_cli::failure_causes::Explainer;
 use dispatch_room_journal::replay_faults::ReplayFault;
 use room_http::settings::Setting;
 use room_model::digests::Head;
@@ -59,7 +61,7 @@ pub fn follow<S: Alter + Drop>(
             make_towards(alloc, explainer, stage, &change, head)
         }
         Ok(None) => Ok(stay(stage, head)),
-        Err(_) => Ok((Err(ReplayFault::Want(Refusal::Memory)), stage)),
+        Err(_) => Ok((Err(ReplayFault::Unavailable(Refusal::Memory)), stage)),
     }
 }
 
@@ -77,7 +79,7 @@ fn enrol<S: Alter>(
         (EnrolsDue S.Store stage.room result.1.room rows.now head.now) }
     ensures part { OnErr result.0
         (EnrolsSome S.Store stage.room result.1.room rows.now head.now) }
-    ensures wants { IfErr result.0 IsWanting }
+    ensures unavailable { IfErr result.0 IsUnavailableFault }
 {
     let Stage { mut room, setting } = stage;
     let done = enrol_rows(alloc, &mut room, rows, head);
@@ -154,8 +156,8 @@ fn unmade_fault(failure: Failure) -> ReplayFault
     ensures { result ≡ unmade_fault failure }
 {
     match failure {
-        Failure::Memory => ReplayFault::Want(Refusal::Memory),
-        Failure::Storage => ReplayFault::Want(Refusal::Storage),
+        Failure::Memory => ReplayFault::Unavailable(Refusal::Memory),
+        Failure::Storage => ReplayFault::Unavailable(Refusal::Storage),
         _ => ReplayFault::Another,
     }
 }

@@ -5,11 +5,11 @@ ghost use Rattle.dispatch_room_journal.specs.Chains.{sha256_digits};
 ghost use Rattle.dispatch_room_journal.specs.ReadSteps.{left_in, most_rows};
 ghost use Rattle.dispatch_room_journal.specs.RecordFronts.{list_says};
 ghost use Rattle.dispatch_room_journal.specs.RowRuns.{is_read};
-ghost use Rattle.dispatch_room_journal.specs.declared.chain_source.Unchained.{Unchained as List};
+ghost use Rattle.dispatch_room_journal.specs.declared.list_source.Unchained.{Unchained as List};
 ghost use Rattle.dispatch_room_journal.specs.declared.read_progress.Reach.TheVariants.{Leg};
 ghost use Rattle.dispatch_room_lists.specs.ReplayedLegs.{TakesBehind, left_of};
 
-use dispatch_room_journal::chain_source::Unchained;
+use dispatch_room_journal::list_source::Unchained;
 use dispatch_room_journal::row_runs::{Behind, RowsFault};
 use room_http_messages::sources::{ReadFailed, Source};
 use std::marker::Model;

@@ -4,7 +4,7 @@ ghost use Rattle.room_types.specs.declared.fleet.Terminal.{Terminal};
 ghost use Rattle.room_model.specs.FleetRows.{room_enrolled, terminals_enrolled};
 ghost use Rattle.room_model.specs.Room.{Room};
 ghost use Rattle.room_store.specs.StoredRoom.{IsReady, IsRoom};
-ghost use Rattle.dispatch_room_journal.specs.ReplayFaults.{IsWanting};
+ghost use Rattle.dispatch_room_journal.specs.ReplayFaults.{IsUnavailableFault};
 ghost use Rattle.dispatch_room_lists.specs.ListedRows.{EnrolsDue, EnrolsSome, FindsHead};
 ghost use Rattle.dispatch_room_lists.specs.StoodRooms.{GoesOn, Stays};
 ghost use Rattle.room_tables_schema.specs.FileConnections.{IsClean};
@@ -32,7 +32,7 @@ pub fn enrol_rows<S: Alter>(
     ensures goes { GoesOn S.Store room.old room.new }
     ensures enrolled { OnOk result (EnrolsDue S.Store room.old room.new rows.now head.now) }
     ensures part { OnErr result (EnrolsSome S.Store room.old room.new rows.now head.now) }
-    ensures wants { IfErr result IsWanting }
+    ensures unavailable { IfErr result IsUnavailableFault }
 {
     let mut is_changed = true;
     for row in rows {
@@ -60,7 +60,7 @@ pub fn has_come_to<S: Alter>(
     ensures goes { GoesOn S.Store room.old room.new }
     ensures stays { Stays S.Store room.old room.new }
     ensures found { IfOk result (FindsHead S.Store room.old room.new head.now is_changed) }
-    ensures wants { IfErr result IsWanting }
+    ensures unavailable { IfErr result IsUnavailableFault }
 {
     if !is_changed {
         return Ok(false);
@@ -92,11 +92,11 @@ fn enrol_row<S: Alter>(
         → IsRoom S.Store room.new terminals held
         ⊎ IsRoom S.Store room.new (terminals_enrolled held terminals row.now)
         (room_enrolled held terminals row.now)) }
-    ensures wants { IfErr result IsWanting }
+    ensures unavailable { IfErr result IsUnavailableFault }
 {
     let mut fates = Vec::new(alloc);
     match room.import(slice::from_ref(row), &mut fates) {
         Ok(()) => Ok(matches!(fates.first(), Some(RowFate::Added))),
-        Err(refusal) => Err(ReplayFault::Want(refusal)),
+        Err(refusal) => Err(ReplayFault::Unavailable(refusal)),
     }
 }

@@ -4,7 +4,7 @@ ghost use Rattle.std.specs.Prelude.{◌≡◌};
 ghost use Rattle.room_store.specs.StoredRoom.{IsReady};
 ghost use Rattle.dispatch_room_lists.specs.ReplayEnds.{Concludes, IsLeftOut};
 
-use crate::digest_lines::tell_digest;
+use crate::digest_lines::print_digest;
 use dispatch_room_cli::exit_status::{Done, Failure};
 use dispatch_room_cli::tasks::Replay;
 use room_http_messages::sources::{ReadFailed, Source};
@@ -66,7 +66,7 @@ pub fn conclude<S: Alter, O: Write, E: Write>(
         return came;
     }
     match without_cut(came, replay.open && has_ended, out, err) {
-        Ok(_) if replay.digest => tell_digest(room, out),
+        Ok(_) if replay.digest => print_digest(room, out),
         done => done,
     }
 }

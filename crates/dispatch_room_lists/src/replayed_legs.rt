@@ -1,5 +1,6 @@
 //! A list with changes among its messages, replayed leg by leg.
-ghost use Rattle.std.specs.Prelude.{◌≡◌, ◌==◌, ◌||◌, [], Err, List, Ok, ℕ, IfErr, IfOk, OnOk, false};
+ghost use Rattle.std.specs.Prelude.{◌≡◌, ◌==◌, ◌||◌, [], Err, List, Ok, ℕ, IfErr, IfOk, OnOk};
+ghost use Rattle.std.specs.Prelude.{false};
 ghost use Rattle.room_http.specs.Settings.{IsSetting};
 ghost use Rattle.room_store.specs.StoredRoom.{IsReady};
 ghost use Rattle.dispatch_room_journal.specs.ReadSteps.{most_rows};
@@ -7,15 +8,17 @@ ghost use Rattle.room_model.specs.declared.digests.Head.{Head};
 ghost use Rattle.dispatch_room_journal.specs.declared.row_runs.Behind.{Behind as Which};
 ghost use Rattle.dispatch_room_journal.specs.declared.row_runs.Behind.TheVariants.{Room};
 ghost use Rattle.dispatch_room_lists.specs.ListedRows.{IsUnfollowed, LosesText};
-ghost use Rattle.dispatch_room_lists.specs.ReplayedLegs.{FollowsBy, IsLeg, IsSpent, LosesLeg, PlaysLegs, StopsBehind};
-ghost use Rattle.dispatch_room_lists.specs.ReplayedLegs.{TakesBehind, begins_leg, in_all, left_of, sum_of};
+ghost use Rattle.dispatch_room_lists.specs.ReplayedLegs.{FollowsBy, IsLeg, IsSpent, LosesLeg};
+ghost use Rattle.dispatch_room_lists.specs.ReplayedLegs.{PlaysLegs, StopsBehind};
+ghost use Rattle.dispatch_room_lists.specs.ReplayedLegs.{TakesBehind, begins_leg, in_all, left_of};
+ghost use Rattle.dispatch_room_lists.specs.ReplayedLegs.{sum_of};
 ghost use Rattle.dispatch_room_lists.specs.StoodRooms.{GoesOn, StageGoesOn};
 
 use crate::followed_rows::{Followed, Stage, follow};
 use crate::leg_readers::LegReader;
 use crate::leg_writers::LegWriter;
 use dispatch_room_cli::exit_status::Failure;
-use dispatch_room_cli::explainer::Explainer;
+use dispatch_room_cli::failure_causes::Explainer;
 use dispatch_room_cli::tasks::Replay;
 use dispatch_room_journal::replay_faults::{ReplayFault, Stopped};
 use dispatch_room_journal::replayed_journal::{self, Replayed};
@@ -181,7 +184,7 @@ fn follow_between<S: Alter + Drop, R: Source, E: Write>(
     match list.take_rows(&mut rows) {
         Ok(behind) => follow_by(course, stage, rows.as_slice(), &behind, err),
         Err(RowsFault::Read) => Ok((Err(ReplayFault::ReadFailed), stage)),
-        Err(RowsFault::Memory) => Ok((Err(ReplayFault::Want(Refusal::Memory)), stage)),
+        Err(RowsFault::Memory) => Ok((Err(ReplayFault::Unavailable(Refusal::Memory)), stage)),
     }
 }
 

@@ -1,5 +1,5 @@
 //! A list that is replayed to the room of a database, and what is reported of it.
-ghost use Rattle.std.specs.Prelude.{◌≡◌, ◌==◌, ◌⊎◌, ◌||◌, List, Ok, Option, false, IfErr, IfOk, ℕ};
+ghost use Rattle.std.specs.Prelude.{◌≡◌, ◌==◌, ◌⊎◌, ◌||◌, Ok, false, IfErr, IfOk};
 ghost use Rattle.std.specs.Option.{option_map};
 ghost use Rattle.room_http.specs.Settings.{IsSetting};
 ghost use Rattle.room_store.specs.StoredRoom.{IsReady};
@@ -8,8 +8,9 @@ ghost use Rattle.dispatch_room_journal.specs.ReadSteps.{most_rows};
 ghost use Rattle.dispatch_room_journal.specs.RecordFronts.{list_says};
 ghost use Rattle.dispatch_room_journal.specs.declared.read_progress.Reach.TheVariants.{Leg};
 ghost use Rattle.dispatch_room_tasks.specs.OpenedRoom.{IsUnopened};
-ghost use Rattle.dispatch_room_lists.specs.ReplayedLegs.{IsSpent, LosesLeg, begins_leg, count_in, left_of};
-ghost use Rattle.dispatch_room_lists.specs.ReplayedLists.{EndsAs, HasReplayed, IsPlayed, IsTold, LosesReplayed, failure_of};
+ghost use Rattle.dispatch_room_lists.specs.ReplayedLegs.{IsSpent, count_in, left_of};
+ghost use Rattle.dispatch_room_lists.specs.ReplayedLists.{EndsAs, HasReplayed, IsPlayed, IsPrinted};
+ghost use Rattle.dispatch_room_lists.specs.ReplayedLists.{LosesPlayed, LosesReplayed, failure_of};
 
 use crate::followed_rows::Stage;
 use crate::leg_readers::LegReader;
@@ -41,9 +42,11 @@ pub fn replay_from<S: Alter + Drop, R: Source + Drop, O: Write, E: Write>(
     ensures replayed { IfOk result (λ worked. HasReplayed S.Store conn worked.1
         course.now.replay.now (option_map (list_says sha256_digits Leg) (R.left reader))
         (O.contents out.old) (O.contents out.new) worked.0) }
-    ensures lost { IfErr result (λ fault. IsUnopened S.Store conn fault
+    ensures lost { IfErr result (λ fault. (IsUnopened S.Store conn fault
+        × (O.contents out.new ≡ O.contents out.old))
         ⊎ LosesReplayed S.Store conn course.now.replay.now
-        (option_map (list_says sha256_digits Leg) (R.left reader)) fault) }
+        (option_map (list_says sha256_digits Leg) (R.left reader)) (O.contents out.old)
+        (O.contents out.new) fault) }
 {
     let (room, zone) = open_room(course.alloc, conn)?;
     let replay = course.replay;
@@ -78,9 +81,8 @@ fn replay_in<R: Source, S: Alter + Drop, O: Write, E: Write>(
         stage.setting it.1 (left_of R.left list.old) (O.contents out.old) (O.contents out.new)
         (R.has_failed list.new.reader || list.new.passed == most_rows) (IsSpent R.left list.new)
         it.0) }
-    ensures lost { IfErr result (λ fault. (held : Option (List ℕ)) × LosesLeg S.Store
-        course.now.replay.now (begins_leg stage.room stage.setting (left_of R.left list.old) held)
-        fault) }
+    ensures lost { IfErr result (LosesPlayed S.Store course.now.replay.now stage.room stage.setting
+        (left_of R.left list.old) (O.contents out.old) (O.contents out.new)) }
 {
     if course.replay.answers {
         let mut writer = LegWriter::new(out);
@@ -90,7 +92,7 @@ fn replay_in<R: Source, S: Alter + Drop, O: Write, E: Write>(
     let mut sink = LegWriter::new(io::sink());
     let (came, room) = replay_legs(course, list, stage, &mut sink, err)?;
     match came {
-        Ok(replayed) => Ok((tell(&replayed, out, err), room)),
+        Ok(replayed) => Ok((print_replayed(&replayed, out, err), room)),
         Err(stopped) => Ok((Err(failure_of(&stopped)), room)),
     }
 }
@@ -106,8 +108,12 @@ fn answered(came: &Result<Replayed, Stopped>) -> Result<Done, Failure>
 }
 
 // Says how much was replayed.
-fn tell<O: Write, E: Write>(replayed: &Replayed, out: &mut O, err: &mut E) -> Result<Done, Failure>
-    ensures { IsTold (Ok replayed.now) (O.contents out.old) (O.contents out.new) result }
+fn print_replayed<O: Write, E: Write>(
+    replayed: &Replayed,
+    out: &mut O,
+    err: &mut E,
+) -> Result<Done, Failure>
+    ensures { IsPrinted (Ok replayed.now) (O.contents out.old) (O.contents out.new) result }
 {
     if replayed.is_open {
         let _ = writeln!(err, "the last record has no status, and was left out");
@@ -127,6 +133,6 @@ fn failure_of(stopped: &Stopped) -> Failure
         ReplayFault::Differs => Failure::Differs(stopped.number),
         ReplayFault::Another => Failure::OtherRoom(stopped.number),
         ReplayFault::ReadFailed | ReplayFault::WriteFailed => Failure::Network,
-        ReplayFault::Want(refusal) => refused(refusal),
+        ReplayFault::Unavailable(refusal) => refused(refusal),
     }
 }

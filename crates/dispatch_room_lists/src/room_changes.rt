@@ -8,7 +8,7 @@ ghost use Rattle.dispatch_room_lists.specs.RoomChanges.{LosesRoom, Makes, Remake
 ghost use Rattle.room_tables_schema.specs.FileConnections.{IsClean};
 
 use dispatch_room_cli::exit_status::Failure;
-use dispatch_room_cli::explainer::Explainer;
+use dispatch_room_cli::failure_causes::Explainer;
 use dispatch_room_csv::plan_file::PlanFile;
 use dispatch_room_tasks::changed_terminals::change_in;
 use dispatch_room_tasks::opened_room::{TaskResult, open_room};

@@ -17,18 +17,16 @@ use Rattle.room_model.specs.Rooms.{machine}
 use Rattle.room_model.specs.Step.{is_question}
 use Rattle.room_model.proofs.Questions.{question_stays}
 use Rattle.room_http_messages.specs.Messages.{WholeMessage, terminal_of}
-use Rattle.room_http_requests.specs.Paths.{allow_of, is_allowed}
-use Rattle.room_http_requests.specs.RequestAsks.{request_by}
-use Rattle.room_http_requests.specs.Roles.{is_of, role_of}
-use Rattle.room_http_requests.specs.Targets.{by_method, known_by, path_of, routed, target_of}
-use Rattle.room_http_requests.specs.declared.request_asks.Request.{Request}
-use Rattle.room_http_requests.specs.declared.request_asks.Request.TheVariants as request
-use Rattle.room_http_requests.specs.declared.targets.Target.{Target}
-use Rattle.room_http_requests.specs.declared.targets.Target.TheVariants as target
+use Rattle.room_http_requests.specs.RequestTable.{allow_of, is_of, path_of, request_by, role_of}
+use Rattle.room_http_requests.specs.Routes.{by_method, is_allowed, known_by, routed, target_of}
+use Rattle.room_http_requests.specs.declared.request_table.Request.{Request}
+use Rattle.room_http_requests.specs.declared.request_table.Request.TheVariants as request
+use Rattle.room_http_requests.specs.declared.request_table.Target.{Target}
+use Rattle.room_http_requests.specs.declared.request_table.Target.TheVariants as target
 use Rattle.room_http.specs.Arrivals.{message, refused}
 use Rattle.room_http.specs.KeptMessages.{AreReplies}
 use Rattle.room_http.specs.MessageEvents.{AsksAs, AsksAt, AsksBy, AsksFor, IsAskFor, named}
-use Rattle.room_http.specs.Talk.{Finds, IsReplyTo, Timed}
+use Rattle.room_http.specs.Dialogues.{Finds, IsReplyTo, Timed}
 use Rattle.room_http.specs.declared.settings.Setting.{Setting}
 use Rattle.dispatch_room_journal.proofs.RoomLaws.{the_room_law}
 use Rattle.dispatch_room_serving.specs.KeptChanges.{ChangesAreTheRoom, QuestionsChangeNothing, answers_to_changes}

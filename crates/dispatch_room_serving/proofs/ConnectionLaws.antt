@@ -15,7 +15,7 @@ use Rattle.room_model.specs.RoomAgreements.{IsWellFormed}
 use Rattle.room_http.specs.declared.settings.Setting.{Setting}
 use Rattle.room_store.specs.StoredRoom.{IsKept, IsRoom, LeavesOneOf}
 use Rattle.room_store.specs.declared.store.Store.{Store}
-use Rattle.room_store_writes.specs.Houses.{config_of}
+use Rattle.room_store_writes.specs.Configurations.{config_of}
 use Rattle.room_tables.specs.RoomsInTables.{Stands}
 use Rattle.room_http.specs.Runs.{Exchange, IsRun, room_by}
 use Rattle.room_http.specs.Course.{AreFirstIn}
@@ -46,7 +46,7 @@ grows_more (Some known) (Some more) None xs ys first second = second
 grows_more (Some known) (Some more) (Some most) xs ys first second =
     second ∙ ap (λ t. t ++ ys) first ∙ append_assoc known xs ys
 
--- nothing was heard or told
+-- nothing was heard or written
 -- ---- all that was exchanged
 together_more : (xss yss : List (List Exchange))
     → together (xss ++ yss) ≡ together xss ++ together yss
@@ -77,17 +77,18 @@ module _ {S : Type 0} (g : Ghosts S) (setting : Setting) (terminals : List Termi
   joined_more : (cs ds : List (Conversation S)) (mid last : Store S) (room : Room)
       → AreTerminals room terminals → IsWellFormed room
       → (first : AreJoined g setting terminals cs mid room)
-      → AreJoined g setting terminals ds last (room_by (together first.talks) room)
+      → AreJoined g setting terminals ds last (room_by (together first.dialogues) room)
       → AreJoined g setting terminals (cs ++ ds) last room
   joined_more cs ds mid last room fit formed first second =
-      let here = together first.talks in
-      let there = together second.talks in
-      let all : together (first.talks ++ second.talks) ≡ here ++ there = together_more first.talks second.talks in
+      let here = together first.dialogues in
+      let there = together second.dialogues in
+      let all : together (first.dialogues ++ second.dialogues)
+      ≡ here ++ there = together_more first.dialogues second.dialogues in
       let run : IsRun setting terminals (here ++ there) room = run_join setting terminals room here there fit first.run
       second.run in
       record {
-        talks = first.talks ++ second.talks;
-        served = served_more cs ds first.talks second.talks room first.served second.served;
+        dialogues = first.dialogues ++ second.dialogues;
+        served = served_more cs ds first.dialogues second.dialogues room first.served second.served;
         run = rw all run;
         after = rw all (rw (room_split here there room) second.after);
         promises = rw all (promises_kept setting terminals (here ++ there) room formed run);
@@ -98,7 +99,7 @@ module _ {S : Type 0} (g : Ghosts S) (setting : Setting) (terminals : List Termi
   joined_none store room is =
       let run : IsRun setting terminals [] room = record { addressed = tt; answered = tt } in
       record {
-        talks = [];
+        dialogues = [];
         served = tt;
         run = run;
         after = is;
@@ -110,7 +111,7 @@ module _ {S : Type 0} (g : Ghosts S) (setting : Setting) (terminals : List Termi
       c.after.held (IsKept g c.from) (IsRoom g c.store) (LeavesOneOf g c.store) terminals room
       → AreJoined g setting terminals (c ∷ []) c.store room
   joined_one c room s = record {
-    talks = s.exchanges ∷ [];
+    dialogues = s.exchanges ∷ [];
     served = (record { served = s; exchanged = refl }, tt);
     run = rw append-nil s.run;
     after = rw append-nil s.after;
@@ -118,18 +119,18 @@ module _ {S : Type 0} (g : Ghosts S) (setting : Setting) (terminals : List Termi
   }
 
 module _ {S : Type 0} (g : Ghosts S) (setting : Setting) (came_text : ℕ → List ℕ → List ℕ)
-    (told_text : List ℕ → List ℕ) where
+    (response_text : List ℕ → List ℕ) where
   next_more : (cs ds : List (Conversation S)) (a b c : Stage S)
-      → AreNext g setting came_text told_text cs a b → AreNext g setting came_text told_text ds b c
-      → AreNext g setting came_text told_text (cs ++ ds) a c
+      → AreNext g setting came_text response_text cs a b → AreNext g setting came_text response_text ds b c
+      → AreNext g setting came_text response_text (cs ++ ds) a c
   next_more [] ds a b c first second = rw (← first) second
   next_more (x ∷ cs) ds a b c first second = (first.0, next_more cs ds (stage_after x) b c first.1 second)
 
   -- ---- what was done
-  pub attended_none : (s : Service S) → AreAttended g setting came_text told_text [] s s
+  pub attended_none : (s : Service S) → AreAttended g setting came_text response_text [] s s
   attended_none s = record {
     heard = grows_none s.heard;
-    told = grows_none s.told;
+    written = grows_none s.written;
     in_turn = refl;
     trusted = λ clean. clean;
     joined = λ clean terminals room is. joined_none g setting terminals s.stage.store room is;
@@ -137,11 +138,11 @@ module _ {S : Type 0} (g : Ghosts S) (setting : Setting) (came_text : ℕ → Li
 
   -- a call of which no connection came
   pub attended_nothing : (old new : Service S) → Grows old.heard new.heard (None ∷ [])
-      → new.told ≡ old.told → new.stage ≡ old.stage
-      → AreAttended g setting came_text told_text (None ∷ []) old new
+      → new.written ≡ old.written → new.stage ≡ old.stage
+      → AreAttended g setting came_text response_text (None ∷ []) old new
   attended_nothing old new heard same stage = record {
     heard = heard;
-    told = rw same (grows_none old.told);
+    written = rw same (grows_none old.written);
     in_turn = stage;
     trusted = λ clean. rw stage at clean;
     joined = λ clean terminals room is. joined_none g setting terminals new.stage.store room (rw stage is);
@@ -150,16 +151,16 @@ module _ {S : Type 0} (g : Ghosts S) (setting : Setting) (came_text : ℕ → Li
   -- a connection that was served
   pub attended_one : (c : Conversation S) (old new : Service S)
       → Grows old.heard new.heard (Some (opening_of c) ∷ [])
-      → Grows old.told new.told (c.after.held ∷ [])
-      → new.stage ≡ stage_after c → IsNext g setting came_text told_text old.stage c
+      → Grows old.written new.written (c.after.held ∷ [])
+      → new.stage ≡ stage_after c → IsNext g setting came_text response_text old.stage c
       → (IsClean g c.store.conn → IsClean g old.stage.store.conn)
       → KeepsPromises setting (AreFirstIn c.course c.before.left c.before.given c.after.given) c.before.held
       c.after.held (IsClean g c.store.conn) (IsKept g c.from)
       (IsRoom g old.stage.store) (IsRoom g c.store) (LeavesOneOf g c.store)
-      → AreAttended g setting came_text told_text (Some c ∷ []) old new
+      → AreAttended g setting came_text response_text (Some c ∷ []) old new
   attended_one c old new heard back stage next trusted promised = record {
     heard = heard;
-    told = back;
+    written = back;
     in_turn = (next, stage);
     trusted = λ clean. trusted (rw stage at clean);
     joined =
@@ -168,21 +169,22 @@ module _ {S : Type 0} (g : Ghosts S) (setting : Setting) (came_text : ℕ → Li
   }
 
   pub attended_more : (calls more : List (Option (Conversation S))) (old mid new : Service S)
-      → AreAttended g setting came_text told_text calls old mid
-      → AreAttended g setting came_text told_text more mid new
-      → AreAttended g setting came_text told_text (calls ++ more) old new
+      → AreAttended g setting came_text response_text calls old mid
+      → AreAttended g setting came_text response_text more mid new
+      → AreAttended g setting came_text response_text (calls ++ more) old new
   attended_more calls more old mid new first second =
       let all = connected_more calls more in
       record {
         heard = rw map-append (grows_more old.heard mid.heard new.heard _ _ first.heard second.heard);
-        told = rw (all, map-append) (grows_more old.told mid.told new.told _ _ first.told second.told);
+        written =
+            rw (all, map-append) (grows_more old.written mid.written new.written _ _ first.written second.written);
         in_turn =
             rw all
             (next_more (connected calls) (connected more) old.stage mid.stage new.stage first.in_turn second.in_turn);
         trusted = λ clean. first.trusted (second.trusted clean);
         joined = λ clean terminals room is.
             let here = first.joined (second.trusted clean) terminals room is in
-            let there = second.joined clean terminals (room_by (together here.talks) room) here.after in
+            let there = second.joined clean terminals (room_by (together here.dialogues) room) here.after in
             rw all (joined_more g setting terminals (connected calls) (connected more) mid.stage.store new.stage.store
             room is.fits is.formed here there);
       }
@@ -248,7 +250,7 @@ pub leaves_kept : {S : Type 0} (g : Ghosts S) (store : Store S) (terminals : Lis
     (room : Room) → IsRoom g store terminals room → IsKept g store
     → LeavesOneOf g store terminals (room ∷ [])
 leaves_kept g store terminals room is kept db left =
-    inl (subst (λ (trees : Trees). Stands trees (config_of store.plan terminals) room) (sym (kept.alone db left))
+    inl (subst (λ (trees : Trees). Stands trees (config_of store.plan terminals) room) (sym (kept.only_left db left))
     (is.tables kept.is_open))
 
 -- where nothing was done, the store was looked at
@@ -279,9 +281,9 @@ sound_of_none end.ReadsSpent true none unsound = cc
 sound_of_none end.ReadsSpent false none unsound = cc
 
 module _ {S : Type 0} (g : Ghosts S) (setting : Setting) (came_text : ℕ → List ℕ → List ℕ)
-    (told_text : List ℕ → List ℕ) where
+    (response_text : List ℕ → List ℕ) where
   -- where more is served after a connection, what the store holds is kept
-  pub kept_after : (stage : Stage S) (c : Conversation S) → IsNext g setting came_text told_text stage c
+  pub kept_after : (stage : Stage S) (c : Conversation S) → IsNext g setting came_text response_text stage c
       → GoesOn c → IsClean g c.store.conn → IsKept g c.store
   kept_after stage c next goes_on clean = elim (next.kept clean) [
     | inl kept ↦ kept
@@ -289,7 +291,7 @@ module _ {S : Type 0} (g : Ghosts S) (setting : Setting) (came_text : ℕ → Li
   ]
 
   pub clean_before : (cs : List (Conversation S)) (stage last : Stage S)
-      → AreNext g setting came_text told_text cs stage last → IsClean g last.store.conn
+      → AreNext g setting came_text response_text cs stage last → IsClean g last.store.conn
       → IsClean g stage.store.conn
   clean_before [] stage last same clean = rw (← same) clean
   clean_before (c ∷ cs) stage last in_turn clean =
@@ -303,7 +305,7 @@ module _ {S : Type 0} (g : Ghosts S) (setting : Setting) (came_text : ℕ → Li
   -- So what was kept as the first of these connections began, is kept as each begins, and after the
   -- last.
   kept_each : (cs : List (Conversation S)) (stage last : Stage S)
-      → AreNext g setting came_text told_text cs stage last → All GoesOn cs
+      → AreNext g setting came_text response_text cs stage last → All GoesOn cs
       → IsClean g last.store.conn → IsKept g stage.store
       → All (λ c. IsKept g c.from) cs × IsKept g last.store
   kept_each [] stage last same go_on clean kept = (All-nil (λ c. IsKept g c.from), rw same kept)
@@ -315,7 +317,7 @@ module _ {S : Type 0} (g : Ghosts S) (setting : Setting) (came_text : ℕ → Li
 
   -- and so it is as one call's connection begins, if one came of it
   pub kept_at : (call : Option (Conversation S)) (stage last : Stage S)
-      → AreNext g setting came_text told_text (connected (call ∷ [])) stage last
+      → AreNext g setting came_text response_text (connected (call ∷ [])) stage last
       → IsKept g stage.store → All (λ c. IsKept g c.from) (connected (call ∷ []))
   kept_at None stage last in_turn kept = All-nil (λ c. IsKept g c.from)
   kept_at (Some c) stage last in_turn kept =
@@ -323,13 +325,13 @@ module _ {S : Type 0} (g : Ghosts S) (setting : Setting) (came_text : ℕ → Li
 
 -- ---- one call more
 module _ {S : Type 0} (g : Ghosts S) (setting : Setting) (came_text : ℕ → List ℕ → List ℕ)
-    (told_text : List ℕ → List ℕ) where
-  pub served_none : (s : Service S) → HasServed g setting came_text told_text s s 0
+    (response_text : List ℕ → List ℕ) where
+  pub served_none : (s : Service S) → HasServed g setting came_text response_text s s 0
   served_none s = record {
     calls = [];
     counted = refl;
     go_on = go_on_none;
-    attended = attended_none g setting came_text told_text s;
+    attended = attended_none g setting came_text response_text s;
     kept = λ clean kept. All-nil (λ c. IsKept g c.from);
     is_kept = λ clean kept. kept;
   }
@@ -337,9 +339,9 @@ module _ {S : Type 0} (g : Ghosts S) (setting : Setting) (came_text : ℕ → Li
   -- what was done with the next call
   pub attends_next : (call : Option (Conversation S)) (old new : Service S)
       (result : Result (Unit {0}) Failure)
-      → AreAttended g setting came_text told_text (call ∷ []) old new
+      → AreAttended g setting came_text response_text (call ∷ []) old new
       → result ≡ done_or (option_and_then fault_after call)
-      → AttendsNext g setting came_text told_text old new result
+      → AttendsNext g setting came_text response_text old new result
   attends_next call old new result next ends = record {
     call = call;
     attended = next;
@@ -347,14 +349,15 @@ module _ {S : Type 0} (g : Ghosts S) (setting : Setting) (came_text : ℕ → Li
     longer = λ goes_on first count before.
         let on : Ok tt ≡ done_or (option_and_then fault_after call) = sym goes_on ∙ ends in
         let one = λ (clean : IsClean g new.stage.store.conn) (kept : IsKept g first.stage.store).
-        kept_each g setting came_text told_text (connected (call ∷ [])) old.stage new.stage next.in_turn
+        kept_each g setting came_text response_text (connected (call ∷ [])) old.stage new.stage next.in_turn
         (go_on_one call on) clean (before.is_kept (next.trusted clean) kept) in
         record {
           calls = before.calls ++ call ∷ [];
           counted = rw length-append (ap (λ n. n + 1) before.counted);
           go_on = go_on_more before.calls call before.go_on on;
           attended =
-              attended_more g setting came_text told_text before.calls (call ∷ []) first old new before.attended next;
+              attended_more g setting came_text response_text before.calls (call ∷ []) first old new before.attended
+              next;
           kept =
               λ clean kept.
               each_more (λ c. IsKept g c.from) before.calls call (before.kept (next.trusted clean) kept)
@@ -365,12 +368,12 @@ module _ {S : Type 0} (g : Ghosts S) (setting : Setting) (came_text : ℕ → Li
 
   -- what was kept where no more is served after the next call
   pub kept_ending : (call : Option (Conversation S)) (first old new : Service S) (count : ℕ)
-      → (before : HasServed g setting came_text told_text first old count)
-      → AreAttended g setting came_text told_text (call ∷ []) old new
-      → AreKept g setting came_text told_text (connected (before.calls ++ call ∷ [])) first
+      → (before : HasServed g setting came_text response_text first old count)
+      → AreAttended g setting came_text response_text (call ∷ []) old new
+      → AreKept g setting came_text response_text (connected (before.calls ++ call ∷ [])) first
       (IsClean g new.stage.store.conn)
   kept_ending call first old new count before next clean kept =
       let here = next.trusted clean in
-      let last = kept_at g setting came_text told_text call old.stage new.stage next.in_turn
+      let last = kept_at g setting came_text response_text call old.stage new.stage next.in_turn
       (before.is_kept here kept) in
       each_more (λ c. IsKept g c.from) before.calls call (before.kept here kept) last

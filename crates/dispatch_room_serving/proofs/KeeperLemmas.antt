@@ -1,5 +1,6 @@
 -- Lemmas on entries that are kept.
 use Rattle.std.proofs.Common.{◌≡◌, ◌∙◌, refl, sym, ap, arith, ◌≤◌, ℕ, List, [], ◌∷◌, ◌++◌, length, length-append}
+use Rattle.std.specs.Prelude.{OnOk}
 use Rattle.std.proofs.Common.{append-nil, Bool, true, false, if◌then◌else◌, Option, None, Some, Result, Ok, Err, subst}
 use Rattle.std.specs.Io.KnownBytes.{Appends}
 use Rattle.room_http.specs.KeptMessages.{KeepsAll, came_of}
@@ -11,7 +12,7 @@ use Rattle.dispatch_room_journal.specs.Entries.{Entry, IsEntry, answer, head_wor
 use Rattle.dispatch_room_journal.specs.Entries.{rest_of, room, text_of}
 use Rattle.dispatch_room_journal.proofs.WritingLemmas.{entry_fits}
 use Rattle.dispatch_room_journal.specs.Chains.{IsBody, is_silent}
-use Rattle.dispatch_room_serving.specs.Journals.{known_by, known_where}
+use Rattle.dispatch_room_serving.specs.Journals.{PutsKept, known_by, known_where}
 use Rattle.dispatch_room_serving.specs.declared.journals.Journal.{Journal}
 use Rattle.dispatch_room_serving.specs.KeptChanges.{is_kept, kept_of}
 
@@ -36,6 +37,17 @@ pub keeps_none : (keeps : Bool) (arrived : Arrived) (a : Option (List ℕ)) (tex
     → is_kept keeps arrived ≡ false → Appends a a (kept_of keeps arrived text)
 keeps_none keeps arrived a text is =
     subst (λ (it : Bool). Appends a a (if it then text else [])) (sym is) (appends_none a)
+
+-- what is put of an arrival that is kept, and of one that is not
+pub puts_it : {W E : Type 0} (puts : W → W → List ℕ → Type 0) (keeps : Bool) (a b : W)
+    (text : List ℕ) (result : Result (Unit {0}) E) → keeps ≡ true → OnOk result (puts a b text)
+    → OnOk result (PutsKept puts keeps a b text)
+puts_it puts keeps a b text result is put =
+    subst (λ it. OnOk result (PutsKept puts it a b text)) (sym is) put
+
+pub puts_none : {W : Type 0} (puts : W → W → List ℕ → Type 0) (keeps : Bool) (a : W)
+    (text : List ℕ) → keeps ≡ false → PutsKept puts keeps a a text
+puts_none puts keeps a text is = subst (λ it. PutsKept puts it a a text) (sym is) refl
 
 -- all that is to be kept is, where questions are kept too; else it is not known what is
 known_kept : {E : Type 0} (keeps : Bool) (arrived : Arrived) (came : ℕ → List ℕ → List ℕ)

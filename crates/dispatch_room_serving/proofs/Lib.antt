@@ -12,3 +12,5 @@ pub mod ReplayLaws
 pub mod KeeperLemmas
 -- questions change nothing
 pub mod ChangeLaws
+-- what is printed as callers begin
+pub mod CallerLemmas

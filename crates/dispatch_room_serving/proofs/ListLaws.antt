@@ -34,17 +34,17 @@ use Rattle.room_http.specs.Course.{AreFirstIn}
 use Rattle.room_http.specs.KeptMessages.{AreKept as AreRecords, AreReplies, IsCome}
 use Rattle.room_http.specs.Runs.{AreAnswered, Exchange, arrivals_of, events_of, room_by}
 use Rattle.room_http.specs.ServedRuns.{Served}
-use Rattle.room_http.specs.Talk.{Finds, IsFront, IsReplyTo, LeavesNext, Timed, replied}
+use Rattle.room_http.specs.Dialogues.{Finds, IsFront, IsReplyTo, LeavesNext, Timed, replied}
 use Rattle.room_http.specs.declared.session.ServeEnd.{ServeEnd}
 use Rattle.room_http.specs.declared.session.ServeEnd.TheVariants as end
 use Rattle.room_http.proofs.ExchangeLemmas.{exchange_of, found_in}
-use Rattle.room_http.proofs.LawLemmas.{one_talk_law}
+use Rattle.room_http.proofs.LawLemmas.{one_dialogue_law}
 use Rattle.room_http.proofs.RunLemmas.{run_first}
-use Rattle.room_http.proofs.TalkLemmas.{IsTalk-one}
+use Rattle.room_http.proofs.DialogueLemmas.{IsDialogue-one}
 use Rattle.room_store.specs.StoredRoom.{IsKept, IsRoom, LeavesOneOf}
 use Rattle.room_store.specs.declared.store.Store.{Store}
 use Rattle.room_store_file.specs.DigestTexts.{digest_of}
-use Rattle.room_store_writes.specs.Houses.{config_of}
+use Rattle.room_store_writes.specs.Configurations.{config_of}
 use Rattle.room_tables.specs.RoomsInTables.{Stands}
 use Rattle.room_tables_rows.proofs.OneRoom.{one_room}
 use Rattle.dispatch_room_journal.specs.WholeEntries.{Follows, IsCutTo}
@@ -56,7 +56,7 @@ use Rattle.dispatch_room_journal.specs.ReplayedTurns.{left_out}
 use Rattle.dispatch_room_journal.proofs.KeptTurns.{Come, Ready, Settled, come_course, come_front, come_head, come_moved}
 use Rattle.dispatch_room_journal.proofs.KeptTurns.{come_none, come_record, come_same, come_settled, come_short}
 use Rattle.dispatch_room_journal.proofs.KeptTurns.{come_still, come_unwritten, ends_open-push, left_open, no_answer}
-use Rattle.dispatch_room_journal.proofs.KeptTurns.{settle_record, settle_wanting}
+use Rattle.dispatch_room_journal.proofs.KeptTurns.{settle_record, settle_unavailable}
 use Rattle.dispatch_room_journal.proofs.TurnLemmas.{begun-append}
 use Rattle.dispatch_room_tasks.specs.OpenedRoom.{OpensRoom}
 use Rattle.dispatch_room_serving.specs.Connections.{AreNext, AreServed, Conversation, GoOnBefore, GoesOn, IsNext}
@@ -107,11 +107,11 @@ module _ {S : Type 0} where
       → AreGiven ds others → AreGiven (cs ++ ds) (answers ++ others)
   given_join [] ds answers others none given = subst (λ (a : List (List ℕ)). AreGiven ds (a ++ others)) (sym none) given
   given_join (c ∷ cs) ds answers others (more, rest, is, few, later) given =
-      let told = answers_to_messages c.course.outs c.course.answers in (
+      let response = answers_to_messages c.course.outs c.course.answers in (
         more,
         rest ++ others,
-        ap (λ a. a ++ others) is ∙ append_assoc told (more ++ rest) others
-            ∙ ap (λ a. told ++ a) (append_assoc more rest others),
+        ap (λ a. a ++ others) is ∙ append_assoc response (more ++ rest) others
+            ∙ ap (λ a. response ++ a) (append_assoc more rest others),
         few,
         given_join cs ds rest others later given,
       )
@@ -120,8 +120,9 @@ module _ {S : Type 0} where
       → AreGiven cs old → length more ≤ 1
       → AreGiven (cs ++ c ∷ []) (old ++ (answers_to_messages c.course.outs c.course.answers ++ more))
   given_next cs c old more given few =
-      let told = answers_to_messages c.course.outs c.course.answers in
-      given_join cs (c ∷ []) old (told ++ more) given (more, [], ap (λ a. told ++ a) (sym (append-nil more)), few, refl)
+      let response = answers_to_messages c.course.outs c.course.answers in
+      given_join cs (c ∷ []) old (response ++ more) given
+      (more, [], ap (λ a. response ++ a) (sym (append-nil more)), few, refl)
 
 -- ---- answers in another setting of the same zone and history
 module _ (text : List ℕ) (a b : Setting) (in_a : IsSetting text b.history a)
@@ -136,10 +137,10 @@ module _ (text : List ℕ) (a b : Setting) (in_a : IsSetting text b.history a)
       → AreReplies machine a terminals room outs answers after
       → AreReplies machine b terminals room outs answers after
   replies_in room [] [] after replies = replies
-  replies_in room [] (told ∷ answers) after replies = absurd replies
+  replies_in room [] (response ∷ answers) after replies = absurd replies
   replies_in room (x ∷ outs) [] after replies = absurd replies
-  replies_in room (x ∷ outs) (told ∷ answers) after replies =
-      (replies.0, reply_in room x replies.0 told replies.1, replies_in replies.0 outs answers after replies.2)
+  replies_in room (x ∷ outs) (response ∷ answers) after replies =
+      (replies.0, reply_in room x replies.0 response replies.1, replies_in replies.0 outs answers after replies.2)
 
 -- ---- what was exchanged is what was answered
 module _ (setting : Setting) (terminals : List Terminal) where
@@ -149,9 +150,9 @@ module _ (setting : Setting) (terminals : List Terminal) where
   one_reply : (room : Room) (x : Timed) (after other : Room) (bytes others : List ℕ)
       → Replies room x after bytes → Replies room x other others → after ≡ other
   one_reply room x after other bytes others is also =
-      let talk = IsTalk-one machine setting terminals room in
-      (one_talk_law machine setting terminals room (x ∷ []) after other bytes others (talk after x bytes is)
-      (talk other x others also)).0
+      let dialogue = IsDialogue-one machine setting terminals room in
+      (one_dialogue_law machine setting terminals room (x ∷ []) after other bytes others (dialogue after x bytes is)
+      (dialogue other x others also)).0
 
   exchanged : (x : Exchange) (xs : List Exchange) (room : Room) (y : Timed)
       → AreAnswered setting terminals (x ∷ xs) room → x.arrival ≡ y
@@ -161,13 +162,13 @@ module _ (setting : Setting) (terminals : List Terminal) where
       (x.found, answered.0, refl, answered.1)
 
   -- the room after the first of them is the one after its answer
-  module _ (o : Timed) (outs : List Timed) (told : List ℕ) (answers : List (List ℕ)) (x : Exchange)
+  module _ (o : Timed) (outs : List Timed) (response : List ℕ) (answers : List (List ℕ)) (x : Exchange)
       (xs : List Exchange) (room after : Room)
-      (replies : AreReplies machine setting terminals room (o ∷ outs) (told ∷ answers) after)
+      (replies : AreReplies machine setting terminals room (o ∷ outs) (response ∷ answers) after)
       (answered : AreAnswered setting terminals (x ∷ xs) room) (is : x.arrival ≡ o) where
     next_replies : AreReplies machine setting terminals (replied machine x.found room).0 outs answers after
     next_replies = subst (λ (r : Room). AreReplies machine setting terminals r outs answers after)
-        (one_reply room o replies.0 (replied machine x.found room).0 told x.bytes replies.1
+        (one_reply room o replies.0 (replied machine x.found room).0 response x.bytes replies.1
         (exchanged x xs room o answered is)) replies.2
 
   same_room : (outs : List Timed) (answers : List (List ℕ)) (xs : List Exchange) (room after : Room)
@@ -175,15 +176,15 @@ module _ (setting : Setting) (terminals : List Terminal) where
       → AreAnswered setting terminals xs room → arrivals_of xs ≡ outs → room_by xs room ≡ after
   same_room [] [] [] room after replies answered is = sym replies
   same_room [] [] (x ∷ xs) room after replies answered is = absurd (cc)
-  same_room [] (told ∷ answers) xs room after replies answered is = absurd replies
+  same_room [] (response ∷ answers) xs room after replies answered is = absurd replies
   same_room (o ∷ outs) [] xs room after replies answered is = absurd replies
-  same_room (o ∷ outs) (told ∷ answers) [] room after replies answered is = absurd (cc)
-  same_room (o ∷ outs) (told ∷ answers) (x ∷ xs) room after replies answered is =
+  same_room (o ∷ outs) (response ∷ answers) [] room after replies answered is = absurd (cc)
+  same_room (o ∷ outs) (response ∷ answers) (x ∷ xs) room after replies answered is =
       let first : x.arrival ≡ o = cc in
       let rest : arrivals_of xs ≡ outs = cc in
       run_first x.found (events_of xs) room
       ∙ same_room outs answers xs (replied machine x.found room).0 after
-      (next_replies o outs told answers x xs room after replies answered first) answered.2 rest
+      (next_replies o outs response answers x xs room after replies answered first) answered.2 rest
 
   last_reply : (outs : List Timed) (answers : List (List ℕ)) (xs : List Exchange) (y : Timed)
       (room after : Room) → AreReplies machine setting terminals room outs answers after
@@ -197,28 +198,28 @@ module _ (setting : Setting) (terminals : List Terminal) where
             (subst (λ (r : Room). Replies room y r x.bytes) (sym (run_first x.found [] room)) reply),
       )
   last_reply [] [] (x ∷ z ∷ xs) y room after replies answered is = absurd (cc)
-  last_reply [] (told ∷ answers) xs y room after replies answered is = absurd replies
+  last_reply [] (response ∷ answers) xs y room after replies answered is = absurd replies
   last_reply (o ∷ outs) [] xs y room after replies answered is = absurd replies
-  last_reply (o ∷ outs) (told ∷ answers) [] y room after replies answered is = absurd (cc)
-  last_reply (o ∷ outs) (told ∷ answers) (x ∷ xs) y room after replies answered is =
+  last_reply (o ∷ outs) (response ∷ answers) [] y room after replies answered is = absurd (cc)
+  last_reply (o ∷ outs) (response ∷ answers) (x ∷ xs) y room after replies answered is =
       let first : x.arrival ≡ o = cc in
       let rest : arrivals_of xs ≡ outs ++ y ∷ [] = cc in
       let found = last_reply outs answers xs y (replied machine x.found room).0 after
-      (next_replies o outs told answers x xs room after replies answered first) answered.2 rest in
+      (next_replies o outs response answers x xs room after replies answered first) answered.2 rest in
       (found.0, subst (λ (r : Room). Replies after y r found.0) (sym (run_first x.found (events_of xs) room)) found.1)
 
   -- the answers to these arrivals and to one more
   replies_split : (outs : List Timed) (answers : List (List ℕ)) (text : List ℕ) (x : Timed)
-      (told : List ℕ) (room after : Room) → AreRecords message_text answer_text outs answers text
-      → AreReplies machine setting terminals room (outs ++ x ∷ []) (answers ++ told ∷ []) after
+      (response : List ℕ) (room after : Room) → AreRecords message_text answer_text outs answers text
+      → AreReplies machine setting terminals room (outs ++ x ∷ []) (answers ++ response ∷ []) after
       → (mid : Room) × AreReplies machine setting terminals room outs answers mid
-      × Replies mid x after told
-  replies_split [] [] text x told room after kept replies =
-      (room, refl, subst (λ (r : Room). Replies room x r told) (sym replies.2) replies.1)
-  replies_split [] (first ∷ answers) text x told room after kept replies = absurd kept
-  replies_split (o ∷ outs) [] text x told room after kept replies = absurd kept
-  replies_split (o ∷ outs) (first ∷ answers) text x told room after kept replies =
-      let rest = replies_split outs answers kept.1 x told replies.0 after kept.4 replies.2 in
+      × Replies mid x after response
+  replies_split [] [] text x response room after kept replies =
+      (room, refl, subst (λ (r : Room). Replies room x r response) (sym replies.2) replies.1)
+  replies_split [] (first ∷ answers) text x response room after kept replies = absurd kept
+  replies_split (o ∷ outs) [] text x response room after kept replies = absurd kept
+  replies_split (o ∷ outs) (first ∷ answers) text x response room after kept replies =
+      let rest = replies_split outs answers kept.1 x response replies.0 after kept.4 replies.2 in
       (rest.0, (replies.0, replies.1, rest.1), rest.2)
 
   -- an arrival that is kept as it came, and asks for an event, came in time
@@ -279,7 +280,7 @@ module _ {S : Type 0} (g : Ghosts S) where
 
     -- all but the last arrival were exchanged
     but_last : arrivals_of s.exchanges ≡ c.course.outs → Leaves → OneOf
-    but_last all (inl alone) = elim (alone db left) [
+    but_last all (inl only_one) = elim (only_one db left) [
       | inl stands ↦
           inl (subst StandsFor
           (same_room setting terminals c.course.outs c.course.answers s.exchanges now after replies s.run.answered all)
@@ -314,11 +315,11 @@ module _ {S : Type 0} (g : Ghosts S) where
     -- the last arrival was exchanged too
     with_last : (y : Timed) → c.course.last ≡ Some y
         → arrivals_of s.exchanges ≡ c.course.outs ++ y ∷ [] → Leaves → OneOf
-    with_last y last_y all (inl alone) =
+    with_last y last_y all (inl only_one) =
         let reply = last_reply setting terminals c.course.outs c.course.answers s.exchanges y now after replies
         s.run.answered all in
         let y_is : y ≡ x = cc (last, last_y) in
-        elim (alone db left) [
+        elim (only_one db left) [
           | inl stands ↦
               inr (
                 room_by s.exchanges now,
@@ -473,14 +474,15 @@ module _ {S : Type 0} (g : Ghosts S) (setting : Setting) (text : List ℕ)
         | inr (x, last, tail, wrote, begins, begun, grow) ↦ elim begun [
           | inl (unmoved, few) ↦ elim few [
             | inl (lasts, short, unkept) ↦ absurd (no_more goes unkept)
-            | inr want ↦
+            | inr cause ↦
                 let m = unmoved clean terminals now from_is in
                 record {
                   list_after = base ++ tail;
                   after = m.0;
                   settled =
-                      settle_wanting machine setting digits terminals (AreGiven All_of) held base m.0 (made m.0 m.1) x
-                      tail wrote want;
+                      settle_unavailable machine setting digits terminals (AreGiven All_of) held base m.0 (made m.0 m.1)
+                      x
+                      tail wrote cause;
                   keeps = keeps_more tail grow.kept;
                   stands = m.2;
                 }
@@ -515,9 +517,9 @@ module _ {S : Type 0} (g : Ghosts S) (setting : Setting) (text : List ℕ)
         grown : (list_after : List ℕ) → c.keeps ≡ Some list_after → Follows list_after entries rest
         grown list_after keeps = (follows.0, same_known c.keeps list_after after keeps after_is ∙ follows.1)
 
-        alone : (room : Room) → Came room → IsRoom g c.store terminals room → IsKept g c.store
+        only_one : (room : Room) → Came room → IsRoom g c.store terminals room → IsKept g c.store
             → EndsAt All_of (texts_of entries) c.store
-        alone room come stands lasts =
+        only_one room come stands lasts =
             still_ends All_of (texts_of entries) c.store room come stands
             (leaves_kept g c.store terminals room stands lasts)
 
@@ -526,7 +528,7 @@ module _ {S : Type 0} (g : Ghosts S) (setting : Setting) (text : List ℕ)
           | inl (none, lasts, moved, begins, (late, is_late, grow)) ↦
               let m = moved clean terminals now from_is in
               let it = grown base (appended c.kept c.keeps list next.observed.text kept_is grow.kept) in
-              alone m.0
+              only_one m.0
               (come_none machine setting digits terminals (AreGiven All_of) held base m.0 (made m.0 m.1) entries rest
               end_is it) m.2 (lasts clean kept)
           | inr (x, last, tail, wrote, begins, begun, grow) ↦
@@ -539,10 +541,10 @@ module _ {S : Type 0} (g : Ghosts S) (setting : Setting) (text : List ℕ)
                       | inl (lasts, short, unkept) ↦
                           let come = come_short machine setting digits terminals (AreGiven All_of) held base m.0 r
                           entries rest end_is x tail wrote short it in
-                          alone m.0 come m.2 (lasts clean kept)
-                      | inr want ↦
+                          only_one m.0 come m.2 (lasts clean kept)
+                      | inr cause ↦
                           let come = come_still machine setting digits terminals (AreGiven All_of) held base m.0 r
-                          entries rest end_is x tail wrote want it in
+                          entries rest end_is x tail wrote cause it in
                           record {
                             now = m.0;
                             come = come;
@@ -550,14 +552,14 @@ module _ {S : Type 0} (g : Ghosts S) (setting : Setting) (text : List ℕ)
                             leaves =
                                 λ db left.
                                 elim (leaves_one g served_in terminals c now m.0 served.served kept m.1 x last tail
-                                want.0 db left) [
+                                cause.0 db left) [
                                   | inl stands ↦ (m.0, come, stands)
                                   | inr (room, bytes, reply, stands) ↦
                                       let here = reply_in text served_in setting in_served in_zone terminals m.0 x room
                                       bytes reply in (
                                         room,
                                         come_moved machine setting digits terminals (AreGiven All_of) held base m.0 r
-                                            entries rest end_is x tail wrote bytes room want it here,
+                                            entries rest end_is x tail wrote bytes room cause it here,
                                         stands,
                                       )
                                 ];
@@ -570,34 +572,35 @@ module _ {S : Type 0} (g : Ghosts S) (setting : Setting) (text : List ℕ)
                       | inl (unwritten, unkept) ↦
                           let come = come_unwritten machine setting digits terminals (AreGiven All_of) held base done.0
                           done.1 entries rest end_is x answer tail wrote m.0 unwritten it done.2 in
-                          alone m.0 come m.2 (lasts clean kept)
+                          only_one m.0 come m.2 (lasts clean kept)
                       | inr (whole, front) ↦
                           let come = come_record machine setting digits terminals (AreGiven All_of) held base done.0
                           done.1 entries rest end_is x answer tail m.0 whole it done.2 in
-                          alone m.0 come m.2 (lasts clean kept)
+                          only_one m.0 come m.2 (lasts clean kept)
                     ]
               ]
         ]
 
     -- ---- one after another
     all_calls : (cs : List (Conversation S)) (c : Conversation S) (more : List (Conversation S))
-        (stage last : Stage S) (list after : List ℕ) (now : Room) (talks : List (List Exchange))
+        (stage last : Stage S) (list after : List ℕ) (now : Room) (dialogues : List (List Exchange))
         → AreNext g served_in message_text answer_text (c ∷ more) stage last
-        → AreServed g served_in terminals (c ∷ more) talks now → All (λ d. IsKept g d.from) (c ∷ more)
+        → AreServed g served_in terminals (c ∷ more) dialogues now → All (λ d. IsKept g d.from) (c ∷ more)
         → GoOnBefore (c ∷ more) → IsClean g last.store.conn → Settles cs list now
         → IsRoom g stage.store terminals now → stage.kept ≡ Some list → last.kept ≡ Some after
         → (entries : List Entry) (rest : List ℕ) → Follows after entries rest
         → (rest ≡ []) ⊎ IsPart rest → EndsAt (cs ++ c ∷ more) (texts_of entries) last.store
     all_calls cs c more stage last list after now [] next served kept go clean s is known after_is entries rest follows
         end_is = absurd served
-    all_calls cs c [] stage last list after now (xs ∷ talks) next served kept go clean s is known after_is entries rest
+    all_calls cs c [] stage last list after now (xs ∷ dialogues) next served kept go clean s is known after_is entries
+        rest
         follows end_is =
         subst (λ (t : Stage S). EndsAt (cs ++ c ∷ []) (texts_of entries) t.store) (sym next.1)
         (last_one cs c stage list now next.0 (subst (λ (t : Stage S). IsClean g t.store.conn) next.1 clean)
         s is known
         xs served.0 (All-head (λ d. IsKept g d.from) c [] kept) after
         (sym (ap (λ (t : Stage S). t.kept) next.1) ∙ after_is) entries rest follows end_is)
-    all_calls cs c (d ∷ more) stage last list after now (xs ∷ talks) next served kept go clean s is known after_is
+    all_calls cs c (d ∷ more) stage last list after now (xs ∷ dialogues) next served kept go clean s is known after_is
         entries rest follows end_is =
         let clean_here = clean_before g served_in message_text answer_text (d ∷ more) (stage_after c) last next.1
         clean in
@@ -610,8 +613,8 @@ module _ {S : Type 0} (g : Ghosts S) (setting : Setting) (text : List ℕ)
         (kept_after g served_in message_text answer_text stage c next.0 go.0 clean_here) in
         let
         then =
-        all_calls (cs ++ c ∷ []) d more (stage_after c) last m.list_after after m.after talks next.1
-        (subst (λ (r : Room). AreServed g served_in terminals (d ∷ more) talks r) same served.1)
+        all_calls (cs ++ c ∷ []) d more (stage_after c) last m.list_after after m.after dialogues next.1
+        (subst (λ (r : Room). AreServed g served_in terminals (d ∷ more) dialogues r) same served.1)
         (All-tail (λ e. IsKept g e.from) c (d ∷ more) kept) go.1 clean m.settled m.stands m.keeps after_is entries rest
         follows end_is in
         subst (λ (ds : List (Conversation S)). EndsAt ds (texts_of entries) last.store)
@@ -619,23 +622,26 @@ module _ {S : Type 0} (g : Ghosts S) (setting : Setting) (text : List ℕ)
 
     -- from the head of a start on
     calls_end : (cs ds : List (Conversation S)) (stage last : Stage S) (list after : List ℕ) (now : Room)
-        (talks : List (List Exchange)) → AreNext g served_in message_text answer_text ds stage last
-        → AreServed g served_in terminals ds talks now → All (λ d. IsKept g d.from) ds → GoOnBefore ds
+        (dialogues : List (List Exchange)) → AreNext g served_in message_text answer_text ds stage last
+        → AreServed g served_in terminals ds dialogues now → All (λ d. IsKept g d.from) ds → GoOnBefore ds
         → IsClean g last.store.conn → Settles cs list now
         → IsRoom g stage.store terminals now → LeavesOneOf g stage.store terminals (now ∷ [])
         → stage.kept ≡ Some list → last.kept ≡ Some after
         → (entries : List Entry) (rest : List ℕ) → Follows after entries rest
         → (rest ≡ []) ⊎ IsPart rest → EndsAt (cs ++ ds) (texts_of entries) last.store
-    calls_end cs [] stage last list after now talks next served kept go clean s is leaves known after_is entries rest
+    calls_end cs [] stage last list after now dialogues next served kept go clean s is leaves known after_is entries
+        rest
         follows end_is =
         let same : list
         ≡ after = same_known stage.kept list after known (sym (ap (λ (t : Stage S). t.kept) next) ∙ after_is) in
         no_calls cs stage last (texts_of entries) now next
         (come_settled machine setting digits terminals (AreGiven cs) held entries rest end_is list now s
         (follows.0, same ∙ follows.1)) is leaves
-    calls_end cs (c ∷ more) stage last list after now talks next served kept go clean s is leaves known after_is entries
+    calls_end cs (c ∷ more) stage last list after now dialogues next served kept go clean s is leaves known after_is
+        entries
         rest follows end_is =
-        all_calls cs c more stage last list after now talks next served kept go clean s is known after_is entries rest
+        all_calls cs c more stage last list after now dialogues next served kept go clean s is known after_is entries
+        rest
         follows end_is
 
 -- ---- the first of some starts, and the last
@@ -718,16 +724,16 @@ module _ {S : Type 0} (g : Ghosts S) (setting : Setting) (text : List ℕ)
           unheard none (texts_of entries) (come_same machine setting (digits_of digest_of text) terminals (AreGiven cs)
           held from now entries rest end_is (follows.0, same ∙ follows.1) come)
 
-      module _ (told : List ℕ) (first_head : IsHead g true room_text s.opened s.first.stage.store told) where
+      module _ (response : List ℕ) (first_head : IsHead g true room_text s.opened s.first.stage.store response) where
         abbrev h : Head
         h = first_head.head
 
-        tells : IsDigestOf g s.opened s.first.stage.store h
-        tells = first_head.known refl
+        states : IsDigestOf g s.opened s.first.stage.store h
+        states = first_head.known refl
 
         head_is : IsHeadOf (digits_of digest_of text) h terminals now
         head_is = subst (λ (t : List ℕ). IsHeadOf (digits_of digest_of t) h terminals now) alike.zone
-            (tells.1 (clean_first g message_text answer_text s start clean) terminals now is)
+            (states.1 (clean_first g message_text answer_text s start clean) terminals now is)
 
         entry : IsEntry (head_entry h)
         entry = subst IsDigest head_is (digest_is h.version text terminals now)
@@ -738,7 +744,7 @@ module _ {S : Type 0} (g : Ghosts S) (setting : Setting) (text : List ℕ)
         twin after x bytes reply same =
             let equal = subst
             (λ (v : Version). digits_of digest_of text v terminals after ≡ digits_of digest_of text v terminals now)
-            tells.0 (same ∙ sym head_is) in
+            states.0 (same ∙ sym head_is) in
             twins x after now bytes is (reply_in text setting s.setting
             (record { zone = in_zone; history = sym alike.history }) zone_served terminals after x now bytes reply)
             (subst
@@ -746,22 +752,22 @@ module _ {S : Type 0} (g : Ghosts S) (setting : Setting) (text : List ℕ)
             (sym alike.zone) equal)
 
         -- its head is kept
-        headed : p.front ≡ told → Stops (cs ++ connections s) (texts_of entries) (left_by s)
+        headed : p.front ≡ response → Stops (cs ++ connections s) (texts_of entries) (left_by s)
         headed whole =
             let all = joined g message_text answer_text s start clean terminals now is in
             let s0 = come_head machine setting (digits_of digest_of text) terminals (AreGiven cs) held h entry from now
             head_is twin come in
             calls_end g setting text in_zone terminals held s.setting in_served cs (connections s) s.first.stage
-            s.last.stage (from ++ room_text h) part.after now all.talks
+            s.last.stage (from ++ room_text h) part.after now all.dialogues
             start.attended.in_turn all.served (all_kept g message_text answer_text s start clean terminals now is)
             start.go_on clean s0 first_room leaves_it
-            (first_is (room_text h) (whole ∙ first_head.told)) p.last entries rest follows end_is
+            (first_is (room_text h) (whole ∙ first_head.text_is)) p.last entries rest follows end_is
 
         -- its head is cut short
-        cut_short : s.calls ≡ [] → IsFront p.front told
+        cut_short : s.calls ≡ [] → IsFront p.front response
             → Stops (cs ++ connections s) (texts_of entries) (left_by s)
         cut_short none front =
-            let first = subst (IsFront p.front) first_head.told front in
+            let first = subst (IsFront p.front) first_head.text_is front in
             let it : Follows (from ++ p.front) entries rest = (follows.0, all_kept_is none ∙ follows.1) in
             unheard none (texts_of entries) (come_front machine setting (digits_of digest_of text) terminals
             (AreGiven cs) held h entry from p.front now entries rest end_is head_is twin first it come)
@@ -770,9 +776,9 @@ module _ {S : Type 0} (g : Ghosts S) (setting : Setting) (text : List ℕ)
         → Stops (cs ++ connections s) whole (left_by s)
     start_ends whole (entries, rest, follows, whole_is, end_is) =
         subst (λ (t : List ℕ). Stops (cs ++ connections s) t (left_by s)) (sym whole_is) (elim p.begun [
-          | inl (told, first_head, kept) ↦ elim kept [
-            | inl all ↦ headed entries rest follows end_is told first_head all
-            | inr (none, front) ↦ cut_short entries rest follows end_is told first_head none front
+          | inl (response, first_head, kept) ↦ elim kept [
+            | inl all ↦ headed entries rest follows end_is response first_head all
+            | inr (none, front) ↦ cut_short entries rest follows end_is response first_head none front
           ]
           | inr (none, nothing) ↦ headless entries rest follows end_is none nothing
         ])
@@ -861,36 +867,42 @@ module _ {S : Type 0} (g : Ghosts S) (setting : Setting) (text : List ℕ)
     | inr some ↦ elim some [
       | inl s ↦ record {
         turns = s.turns;
-        are_turns = s.told.are_turns;
-        replayed = s.told.replayed;
-        entries = s.told.entries;
+        are_turns = s.recorded.are_turns;
+        replayed = s.recorded.replayed;
+        entries = s.recorded.entries;
         begun = inr s.begun;
-        text = s.told.text;
+        text = s.recorded.text;
         after = over.now;
-        replay = s.told.replay;
+        replay = s.recorded.replay;
         given = s.given;
         leads = of_last g (λ s. IsRoom g (left_by s) terminals over.now) _ (λ s is. inl is) starts over.is;
       }
       | inr w ↦
-          let told = left_open machine setting (digits_of digest_of text) terminals
-          (AreGiven (flat_map connections starts)) held w.text list w.turns w.after w.p.at w.p.sent w.told w.entry
+          let response = left_open machine setting (digits_of digest_of text) terminals
+          (AreGiven (flat_map connections starts)) held w.text list w.turns w.after w.p.at w.p.sent w.recorded w.entry
           w.list_is in
           record {
             turns = w.turns ++ left_out w.p.at w.p.sent ∷ [];
-            are_turns = told.are_turns;
-            replayed = told.replayed;
-            entries = told.entries;
+            are_turns = response.are_turns;
+            replayed = response.replayed;
+            entries = response.entries;
             begun = inr (begun-append w.turns (left_out w.p.at w.p.sent ∷ []) w.begun);
-            text = told.text;
+            text = response.text;
             after = w.after;
-            replay = told.replay;
+            replay = response.replay;
             given =
                 subst (λ (a : List (List ℕ)). AreGiven (flat_map connections starts) a)
                 (sym (no_answer w.turns (left_out w.p.at w.p.sent) refl)) w.given;
             leads = of_last g (λ s. IsRoom g (left_by s) terminals over.now) _
                 (λ s is.
-                inr
-                (ends_open-push w.turns w.p.at w.p.sent, (arrived w.p.whole, w.p.at), over.now, w.p.told, w.reply, is))
+                inr (
+                  ends_open-push w.turns w.p.at w.p.sent,
+                  (arrived w.p.whole, w.p.at),
+                  over.now,
+                  w.p.response,
+                  w.reply,
+                  is,
+                ))
                 starts over.is;
           }
     ]

@@ -26,7 +26,7 @@ module _ (text : List ℕ) (a b : Setting) (in_a : IsSetting text b.history a)
     (in_b : IsPosixZone text (zone_of b.zone)) (digits : DigitsOf) (terminals : List Terminal) where
   play_in : (room : Room) (p : Play) (after : Room)
       → Answers machine a digits terminals room p after → Answers machine b digits terminals room p after
-  play_in room p after is = reply_in text a b in_a in_b terminals room (timed p) after p.told is
+  play_in room p after is = reply_in text a b in_a in_b terminals room (timed p) after p.response is
 
   turn_in : (room : Room) (t : Turn) (after : Room) → Does machine a digits terminals room t after
       → Does machine b digits terminals room t after

@@ -19,7 +19,7 @@ use Rattle.room_http.specs.Course.{AreFirstIn, AreOf, Course}
 use Rattle.room_http.specs.Runs.{AreAnswered, Exchange, IsRun, arrivals_of, room_by}
 use Rattle.room_http.specs.ServedRuns.{Served}
 use Rattle.room_http.specs.Session.{Finish, ServeIs, Sides}
-use Rattle.room_http.specs.Talk.{LeavesNext, Stays, Timed, Wants, replied}
+use Rattle.room_http.specs.Dialogues.{IsUnserved, LeavesNext, Stays, Timed, replied}
 use Rattle.room_http.specs.declared.session.ServeEnd.{ServeEnd}
 use Rattle.room_http.specs.declared.session.ServeEnd.TheVariants.{Closed, Cut, ReadFault, WriteFault, ClockFault}
 use Rattle.room_http.specs.declared.session.ServeEnd.TheVariants.{Unkept, ReadsSpent, Memory}
@@ -28,7 +28,7 @@ use Rattle.room_http.proofs.PromiseLaws.{promises_kept}
 use Rattle.room_http.proofs.RunLemmas.{answered_join, room_split, run_first, run_of}
 use Rattle.room_store.specs.StoredRoom.{IsKept, IsRoom, LeavesOneOf}
 use Rattle.room_store.specs.declared.store.Store.{Store}
-use Rattle.room_store_writes.specs.Houses.{config_of}
+use Rattle.room_store_writes.specs.Configurations.{config_of}
 use Rattle.room_tables.specs.RoomsInTables.{Stands}
 use Rattle.dispatch_room_cli.specs.declared.exit_status.Done.{Done}
 use Rattle.dispatch_room_cli.specs.declared.exit_status.Failure.{Failure}
@@ -38,7 +38,7 @@ use Rattle.dispatch_room_serving.specs.Connections.{GoesOn, IsNext, IsServed, Se
 use Rattle.dispatch_room_serving.specs.Connections.{stage_before, together}
 use Rattle.dispatch_room_serving.specs.ServedRoom.{KeepsHead, Looks, ServesRoom}
 use Rattle.dispatch_room_serving.specs.Starts.{AreDone, AreOneRun, AreStarts, Exchanged, Follows, IsDone, IsStart}
-use Rattle.dispatch_room_serving.specs.Starts.{IsTrusted, IsUntold, OfLast, ServedIsAStart, ServingIsAStart, Start}
+use Rattle.dispatch_room_serving.specs.Starts.{IsTrusted, IsUnwritten, OfLast, ServedIsAStart, ServingIsAStart, Start}
 use Rattle.dispatch_room_serving.specs.Starts.{StartsAreOneRun, all_of, connections, left_by, whole_of}
 use Rattle.dispatch_room_serving.proofs.ConnectionLaws.{attended_none, connected_more}
 use Rattle.room_tables_schema.specs.FileConnections.{IsClean}
@@ -63,14 +63,14 @@ module _ (course : Course) where
       All-same InTime outs (course.outs ++ x ∷ []) (is ∙ ap (λ z. course.outs ++ z ∷ []) same) timed
 
   module _ (setting : Setting) (old : Sides) (new : Finish) (trusted failed : Type 0)
-      (stood stands : List Terminal → Room → Type 0) (wants : Timed → List Terminal → Room → Type 0)
+      (stood stands : List Terminal → Room → Type 0) (while_unserved : Timed → List Terminal → Room → Type 0)
       (budget : ℕ) where
     timed : (end : ServeEnd)
-        → ServeIs machine setting old new trusted stood stands wants failed course budget end
+        → ServeIs machine setting old new trusted stood stands while_unserved failed course budget end
         → (outs : List Timed) → AreOf course outs → All InTime outs
     timed Closed (inl ended) = whole_timed ended.0.0 ended.0.1.timed.0
     timed Closed (inr (inl closed)) = whole_timed closed.0.0 closed.0.1.timed.0
-    timed Closed (inr (inr want)) = last_timed want.0 want.1 want.2.timed.0
+    timed Closed (inr (inr cause)) = last_timed cause.0 cause.1 cause.2.timed.0
     timed Cut cut = whole_timed cut.0.0 cut.0.1.timed.0
     timed ReadFault failed = whole_timed failed.0.0 failed.0.1.timed.0
     timed WriteFault ((x, last, inl broken), failed) = last_timed x last broken.timed.0
@@ -85,16 +85,16 @@ module _ (course : Course) where
 module _ {S : Type 0} (g : Ghosts S) (setting : Setting) (terminals : List Terminal) where
   -- the room after what was exchanged, or that after one exchange more
   abbrev Left : List (Conversation S) → List (List Exchange) → Store S → Room → Type 0
-  Left cs talks last after = LeavesOneOf g last terminals (after ∷ [])
-      ⊎ ((x : Exchange) × IsUntold cs talks x × AreAnswered setting terminals (x ∷ []) after
+  Left cs dialogues last after = LeavesOneOf g last terminals (after ∷ [])
+      ⊎ ((x : Exchange) × IsUnwritten cs dialogues x × AreAnswered setting terminals (x ∷ []) after
       × LeavesOneOf g last terminals (after ∷ room_by (x ∷ []) after ∷ []))
 
   -- the exchange of an event that a stop leaves done
-  untold_one : (x : Timed) (room : Room) (last : Store S) → InTime x
+  unwritten_one : (x : Timed) (room : Room) (last : Store S) → InTime x
       → LeavesNext machine setting (LeavesOneOf g last) x terminals room
       → (done : Exchange) × (done.arrival ≡ x) × AreAnswered setting terminals (done ∷ []) room
       × LeavesOneOf g last terminals (room ∷ room_by (done ∷ []) room ∷ [])
-  untold_one x room last within (event, finds, leaves) =
+  unwritten_one x room last within (event, finds, leaves) =
       let done = exchange_of setting terminals x event room within finds in
       let after : room_by (done.0 ∷ []) room
       ≡ (machine event room).0 = run_first done.0.found [] room ∙ ap (λ found. (replied machine found room).0) done.2 in
@@ -106,17 +106,18 @@ module _ {S : Type 0} (g : Ghosts S) (setting : Setting) (terminals : List Termi
       ⊎ ((x : Timed) × AreFirstIn c.course c.before.left c.before.given c.after.given (arrivals_of xs ++ x ∷ [])
       × LeavesNext machine setting (LeavesOneOf g c.store) x terminals (room_by xs room))
 
-  left_one : (came_text : ℕ → List ℕ → List ℕ) (told_text : List ℕ → List ℕ) (stage : Stage S)
+  left_one : (came_text : ℕ → List ℕ → List ℕ) (response_text : List ℕ → List ℕ) (stage : Stage S)
       (c : Conversation S) (xs : List Exchange) (room : Room)
-      → IsNext g setting came_text told_text stage c → IsServed g setting terminals c xs room
+      → IsNext g setting came_text response_text stage c → IsServed g setting terminals c xs room
       → IsKept g c.from → Left (c ∷ []) (xs ∷ []) c.store (room_by xs room)
-  left_one came_text told_text stage c xs room next is kept =
+  left_one came_text response_text stage c xs room next is kept =
       elim (subst (LeavesOne c room) is.exchanged (is.served.kept kept)) [
-        | inl alone ↦ inl alone
+        | inl only_one ↦ inl only_one
         | inr (x, first, leaves) ↦
-            let within = timed c.course setting c.before c.after _ _ _ _ _ _ c.end next.talk (arrivals_of xs ++ x ∷ [])
+            let within = timed c.course setting c.before c.after _ _ _ _ _ _ c.end next.dialogue
+            (arrivals_of xs ++ x ∷ [])
             first.0 in
-            let done = untold_one x (room_by xs room) c.store
+            let done = unwritten_one x (room_by xs room) c.store
             (All-pop InTime (arrivals_of xs ++ x ∷ []) (arrivals_of xs) (Some x) refl within).1 leaves in
             inr (
               done.0,
@@ -124,9 +125,9 @@ module _ {S : Type 0} (g : Ghosts S) (setting : Setting) (terminals : List Termi
                 c = c;
                 earlier = [];
                 is_last = refl;
-                talk = xs;
-                talked = [];
-                is_talk = refl;
+                dialogue = xs;
+                earlier_dialogues = [];
+                is_dialogue = refl;
                 next = rw done.1 first;
               },
               done.2,
@@ -136,57 +137,57 @@ module _ {S : Type 0} (g : Ghosts S) (setting : Setting) (terminals : List Termi
 
   -- an earlier connection
   left_more : (c : Conversation S) (cs : List (Conversation S)) (xs : List Exchange)
-      (talks : List (List Exchange)) (last : Store S) (after same : Room) → after ≡ same
-      → Left cs talks last after → Left (c ∷ cs) (xs ∷ talks) last same
-  left_more c cs xs talks last after same is (inl alone) = inl (rw (← is) alone)
-  left_more c cs xs talks last after same is (inr (x, untold, answered, leaves)) = inr (
+      (dialogues : List (List Exchange)) (last : Store S) (after same : Room) → after ≡ same
+      → Left cs dialogues last after → Left (c ∷ cs) (xs ∷ dialogues) last same
+  left_more c cs xs dialogues last after same is (inl only_one) = inl (rw (← is) only_one)
+  left_more c cs xs dialogues last after same is (inr (x, not_written, answered, leaves)) = inr (
     x,
     record {
-      c = untold.c;
-      earlier = c ∷ untold.earlier;
-      is_last = ap (λ more. c ∷ more) untold.is_last;
-      talk = untold.talk;
-      talked = xs ∷ untold.talked;
-      is_talk = ap (λ more. xs ∷ more) untold.is_talk;
-      next = untold.next;
+      c = not_written.c;
+      earlier = c ∷ not_written.earlier;
+      is_last = ap (λ more. c ∷ more) not_written.is_last;
+      dialogue = not_written.dialogue;
+      earlier_dialogues = xs ∷ not_written.earlier_dialogues;
+      is_dialogue = ap (λ more. xs ∷ more) not_written.is_dialogue;
+      next = not_written.next;
     },
     rw (← is) answered,
     rw (← is) leaves,
   )
 
-  left_some : (came_text : ℕ → List ℕ → List ℕ) (told_text : List ℕ → List ℕ) (c : Conversation S)
-      (cs : List (Conversation S)) (talks : List (List Exchange)) (room : Room) (stage last : Stage S)
-      → AreNext g setting came_text told_text (c ∷ cs) stage last
-      → AreServed g setting terminals (c ∷ cs) talks room → All (λ d. IsKept g d.from) (c ∷ cs)
-      → Left (c ∷ cs) talks last.store (room_by (together talks) room)
-  left_some came_text told_text c cs [] room stage last next served kept = absurd served
-  left_some came_text told_text c [] (xs ∷ []) room stage last next served kept =
-      let one = left_one came_text told_text stage c xs room next.0 served.0
+  left_some : (came_text : ℕ → List ℕ → List ℕ) (response_text : List ℕ → List ℕ) (c : Conversation S)
+      (cs : List (Conversation S)) (dialogues : List (List Exchange)) (room : Room) (stage last : Stage S)
+      → AreNext g setting came_text response_text (c ∷ cs) stage last
+      → AreServed g setting terminals (c ∷ cs) dialogues room → All (λ d. IsKept g d.from) (c ∷ cs)
+      → Left (c ∷ cs) dialogues last.store (room_by (together dialogues) room)
+  left_some came_text response_text c cs [] room stage last next served kept = absurd served
+  left_some came_text response_text c [] (xs ∷ []) room stage last next served kept =
+      let one = left_one came_text response_text stage c xs room next.0 served.0
       (All-head (λ d. IsKept g d.from) c [] kept) in
       subst (λ (s : Stage S). Left (c ∷ []) (xs ∷ []) s.store (room_by (xs ++ []) room)) (sym next.1)
       (subst (λ ys. Left (c ∷ []) (xs ∷ []) c.store (room_by ys room)) (sym (append-nil xs)) one)
-  left_some came_text told_text c [] (xs ∷ ys ∷ more) room stage last next served kept = absurd served.1
-  left_some came_text told_text c (d ∷ cs) (xs ∷ more) room stage last next served kept =
+  left_some came_text response_text c [] (xs ∷ ys ∷ more) room stage last next served kept = absurd served.1
+  left_some came_text response_text c (d ∷ cs) (xs ∷ more) room stage last next served kept =
       left_more c (d ∷ cs) xs more last.store (room_by (together more) (room_by xs room))
       (room_by (xs ++ together more) room) (sym (room_split xs (together more) room))
-      (left_some came_text told_text d cs more (room_by xs room) (stage_after c) last next.1 served.1
+      (left_some came_text response_text d cs more (room_by xs room) (stage_after c) last next.1 served.1
       (All-tail (λ e. IsKept g e.from) c (d ∷ cs) kept))
 
-  left_all : (came_text : ℕ → List ℕ → List ℕ) (told_text : List ℕ → List ℕ)
-      (cs : List (Conversation S)) (talks : List (List Exchange)) (room : Room) (stage last : Stage S)
-      → AreNext g setting came_text told_text cs stage last → AreServed g setting terminals cs talks room
+  left_all : (came_text : ℕ → List ℕ → List ℕ) (response_text : List ℕ → List ℕ)
+      (cs : List (Conversation S)) (dialogues : List (List Exchange)) (room : Room) (stage last : Stage S)
+      → AreNext g setting came_text response_text cs stage last → AreServed g setting terminals cs dialogues room
       → LeavesOneOf g stage.store terminals (room ∷ []) → All (λ d. IsKept g d.from) cs
-      → Left cs talks last.store (room_by (together talks) room)
-  left_all came_text told_text [] [] room stage last same served leaves kept = inl (rw same leaves)
-  left_all came_text told_text [] (xs ∷ more) room stage last same served leaves kept = absurd served
-  left_all came_text told_text (c ∷ cs) talks room stage last next served leaves kept =
-      left_some came_text told_text c cs talks room stage last next served kept
+      → Left cs dialogues last.store (room_by (together dialogues) room)
+  left_all came_text response_text [] [] room stage last same served leaves kept = inl (rw same leaves)
+  left_all came_text response_text [] (xs ∷ more) room stage last same served leaves kept = absurd served
+  left_all came_text response_text (c ∷ cs) dialogues room stage last next served leaves kept =
+      left_some came_text response_text c cs dialogues room stage last next served kept
 
 -- ---- the setting of the plan stays
 module _ {S : Type 0} (g : Ghosts S) (setting : Setting) (came_text : ℕ → List ℕ → List ℕ)
-    (told_text : List ℕ → List ℕ) where
+    (response_text : List ℕ → List ℕ) where
   pub zone_stays : (cs : List (Conversation S)) (stage last : Stage S)
-      → AreNext g setting came_text told_text cs stage last → last.store.plan.zone ≡ stage.store.plan.zone
+      → AreNext g setting came_text response_text cs stage last → last.store.plan.zone ≡ stage.store.plan.zone
   zone_stays [] stage last same = ap (λ (s : Stage S). s.store.plan.zone) same
   zone_stays (c ∷ cs) stage last next =
       zone_stays cs (stage_after c) last next.1 ∙ next.0.same_zone
@@ -194,15 +195,15 @@ module _ {S : Type 0} (g : Ghosts S) (setting : Setting) (came_text : ℕ → Li
 
 -- what was exchanged at a start after which there is none
 abbrev last_done : List Exchange → Exchanged
-last_done xs = record { told = xs; untold = [] }
+last_done xs = record { written = xs; not_written = [] }
 
 whole_last : (xs : List Exchange) → whole_of (last_done xs ∷ []) ≡ xs
 whole_last xs = append-nil (xs ++ []) ∙ append-nil xs
 
 -- ---- one start
 module _ {S : Type 0} (g : Ghosts S) (came_text : ℕ → List ℕ → List ℕ)
-    (told_text : List ℕ → List ℕ) where
-  module _ (s : Start S) (start : IsStart g came_text told_text s)
+    (response_text : List ℕ → List ℕ) where
+  module _ (s : Start S) (start : IsStart g came_text response_text s)
       (clean : HasCleanDisk (state g (left_by s).conn)) where
     pub clean_first : IsClean g s.first.stage.store.conn
     clean_first = start.attended.trusted clean
@@ -212,7 +213,7 @@ module _ {S : Type 0} (g : Ghosts S) (came_text : ℕ → List ℕ → List ℕ)
 
     pub one_zone : (left_by s).plan.zone ≡ s.opened.plan.zone
     one_zone =
-        zone_stays g s.setting came_text told_text (connections s) s.first.stage s.last.stage start.attended.in_turn
+        zone_stays g s.setting came_text response_text (connections s) s.first.stage s.last.stage start.attended.in_turn
         ∙ start.looks.zone
 
     module _ (terminals : List Terminal) (room : Room) (is : IsRoom g s.opened terminals room) where
@@ -228,24 +229,26 @@ module _ {S : Type 0} (g : Ghosts S) (came_text : ℕ → List ℕ → List ℕ)
         | inr kept ↦ start.kept clean (kept clean_first opens.2.kept)
       ]
 
-      left : Left g s.setting terminals (connections s) joined.talks (left_by s) (room_by (together joined.talks) room)
+      left : Left g s.setting terminals (connections s) joined.dialogues (left_by s)
+          (room_by (together joined.dialogues) room)
       left =
-          left_all g s.setting terminals came_text told_text (connections s) joined.talks room s.first.stage
+          left_all g s.setting terminals came_text response_text (connections s) joined.dialogues room s.first.stage
           s.last.stage start.attended.in_turn joined.served leaves_first all_kept
 
-      done_with : (untold : List Exchange)
-          → (untold ≡ []) ⊎ ((x : Exchange) × (untold ≡ x ∷ []) × IsUntold (connections s) joined.talks x)
-          → IsDone g terminals s (record { told = together joined.talks; untold = untold }) room
-      done_with untold few = record { opened = is; joined = joined; told = refl; untold = few }
+      done_with : (not_written : List Exchange)
+          → (not_written ≡ [])
+          ⊎ ((x : Exchange) × (not_written ≡ x ∷ []) × IsUnwritten (connections s) joined.dialogues x)
+          → IsDone g terminals s (record { written = together joined.dialogues; not_written = not_written }) room
+      done_with not_written few = record { opened = is; joined = joined; written = refl; not_written = few }
 
   -- ---- the next start
-  -- what the next start opens is the room after what was exchanged, told and untold
-  record Goes (s next : Start S) (terminals : List Terminal) (talks : List (List Exchange)) (after : Room) : Type
+  -- what the next start opens is the room after what was exchanged, written and not written
+  record Goes (s next : Start S) (terminals : List Terminal) (dialogues : List (List Exchange)) (after : Room) : Type
       0 where
-    untold : List Exchange
-    few : (untold ≡ []) ⊎ ((x : Exchange) × (untold ≡ x ∷ []) × IsUntold (connections s) talks x)
-    answered : AreAnswered s.setting terminals untold after
-    opened : IsRoom g next.opened terminals (room_by untold after)
+    not_written : List Exchange
+    few : (not_written ≡ []) ⊎ ((x : Exchange) × (not_written ≡ x ∷ []) × IsUnwritten (connections s) dialogues x)
+    answered : AreAnswered s.setting terminals not_written after
+    opened : IsRoom g next.opened terminals (room_by not_written after)
     zone : (left_by s).plan.zone ≡ next.opened.plan.zone
 
   pub opens_it : (s next : Start S) (terminals : List Terminal) (room : Room)
@@ -254,14 +257,14 @@ module _ {S : Type 0} (g : Ghosts S) (came_text : ℕ → List ℕ → List ℕ)
       → ((left_by s).plan.zone ≡ next.opened.plan.zone) × IsRoom g next.opened terminals room
   opens_it s next terminals room opens stands = opens.2.same (config_of (left_by s).plan terminals) room stands
 
-  -- all that was exchanged was told
-  all_told : (s next : Start S) (terminals : List Terminal) (talks : List (List Exchange)) (after : Room)
+  -- all that was exchanged was written
+  all_written : (s next : Start S) (terminals : List Terminal) (dialogues : List (List Exchange)) (after : Room)
       → OpensRoom g next.found next.opened
       → Stands (state g next.found).now.trees (config_of (left_by s).plan terminals) after
-      → Goes s next terminals talks after
-  all_told s next terminals talks after opens stands =
+      → Goes s next terminals dialogues after
+  all_written s next terminals dialogues after opens stands =
       let it = opens_it s next terminals after opens stands in
-      record { untold = []; few = inl refl; answered = tt; opened = it.1; zone = it.0 }
+      record { not_written = []; few = inl refl; answered = tt; opened = it.1; zone = it.0 }
 
   -- where it goes on with the database that the one before left, that stands for the same room
   pub stands_on : (s next : Start S) (terminals : List Terminal) (after : Room)
@@ -275,34 +278,35 @@ module _ {S : Type 0} (g : Ghosts S) (came_text : ℕ → List ℕ → List ℕ)
       (sym same) (is.tables is_open)
 
   -- where it finds what a stop may leave
-  finds : (s next : Start S) (terminals : List Terminal) (talks : List (List Exchange)) (after : Room)
+  finds : (s next : Start S) (terminals : List Terminal) (dialogues : List (List Exchange)) (after : Room)
       → OpensRoom g next.found next.opened
       → (state g (left_by s).conn).may_leave (state g next.found).now.trees
-      → Left g s.setting terminals (connections s) talks (left_by s) after
-      → Goes s next terminals talks after
-  finds s next terminals talks after opens found (inl alone) = elim (alone (state g next.found).now.trees found) [
-    | inl stands ↦ all_told s next terminals talks after opens stands
-    | inr none ↦ absurd none
-  ]
-  finds s next terminals talks after opens found (inr (x, is, answered, leaves)) =
+      → Left g s.setting terminals (connections s) dialogues (left_by s) after
+      → Goes s next terminals dialogues after
+  finds s next terminals dialogues after opens found (inl only_one) =
+      elim (only_one (state g next.found).now.trees found) [
+        | inl stands ↦ all_written s next terminals dialogues after opens stands
+        | inr none ↦ absurd none
+      ]
+  finds s next terminals dialogues after opens found (inr (x, is, answered, leaves)) =
       elim (leaves (state g next.found).now.trees found) [
-        | inl stands ↦ all_told s next terminals talks after opens stands
+        | inl stands ↦ all_written s next terminals dialogues after opens stands
         | inr other ↦ elim other [
           | inl stands ↦
               let it = opens_it s next terminals (room_by (x ∷ []) after) opens stands in
-              record { untold = x ∷ []; few = inr (x, refl, is); answered = answered; opened = it.1; zone = it.0 }
+              record { not_written = x ∷ []; few = inr (x, refl, is); answered = answered; opened = it.1; zone = it.0 }
           | inr none ↦ absurd none
         ]
       ]
 
-  goes : (s next : Start S) (terminals : List Terminal) (talks : List (List Exchange)) (after : Room)
+  goes : (s next : Start S) (terminals : List Terminal) (dialogues : List (List Exchange)) (after : Room)
       → OpensRoom g next.found next.opened → IsRoom g (left_by s) terminals after → Follows g s next
-      → Left g s.setting terminals (connections s) talks (left_by s) after
-      → Goes s next terminals talks after
-  goes s next terminals talks after opens is (inl found, history) leaves =
-      finds s next terminals talks after opens found leaves
-  goes s next terminals talks after opens is (inr same, history) leaves =
-      all_told s next terminals talks after opens (stands_on s next terminals after opens is same)
+      → Left g s.setting terminals (connections s) dialogues (left_by s) after
+      → Goes s next terminals dialogues after
+  goes s next terminals dialogues after opens is (inl found, history) leaves =
+      finds s next terminals dialogues after opens found leaves
+  goes s next terminals dialogues after opens is (inr same, history) leaves =
+      all_written s next terminals dialogues after opens (stands_on s next terminals after opens is same)
 
   -- ---- all starts
   -- the zone of a start's plan, and history where it serves it
@@ -318,19 +322,19 @@ module _ {S : Type 0} (g : Ghosts S) (came_text : ℕ → List ℕ → List ℕ)
     after : OfLast (λ s. IsRoom g (left_by s) terminals (room_by (whole_of done) room)) starts
 
   module _ (setting : Setting) (terminals : List Terminal) where
-    own_answers : (s : Start S) → IsStart g came_text told_text s → IsSetFor setting s
+    own_answers : (s : Start S) → IsStart g came_text response_text s → IsSetFor setting s
         → (xs : List Exchange) (room : Room)
         → AreAnswered s.setting terminals xs room → AreAnswered setting terminals xs room
     own_answers s start set =
         answered_in s.opened.plan.zone s.setting setting (record { zone = start.in_zone; history = set.history })
         set.zone terminals
 
-    last_start : (s : Start S) (room : Room) → IsStart g came_text told_text s
+    last_start : (s : Start S) (room : Room) → IsStart g came_text response_text s
         → HasCleanDisk (state g (left_by s).conn) → IsRoom g s.opened terminals room
         → IsSetFor setting s → Run setting terminals (s ∷ []) room
     last_start s room start clean is set =
         let all = joined s start clean terminals room is in
-        let xs : List Exchange = together all.talks in
+        let xs : List Exchange = together all.dialogues in
         let same : xs ≡ whole_of (last_done xs ∷ []) = sym (whole_last xs) in
         record {
           done = last_done xs ∷ [];
@@ -342,7 +346,7 @@ module _ {S : Type 0} (g : Ghosts S) (came_text : ℕ → List ℕ → List ℕ)
         }
 
     more_starts : (s : Start S) (starts : List (Start S)) (room : Room)
-        → AreStarts g came_text told_text (s ∷ starts) → All (IsTrusted g) (s ∷ starts)
+        → AreStarts g came_text response_text (s ∷ starts) → All (IsTrusted g) (s ∷ starts)
         → IsRoom g s.opened terminals room → IsSetFor setting s
         → Run setting terminals (s ∷ starts) room
     more_starts s [] room start clean is set = last_start s room start (All-head (IsTrusted g) s [] clean) is set
@@ -351,22 +355,23 @@ module _ {S : Type 0} (g : Ghosts S) (came_text : ℕ → List ℕ → List ℕ)
         let rest = All-tail (IsTrusted g) s (next ∷ starts) clean in
         let all = joined s start here terminals room is in
         let next_start = first_of next starts later in
-        let step = goes s next terminals all.talks (room_by (together all.talks) room)
+        let step = goes s next terminals all.dialogues (room_by (together all.dialogues) room)
         (opens next next_start (All-head (IsTrusted g) next starts rest)) all.after follows
         (left s start here terminals room is) in
-        let x : Exchanged = record { told = together all.talks; untold = step.untold } in
+        let x : Exchanged = record { written = together all.dialogues; not_written = step.not_written } in
         let room_is : room_by (all_of x) room
-        ≡ room_by step.untold (room_by (together all.talks) room) = room_split (together all.talks) step.untold room in
+        ≡ room_by step.not_written (room_by (together all.dialogues) room) =
+        room_split (together all.dialogues) step.not_written room in
         let zone_is : s.opened.plan.zone ≡ next.opened.plan.zone = sym (one_zone s start here) ∙ step.zone in
         let
         then =
         more_starts next starts (room_by (all_of x) room) later rest (rw room_is step.opened)
         (record { zone = rw zone_is at set.zone; history = follows.1 ∙ set.history }) in
-        let mine = answered_join s.setting terminals (together all.talks) step.untold room all.run.answered
+        let mine = answered_join s.setting terminals (together all.dialogues) step.not_written room all.run.answered
         step.answered in
         record {
           done = x ∷ then.done;
-          each = (done_with s start here terminals room is step.untold step.few, then.each);
+          each = (done_with s start here terminals room is step.not_written step.few, then.each);
           answered =
               answered_join setting terminals (all_of x) (whole_of then.done) room
               (own_answers s start set (all_of x) room mine) then.answered;
@@ -375,17 +380,17 @@ module _ {S : Type 0} (g : Ghosts S) (came_text : ℕ → List ℕ → List ℕ)
               (sym (room_split (all_of x) (whole_of then.done) room)) then.after;
         }
       where
-        first_of : (next : Start S) (starts : List (Start S)) → AreStarts g came_text told_text (next ∷ starts)
-            → IsStart g came_text told_text next
+        first_of : (next : Start S) (starts : List (Start S)) → AreStarts g came_text response_text (next ∷ starts)
+            → IsStart g came_text response_text next
         first_of next [] start = start
         first_of next (other ∷ starts) (start, follows, later) = start
 
 pub starts_are_one_run_law : {S : Type 0} (g : Ghosts S) → StartsAreOneRun g
-starts_are_one_run_law g came_text told_text first more config room starts clean stands =
+starts_are_one_run_law g came_text response_text first more config room starts clean stands =
     let start = first_start first more starts in
-    let opened = opens g came_text told_text first start (All-head (IsTrusted g) first more clean) in
+    let opened = opens g came_text response_text first start (All-head (IsTrusted g) first more clean) in
     let is = (opened.2.same config room stands).1 in
-    let run = more_starts g came_text told_text first.setting config.terminals first more room starts clean is
+    let run = more_starts g came_text response_text first.setting config.terminals first more room starts clean is
     (record { zone = start.in_zone; history = refl }) in
     let whole : IsRun first.setting config.terminals (whole_of run.done) room = run_of first.setting config.terminals
     room (whole_of run.done) is.fits run.answered in
@@ -397,8 +402,8 @@ starts_are_one_run_law g came_text told_text first more config room starts clean
       after = run.after;
     }
   where
-    first_start : (next : _) (starts : _) → AreStarts g came_text told_text (next ∷ starts)
-        → IsStart g came_text told_text next
+    first_start : (next : _) (starts : _) → AreStarts g came_text response_text (next ∷ starts)
+        → IsStart g came_text response_text next
     first_start next [] start = start
     first_start next (other ∷ starts) (start, follows, later) = start
 
@@ -427,9 +432,9 @@ module _ {S : Type 0} where
 
 -- a start that serving gives, and what was kept of its head
 pub record IsServedStart {S : Type 0} (g : Ghosts S) (wants : Bool) (begun_text : Head → List ℕ)
-    (came_text : ℕ → List ℕ → List ℕ) (told_text : List ℕ → List ℕ) (history : Bool) (found : Held S)
+    (came_text : ℕ → List ℕ → List ℕ) (response_text : List ℕ → List ℕ) (history : Bool) (found : Held S)
     (old new : Store S → Service S) (worked : Result Done Failure × Held S) (s : Start S) : Type 0 where
-  pub start : IsStart g came_text told_text s
+  pub start : IsStart g came_text response_text s
   pub found_is : s.found ≡ found
   pub closed : (left_by s).conn ≡ worked.1
   pub history_is : s.setting.history ≡ history
@@ -442,14 +447,14 @@ pub record IsServedStart {S : Type 0} (g : Ghosts S) (wants : Bool) (begun_text 
       (Err fault))
 
 pub served_start : {S : Type 0} (g : Ghosts S) (wants : Bool) (begun_text : Head → List ℕ)
-    (came_text : ℕ → List ℕ → List ℕ) (told_text : List ℕ → List ℕ) (history : Bool) (found : Held S)
+    (came_text : ℕ → List ℕ → List ℕ) (response_text : List ℕ → List ℕ) (history : Bool) (found : Held S)
     (old new : Store S → Service S) (renews : Bool) (most : ℕ)
     (worked : Result Done Failure × Held S)
     → ((store : Store S) → (old store).stage.store ≡ store)
     → ((store : Store S) → (new store).stage.store ≡ store)
-    → ServesRoom g wants begun_text came_text told_text history found old new renews most worked
-    → (s : Start S) × IsServedStart g wants begun_text came_text told_text history found old new worked s
-served_start g wants begun_text came_text told_text history found old new renews most worked of_old of_new is =
+    → ServesRoom g wants begun_text came_text response_text history found old new renews most worked
+    → (s : Start S) × IsServedStart g wants begun_text came_text response_text history found old new worked s
+served_start g wants begun_text came_text response_text history found old new renews most worked of_old of_new is =
     elim is.attended [
       | inl unheard ↦ (
         record {
@@ -465,7 +470,7 @@ served_start g wants begun_text came_text told_text history found old new renews
             opens = is.opens;
             in_zone = is.is_set.zone;
             looks = rw of_new (rw (of_old, of_new) at unheard.looks);
-            attended = attended_none g is.setting came_text told_text (new is.last);
+            attended = attended_none g is.setting came_text response_text (new is.last);
             kept = λ clean kept. All-nil _;
             go_on = tt;
             begins_kept = inl refl;
@@ -494,7 +499,7 @@ served_start g wants begun_text came_text told_text history found old new renews
           calls = served.serves.calls;
           first = record {
             heard = (old is.first).heard;
-            told = (old is.first).told;
+            written = (old is.first).written;
             stage = record {
               given = (old is.first).stage.given;
               kept = served.kept;
@@ -528,18 +533,21 @@ served_start g wants begun_text came_text told_text history found old new renews
     ]
 
 pub served_is_a_start_law : {S : Type 0} (g : Ghosts S) → ServedIsAStart g
-served_is_a_start_law g wants begun_text came_text told_text history found old new renews most worked of_old of_new is =
-    let s = served_start g wants begun_text came_text told_text history found old new renews most worked of_old of_new
+served_is_a_start_law g wants begun_text came_text response_text history found old new renews most worked of_old of_new
+    is =
+    let s = served_start g wants begun_text came_text response_text history found old new renews most worked of_old
+    of_new
     is in
     (s.0, s.1.start, s.1.found_is, s.1.closed, s.1.history_is)
 
 pub serving_is_a_start_law : {S : Type 0} (g : Ghosts S) → ServingIsAStart g
-serving_is_a_start_law g came_text told_text found opened setting first now count opens in_zone looks served = record {
-  opens = opens;
-  in_zone = in_zone;
-  looks = looks.looks;
-  attended = served.attended;
-  kept = served.kept;
-  go_on = all_go (connected served.calls) served.go_on;
-  begins_kept = inr looks.kept;
-}
+serving_is_a_start_law g came_text response_text found opened setting first now count opens in_zone looks served =
+    record {
+      opens = opens;
+      in_zone = in_zone;
+      looks = looks.looks;
+      attended = served.attended;
+      kept = served.kept;
+      go_on = all_go (connected served.calls) served.go_on;
+      begins_kept = inr looks.kept;
+    }

@@ -15,7 +15,7 @@ use Rattle.room_http.specs.Promises.{Promises}
 use Rattle.room_http.specs.Runs.{Exchange, IsRun, room_by}
 use Rattle.room_http.specs.ServedRuns.{Served}
 use Rattle.room_http.specs.Session.{Finish, MissesNone, ReadsAtMost, ServeIs, Sides}
-use Rattle.room_http.specs.Talk.{Stays, Wants}
+use Rattle.room_http.specs.Dialogues.{IsUnserved, Stays}
 use Rattle.room_http.specs.declared.session.ServeEnd.{ServeEnd}
 use Rattle.room_http.specs.declared.session.ServeEnd.TheVariants as end
 use Rattle.dispatch_room_cli.specs.declared.exit_status.Done.{Done}
@@ -52,11 +52,11 @@ pub record Conversation (S : Type 0) : Type 0 where
   pub keeps : Option (List ℕ)
   pub had_failed : Bool
 
--- what is known of all that is served, at one moment: the calls that came, what they were told, and
--- where serving stands
+-- what is known of all that is served, at one moment: the calls that came, what was written to
+-- them, and where serving stands
 pub record Service (S : Type 0) : Type 0 where
   pub heard : Option (List (Option Opening))
-  pub told : Option (List (Option (List ℕ)))
+  pub written : Option (List (Option (List ℕ)))
   pub stage : Stage S
 
 -- a store that is not sound any longer serves no more
@@ -141,7 +141,7 @@ module _ {S : Type 0} where
 
 -- all that was exchanged, one after another
 abbrev pub together : List (List Exchange) → List Exchange
-together talks = flat_map (λ xs. xs) talks
+together dialogues = flat_map (λ xs. xs) dialogues
 
 module _ {S : Type 0} (g : Ghosts S) (setting : Setting) (terminals : List Terminal) where
   -- on the connection these exchanges were served, from this room
@@ -161,28 +161,28 @@ module _ {S : Type 0} (g : Ghosts S) (setting : Setting) (terminals : List Termi
   -- The connections are joined: all their exchanges, one after another, are one run from this room.
   -- It leads to the room that the store stands for at the end, and keeps the promises.
   pub record AreJoined (cs : List (Conversation S)) (last : Store S) (room : Room) : Type 0 where
-    pub talks : List (List Exchange)
-    pub served : AreServed cs talks room
-    pub run : IsRun setting terminals (together talks) room
-    pub after : IsRoom g last terminals (room_by (together talks) room)
-    pub promises : Promises terminals (together talks) room
+    pub dialogues : List (List Exchange)
+    pub served : AreServed cs dialogues room
+    pub run : IsRun setting terminals (together dialogues) room
+    pub after : IsRoom g last terminals (room_by (together dialogues) room)
+    pub promises : Promises terminals (together dialogues) room
 
 -- where a observer keeps so much of a message at its moment, and of an answer
 module _ {S : Type 0} (g : Ghosts S) (setting : Setting) (came_text : ℕ → List ℕ → List ℕ)
-    (told_text : List ℕ → List ℕ) where
+    (response_text : List ℕ → List ℕ) where
   -- It was served as one connection is, from where serving stood, and observed. The observer fails
   -- only where something can't be kept. The zone of the plan stays. What the store holds afterwards
   -- is kept, unless it is shut.
   pub record IsNext (stage : Stage S) (c : Conversation S) : Type 0 where
     pub begins : stage_before c ≡ stage
     pub reads : ReadsAtMost most_reads c.before.reads c.after.reads
-    pub talk : ServeIs machine setting c.before c.after (IsClean g c.store.conn)
+    pub dialogue : ServeIs machine setting c.before c.after (IsClean g c.store.conn)
         (IsRoom g c.from)
         (Stays (IsKept g c.from) (IsRoom g c.store) (LeavesOneOf g c.store))
-        (Wants machine setting (IsKept g c.from) (IsRoom g c.store) (LeavesOneOf g c.store))
+        (IsUnserved machine setting (IsKept g c.from) (IsRoom g c.store) (LeavesOneOf g c.store))
         (KnowsNothing c.store.cache) c.course most_reads c.end
     pub none_missed : MissesNone c.before.left c.unread c.before.given c.after.given c.end
-    pub observed : KeepsEach came_text told_text
+    pub observed : KeepsEach came_text response_text
         (IsClean g c.store.conn → IsKept g c.from → IsKept g c.store)
         (ActsOnEach machine setting (IsClean g c.store.conn) (IsRoom g c.from)
         (IsRoom g c.store)) c.before.left
@@ -198,12 +198,12 @@ module _ {S : Type 0} (g : Ghosts S) (setting : Setting) (came_text : ℕ → Li
   AreNext [] stage last = last ≡ stage
   AreNext (c ∷ cs) stage last = IsNext stage c × AreNext cs (stage_after c) last
 
-  -- what was done with these calls: each was heard and told, served in its turn, and joined to the
-  -- others
+  -- what was done with these calls: each was heard and written to, served in its turn, and joined
+  -- to the others
   pub record AreAttended (calls : List (Option (Conversation S)))
       (old new : Service S) : Type 0 where
     pub heard : Grows old.heard new.heard (map (option_map opening_of) calls)
-    pub told : Grows old.told new.told (map (λ c. c.after.held) (connected calls))
+    pub written : Grows old.written new.written (map (λ c. c.after.held) (connected calls))
     pub in_turn : AreNext (connected calls) old.stage new.stage
     pub trusted : IsClean g new.stage.store.conn
         → IsClean g old.stage.store.conn
@@ -244,11 +244,11 @@ done_or (Some fault) = Err fault
 -- The next call was attended to, and why no more is served after it, if it is so. Else what held of
 -- so many calls holds of one more.
 pub record AttendsNext {S : Type 0} (g : Ghosts S) (setting : Setting)
-    (came_text : ℕ → List ℕ → List ℕ) (told_text : List ℕ → List ℕ) (old new : Service S)
+    (came_text : ℕ → List ℕ → List ℕ) (response_text : List ℕ → List ℕ) (old new : Service S)
     (result : Result (Unit {0}) Failure) : Type 0 where
   pub call : Option (Conversation S)
-  pub attended : AreAttended g setting came_text told_text (call ∷ []) old new
+  pub attended : AreAttended g setting came_text response_text (call ∷ []) old new
   pub ends : result ≡ done_or (option_and_then fault_after call)
   pub longer : result ≡ Ok tt → (first : Service S) (count : ℕ)
-      → HasServed g setting came_text told_text first old count
-      → HasServed g setting came_text told_text first new (count + 1)
+      → HasServed g setting came_text response_text first old count
+      → HasServed g setting came_text response_text first new (count + 1)

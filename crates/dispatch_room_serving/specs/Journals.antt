@@ -41,6 +41,20 @@ EndsAfter ends old new (Ok done) (Ok whole) = (whole ≡ done) × EndsBy ends ol
 EndsAfter ends old new (Ok done) (Err fault) = (fault ≡ failure.Journal) × (failed_by new ≡ true)
 EndsAfter ends old new (Err fault) result = (result ≡ Err fault) × (new ≡ old)
 
+-- An entry was put behind a keeper where it is to be kept, and nothing else was, so no end; else
+-- the keeper stays as it is.
+abbrev pub PutsKept : {W : Type 0} → (W → W → List ℕ → Type 0) → Bool → W → W → List ℕ → Type 0
+PutsKept puts true old new entry = puts old new entry
+PutsKept puts false old new entry = new ≡ old
+
+-- the same of the journal, where there is one, by whether questions are kept in it
+abbrev pub PutsBy : {W : Type 0} → (W → W → List ℕ → Type 0) → (Bool → Bool)
+    → Option (Journal W) → Option (Journal W) → List ℕ → Type 0
+PutsBy puts is_kept None new entry = IsNone new
+PutsBy puts is_kept (Some old) None entry = ⊥
+PutsBy puts is_kept (Some old) (Some new) entry =
+    PutsKept puts (is_kept old.keeps_questions) old.out new.out entry
+
 -- where records are to last, all that is held does
 abbrev pub Lasts : Bool → Option (List ℕ) → Option (List ℕ) → Type 0
 Lasts is_synced lasting held = is_synced ≡ true → lasting ≡ held

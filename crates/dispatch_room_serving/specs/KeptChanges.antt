@@ -9,7 +9,7 @@ use Rattle.room_http.specs.declared.arrivals.Arrived.{Arrived}
 use Rattle.room_http.specs.declared.arrivals.Arrived.TheVariants.{Message, Refused}
 use Rattle.room_http.specs.Arrivals.{message, refused}
 use Rattle.room_http.specs.KeptMessages.{AreKept, AreReplies}
-use Rattle.room_http.specs.Talk.{Timed}
+use Rattle.room_http.specs.Dialogues.{Timed}
 use Rattle.room_http.specs.declared.settings.Setting.{Setting}
 use Rattle.dispatch_room_journal.specs.Entries.{IsEntry, texts_of}
 use Rattle.dispatch_room_journal.specs.JournalRecords.{answer_text, message_text}

@@ -10,7 +10,7 @@ use Rattle.room_model.specs.Room.{Room}
 use Rattle.room_model.specs.Digests.{DigitsOf, digits_of}
 use Rattle.room_model.specs.Rooms.{machine}
 use Rattle.room_model.specs.declared.digests.Version.TheVariants.{Second}
-use Rattle.room_http.specs.Talk.{IsFront, IsReplyTo, Timed}
+use Rattle.room_http.specs.Dialogues.{IsFront, IsReplyTo, Timed}
 use Rattle.room_http_time.specs.Days.{zone_of}
 use Rattle.room_http.specs.Settings.{IsSetting}
 use Rattle.room_http.specs.declared.settings.Setting.{Setting}

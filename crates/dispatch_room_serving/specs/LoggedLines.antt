@@ -3,7 +3,7 @@ use Rattle.std.specs.Prelude.{◌≡◌, ℕ, List, [], ◌∷◌, ◌++◌, Boo
 use Rattle.std.specs.Io.KnownBytes.{Appends}
 use Rattle.jiff.specs.Words.{civil_nanos}
 use Rattle.jiff.specs.declared.civil.datetimes.DateTime.{DateTime}
-use Rattle.room_http.specs.Talk.{IsFront}
+use Rattle.room_http.specs.Dialogues.{IsFront}
 use Rattle.room_http.specs.declared.arrivals.Arrived.{Arrived}
 use Rattle.room_http.specs.declared.arrivals.Arrived.TheVariants.{Message, Refused}
 use Rattle.room_http.specs.declared.observers.Asked.{Asked}

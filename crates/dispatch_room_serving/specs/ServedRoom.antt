@@ -5,7 +5,7 @@ use Rattle.sqlite.specs.Held.{Held}
 use Rattle.sqlite_trees.specs.declared.store.Store.{Ghosts}
 use Rattle.room_types.specs.declared.fleet.Terminal.{Terminal}
 use Rattle.room_model.specs.Room.{Room}
-use Rattle.room_http.specs.Talk.{IsFront}
+use Rattle.room_http.specs.Dialogues.{IsFront}
 use Rattle.room_http.specs.Settings.{IsSetting}
 use Rattle.room_http.specs.declared.settings.Setting.{Setting}
 use Rattle.room_model.specs.Digests.{IsHeadOf, digits_of}
@@ -55,12 +55,12 @@ module _ {S : Type 0} (g : Ghosts S) where
     pub record IsHead (old new : Store S) (text : List ℕ) : Type 0 where
       pub head : Head
       pub known : wants ≡ true → IsDigestOf old new head
-      pub told : text ≡ if wants then begun_text head else []
+      pub text_is : text ≡ if wants then begun_text head else []
 
     -- it keeps that; or, where serving doesn't begin, nothing or some first bytes of it
     abbrev pub KeepsHead : Store S → Store S → Option (List ℕ) → Option (List ℕ)
         → Result (Unit {0}) Failure → Type 0
-    KeepsHead old new kept keeps (Ok told) =
+    KeepsHead old new kept keeps (Ok stated) =
         (text : List ℕ) × IsHead old new text × Appends kept keeps text
     KeepsHead old new kept keeps (Err fault) = (keeps ≡ kept)
         ⊎ ((text front : List ℕ) × IsHead old new text × IsFront front text
@@ -69,8 +69,8 @@ module _ {S : Type 0} (g : Ghosts S) where
     -- the watcher was given where the room begins, or serving does not begin
     abbrev pub Announces : Store S → Store S → Option (List ℕ) → Option (List ℕ)
         → Result (Unit {0}) Failure → Type 0
-    Announces old new kept keeps (Ok told) =
-        LooksOnly old new × KeepsHead old new kept keeps (Ok told)
+    Announces old new kept keeps (Ok stated) =
+        LooksOnly old new × KeepsHead old new kept keeps (Ok stated)
     Announces old new kept keeps (Err fault) =
         IsUnbegun fault × Looks old new × KeepsHead old new kept keeps (Err fault)
 
@@ -78,15 +78,15 @@ module _ {S : Type 0} (g : Ghosts S) where
     pub record IsUnheard (old new : Service S) (result : Result Done Failure) : Type 0 where
       pub fault : Failure
       pub why : IsUnbegun fault
-      pub told : result ≡ Err fault
+      pub result_is : result ≡ Err fault
       -- the journal is at fault only where something could not be kept
       pub failed : fault ≡ Journal → new.stage.has_failed ≡ true
-      pub unheard : (new.heard ≡ old.heard) × (new.told ≡ old.told)
+      pub unheard : (new.heard ≡ old.heard) × (new.written ≡ old.written)
           × (new.stage.given ≡ old.stage.given)
       pub looks : Looks old.stage.store new.stage.store
       pub head : KeepsHead old.stage.store new.stage.store old.stage.kept new.stage.kept (Err fault)
 
-    module _ (came_text : ℕ → List ℕ → List ℕ) (told_text : List ℕ → List ℕ) where
+    module _ (came_text : ℕ → List ℕ → List ℕ) (response_text : List ℕ → List ℕ) where
       -- from the store that was looked at so many calls were served
       pub record ServesFrom (setting : Setting) (old new : Service S) (renews : Bool) (most : ℕ)
           (result : Result Done Failure) : Type 0 where
@@ -94,10 +94,10 @@ module _ {S : Type 0} (g : Ghosts S) where
         pub kept : Option (List ℕ)
         pub looks : LooksOnly old.stage.store store
         pub head : KeepsHead old.stage.store store old.stage.kept kept (Ok tt)
-        pub serves : Serves g setting came_text told_text
+        pub serves : Serves g setting came_text response_text
             (record {
               heard = old.heard;
-              told = old.told;
+              written = old.written;
               stage =
                   record {
                     given = old.stage.given;

@@ -45,12 +45,12 @@ left_by s = s.last.stage.store
 -- what was exchanged on the connections of a start, and what a stop of it left done, though no
 -- answer to it was written
 pub record Exchanged : Type 0 where
-  pub told : List Exchange
-  pub untold : List Exchange
+  pub written : List Exchange
+  pub not_written : List Exchange
 
 -- all of it, one after another
 abbrev pub all_of : Exchanged → List Exchange
-all_of x = x.told ++ x.untold
+all_of x = x.written ++ x.not_written
 
 abbrev pub whole_of : List Exchanged → List Exchange
 whole_of [] = []
@@ -64,26 +64,26 @@ OfLast Holds (x ∷ y ∷ more) = OfLast Holds (y ∷ more)
 
 -- One exchange, with what arrived next on the last connection: the room has acted on it, and its
 -- answer was not written, since memory or storage failed or the program was stopped.
-pub record IsUntold {S : Type 0} (cs : List (Conversation S)) (talks : List (List Exchange))
+pub record IsUnwritten {S : Type 0} (cs : List (Conversation S)) (dialogues : List (List Exchange))
     (x : Exchange) : Type 0 where
   pub c : Conversation S
   pub earlier : List (Conversation S)
   pub is_last : cs ≡ earlier ++ c ∷ []
-  pub talk : List Exchange
-  pub talked : List (List Exchange)
-  pub is_talk : talks ≡ talked ++ talk ∷ []
+  pub dialogue : List Exchange
+  pub earlier_dialogues : List (List Exchange)
+  pub is_dialogue : dialogues ≡ earlier_dialogues ++ dialogue ∷ []
   pub next : AreFirstIn c.course c.before.left c.before.given c.after.given
-      (arrivals_of talk ++ x.arrival ∷ [])
+      (arrivals_of dialogue ++ x.arrival ∷ [])
 
 module _ {S : Type 0} (g : Ghosts S) where
   -- The room that the tables stood for was opened, looked at, and served to these calls.
-  pub record IsStart (came_text : ℕ → List ℕ → List ℕ) (told_text : List ℕ → List ℕ)
+  pub record IsStart (came_text : ℕ → List ℕ → List ℕ) (response_text : List ℕ → List ℕ)
       (s : Start S) : Type 0 where
     pub opens : IsClean g s.opened.conn → OpensRoom g s.found s.opened
     pub in_zone : IsPosixZone s.opened.plan.zone (zone_of s.setting.zone)
     pub looks : Looks g s.opened s.first.stage.store
-    pub attended : AreAttended g s.setting came_text told_text s.calls s.first s.last
-    pub kept : AreKept g s.setting came_text told_text (connections s) s.first
+    pub attended : AreAttended g s.setting came_text response_text s.calls s.first s.last
+    pub kept : AreKept g s.setting came_text response_text (connections s) s.first
         (HasCleanDisk (state g (left_by s).conn))
     -- after each connection but the last more was served
     pub go_on : GoOnBefore (connections s)
@@ -101,10 +101,10 @@ module _ {S : Type 0} (g : Ghosts S) where
 
   -- these starts, each after the one before
   abbrev pub AreStarts : (ℕ → List ℕ → List ℕ) → (List ℕ → List ℕ) → List (Start S) → Type 0
-  AreStarts came_text told_text [] = ⊤
-  AreStarts came_text told_text (s ∷ []) = IsStart came_text told_text s
-  AreStarts came_text told_text (s ∷ next ∷ more) = IsStart came_text told_text s
-      × Follows s next × AreStarts came_text told_text (next ∷ more)
+  AreStarts came_text response_text [] = ⊤
+  AreStarts came_text response_text (s ∷ []) = IsStart came_text response_text s
+  AreStarts came_text response_text (s ∷ next ∷ more) = IsStart came_text response_text s
+      × Follows s next × AreStarts came_text response_text (next ∷ more)
 
   -- the disk gave back what was written, up to the end of the start
   abbrev pub IsTrusted : Start S → Type 0
@@ -115,9 +115,10 @@ module _ {S : Type 0} (g : Ghosts S) where
     pub record IsDone (s : Start S) (done : Exchanged) (room : Room) : Type 0 where
       pub opened : IsRoom g s.opened terminals room
       pub joined : AreJoined g s.setting terminals (connections s) (left_by s) room
-      pub told : together joined.talks ≡ done.told
-      pub untold : (done.untold ≡ [])
-          ⊎ ((x : Exchange) × (done.untold ≡ x ∷ []) × IsUntold (connections s) joined.talks x)
+      pub written : together joined.dialogues ≡ done.written
+      pub not_written : (done.not_written ≡ [])
+          ⊎ ((x : Exchange) × (done.not_written ≡ x ∷ [])
+          × IsUnwritten (connections s) joined.dialogues x)
 
     -- each start opened the room that those before it led to
     abbrev pub AreDone : List (Start S) → List Exchanged → Room → Type 0
@@ -139,9 +140,9 @@ module _ {S : Type 0} (g : Ghosts S) where
   -- Whatever starts there were, from the room that the first of them found: they are one run.
   abbrev pub StartsAreOneRun : Type 0
   StartsAreOneRun =
-      (came_text : ℕ → List ℕ → List ℕ) (told_text : List ℕ → List ℕ) (first : Start S)
+      (came_text : ℕ → List ℕ → List ℕ) (response_text : List ℕ → List ℕ) (first : Start S)
       (more : List (Start S)) (config : Configuration) (room : Room)
-      → AreStarts came_text told_text (first ∷ more) → All IsTrusted (first ∷ more)
+      → AreStarts came_text response_text (first ∷ more) → All IsTrusted (first ∷ more)
       → Stands (state g first.found).now.trees config room
       → AreOneRun config.terminals first.setting (first ∷ more) room
 
@@ -150,24 +151,25 @@ module _ {S : Type 0} (g : Ghosts S) where
   abbrev pub ServedIsAStart : Type 0
   ServedIsAStart =
       (wants : Bool) (begun_text : Head → List ℕ) (came_text : ℕ → List ℕ → List ℕ)
-      (told_text : List ℕ → List ℕ) (history : Bool) (found : Held S)
+      (response_text : List ℕ → List ℕ) (history : Bool) (found : Held S)
       (old new : Store S → Service S) (renews : Bool) (most : ℕ)
       (worked : Result Done Failure × Held S)
       → ((store : Store S) → (old store).stage.store ≡ store)
       → ((store : Store S) → (new store).stage.store ≡ store)
-      → ServesRoom g wants begun_text came_text told_text history found old new renews most worked
-      → (s : Start S) × IsStart came_text told_text s × (s.found ≡ found)
+      → ServesRoom g wants begun_text came_text response_text history found old new renews most
+      worked
+      → (s : Start S) × IsStart came_text response_text s × (s.found ≡ found)
       × ((left_by s).conn ≡ worked.1) × (s.setting.history ≡ history)
 
   -- And so it is while it is served, after every number of calls: a room may be stopped at each.
   abbrev pub ServingIsAStart : Type 0
   ServingIsAStart =
-      (came_text : ℕ → List ℕ → List ℕ) (told_text : List ℕ → List ℕ) (found : Held S)
+      (came_text : ℕ → List ℕ → List ℕ) (response_text : List ℕ → List ℕ) (found : Held S)
       (opened : Store S) (setting : Setting) (first now : Service S) (count : ℕ)
       → (IsClean g opened.conn → OpensRoom g found opened)
       → IsPosixZone opened.plan.zone (zone_of setting.zone) → LooksOnly g opened first.stage.store
-      → (served : HasServed g setting came_text told_text first now count)
-      → IsStart came_text told_text (record {
+      → (served : HasServed g setting came_text response_text first now count)
+      → IsStart came_text response_text (record {
         found = found;
         opened = opened;
         setting = setting;

@@ -1,7 +1,7 @@
 //! Who calls at a room: what gives its connections, one after another.
 ghost use Rattle.std.specs.Prelude.{◌≡◌, ℕ, List, [], ◌∷◌, Option, Some, IfErr, IfSome, false, option_map};
 ghost use Rattle.dispatch_room_cli.specs.declared.exit_status.Failure.TheVariants.{Network};
-ghost use Rattle.dispatch_room_serving.specs.Callers.{Grows, Opening};
+ghost use Rattle.dispatch_room_serving.specs.Callers.{Grows, Opening, Printing, Prints};
 
 use dispatch_room_cli::exit_status::Failure;
 use room_http_messages::sinks::Sink;
@@ -20,26 +20,33 @@ pub trait Callers {
     ghost heard: { Self → Option (List (Option Opening)) };
 
     // What each writer held that was taken back, where that is known.
-    ghost told: { Self → Option (List (Option (List ℕ))) };
+    ghost written: { Self → Option (List (Option (List ℕ))) };
+
+    // Where they stand with what is printed: nothing but that they may call.
+    ghost prints: { Self → Printing };
 
     /// Lets the callers begin. A failure is the network's.
     fn begin(&mut self) -> Result<(), Failure>
         ensures heard { heard self.new ≡ heard self.old }
-        ensures told { told self.new ≡ told self.old }
+        ensures written { written self.new ≡ written self.old }
+        ensures prints { Prints (prints self.old) (prints self.new) result }
         ensures fault { IfErr result (λ fault. fault ≡ Network) };
 
-    /// The next connection: none where it came to nothing.
+    /// The next connection: none where it failed.
     fn next(&mut self) -> Option<(Self::Reader, Self::Writer)>
         ensures heard { Grows (heard self.old) (heard self.new) (option_map (λ sides. record {
           left = Self.Reader.left sides.0;
           held = Self.Writer.held sides.1;
         }) result ∷ []) }
-        ensures told { told self.new ≡ told self.old }
+        ensures written { written self.new ≡ written self.old }
+        ensures prints { prints self.new ≡ prints self.old }
         ensures reader { IfSome result (λ sides. Self.Reader.has_failed sides.0 ≡ false) }
         ensures writer { IfSome result (λ sides. Self.Writer.has_failed sides.1 ≡ false) };
 
     /// Takes a connection back that was served.
     fn done(&mut self, reader: Self::Reader, writer: Self::Writer)
         ensures heard { heard self.new ≡ heard self.old }
-        ensures told { Grows (told self.old) (told self.new) (Self.Writer.held writer ∷ []) };
+        ensures written { Grows (written self.old) (written self.new)
+            (Self.Writer.held writer ∷ []) }
+        ensures prints { prints self.new ≡ prints self.old };
 }

@@ -29,10 +29,10 @@ pub fn serve_each<S: Alter, P: Callers, C: Clock, N: Observer>(
 ) -> Result<Done, Failure>
     requires ready { IsReady S.Store room.old }
     ensures ready { IsReady S.Store room.new }
-    ensures served { Serves S.Store handler.now.setting N.came N.told
+    ensures served { Serves S.Store handler.now.setting N.came N.response
         (record {
           heard = P.heard callers.old;
-          told = P.told callers.old;
+          written = P.written callers.old;
           stage = record {
             given = C.given clock.old;
             kept = N.held observer.old;
@@ -42,7 +42,7 @@ pub fn serve_each<S: Alter, P: Callers, C: Clock, N: Observer>(
         })
         (record {
           heard = P.heard callers.new;
-          told = P.told callers.new;
+          written = P.written callers.new;
           stage = record {
             given = C.given clock.new;
             kept = N.held observer.new;
@@ -51,6 +51,7 @@ pub fn serve_each<S: Alter, P: Callers, C: Clock, N: Observer>(
           };
         })
         part.old.terms.renews part.old.terms.connections result }
+    ensures prints { P.prints callers.new ≡ P.prints callers.old }
 {
     let terms = part.terms;
     for _connection in 0..terms.connections {
@@ -77,10 +78,10 @@ pub fn serve_next<S: Alter, P: Callers, C: Clock, N: Observer>(
 ) -> Result<(), Failure>
     requires ready { IsReady S.Store room.old }
     ensures ready { IsReady S.Store room.new }
-    ensures attended { AttendsNext S.Store handler.now.setting N.came N.told
+    ensures attended { AttendsNext S.Store handler.now.setting N.came N.response
         (record {
           heard = P.heard callers.old;
-          told = P.told callers.old;
+          written = P.written callers.old;
           stage = record {
             given = C.given clock.old;
             kept = N.held observer.old;
@@ -90,7 +91,7 @@ pub fn serve_next<S: Alter, P: Callers, C: Clock, N: Observer>(
         })
         (record {
           heard = P.heard callers.new;
-          told = P.told callers.new;
+          written = P.written callers.new;
           stage = record {
             given = C.given clock.new;
             kept = N.held observer.new;
@@ -99,6 +100,7 @@ pub fn serve_next<S: Alter, P: Callers, C: Clock, N: Observer>(
           };
         })
         result }
+    ensures prints { P.prints callers.new ≡ P.prints callers.old }
 {
     let Some((reader, writer)) = callers.next() else {
         return Ok(());

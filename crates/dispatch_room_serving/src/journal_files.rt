@@ -13,7 +13,7 @@ ghost use Rattle.dispatch_room_serving.specs.declared.journal_files.WrittenFile.
 
 use crate::journals::Keeper;
 use dispatch_room_cli::exit_status::Failure;
-use dispatch_room_cli::explainer::Explainer;
+use dispatch_room_cli::failure_causes::Explainer;
 use dispatch_room_journal::entry_reader::EntryFault;
 use dispatch_room_journal::journal_inbox::JournalInbox;
 use dispatch_room_journal::list_ends::{ListEnd, put_end, put_entry};

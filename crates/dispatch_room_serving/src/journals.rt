@@ -2,10 +2,10 @@
 //! before the answer is written.
 ghost use Rattle.std.specs.Prelude.{◌≡◌, ◌&&◌, ◌||◌, ℕ, List, [], Bool, false, is_err, Option, IsTrue, OnOk, ⊤};
 ghost use Rattle.room_http.specs.Arrivals.{IsBounded};
-ghost use Rattle.room_http.specs.KeptMessages.{KeepsAll, came_of, told_of};
+ghost use Rattle.room_http.specs.KeptMessages.{KeepsAll, came_of, response_of};
 ghost use Rattle.dispatch_room_journal.specs.Entries.{Entry, IsDigest, IsEntry, message, text_of};
 ghost use Rattle.dispatch_room_journal.specs.JournalRecords.{answer_text, message_text, room_text};
-ghost use Rattle.dispatch_room_serving.specs.Journals.{FailsForGood, Lasts, known_by};
+ghost use Rattle.dispatch_room_serving.specs.Journals.{FailsForGood, Lasts, PutsKept, known_by};
 ghost use Rattle.dispatch_room_serving.specs.KeptChanges.{asks_only, is_kept, kept_of};
 
 use dispatch_room_journal::answer_statuses::status_of;
@@ -49,6 +49,8 @@ pub trait Keeper {
     /// Makes all that was kept last, and says whether it could.
     fn sync(&mut self) -> bool
         ensures held { held self.new ≡ held self.old }
+        ensures put { (first : Self) (entry : List ℕ) → puts first self.old entry
+            → puts first self.new entry }
         ensures ended { (first : Self) → ends first self.old → ends first self.new }
         ensures failed { has_failed self.new ≡ has_failed self.old }
         ensures lasts { IsTrue result → lasting self.new ≡ held self.new };
@@ -101,6 +103,7 @@ impl<W: Keeper> Journal<W> {
         requires { IsDigest head.now.digits }
         ensures kept { KeepsAll (W.held self.old.out) (W.held self.new.out) (room_text head.now)
             result }
+        ensures put { OnOk result (W.puts self.old.out self.new.out (room_text head.now)) }
         ensures lasts { OnOk result
             (Lasts self.old.is_synced (W.lasting self.new.out) (W.held self.new.out)) }
         ensures failed { self.new.has_failed ≡ (self.old.has_failed || is_err result) }
@@ -110,7 +113,7 @@ impl<W: Keeper> Journal<W> {
             return Err(Unkept);
         }
         let kept = keep_room(&mut self.out, self.is_synced, head);
-        self.told(kept)
+        self.noted(kept)
     }
 
     /// The journal ended well, where nothing failed. Where its messages last, so does that.
@@ -126,13 +129,13 @@ impl<W: Keeper> Journal<W> {
             return Err(Unkept);
         }
         let kept = keep_end(&mut self.out, self.is_synced);
-        self.told(kept)
+        self.noted(kept)
     }
 
     // What could not be kept, for whatever cause, makes the journal one that has failed.
-    fn told(&mut self, kept: Result<(), Unkept>) -> Result<(), Unkept>
+    fn noted(&mut self, kept: Result<(), Unkept>) -> Result<(), Unkept>
         requires { self.old.has_failed ≡ false }
-        ensures told { result ≡ kept }
+        ensures same_result { result ≡ kept }
         ensures failed { self.new.has_failed ≡ is_err kept }
         ensures is_synced { self.new.is_synced ≡ self.old.is_synced }
         ensures keeps_questions { self.new.keeps_questions ≡ self.old.keeps_questions }
@@ -150,7 +153,7 @@ impl<W: Keeper> Observer for Journal<W> {
 
     ghost came = { message_text };
 
-    ghost told = { answer_text };
+    ghost response = { answer_text };
 
     ghost notes = { λ _ _ _ _. ⊤ };
 
@@ -161,6 +164,8 @@ impl<W: Keeper> Observer for Journal<W> {
             result }
         ensures kept { KeepsAll (known_by W.held self.old) (known_by W.held self.new)
             (came_of message_text arrived.now at) result }
+        ensures put { OnOk result (PutsKept W.puts (is_kept self.old.keeps_questions arrived.now)
+            self.old.out self.new.out (came_of message_text arrived.now at)) }
         ensures lasts { OnOk result
             (Lasts (self.old.is_synced && is_kept self.old.keeps_questions arrived.now)
             (W.lasting self.new.out) (W.held self.new.out)) }
@@ -176,15 +181,17 @@ impl<W: Keeper> Observer for Journal<W> {
             }
             _ => Ok(()),
         };
-        self.told(kept)
+        self.noted(kept)
     }
 
     fn answering(&mut self, arrived: &Arrived<'_>, answer: &[u8]) -> Result<(), Unkept>
         ensures keeps { KeepsAll (W.held self.old.out) (W.held self.new.out)
             (kept_of self.old.keeps_questions arrived.now
-            (told_of answer_text arrived.now answer.now)) result }
+            (response_of answer_text arrived.now answer.now)) result }
         ensures kept { KeepsAll (known_by W.held self.old) (known_by W.held self.new)
-            (told_of answer_text arrived.now answer.now) result }
+            (response_of answer_text arrived.now answer.now) result }
+        ensures put { OnOk result (PutsKept W.puts (is_kept self.old.keeps_questions arrived.now)
+            self.old.out self.new.out (response_of answer_text arrived.now answer.now)) }
         ensures failed { self.new.has_failed ≡ (self.old.has_failed || is_err result) }
         ensures for_good { FailsForGood self.old self.new result }
     {
@@ -195,10 +202,13 @@ impl<W: Keeper> Observer for Journal<W> {
             Arrived::Message { .. } if self.keeps(arrived) => keep_answer(&mut self.out, answer),
             _ => Ok(()),
         };
-        self.told(kept)
+        self.noted(kept)
     }
 
-    fn answered(&mut self, _asked: &Asked<'_>, _answer: &[u8]) {}
+    // Beside what all observers ensure: nothing is put.
+    fn answered(&mut self, _asked: &Asked<'_>, _answer: &[u8])
+        ensures same { self.new ≡ self.old }
+    {}
 }
 
 // Whether by this method only questions are asked.
@@ -212,6 +222,7 @@ fn asks_only(method: &[u8]) -> bool
 fn keep_room<W: Keeper>(out: &mut W, is_synced: bool, head: &Head) -> Result<(), Unkept>
     requires { IsDigest head.now.digits }
     ensures kept { KeepsAll (W.held out.old) (W.held out.new) (room_text head.now) result }
+    ensures put { OnOk result (W.puts out.old out.new (room_text head.now)) }
     ensures lasts { OnOk result (Lasts is_synced (W.lasting out.new) (W.held out.new)) }
 {
     let mut entry = EntryText::new();
@@ -230,6 +241,7 @@ fn keep_message<W: Keeper>(
 ) -> Result<(), Unkept>
     requires { IsEntry (message at bytes.now) }
     ensures kept { KeepsAll (W.held out.old) (W.held out.new) (message_text at bytes.now) result }
+    ensures put { OnOk result (W.puts out.old out.new (message_text at bytes.now)) }
     ensures lasts { OnOk result (Lasts is_synced (W.lasting out.new) (W.held out.new)) }
 {
     let mut entry = EntryText::new();
@@ -241,7 +253,8 @@ fn keep_message<W: Keeper>(
 
 // Keeps an answer's status.
 fn keep_answer<W: Keeper>(out: &mut W, answer: &[u8]) -> Result<(), Unkept>
-    ensures { KeepsAll (W.held out.old) (W.held out.new) (answer_text answer.now) result }
+    ensures kept { KeepsAll (W.held out.old) (W.held out.new) (answer_text answer.now) result }
+    ensures put { OnOk result (W.puts out.old out.new (answer_text answer.now)) }
 {
     let Some(status) = status_of(answer) else {
         return Err(Unkept);
@@ -257,6 +270,7 @@ fn keep_answer<W: Keeper>(out: &mut W, answer: &[u8]) -> Result<(), Unkept>
 fn keep_entry<W: Keeper>(out: &mut W, is_synced: bool, entry: &EntryText) -> Result<(), Unkept>
     requires { (e : Entry) × IsEntry e × (entry.now.text.items ≡ text_of e) }
     ensures kept { KeepsAll (W.held out.old) (W.held out.new) entry.now.text.items result }
+    ensures put { OnOk result (W.puts out.old out.new entry.now.text.items) }
     ensures lasts { OnOk result (Lasts is_synced (W.lasting out.new) (W.held out.new)) }
 {
     match out.keep(entry.bytes()) {
@@ -280,6 +294,8 @@ fn keep_end<W: Keeper>(out: &mut W, is_synced: bool) -> Result<(), Unkept>
 // Makes all that was kept last, where that is wanted.
 fn make_last<W: Keeper>(out: &mut W, is_synced: bool) -> Result<(), Unkept>
     ensures held { W.held out.new ≡ W.held out.old }
+    ensures put { (first : W) (entry : List ℕ) → W.puts first out.old entry
+        → W.puts first out.new entry }
     ensures ended { (first : W) → W.ends first out.old → W.ends first out.new }
     ensures lasts { OnOk result (Lasts is_synced (W.lasting out.new) (W.held out.new)) }
 {

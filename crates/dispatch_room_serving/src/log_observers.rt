@@ -1,8 +1,11 @@
 //! Who watches over what is served: a log, and perhaps a journal.
-ghost use Rattle.std.specs.Prelude.{◌≡◌, ◌||◌, [], OnOk, is_err, is_some};
-ghost use Rattle.room_http.specs.KeptMessages.{KeepsAll};
+ghost use Rattle.std.specs.Prelude.{◌≡◌, ◌||◌, [], OnOk, is_err, is_some, true};
+ghost use Rattle.room_http.specs.Arrivals.{IsBounded};
+ghost use Rattle.room_http.specs.KeptMessages.{KeepsAll, came_of, response_of};
+ghost use Rattle.dispatch_room_journal.specs.Entries.{IsDigest};
 ghost use Rattle.dispatch_room_journal.specs.JournalRecords.{answer_text, message_text, room_text};
-ghost use Rattle.dispatch_room_serving.specs.Journals.{EndsAfter, EndsBy, failed_by, held_by};
+ghost use Rattle.dispatch_room_serving.specs.Journals.{EndsAfter, EndsBy, PutsBy, failed_by, held_by};
+ghost use Rattle.dispatch_room_serving.specs.KeptChanges.{is_kept};
 ghost use Rattle.dispatch_room_serving.specs.LoggedLines.{Logs};
 
 use crate::journal_observers::JournalObserver;
@@ -68,13 +71,23 @@ impl<'a, E: Write, T: Clock, W: Keeper> Observer for LogAndJournal<'a, E, T, W> 
 
     ghost came = { message_text };
 
-    ghost told = { answer_text };
+    ghost response = { answer_text };
 
     // The line is written, unless the log is none or given up.
     ghost notes = { λ old new asked answer. Logs old.log.goes_on new.log.goes_on
         (E.contents old.log.out.now) (E.contents new.log.out.now) asked answer };
 
-    fn arrived(&mut self, arrived: &Arrived<'_>, at: Moment) -> Result<(), Unkept> {
+    // Beside what all observers ensure: the entry is put in the journal, and nothing else, so no
+    // end.
+    fn arrived(&mut self, arrived: &Arrived<'_>, at: Moment) -> Result<(), Unkept>
+        requires { IsBounded arrived.now }
+        ensures kept { KeepsAll (held_by W.held self.old.journal) (held_by W.held self.new.journal)
+            (came_of message_text arrived.now at) result }
+        ensures put { OnOk result (PutsBy W.puts (λ keeps. is_kept keeps arrived.now)
+            self.old.journal self.new.journal (came_of message_text arrived.now at)) }
+        ensures failed { failed_by self.new.journal
+            ≡ (failed_by self.old.journal || is_err result) }
+    {
         self.log.begin();
         match &mut self.journal {
             Some(journal) => journal.arrived(arrived, at),
@@ -82,14 +95,27 @@ impl<'a, E: Write, T: Clock, W: Keeper> Observer for LogAndJournal<'a, E, T, W> 
         }
     }
 
-    fn answering(&mut self, arrived: &Arrived<'_>, answer: &[u8]) -> Result<(), Unkept> {
+    fn answering(&mut self, arrived: &Arrived<'_>, answer: &[u8]) -> Result<(), Unkept>
+        ensures kept { KeepsAll (held_by W.held self.old.journal) (held_by W.held self.new.journal)
+            (response_of answer_text arrived.now answer.now) result }
+        ensures put { OnOk result (PutsBy W.puts (λ keeps. is_kept keeps arrived.now)
+            self.old.journal self.new.journal (response_of answer_text arrived.now answer.now)) }
+        ensures failed { failed_by self.new.journal
+            ≡ (failed_by self.old.journal || is_err result) }
+    {
         match &mut self.journal {
             Some(journal) => journal.answering(arrived, answer),
             None => Ok(()),
         }
     }
 
-    fn answered(&mut self, asked: &Asked<'_>, answer: &[u8]) {
+    // Beside what all observers ensure: nothing is put in the journal.
+    fn answered(&mut self, asked: &Asked<'_>, answer: &[u8])
+        ensures journal { self.new.journal ≡ self.old.journal }
+        ensures noted { Logs self.old.log.goes_on self.new.log.goes_on
+            (E.contents self.old.log.out.now) (E.contents self.new.log.out.now) asked.now
+            answer.now }
+    {
         self.log.answered(asked, answer);
     }
 }
@@ -104,7 +130,16 @@ impl<'a, E: Write, T: Clock, W: Keeper> JournalObserver for LogAndJournal<'a, E,
         self.journal.is_some()
     }
 
-    fn begins(&mut self, head: &Head) -> Result<(), Unkept> {
+    // Beside what all who watch ensure: the head is put in the journal, and nothing else.
+    fn begins(&mut self, head: &Head) -> Result<(), Unkept>
+        requires { IsDigest head.now.digits }
+        ensures kept { KeepsAll (held_by W.held self.old.journal) (held_by W.held self.new.journal)
+            (room_text head.now) result }
+        ensures put { OnOk result (PutsBy W.puts (λ _. true)
+            self.old.journal self.new.journal (room_text head.now)) }
+        ensures failed { failed_by self.new.journal
+            ≡ (failed_by self.old.journal || is_err result) }
+    {
         match &mut self.journal {
             Some(journal) => journal.begin(head),
             None => Ok(()),

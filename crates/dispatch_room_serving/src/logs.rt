@@ -4,7 +4,7 @@ ghost use Rattle.dispatch_room_serving.specs.LoggedLines.{Logs, PutsAll, PutsLin
 ghost use Rattle.dispatch_room_serving.specs.Logs.{asked_by};
 
 use crate::log_lines::{Asker, LogLine, Request, Visible, path_of, utc};
-use dispatch_room_cli::explainer::Explainer;
+use dispatch_room_cli::failure_causes::Explainer;
 use dispatch_room_journal::answer_statuses::status_in;
 use room_http::arrivals::Arrived;
 use room_http::observers::{Asked, Observer, Unkept};
@@ -143,7 +143,7 @@ impl<'a, E: Write, T: Clock> Observer for Log<'a, E, T> {
 
     ghost came = { λ _ _. [] };
 
-    ghost told = { λ _. [] };
+    ghost response = { λ _. [] };
 
     // The line is written, unless the log is none or given up.
     ghost notes = { λ old new asked answer. Logs old.goes_on new.goes_on (E.contents old.out.now)

@@ -3,6 +3,7 @@ ghost use Rattle.std.specs.Prelude.{◌≡◌, false, true, IfErr, IfOk, MatchRe
 ghost use Rattle.dispatch_room_cli.specs.declared.exit_status.Failure.TheVariants.{Journal};
 ghost use Rattle.room_store.specs.StoredRoom.{IsReady};
 ghost use Rattle.dispatch_room_tasks.specs.OpenedRoom.{IsUnopened};
+ghost use Rattle.dispatch_room_serving.specs.Callers.{Prints};
 ghost use Rattle.dispatch_room_serving.specs.ServedRoom.{Announces, Attends, ServesRoom};
 
 use crate::callers::Callers;
@@ -55,10 +56,10 @@ pub fn serve_in<S: Alter + Drop, P: Callers, C: Clock, N: JournalObserver>(
     requires outside { conn.in_transaction ≡ false }
     ensures outside { IfOk result (λ worked. worked.1.in_transaction ≡ false) }
     ensures served { IfOk result (ServesRoom S.Store (N.wants journal_observer.old) N.begun N.came
-        N.told part.old.terms.history conn
+        N.response part.old.terms.history conn
         (λ store. record {
           heard = P.heard callers.old;
-          told = P.told callers.old;
+          written = P.written callers.old;
           stage = record {
             given = C.given clock.old;
             kept = N.held journal_observer.old;
@@ -68,7 +69,7 @@ pub fn serve_in<S: Alter + Drop, P: Callers, C: Clock, N: JournalObserver>(
         })
         (λ store. record {
           heard = P.heard callers.new;
-          told = P.told callers.new;
+          written = P.written callers.new;
           stage = record {
             given = C.given clock.new;
             kept = N.held journal_observer.new;
@@ -77,6 +78,8 @@ pub fn serve_in<S: Alter + Drop, P: Callers, C: Clock, N: JournalObserver>(
           };
         })
         part.old.terms.renews part.old.terms.connections) }
+    ensures prints { IfOk result (λ worked.
+        Prints (P.prints callers.old) (P.prints callers.new) worked.0) }
     ensures unheard { OnErr result ((callers.new ≡ callers.old) × (clock.new ≡ clock.old)) }
     ensures fault { IfErr result (IsUnopened S.Store conn) }
 {
@@ -113,10 +116,10 @@ fn begin_and_serve<S: Alter, P: Callers, C: Clock, N: JournalObserver>(
     requires ready { IsReady S.Store room.old }
     ensures ready { IsReady S.Store room.new }
     ensures attends { Attends S.Store
-        (N.wants journal_observer.old) N.begun N.came N.told handler.now.setting
+        (N.wants journal_observer.old) N.begun N.came N.response handler.now.setting
         (record {
           heard = P.heard callers.old;
-          told = P.told callers.old;
+          written = P.written callers.old;
           stage = record {
             given = C.given clock.old;
             kept = N.held journal_observer.old;
@@ -126,7 +129,7 @@ fn begin_and_serve<S: Alter, P: Callers, C: Clock, N: JournalObserver>(
         })
         (record {
           heard = P.heard callers.new;
-          told = P.told callers.new;
+          written = P.written callers.new;
           stage = record {
             given = C.given clock.new;
             kept = N.held journal_observer.new;
@@ -135,6 +138,7 @@ fn begin_and_serve<S: Alter, P: Callers, C: Clock, N: JournalObserver>(
           };
         })
         part.old.terms.renews part.old.terms.connections result }
+    ensures prints { Prints (P.prints callers.old) (P.prints callers.new) result }
 {
     if let Err(fault) = announce(room, journal_observer) {
         return Err(fault);

@@ -5,7 +5,7 @@ ghost use Rattle.std.specs.Duration.{as_nanos, max_nanos};
 use crate::socket_readers::SocketReader;
 use crate::socket_writers::SocketWriter;
 use crate::timeouts::Waits;
-use dispatch_room_cli::explainer::Explainer;
+use dispatch_room_cli::failure_causes::Explainer;
 use std::io::{self, Error, ErrorKind};
 use std::net::{OpenStream, TcpStream, ToSocketAddrs};
 use std::time::{Clock, Duration};

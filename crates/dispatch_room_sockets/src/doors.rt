@@ -36,7 +36,7 @@ pub(crate) const PAUSE: u64 = 100;
 const SPARE: u64 = 8;
 
 // How many bytes are thrown away by one read, and by how many reads in one look: who sends more
-// than that meanwhile is let go.
+// than that meanwhile is closed.
 const PIECE: usize = 4096;
 
 const MOST_PIECES: u32 = 4096;

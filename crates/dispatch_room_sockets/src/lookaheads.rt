@@ -69,8 +69,8 @@ fn lookahead_of(bytes: &[u8], has_ended: bool) -> Lookahead
     match look_at(bytes) {
         MessagePrefix::Whole(layout) => Lookahead::Whole(layout.body.end),
         MessagePrefix::Refused { .. } => Lookahead::Last,
-        MessagePrefix::Wants(_) if has_ended => Lookahead::Last,
-        MessagePrefix::Wants(_) => Lookahead::Part,
+        MessagePrefix::Needs(_) if has_ended => Lookahead::Last,
+        MessagePrefix::Needs(_) => Lookahead::Part,
     }
 }
 

@@ -37,7 +37,7 @@ pub struct PieceReader<'a> {
     // What can be read from once someone else moves.
     elsewhere: RawFd,
     // Until when it goes on while nobody else moves.
-    alone_until: Duration,
+    only_until: Duration,
     // Until when it goes on all the same.
     turn_ends: Duration,
     // How many bytes of a request that is whole are not given yet. Of what is refused, or can't be
@@ -71,7 +71,7 @@ impl<'a> PieceReader<'a> {
             rt,
             kept,
             elsewhere,
-            alone_until: now.saturating_add(pause),
+            only_until: now.saturating_add(pause),
             turn_ends: now.saturating_add(Duration::from_millis(TURN)),
             left: 0,
             is_first: true,
@@ -114,14 +114,14 @@ impl<'a> PieceReader<'a> {
         };
         let is_empty = self.kept.caller.unserved.is_empty();
         let most = if is_empty {
-            self.alone_until.saturating_sub(now)
+            self.only_until.saturating_sub(now)
         } else {
             Duration::ZERO
         };
         let stream = self.kept.caller.stream.as_ref();
         let (is_readable, is_elsewhere) = readable_before(stream, self.elsewhere, most);
         if is_elsewhere {
-            self.alone_until = now;
+            self.only_until = now;
         }
         if is_empty && !is_readable || self.has_had_its_turn() {
             return Lookahead::Nothing;
@@ -134,7 +134,7 @@ impl<'a> PieceReader<'a> {
         match self.rt.monotonic() {
             Ok(now) => {
                 self.reads > MOST_READS
-                    || is_over(now, self.alone_until) && is_over(now, self.turn_ends)
+                    || is_over(now, self.only_until) && is_over(now, self.turn_ends)
             }
             Err(_) => true,
         }

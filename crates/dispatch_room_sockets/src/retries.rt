@@ -18,13 +18,13 @@ const MOST_TRIES: u32 = u32::MAX;
 pub(crate) fn read_until<T: Read + OpenStream, C: Clock>(
     stream: &mut T,
     clock: &C,
-    told: &mut Option<Duration>,
+    last_wait: &mut Option<Duration>,
     moment: Duration,
     buf: &mut [u8],
 ) -> Result<usize, ReadFailed>
     ensures bound { IfOk result (λ n. n ≤ length buf.new) }
     ensures bytes { ReadConsumes (T.remaining stream.old) (T.remaining stream.new) result buf.new }
-    ensures waits { OnOk result (IsSomeAnd told.new (λ left. (0 < as_nanos left)
+    ensures waits { OnOk result (IsSomeAnd last_wait.new (λ left. (0 < as_nanos left)
         × (as_nanos left ≤ as_nanos moment))) }
 {
     for _try in 0..MOST_TRIES {
@@ -32,11 +32,11 @@ pub(crate) fn read_until<T: Read + OpenStream, C: Clock>(
             return Err(ReadFailed);
         };
         let wait = Some(left);
-        if *told != wait {
+        if *last_wait != wait {
             if stream.set_read_timeout(wait).is_err() {
                 return Err(ReadFailed);
             }
-            *told = wait;
+            *last_wait = wait;
         }
         match stream.read(buf) {
             Ok(count) => return Ok(count),
@@ -52,13 +52,13 @@ pub(crate) fn read_until<T: Read + OpenStream, C: Clock>(
 pub(crate) fn write_until<T: Write + OpenStream, C: Clock>(
     stream: &mut T,
     clock: &C,
-    told: &mut Option<Duration>,
+    last_wait: &mut Option<Duration>,
     moment: Duration,
     buf: &[u8],
 ) -> Result<usize, WriteFailed>
     ensures bound { IfOk result (λ n. n ≤ length buf.now) }
     ensures bytes { WriteAppends (T.contents stream.old) (T.contents stream.new) result buf.now }
-    ensures waits { OnOk result (IsSomeAnd told.new (λ left. (0 < as_nanos left)
+    ensures waits { OnOk result (IsSomeAnd last_wait.new (λ left. (0 < as_nanos left)
         × (as_nanos left ≤ as_nanos moment))) }
 {
     for _try in 0..MOST_TRIES {
@@ -66,11 +66,11 @@ pub(crate) fn write_until<T: Write + OpenStream, C: Clock>(
             return Err(WriteFailed);
         };
         let wait = Some(left);
-        if *told != wait {
+        if *last_wait != wait {
             if stream.set_write_timeout(wait).is_err() {
                 return Err(WriteFailed);
             }
-            *told = wait;
+            *last_wait = wait;
         }
         match stream.write(buf) {
             Ok(count) => return Ok(count),

@@ -25,7 +25,7 @@ pub struct SocketReader<'a, T, C> {
     pace: Pace,
     idle: Duration,
     // How long a read waits, as it was set last in the system.
-    told: Option<Duration>,
+    last_wait: Option<Duration>,
     reads: u32,
     // Whether a read failed, where it was not made too: the turn was over.
     failed: bool,
@@ -49,7 +49,7 @@ impl<'a, T: Read + OpenStream, C: Clock> SocketReader<'a, T, C> {
             clock,
             pace: Pace::new(waits, ends),
             idle: waits.idle,
-            told: None,
+            last_wait: None,
             reads: 0,
             failed: false,
             ended: false,
@@ -111,7 +111,13 @@ impl<'a, T: Read + OpenStream, C: Clock> Source for SocketReader<'a, T, C> {
             self.failed = true;
             return Err(ReadFailed);
         };
-        let given = read_until(&mut self.stream, self.clock, &mut self.told, moment, buf);
+        let given = read_until(
+            &mut self.stream,
+            self.clock,
+            &mut self.last_wait,
+            moment,
+            buf,
+        );
         self.note(given, buf.len());
         given
     }
@@ -163,7 +169,7 @@ impl<'a, T: Read + OpenStream, C: Clock> SocketReader<'a, T, C> {
         match read_until(
             &mut self.stream,
             self.clock,
-            &mut self.told,
+            &mut self.last_wait,
             silent,
             &mut piece,
         ) {

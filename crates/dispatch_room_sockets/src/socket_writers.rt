@@ -22,7 +22,7 @@ pub struct SocketWriter<'a, T, C> {
     // Until when the last write might wait.
     until: Option<Duration>,
     // How long a write waits, as it was set last in the system.
-    told: Option<Duration>,
+    last_wait: Option<Duration>,
     // Whether it left a part of its answer.
     within: bool,
     // Whether a write failed.
@@ -49,7 +49,7 @@ impl<'a, T: Write + OpenStream, C: Clock> SocketWriter<'a, T, C> {
             patience,
             last,
             until: None,
-            told: None,
+            last_wait: None,
             within: false,
             failed: false,
         }
@@ -136,7 +136,13 @@ impl<'a, T: Write + OpenStream, C: Clock> Sink for SocketWriter<'a, T, C> {
             self.failed = true;
             return Err(WriteFailed);
         };
-        let taken = write_until(&mut self.stream, self.clock, &mut self.told, moment, buf);
+        let taken = write_until(
+            &mut self.stream,
+            self.clock,
+            &mut self.last_wait,
+            moment,
+            buf,
+        );
         self.note(taken, buf.len());
         taken
     }

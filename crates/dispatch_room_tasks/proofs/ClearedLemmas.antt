@@ -10,8 +10,8 @@ use Rattle.room_tables_schema.specs.Statements.{Deletes}
 use Rattle.room_tables_schema.specs.TableTrees.{Holds}
 use Rattle.room_tables_schema.specs.Schema.{areas_table, room_schema, terminals_table}
 use Rattle.room_tables_rows.proofs.Kept.{with_areas, with_terminals}
-use Rattle.room_tables_rows.proofs.AreasTable.{areas_alone}
-use Rattle.room_tables_rows.proofs.TerminalsTable.{terminals_alone}
+use Rattle.room_tables_rows.proofs.AreasTable.{areas_apart}
+use Rattle.room_tables_rows.proofs.TerminalsTable.{terminals_apart}
 use Rattle.room_tables_rows.specs.RoomsInTables.{numbered, places}
 use Rattle.room_tables_rows.specs.AreaSql.{area_row}
 use Rattle.room_tables_rows.specs.TerminalSql.{terminal_row}
@@ -31,7 +31,7 @@ pub clears_terminals : (params : Row) (old new : State) (count : ℕ) → old.no
     → Inside old new → Executes CLEAR_TERMINALS.now params old new (Ok count)
     → Changes old new (λ config. record config { terminals = [] }) (λ room. room)
 clears_terminals params old new count has inside ran =
-    let it = deleted room_schema CLEAR_TERMINALS.now 2 terminals_table terminals_alone [] clear_terminals_means old new
+    let it = deleted room_schema CLEAR_TERMINALS.now 2 terminals_table terminals_apart [] clear_terminals_means old new
     params count has ran in
     record {
       inside = inside;
@@ -52,7 +52,7 @@ pub clears_areas : (params : Row) (old new : State) (count : ℕ) → old.now.sc
     → Inside old new → Executes CLEAR_AREAS.now params old new (Ok count)
     → Changes old new (λ config. config) (λ room. record room { plan = [] })
 clears_areas params old new count has inside ran =
-    let it = deleted room_schema CLEAR_AREAS.now 1 areas_table areas_alone [] clear_areas_means old new params count has
+    let it = deleted room_schema CLEAR_AREAS.now 1 areas_table areas_apart [] clear_areas_means old new params count has
     ran in
     record {
       inside = inside;

@@ -50,11 +50,11 @@ pub passing_more : (passes : ℕ → Bool) (n : ℕ) (b : Bool) → passes (suc 
 passing_more passes n b e = filter_last passes (suc n) (numbers_to n) ∙ ap (one_more (passing_to passes n)) e
 
 -- the line gives the amounts of the file
-pub amounts_told : (file : PlanFile) (divisions terminals : ℕ) (areas : List Area)
+pub amounts_printed : (file : PlanFile) (divisions terminals : ℕ) (areas : List Area)
     → divisions ≡ division_count file.plan.areas → areas ≡ file.plan.areas
     → terminals ≡ vec_len file.terminals
     → amounts_text divisions (length areas) terminals ≡ created_text file
-amounts_told file divisions terminals areas d a t = rw (d, a, t)
+amounts_printed file divisions terminals areas d a t = rw (d, a, t)
 
 -- a store that was created has the room of the plan's file
 pub created_in : {S : Type 0} (g : Ghosts S) (old : Held S) (store : Store S) (file : PlanFile)

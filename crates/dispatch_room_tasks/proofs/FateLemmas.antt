@@ -18,31 +18,31 @@ done_after InPart later = InPart
 
 -- Of all lines those from this number on are left: what the others say was written, and how much is
 -- done is by all.
-pub record IsTelling (before now : Option (List ℕ)) (made : Done) (number : ℕ)
+pub record IsPrinting (before now : Option (List ℕ)) (made : Done) (number : ℕ)
     (all later : List Outcome) : Type 0 where
   pub said : List ℕ
   pub wrote : Appends before now said
   pub text : said ++ text_from number later ≡ text_from 1 all
   pub done : done_after made later ≡ done_by all
 
-pub telling_begins : (bytes : Option (List ℕ)) (all : List Outcome)
-    → IsTelling bytes bytes Whole 1 all all
-telling_begins bytes all = record { said = []; wrote = Appends-nil bytes; text = refl; done = refl }
+pub printing_begins : (bytes : Option (List ℕ)) (all : List Outcome)
+    → IsPrinting bytes bytes Whole 1 all all
+printing_begins bytes all = record { said = []; wrote = Appends-nil bytes; text = refl; done = refl }
 
 -- the next line is reported
-pub telling_more : {before now then : Option (List ℕ)} {made : Done} {number : ℕ}
+pub printing_more : {before now then : Option (List ℕ)} {made : Done} {number : ℕ}
     {all left : List Outcome} (outcome : Outcome) (later : List Outcome) (more : Done)
-    → IsTelling before now made number all left → left ≡ outcome ∷ later
+    → IsPrinting before now made number all left → left ≡ outcome ∷ later
     → Appends now then (outcome_text number outcome)
     → done_after made (outcome ∷ later) ≡ done_after more later
-    → IsTelling before then more (number + 1) all later
-telling_more {before} {now} {then} {made} {number} outcome later more told next wrote same = record {
-  said = told.said ++ outcome_text number outcome;
-  wrote = Appends-trans before now then told.said (outcome_text number outcome) told.wrote wrote;
+    → IsPrinting before then more (number + 1) all later
+printing_more {before} {now} {then} {made} {number} outcome later more stated next wrote same = record {
+  said = stated.said ++ outcome_text number outcome;
+  wrote = Appends-trans before now then stated.said (outcome_text number outcome) stated.wrote wrote;
   text =
-      append_assoc told.said (outcome_text number outcome) (text_from (number + 1) later)
-      ∙ ap (λ l. told.said ++ text_from number l) (sym next) ∙ told.text;
-  done = sym same ∙ ap (done_after made) (sym next) ∙ told.done;
+      append_assoc stated.said (outcome_text number outcome) (text_from (number + 1) later)
+      ∙ ap (λ l. stated.said ++ text_from number l) (sym next) ∙ stated.text;
+  done = sym same ∙ ap (done_after made) (sym next) ∙ stated.done;
 }
 
 -- a line that is bad or refused leaves the import done in part

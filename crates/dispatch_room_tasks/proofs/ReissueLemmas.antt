@@ -9,7 +9,7 @@ use Rattle.room_model.specs.Room.{Room}
 use Rattle.room_store_check_tables.specs.HeldRooms.{IsPlanOf}
 use Rattle.room_store_writes.proofs.FitLaws.{fit}
 use Rattle.room_store_writes.specs.TerminalChanges.{Gives, fault_in}
-use Rattle.room_store_writes.specs.Houses.{config_of}
+use Rattle.room_store_writes.specs.Configurations.{config_of}
 use Rattle.dispatch_room_tasks.specs.ChangedTerminals.{IsSameRoom}
 
 pub same_room : (before after : Trees) (plan : Layout) (who : Who) (token : Option Token)

@@ -24,7 +24,7 @@ use Rattle.room_model.proofs.VehicleRows.{put_here, put_other}
 use Rattle.room_model.specs.FleetRows.{AreTerminals, terminal_at, terminal_key, token_cmp}
 use Rattle.room_model.specs.Room.{Room}
 use Rattle.room_store_check_tables.specs.HeldRooms.{IsPlanOf}
-use Rattle.room_store_writes.specs.Houses.{config_of}
+use Rattle.room_store_writes.specs.Configurations.{config_of}
 use Rattle.room_store_writes.specs.NewRoom.{put_all}
 use Rattle.dispatch_room_tasks.specs.ReplacedTerminals.{AreFree, KeepsRoom, Replaces, is_kept, is_listed, is_second}
 use Rattle.dispatch_room_tasks.specs.ReplacedTerminals.{kept_beside, no_row, nobody, replaced_by, row_fault}

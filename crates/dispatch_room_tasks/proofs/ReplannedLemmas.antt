@@ -30,7 +30,7 @@ use Rattle.room_model.specs.Room.{Room, apply}
 use Rattle.room_model.specs.RoomAgreements.{CallAgrees, IsGiven, IsPost, IsWellFormed, LastAgrees, NumberAgrees}
 use Rattle.room_model.specs.RoomAgreements.{OfferAgrees, OpenedAgrees, PostAgrees, TurnIsActive}
 use Rattle.room_store_check_tables.specs.HeldRooms.{IsPlanOf}
-use Rattle.room_store_writes.specs.Houses.{config_of}
+use Rattle.room_store_writes.specs.Configurations.{config_of}
 use Rattle.room_store_writes.specs.NewRoom.{new_division}
 use Rattle.dispatch_room_csv.specs.declared.plan_file.PlanFile.{PlanFile}
 use Rattle.dispatch_room_tasks.proofs.ReplacedLemmas.{replaced_fit}

@@ -12,7 +12,7 @@ use Rattle.room_model.specs.FleetRows.{AreTerminals}
 use Rattle.room_model.specs.Room.{Room}
 use Rattle.room_model.specs.RoomAgreements.{IsWellFormed}
 use Rattle.room_tables.specs.RoomsInTables.{Stands}
-use Rattle.room_store_writes.specs.Houses.{config_of}
+use Rattle.room_store_writes.specs.Configurations.{config_of}
 use Rattle.room_store_writes.specs.Transactions.{IsSettled, Leaves}
 use Rattle.room_store_check_tables.specs.HeldRooms.{IsPlanOf}
 use Rattle.room_store_file.specs.OpenedFile.{KeepsFile, MayBeIndexed}

@@ -17,18 +17,19 @@ use Rattle.dispatch_room_tasks.specs.OpenedRoom.{IsOpened}
 
 -- Written is what is said of these lines with these fates, unless the output fails. How much is
 -- done is by them.
-abbrev pub HasTold : List FleetLine → List RowFate → Option (List ℕ) → Option (List ℕ)
+abbrev pub HasPrinted : List FleetLine → List RowFate → Option (List ℕ) → Option (List ℕ)
     → Result Done Failure → Type 0
-HasTold lines fates before after (Ok done) =
+HasPrinted lines fates before after (Ok done) =
     Appends before after (fates_text lines fates) × (done ≡ done_by (outcomes lines fates))
-HasTold lines fates before after (Err Memory) = Appends before after (fates_text lines fates)
-HasTold lines fates before after (Err Storage) = Appends before after (fates_text lines fates)
-HasTold lines fates before after (Err Network) = Unit {0}
-HasTold lines fates before after (Err other) = ⊥
+HasPrinted lines fates before after (Err Memory) = Appends before after (fates_text lines fates)
+HasPrinted lines fates before after (Err Storage) = Appends before after (fates_text lines fates)
+HasPrinted lines fates before after (Err Network) = Unit {0}
+HasPrinted lines fates before after (Err other) = ⊥
 
 -- What an import wrote, and how much of it is done, agree: both are by some fates of these lines.
-abbrev pub IsTold : List FleetLine → Option (List ℕ) → Option (List ℕ) → Done → Type 0
-IsTold lines before after done = (fates : List RowFate) × HasTold lines fates before after (Ok done)
+abbrev pub IsPrinted : List FleetLine → Option (List ℕ) → Option (List ℕ) → Done → Type 0
+IsPrinted lines before after done =
+    (fates : List RowFate) × HasPrinted lines fates before after (Ok done)
 
 -- Of a fleet's good rows the first ones were enrolled, all of them where nothing failed, and their
 -- fates are reported.
@@ -38,7 +39,7 @@ pub record HasImported {S : Type 0} (g : Ghosts S) (old new : Store S) (lines : 
   pub fates : List RowFate
   pub enrolled : HasEnrolled g old new (good_rows lines) [] fates terminals room
   pub whole : OnOk done (enrolled.count ≡ length (good_rows lines))
-  pub told : HasTold lines fates before after done
+  pub printed : HasPrinted lines fates before after done
 
 -- The lines were imported in the room of a database.
 pub record HasImportedIn {S : Type 0} (g : Ghosts S) (old new : Held S) (lines : List FleetLine)

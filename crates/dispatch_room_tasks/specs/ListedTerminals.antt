@@ -12,7 +12,7 @@ use Rattle.room_types.specs.declared.fleet.Terminal.{Terminal}
 use Rattle.room_model.specs.FleetRows.{AreTerminals}
 use Rattle.room_model.specs.Room.{Room}
 use Rattle.room_tables.specs.RoomsInTables.{Stands}
-use Rattle.room_store_writes.specs.Houses.{config_of}
+use Rattle.room_store_writes.specs.Configurations.{config_of}
 use Rattle.room_store_writes.specs.Transactions.{Leaves}
 use Rattle.room_store_file.specs.OpenedFile.{KeepsFile, MayBeIndexed}
 use Rattle.dispatch_room_cli.specs.declared.exit_status.Done.{Done}
@@ -41,8 +41,8 @@ abbrev pub IsListing : List Terminal → List Listed → Type 0
 IsListing ts listed = IsPermutation (map (λ t. listed_of t.who) ts) listed
 
 -- a line of each of these terminals is written, and nothing else
-abbrev pub Tells : List Terminal → Option (List ℕ) → Option (List ℕ) → Type 0
-Tells ts before after =
+abbrev pub Prints : List Terminal → Option (List ℕ) → Option (List ℕ) → Type 0
+Prints ts before after =
     (listed : List Listed) × IsListing ts listed × Appends before after (lines_text listed)
 
 -- memory, storage or the output fails
@@ -58,10 +58,10 @@ pub record HasListed {S : Type 0} (g : Ghosts S) (old new : Held S)
   pub rows : IsClean g opened → KeepsFile (state g old) (state g opened)
   pub whole : IfOk done (λ it. it ≡ Whole)
   pub fault : IfErr done IsMachines
-  pub told : IsClean g new
+  pub printed : IsClean g new
       → OnOk done ((terminals : List Terminal) × (room : Room) × AreTerminals room terminals
       × Stands (state g opened).now.trees (config_of plan terminals) room
-      × Tells terminals before after)
+      × Prints terminals before after)
   pub left : IsClean g new → Leaves (state g opened) (state g new)
   pub opening : Survives (state g old) (state g opened) (MayBeIndexed (state g old).now)
   pub survives : Survives (state g opened) (state g new) (λ _. ⊥)

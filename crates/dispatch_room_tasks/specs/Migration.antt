@@ -42,18 +42,18 @@ pub record IsMigrated {S : Type 0} (g : Ghosts S) (old new : Held S)
       → db ≡ (state g new).now.trees
   pub survives : Survives (state g old) (state g new) (MayBeMoved (state g old).now)
 
--- Why no room was moved, as the program says it, and what became of the database, which is let go:
--- it is as it was.
+-- Why no room was moved, as the program says it, and what became of the database, which is
+-- released: it is as it was.
 pub record IsUnmoved {S : Type 0} (g : Ghosts S) (old : Held S) (failure : Failure) : Type 0 where
   pub fault : MigrateFault
-  pub told : failure ≡ migrate_fault fault
-  pub let_go : Held S
-  pub left : IsClean g let_go → Leaves (state g old) (state g let_go)
+  pub failed : failure ≡ migrate_fault fault
+  pub released : Held S
+  pub left : IsClean g released → Leaves (state g old) (state g released)
   pub untouched : (fault ≡ NotOld) ⊎ (fault ≡ NotARoom)
-      → WritesNothing (state g old) (state g let_go)
-  pub version : IsClean g let_go
+      → WritesNothing (state g old) (state g released)
+  pub version : IsClean g released
       → (fault ≡ NotOld → IsNewRoom (state g old).now)
       × (fault ≡ NotARoom → ¬ IsNewRoom (state g old).now)
-  pub no_room : IsClean g let_go → fault ≡ NotARoom
+  pub no_room : IsClean g released → fault ≡ NotARoom
       → HasFirstTables (state g old).now.schema → ¬ HoldsFirstRoom (state g old).now.trees
-  pub survives : Survives (state g old) (state g let_go) (MayBeMoved (state g old).now)
+  pub survives : Survives (state g old) (state g released) (MayBeMoved (state g old).now)

@@ -35,25 +35,25 @@ abbrev pub OpensRoom : {S : Type 0} → Ghosts S → Held S → Store S → Type
 OpensRoom g old opened =
     (terminals : List Terminal) × (room : Room) × IsOpened g old opened terminals room
 
--- The store reports why it opens none, and the database, which is let go, is as it was.
+-- The store reports why it opens none, and the database, which is released, is as it was.
 pub record HoldsNone {S : Type 0} (g : Ghosts S) (old : Held S) (failure : Failure) : Type 0 where
   pub fault : OpenFault
-  pub told : failure ≡ open_fault fault
-  pub let_go : Held S
-  pub left : IsClean g let_go → Leaves (state g old) (state g let_go)
+  pub failed : failure ≡ open_fault fault
+  pub released : Held S
+  pub left : IsClean g released → Leaves (state g old) (state g released)
   pub untouched : (fault ≡ OldRoom) ⊎ (fault ≡ NotARoom)
-      → WritesNothing (state g old) (state g let_go)
-  pub version : IsClean g let_go
+      → WritesNothing (state g old) (state g released)
+  pub version : IsClean g released
       → (fault ≡ OldRoom → IsOldRoom (state g old).now)
       × (fault ≡ NotARoom → ¬ IsOldRoom (state g old).now)
-  pub no_room : IsClean g let_go → fault ≡ NotARoom
+  pub no_room : IsClean g released → fault ≡ NotARoom
       → HasTables (state g old).now.schema → ¬ HoldsRoom (state g old).now.trees
-  pub survives : Survives (state g old) (state g let_go) (MayBeIndexed (state g old).now)
+  pub survives : Survives (state g old) (state g released) (MayBeIndexed (state g old).now)
 
 -- There is a room, but the zone of its plan is no rule, so its days can't be reckoned. It is closed
 -- again.
 pub record HasNoZone {S : Type 0} (g : Ghosts S) (old : Held S) (failure : Failure) : Type 0 where
-  pub told : failure ≡ File
+  pub failed : failure ≡ File
   pub opened : Store S
   pub opens : IsClean g opened.conn → OpensRoom g old opened
   pub no_rule : ¬ IsSome (read_whole opened.plan.zone)

@@ -20,7 +20,7 @@ use Rattle.room_tables_schema.specs.declared.database_faults.Fault.{Fault}
 use Rattle.room_tables_schema.specs.declared.database_faults.Fault.TheVariants as fault
 use Rattle.room_store_check_tables.specs.HeldRooms.{IsPlanOf}
 use Rattle.room_store_file.specs.OpenedFile.{KeepsFile, MayBeIndexed}
-use Rattle.room_store_writes.specs.Houses.{config_of}
+use Rattle.room_store_writes.specs.Configurations.{config_of}
 use Rattle.room_store_writes.specs.NewRoom.{put_all}
 use Rattle.room_store_writes.specs.TerminalHolders.{has_token, is_token_of, may_have, same_who}
 use Rattle.room_store_writes.specs.Transactions.{IsSettled, Leaves}

@@ -16,7 +16,7 @@ use Rattle.room_model.specs.RoomAgreements.{IsWellFormed}
 use Rattle.room_tables_rows.specs.RoomsInTables.{Configuration, Stands}
 use Rattle.room_store_check_tables.specs.HeldRooms.{IsPlanOf}
 use Rattle.room_store_file.specs.OpenedFile.{KeepsFile, MayBeIndexed}
-use Rattle.room_store_writes.specs.Houses.{config_of}
+use Rattle.room_store_writes.specs.Configurations.{config_of}
 use Rattle.room_store_writes.specs.NewRoom.{new_division}
 use Rattle.room_store_writes.specs.Transactions.{IsSettled, Leaves}
 use Rattle.dispatch_room_cli.specs.declared.exit_status.Failure.{Failure}

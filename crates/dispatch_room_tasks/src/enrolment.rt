@@ -1,5 +1,5 @@
 //! `import`: the rows of a fleet are enrolled in the room of a database.
-ghost use Rattle.std.specs.Prelude.{◌≡◌, ◌⊎◌, List, false, IfErr, IfOk};
+ghost use Rattle.std.specs.Prelude.{◌≡◌, ◌⊎◌, List, false, IfErr, IfOk, OnErr};
 ghost use Rattle.sqlite.specs.Held.{state};
 ghost use Rattle.sqlite.specs.State.{Survives};
 ghost use Rattle.room_types.specs.declared.fleet.Terminal.{Terminal};
@@ -8,13 +8,13 @@ ghost use Rattle.room_store.specs.FleetEnrolment.{MayBeEnrolled};
 ghost use Rattle.room_store.specs.StoredRoom.{IsReady, IsRoom};
 ghost use Rattle.dispatch_room_cli.specs.declared.exit_status.Failure.TheVariants.{Memory};
 ghost use Rattle.dispatch_room_tasks.specs.RowOutcomes.{good_rows};
-ghost use Rattle.dispatch_room_tasks.specs.Enrolment.{HasImported, HasImportedIn, IsTold};
+ghost use Rattle.dispatch_room_tasks.specs.Enrolment.{HasImported, HasImportedIn, IsPrinted};
 ghost use Rattle.dispatch_room_tasks.specs.OpenedRoom.{IsUnopened};
 ghost use Rattle.room_tables_schema.specs.FileConnections.{IsClean};
 
 use crate::fleet_causes::explain;
 use crate::opened_room::{TaskResult, open_room};
-use crate::row_outcomes::{good_rows, tell};
+use crate::row_outcomes::{good_rows, print_fates};
 use dispatch_room_cli::exit_status::{Done, Failure, refused};
 use dispatch_room_csv::fleet_file::FleetLine;
 use dispatch_room_csv::sheets::Sheet;
@@ -34,12 +34,13 @@ pub fn enrol_in<S: Alter + Drop, O: Write>(
     out: &mut O,
 ) -> TaskResult<Done, S>
     requires outside { conn.in_transaction ≡ false }
-    ensures told { IfOk result (λ worked.
-        IfOk worked.0 (IsTold lines.now (O.contents out.old) (O.contents out.new))) }
+    ensures printed { IfOk result (λ worked.
+        IfOk worked.0 (IsPrinted lines.now (O.contents out.old) (O.contents out.new))) }
     ensures imported { IfOk result (λ worked. IsClean S.Store worked.1
         → HasImportedIn S.Store conn worked.1 lines.now (O.contents out.old) (O.contents out.new)
         worked.0) }
     ensures fault { IfErr result (λ fault. (fault ≡ Memory) ⊎ IsUnopened S.Store conn fault) }
+    ensures unprinted { OnErr result (O.contents out.new ≡ O.contents out.old) }
 {
     let Ok(rows) = good_rows(alloc, lines) else {
         return Err(Failure::Memory);
@@ -62,7 +63,7 @@ pub fn enrol<S: Alter, O: Write>(
     requires rows { rows.now ≡ good_rows lines.now }
     ensures ready { IsReady S.Store room.new }
     ensures plan { room.new.plan ≡ room.old.plan }
-    ensures told { IfOk result (IsTold lines.now (O.contents out.old) (O.contents out.new)) }
+    ensures printed { IfOk result (IsPrinted lines.now (O.contents out.old) (O.contents out.new)) }
     ensures imported { IsClean S.Store room.new.conn
         → (terminals : List Terminal) (held : Room) → IsRoom S.Store room.old terminals held
         → HasImported S.Store room.old room.new lines.now (O.contents out.old) (O.contents out.new)
@@ -72,7 +73,7 @@ pub fn enrol<S: Alter, O: Write>(
 {
     let mut fates = Vec::new(alloc);
     let imported = room.import(rows, &mut fates);
-    let Ok(done) = tell(lines, fates.as_slice(), out) else {
+    let Ok(done) = print_fates(lines, fates.as_slice(), out) else {
         return Err(Failure::Network);
     };
     explain(sheet, lines, fates.as_slice());

@@ -1,5 +1,5 @@
 //! Who has a terminal in the room of a database, listed.
-ghost use Rattle.std.specs.Prelude.{◌≡◌, false, map, IfErr, IfOk, OnOk};
+ghost use Rattle.std.specs.Prelude.{◌≡◌, false, map, IfErr, IfOk, OnErr, OnOk};
 ghost use Rattle.std.specs.Io.KnownBytes.{Appends};
 ghost use Rattle.sqlite.specs.Held.{state};
 ghost use Rattle.sqlite.specs.State.{Survives};
@@ -9,7 +9,7 @@ ghost use Rattle.room_tables_schema.specs.FileConnections.{HasRoomSchema, IsClea
 ghost use Rattle.room_store_writes.specs.Transactions.{Leaves};
 ghost use Rattle.dispatch_room_cli.specs.declared.exit_status.Done.TheVariants.{Whole};
 ghost use Rattle.dispatch_room_tasks.specs.OpenedRoom.{HoldsNone};
-ghost use Rattle.dispatch_room_tasks.specs.ListedTerminals.{HasListed, IsMachines, IsListing, Tells, line_text, lines_text, listed_of};
+ghost use Rattle.dispatch_room_tasks.specs.ListedTerminals.{HasListed, IsMachines, IsListing, Prints, line_text, lines_text, listed_of};
 
 use crate::opened_room::TaskResult;
 use crate::opening_faults::of_opening;
@@ -45,6 +45,7 @@ pub fn list_in<S: Alter + Drop, O: Write>(
     ensures listed { IfOk result (λ worked. HasListed S.Store conn worked.1
         (O.contents out.old) (O.contents out.new) worked.0) }
     ensures fault { IfErr result (HoldsNone S.Store conn) }
+    ensures unprinted { OnErr result (O.contents out.new ≡ O.contents out.old) }
 {
     match open_in(alloc, &mut conn) {
         Ok(_plan) => {
@@ -65,31 +66,35 @@ fn list_opened<S: Alter, O: Write>(
     requires outside { conn.old.in_transaction ≡ false }
     ensures whole { IfOk result (λ done. done ≡ Whole) }
     ensures fault { IfErr result IsMachines }
-    ensures told { IsClean S.Store conn.new
+    ensures printed { IsClean S.Store conn.new
         → OnOk result ((config : Configuration) (room : Room)
         → Stands (state S.Store conn.old).now.trees config room
-        → Tells config.terminals (O.contents out.old) (O.contents out.new)) }
+        → Prints config.terminals (O.contents out.old) (O.contents out.new)) }
     ensures leaves { IsClean S.Store conn.new
         → Leaves (state S.Store conn.old) (state S.Store conn.new) }
     ensures survives { Survives (state S.Store conn.old) (state S.Store conn.new) (λ _. ⊥) }
 {
     match list(alloc, conn) {
-        Ok(terminals) => tell(alloc, terminals.as_slice(), out),
+        Ok(terminals) => print_listed(alloc, terminals.as_slice(), out),
         Err(Fault::Memory) => Err(Failure::Memory),
         Err(Fault::Storage) => Err(Failure::Storage),
     }
 }
 
 // Lists who has these terminals.
-fn tell<O: Write>(alloc: Global, terminals: &[Terminal], out: &mut O) -> Result<Done, Failure>
+fn print_listed<O: Write>(
+    alloc: Global,
+    terminals: &[Terminal],
+    out: &mut O,
+) -> Result<Done, Failure>
     ensures whole { IfOk result (λ done. done ≡ Whole) }
     ensures fault { IfErr result IsMachines }
-    ensures told { OnOk result (Tells terminals.now (O.contents out.old) (O.contents out.new)) }
+    ensures printed { OnOk result (Prints terminals.now (O.contents out.old) (O.contents out.new)) }
 {
     let Ok(listed) = in_order(alloc, terminals) else {
         return Err(Failure::Memory);
     };
-    match tell_each(listed.as_slice(), out) {
+    match print_each(listed.as_slice(), out) {
         Ok(()) => Ok(Done::Whole),
         Err(_) => Err(Failure::Network),
     }
@@ -123,17 +128,17 @@ fn listed_of(who: &Who) -> Listed
     }
 }
 
-fn tell_each<O: Write>(listed: &[Listed], out: &mut O) -> io::Result<()>
+fn print_each<O: Write>(listed: &[Listed], out: &mut O) -> io::Result<()>
     ensures { OnOk result
         (Appends (O.contents out.old) (O.contents out.new) (lines_text listed.now)) }
 {
     for one in listed {
-        tell_one(one, out)?;
+        print_one(one, out)?;
     }
     Ok(())
 }
 
-fn tell_one<O: Write>(one: &Listed, out: &mut O) -> io::Result<()>
+fn print_one<O: Write>(one: &Listed, out: &mut O) -> io::Result<()>
     ensures { OnOk result (Appends (O.contents out.old) (O.contents out.new) (line_text one.now)) }
 {
     match one {

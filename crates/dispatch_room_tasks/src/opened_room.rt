@@ -14,7 +14,7 @@ use sqlite::{Alter, Connection};
 use std::alloc::Global;
 
 /// The room in a database, with the zone of its days: the well-formed room that the tables stood
-/// for, and the zone of its plan. Where there is none the database is let go.
+/// for, and the zone of its plan. Where there is none the database is released.
 pub fn open_room<S: Alter + Drop>(
     alloc: Global,
     conn: Connection<S>,

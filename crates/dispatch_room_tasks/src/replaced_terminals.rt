@@ -21,7 +21,7 @@ use crate::opening_faults::of_opening;
 use crate::replacement_causes::explain;
 use crate::replacement_faults::{ReplaceFault, failure_of, first_refused, is_listed};
 use dispatch_room_cli::exit_status::Failure;
-use dispatch_room_cli::explainer::Explainer;
+use dispatch_room_cli::failure_causes::Explainer;
 use room_place::plans::Plan;
 use room_store_file::opened_file::open_in;
 use room_store_writes::transactions::end;

@@ -42,7 +42,7 @@ pub enum ReplaceFault {
 }
 
 impl From<Fault> for ReplaceFault {
-    ghost from_gives = { λ fault told. told ≡ lack_of fault };
+    ghost from_gives = { λ fault cause. cause ≡ lack_of fault };
 
     fn from(fault: Fault) -> ReplaceFault {
         match fault {
@@ -53,7 +53,7 @@ impl From<Fault> for ReplaceFault {
 }
 
 impl From<Error> for ReplaceFault {
-    ghost from_gives = { λ error told. told ≡ lack_of (fault_of error) };
+    ghost from_gives = { λ error cause. cause ≡ lack_of (fault_of error) };
 
     fn from(error: Error) -> ReplaceFault {
         ReplaceFault::from(Fault::from(error))
@@ -61,7 +61,7 @@ impl From<Error> for ReplaceFault {
 }
 
 impl<T: Drop> From<AllocFailed<T>> for ReplaceFault {
-    ghost from_gives = { λ _ told. told ≡ why.Memory };
+    ghost from_gives = { λ _ cause. cause ≡ why.Memory };
 
     fn from(_: AllocFailed<T>) -> ReplaceFault {
         ReplaceFault::Memory

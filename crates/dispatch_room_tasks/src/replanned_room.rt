@@ -20,7 +20,7 @@ use crate::replaced_terminals::{find_others, set_terminals};
 use crate::replacement_causes::explain;
 use crate::replanning_faults::{ReplanFault, failure_of, first_lacking};
 use dispatch_room_cli::exit_status::Failure;
-use dispatch_room_cli::explainer::Explainer;
+use dispatch_room_cli::failure_causes::Explainer;
 use dispatch_room_csv::plan_file::PlanFile;
 use room_place::plans::{Area, DivisionNumber, Plan};
 use room_store_file::opened_file::open_in;

@@ -25,7 +25,7 @@ pub enum ReplanFault {
 }
 
 impl From<ReplaceFault> for ReplanFault {
-    ghost from_gives = { λ fault told. told ≡ Terminals fault };
+    ghost from_gives = { λ fault cause. cause ≡ Terminals fault };
 
     fn from(fault: ReplaceFault) -> ReplanFault {
         ReplanFault::Terminals(fault)
@@ -33,7 +33,7 @@ impl From<ReplaceFault> for ReplanFault {
 }
 
 impl From<Fault> for ReplanFault {
-    ghost from_gives = { λ fault told. told ≡ Terminals (lack_of fault) };
+    ghost from_gives = { λ fault cause. cause ≡ Terminals (lack_of fault) };
 
     fn from(fault: Fault) -> ReplanFault {
         ReplanFault::Terminals(ReplaceFault::from(fault))
@@ -41,7 +41,7 @@ impl From<Fault> for ReplanFault {
 }
 
 impl From<Error> for ReplanFault {
-    ghost from_gives = { λ error told. told ≡ Terminals (lack_of (fault_of error)) };
+    ghost from_gives = { λ error cause. cause ≡ Terminals (lack_of (fault_of error)) };
 
     fn from(error: Error) -> ReplanFault {
         ReplanFault::Terminals(ReplaceFault::from(error))
@@ -49,7 +49,7 @@ impl From<Error> for ReplanFault {
 }
 
 impl<T: Drop> From<AllocFailed<T>> for ReplanFault {
-    ghost from_gives = { λ _ told. told ≡ Terminals Memory };
+    ghost from_gives = { λ _ cause. cause ≡ Terminals Memory };
 
     fn from(_: AllocFailed<T>) -> ReplanFault {
         ReplanFault::Terminals(ReplaceFault::Memory)

@@ -27,7 +27,11 @@ fn row_in(line: &FleetLine) -> Option<FleetRow>
 
 /// Prints what became of each line, up to the first good one that has no fate, and how much is done
 /// by that.
-pub fn tell<O: Write>(lines: &[FleetLine], fates: &[RowFate], out: &mut O) -> io::Result<Done>
+pub fn print_fates<O: Write>(
+    lines: &[FleetLine],
+    fates: &[RowFate],
+    out: &mut O,
+) -> io::Result<Done>
     ensures text { OnOk result (Appends (O.contents out.old) (O.contents out.new)
         (fates_text lines.now fates.now)) }
     ensures done { IfOk result (λ done. done ≡ done_by (outcomes lines.now fates.now)) }
@@ -44,7 +48,7 @@ pub fn tell<O: Write>(lines: &[FleetLine], fates: &[RowFate], out: &mut O) -> io
                 let Some((fate, later)) = left.split_first() else {
                     return Ok(done);
                 };
-                if !tell_fate(row, fate, out)? {
+                if !print_fate(row, fate, out)? {
                     done = Done::InPart;
                 }
                 left = later;
@@ -55,7 +59,7 @@ pub fn tell<O: Write>(lines: &[FleetLine], fates: &[RowFate], out: &mut O) -> io
 }
 
 // Prints what became of a row, and says whether it is enrolled.
-fn tell_fate<O: Write>(row: &FleetRow, fate: &RowFate, out: &mut O) -> io::Result<bool>
+fn print_fate<O: Write>(row: &FleetRow, fate: &RowFate, out: &mut O) -> io::Result<bool>
     ensures text { OnOk result (Appends (O.contents out.old) (O.contents out.new)
         (row.now.callsign ++ fate_text fate.now)) }
     ensures enrolled { IfOk result (λ enrolled. enrolled ≡ is_enrolled fate.now) }

@@ -5,7 +5,7 @@ use Rattle.dispatch_room_serving.specs.Callers.{Grows}
 use Rattle.dispatch_room_sockets.specs.LingeringClose.{Does, IsParted, Step, drains_until}
 use Rattle.dispatch_room_tcp.specs.Listeners.{PartsFrom}
 
--- a peer that was made of two sides is parted from, and then let go
+-- a peer that was made of two sides is parted from, and then released
 pub parts_from : {P : Type 0} (done : P → Option (List Step)) (is_open : P → Bool)
     (answered : P → Option Duration) (peer made last : P)
     (old mid new : Option (List (Option (List Step)))) → made ≡ peer → mid ≡ old

@@ -1,39 +1,65 @@
 -- Parts of a room's service, one after another.
-use Rattle.std.proofs.Common.{◌≡◌, refl, ap, inl, inr, [], ◌∷◌, Bool, true, false, Option, Result, Ok, Err}
-use Rattle.std.specs.Prelude.{is_err, not}
+use Rattle.std.proofs.Common.{◌≡◌, refl, ap, inl, inr, sym, subst, [], ◌∷◌, Bool, true, false, Option, Result, Ok, Err}
+use Rattle.std.specs.Prelude.{OnErr, is_err, not}
 use Rattle.sqlite_trees.specs.declared.store.Store.{Ghosts}
 use Rattle.dispatch_room_cli.specs.declared.exit_status.Done.{Done}
 use Rattle.dispatch_room_cli.specs.declared.exit_status.Failure.{Failure}
 use Rattle.dispatch_room_serving.specs.declared.served_room.Terms.{Terms}
+use Rattle.dispatch_room_serving.specs.Callers.{MayCall, Printing, Prints}
 use Rattle.dispatch_room_serving.specs.Journals.{EndsAfter}
 use Rattle.dispatch_room_serving.specs.declared.journals.Journal.{Journal}
-use Rattle.dispatch_room_tcp.specs.ServedParts.{EndsAs, EndsPart, Interval, IsPart, PartsBefore}
+use Rattle.dispatch_room_tcp.specs.ServedFiles.{PrintsServing}
+use Rattle.dispatch_room_tcp.specs.ServedParts.{EndsAs, EndsPart, Interval, IsPart, PartsBefore, Watch}
 
 -- where there is a list, a part ends as its service does with it
 pub ends_as : {W : Type 0} (ends : W → W → Type 0) (old new : Option (Journal W))
     (served result : Result Done Failure) → EndsAfter ends old new served result
     → EndsAs true served result
-ends_as ends old new (Ok done) (Ok told) it = inl (ap Ok it.0)
+ends_as ends old new (Ok done) (Ok written) it = inl (ap Ok it.0)
 ends_as ends old new (Ok done) (Err fault) it = inr (refl, refl, ap Err it.0)
 ends_as ends old new (Err fault) result it = inl it.0
+
+-- what is printed as serving ends, and where its list can't say so
+pub prints_serving : {T : Type 0} (old new : Printing) (result : Result T Failure)
+    → Prints old new result → PrintsServing old.has_begun old.printed new.printed result
+prints_serving old new (Ok done) may = may.printed
+prints_serving old new (Err fault) (inl same) = inl (ap (λ it. it.printed) same)
+prints_serving old new (Err fault) (inr (inl may)) = inr (inl may.printed)
+prints_serving old new (Err fault) (inr (inr un)) = inr (inr (un.first, un.network))
+
+pub printed_to_end : (has_journal : Bool) (old new : Printing) (served result : Result Done Failure)
+    → EndsAs has_journal served result → Prints old new served → Prints old new result
+printed_to_end has_journal old new served result (inl same) prints =
+    subst (λ (it : Result Done Failure). Prints old new it) (sym same) prints
+printed_to_end has_journal old new (Ok done) result (inr ends) may =
+    subst (λ (it : Result Done Failure). Prints old new it) (sym ends.2) (inr (inl may))
+printed_to_end has_journal old new (Err fault) result (inr ends) prints = absurd (cc ends.0)
+
+-- where no further part is opened nothing more is printed
+pub called_before : (a b c : Printing) → MayCall a b → c ≡ b → MayCall a c
+called_before a b c may same = subst (λ it. MayCall a it) (sym same) may
+
+pub where_failed : {T E : Type 0} (result : Result T E) (P : Type 0) → P → OnErr result P
+where_failed (Ok x) P is = tt
+where_failed (Err e) P is = is
 
 pub not_false : (b : Bool) → not b ≡ false → b ≡ true
 not_false true is = refl
 not_false false is = absurd (cc)
 
-module _ {S : Type 0} (g : Ghosts S) (has_journal : Bool) (terms : Terms) where
-  pub first_before : (first : Interval S) → PartsBefore g has_journal terms first first
+module _ {S : Type 0} (g : Ghosts S) (watch : Watch) (terms : Terms) where
+  pub first_before : (first : Interval S) → PartsBefore g watch terms first first
   first_before first = record { earlier = []; are = refl; only = λ once. refl }
 
   pub first_part : (first last : Interval S) (result : Result Done Failure)
-      → IsPart g has_journal terms first last result
-      → EndsPart g has_journal terms first last result
+      → IsPart g watch terms first last result
+      → EndsPart g watch terms first last result
   first_part first last result is = record { at = first; before = first_before first; is = is }
 
   -- after a part that ended well another begins
   pub next_before : (first now : Interval S) (result : Result Done Failure) → terms.renews ≡ true
-      → is_err result ≡ false → EndsPart g has_journal terms first now result
-      → PartsBefore g has_journal terms first now
+      → is_err result ≡ false → EndsPart g watch terms first now result
+      → PartsBefore g watch terms first now
   next_before first now (Ok done) renews well part = record {
     earlier = part.at ∷ part.before.earlier;
     are = (part.before.are, done, part.is);

@@ -4,8 +4,8 @@ use Rattle.std.specs.declared.time.Duration.{Duration}
 use Rattle.dispatch_room_serving.specs.Callers.{Grows}
 use Rattle.dispatch_room_sockets.specs.LingeringClose.{Does, IsParted, Step, drains_until}
 
--- A peer was parted from, and then it was let go. What was done to part from it and from others is
--- stated by who listens.
+-- A peer was parted from, and then it was released. What was done to part from it and from others
+-- is stated by who listens.
 pub record PartsFrom {P : Type 0} (done : P → Option (List Step)) (is_open : P → Bool)
     (answered : P → Option Duration) (peer : P) (old new : Option (List (Option (List Step))))
     : Type 0 where

@@ -7,12 +7,12 @@ use Rattle.sqlite_trees.specs.declared.store.Store.{Ghosts}
 use Rattle.dispatch_room_disk.specs.RoomFiles.{Refusing, Saying, IsDoneInFile, IsUndoneInFile}
 use Rattle.dispatch_room_cli.specs.declared.exit_status.Done.{Done}
 use Rattle.dispatch_room_cli.specs.declared.exit_status.Failure.{Failure}
-use Rattle.dispatch_room_cli.specs.declared.exit_status.Failure.TheVariants.{Memory}
+use Rattle.dispatch_room_cli.specs.declared.exit_status.Failure.TheVariants.{Memory, Network}
 use Rattle.dispatch_room_cli.specs.declared.tasks.Journal.{Journal}
 use Rattle.dispatch_room_cli.specs.declared.tasks.Service.{Service}
-use Rattle.dispatch_room_tcp.specs.ServedParts.{Interval, OpensNoPart, ServesParts}
+use Rattle.dispatch_room_tcp.specs.ServedParts.{Interval, OpensNoPart, ServesParts, Watch}
 use Rattle.dispatch_room_tcp.specs.declared.serve.Served.{Served}
-use Rattle.dispatch_room_serving.specs.Callers.{Opening}
+use Rattle.dispatch_room_serving.specs.Callers.{Opening, PrintsStart}
 use Rattle.dispatch_room_serving.specs.declared.served_room.Terms.{Terms}
 use Rattle.dispatch_room_cli.specs.declared.exit_status.Failure.TheVariants as failure
 use Rattle.dispatch_room_tcp.specs.declared.listeners.TcpAddress.{TcpAddress}
@@ -39,40 +39,58 @@ ended (Err fault) = Err fault
 -- where a service begins, by what listens for its calls
 abbrev pub begins_at : {S L : Type 0} → (L → Option (List (Option Opening)))
     → (L → Option (List (Option (List ℕ)))) → L → Held S → Option (List ℕ) → Interval S
-begins_at heard told listener conn given = record {
+begins_at heard written listener conn given = record {
   conn = conn;
   heard = heard listener;
-  told = told listener;
+  written = written listener;
   given = given;
 }
 
+-- What the output holds where serving ended so: that a room is served is printed as it begins to
+-- listen, and nothing else is. Where serving failed, the same, or nothing, or that could not be
+-- printed.
+abbrev pub PrintsServing : {T : Type 0} → Bool → Option (List ℕ) → Option (List ℕ)
+    → Result T Failure → Type 0
+PrintsServing is_listening before after (Ok done) = PrintsStart is_listening before after
+PrintsServing is_listening before after (Err fault) =
+    (after ≡ before) ⊎ (PrintsStart is_listening before after
+    ⊎ ((is_listening ≡ false) × (fault ≡ Network)))
+
 -- The room was served to so many calls, and a journal kept of it or none. What is known of the
--- calls is what they are to what listened for them, before and after (`heard`, `told`), where that
--- is given back. What is known of the moments is said by who gives them.
+-- calls is what they are to what listened for them, before and after (`heard`, `written`), where
+-- that is given back. What is known of the moments is said by who gives them.
 pub record IsServed {S L : Type 0} (heard : L → Option (List (Option Opening)))
-    (told : L → Option (List (Option (List ℕ)))) (g : Ghosts S) (old new : Held S)
-    (has_journal : Bool) (terms : Terms) (listener : L) (served : Result (Served L) Failure)
+    (written : L → Option (List (Option (List ℕ)))) (g : Ghosts S) (old new : Held S)
+    (watch : Watch) (terms : Terms) (listener : L) (served : Result (Served L) Failure)
     : Type 0 where
   pub hears : Option (List (Option Opening))
-  pub tells : Option (List (Option (List ℕ)))
+  pub writes : Option (List (Option (List ℕ)))
   pub known : IfOk served (λ served. (hears ≡ heard served.listener)
-      × (tells ≡ told served.listener))
+      × (writes ≡ written served.listener))
   pub given : Option (List ℕ)
   pub gives : Option (List ℕ)
-  pub is : ServesParts g has_journal terms (begins_at heard told listener old given)
-      (record { conn = new; heard = hears; told = tells; given = gives }) (ended served)
+  pub is : ServesParts g watch terms (begins_at heard written listener old given)
+      (record { conn = new; heard = hears; written = writes; given = gives }) (ended served)
 
 abbrev pub Serves : {L : Type 0} → (L → Option (List (Option Opening)))
-    → (L → Option (List (Option (List ℕ)))) → Bool → Terms → L → Saying (Served L)
-Serves heard told has_journal terms listener = λ S g old new before after served.
-    IsServed heard told g old new has_journal terms listener served
+    → (L → Option (List (Option (List ℕ)))) → Bool → Watch → Terms → L → Saying (Served L)
+Serves heard written is_listening watch terms listener = λ S g old new before after served.
+    IsServed heard written g old new watch terms listener served
+    × PrintsServing is_listening before after (ended served)
 
--- or no room is opened for one of its parts
+-- no room is opened for one of its parts
+abbrev pub OpensNone : {S L : Type 0} → (L → Option (List (Option Opening)))
+    → (L → Option (List (Option (List ℕ)))) → Ghosts S → Held S → Watch → Terms → L → Failure
+    → Type 0
+OpensNone heard written g conn watch terms listener fault = (given : Option (List ℕ))
+    × OpensNoPart g watch terms (begins_at heard written listener conn given) fault
+
+-- or that is so, for the first of them, and nothing is printed, or for a later one
 abbrev pub ServesNone : {L : Type 0} → (L → Option (List (Option Opening)))
-    → (L → Option (List (Option (List ℕ)))) → Bool → Terms → L → Refusing
-ServesNone heard told has_journal terms listener = λ S g conn fault.
-    (given : Option (List ℕ))
-    × OpensNoPart g has_journal terms (begins_at heard told listener conn given) fault
+    → (L → Option (List (Option (List ℕ)))) → Bool → Watch → Terms → L → Refusing
+ServesNone heard written is_listening watch terms listener = λ S g conn before after fault.
+    OpensNone heard written g conn watch terms listener fault
+    × ((after ≡ before) ⊎ PrintsStart is_listening before after)
 
 -- whether each message lasts before the room acts on it: where a journal is asked for that is so
 abbrev pub is_synced_by : Option Journal → Bool
@@ -83,6 +101,15 @@ is_synced_by (Some journal) = journal.is_synced
 abbrev pub keeps_questions_by : Option Journal → Bool
 keeps_questions_by None = true
 keeps_questions_by (Some journal) = journal.keeps_questions
+
+-- how a service is watched over: whether it has a journal, and which, and whether a log is written
+abbrev pub watch_of : Bool → Service → Watch
+watch_of has_journal service = record {
+  has_journal = has_journal;
+  is_synced = is_synced_by service.journal;
+  keeps_questions = keeps_questions_by service.journal;
+  logs = service.log;
+}
 
 -- the door of a service: where it listens, how many seconds a connection may be silent, and how
 -- many a request and its answer have
@@ -102,22 +129,24 @@ IsAddressOf service listener = (listener.address ≡ service.address)
 module _ (before after : Option (List ℕ)) (done : Done) where
   -- a room was served to those who call where this listens
   abbrev pub IsServedAt : {L : Type 0} → (L → Option (List (Option Opening)))
-      → (L → Option (List (Option (List ℕ)))) → Bool → Terms → L → Type 0
-  IsServedAt {L} heard told has_journal terms listener =
+      → (L → Option (List (Option (List ℕ)))) → Bool → Watch → Terms → L → Type 0
+  IsServedAt {L} heard written is_listening watch terms listener =
       (served : Served L)
-      × IsDoneInFile (Serves heard told has_journal terms listener) before after served
+      × IsDoneInFile (Serves heard written is_listening watch terms listener) before after served
       × (done ≡ served.done)
 
-  -- A room was served, with a journal where one was asked for: at the door of a service, where it
-  -- goes on until it is stopped, or at its address to as many connections as was asked for, one
-  -- after another.
+  -- A room was served, with a log and a journal as they were asked for: at the door of a service,
+  -- where it goes on until it is stopped, or at its address to as many connections as was asked
+  -- for, one after another.
   abbrev pub IsServedBy : Bool → Bool → Service → Type 0
   IsServedBy true has_journal service =
       (door : TcpDoor) × IsDoorOf service door
-      × IsServedAt (λ _. None) (λ _. None) has_journal (terms_of service) door
+      × IsServedAt (λ _. None) (λ _. None) false (watch_of has_journal service)
+      (terms_of service) door
   IsServedBy false has_journal service =
       (listener : TcpAddress) × IsAddressOf service listener
-      × IsServedAt (λ _. None) (λ _. None) has_journal (terms_of service) listener
+      × IsServedAt (λ _. None) (λ _. None) false (watch_of has_journal service)
+      (terms_of service) listener
 
   abbrev pub IsServe : Service → Type 0
   IsServe service = IsServedBy (is_endless service) (is_some service.journal) service
@@ -126,18 +155,20 @@ module _ (before after : Option (List ℕ)) (done : Done) where
 module _ (before after : Option (List ℕ)) (fault : Failure) where
   -- this became of the file of the room that was to be served to those who call where this listens
   abbrev pub FailsAt : {L : Type 0} → (L → Option (List (Option Opening)))
-      → (L → Option (List (Option (List ℕ)))) → Bool → Terms → L → Type 0
-  FailsAt heard told has_journal terms listener =
-      IsUndoneInFile (Serves heard told has_journal terms listener)
-      (ServesNone heard told has_journal terms listener) before after fault
+      → (L → Option (List (Option (List ℕ)))) → Bool → Watch → Terms → L → Type 0
+  FailsAt heard written is_listening watch terms listener =
+      IsUndoneInFile (Serves heard written is_listening watch terms listener)
+      (ServesNone heard written is_listening watch terms listener) before after fault
 
   abbrev pub FailsBy : Bool → Bool → Service → Type 0
   FailsBy true has_journal service =
       (door : TcpDoor) × IsDoorOf service door
-      × FailsAt (λ _. None) (λ _. None) has_journal (terms_of service) door
+      × FailsAt (λ _. None) (λ _. None) false (watch_of has_journal service)
+      (terms_of service) door
   FailsBy false has_journal service =
       (listener : TcpAddress) × IsAddressOf service listener
-      × FailsAt (λ _. None) (λ _. None) has_journal (terms_of service) listener
+      × FailsAt (λ _. None) (λ _. None) false (watch_of has_journal service)
+      (terms_of service) listener
 
   -- there is no journal, where one was asked for, and nothing is said; or this became of the file
   -- of the room that was to be served

@@ -1,49 +1,99 @@
 -- A room that is served in parts, one after another: each begins in a new list, at the room that
 -- the one before left in the same database.
-use Rattle.std.specs.Prelude.{◌≡◌, ◌⊎◌, ℕ, List, [], ◌∷◌, Bool, true, false, IsOk, Option, Result, Ok, Err}
+use Rattle.std.specs.Prelude.{◌≡◌, ◌⊎◌, ℕ, List, [], ◌∷◌, Bool, true, false, IfSome, IsOk, Option, None, Result, Ok, Err}
+use Rattle.std.specs.Prelude.{◌≢◌, is_some}
 use Rattle.sqlite.specs.Held.{Held}
 use Rattle.sqlite_trees.specs.declared.store.Store.{Ghosts}
 use Rattle.dispatch_room_cli.specs.declared.exit_status.Done.{Done}
 use Rattle.dispatch_room_cli.specs.declared.exit_status.Failure.{Failure}
-use Rattle.dispatch_room_cli.specs.declared.exit_status.Failure.TheVariants.{Journal, Memory}
+use Rattle.dispatch_room_cli.specs.declared.exit_status.Failure.TheVariants as failure
 use Rattle.dispatch_room_journal.specs.JournalRecords.{answer_text, message_text, room_text}
+use Rattle.dispatch_room_journal.specs.declared.list_ends.ListEnd.{ListEnd}
 use Rattle.dispatch_room_serving.specs.Callers.{Opening}
+use Rattle.dispatch_room_journal.specs.RowRuns.{PutsEnd}
+use Rattle.dispatch_room_serving.specs.Journals.{EndsAfter, failed_by, held_by}
 use Rattle.dispatch_room_serving.specs.ServedRoom.{ServesRoom}
+use Rattle.dispatch_room_serving.specs.declared.journal_files.SystemFile.{SystemFile}
+use Rattle.dispatch_room_serving.specs.declared.journal_files.WrittenFile.{WrittenFile}
+use Rattle.dispatch_room_serving.specs.declared.journals.Journal.{Journal}
+use Rattle.dispatch_room_serving.specs.declared.list_places.Finding.{Finding}
+use Rattle.dispatch_room_serving.specs.declared.list_places.Finding.TheVariants.{Truncated}
 use Rattle.dispatch_room_serving.specs.declared.served_room.Terms.{Terms}
 use Rattle.dispatch_room_tasks.specs.OpenedRoom.{IsUnopened}
 
 -- where a service stands before and after a part: the database, the calls that came, what they were
--- told, and the moments that were given
+-- written, and the moments that were given
 pub record Interval (S : Type 0) : Type 0 where
   pub conn : Held S
   pub heard : Option (List (Option Opening))
-  pub told : Option (List (Option (List ℕ)))
+  pub written : Option (List (Option (List ℕ)))
   pub given : Option (List ℕ)
 
 -- A part ends as serving ended; or serving ended well, and the list that there is could not say so.
 abbrev pub EndsAs : Bool → Result Done Failure → Result Done Failure → Type 0
 EndsAs has_journal served result = (result ≡ served)
-    ⊎ (IsOk served × (has_journal ≡ true) × (result ≡ Err Journal))
+    ⊎ (IsOk served × (has_journal ≡ true) × (result ≡ Err failure.Journal))
 
-module _ {S : Type 0} (g : Ghosts S) (has_journal : Bool) (terms : Terms) where
-  -- A part was served, which is a start, and ended so. What its list holds is said by who gives
-  -- that.
+-- how a part is watched over: whether there is a journal, and then whether each message lasts
+-- before the room acts on it, and whether questions are kept too; and whether a log is written
+pub record Watch : Type 0 where
+  pub has_journal : Bool
+  pub is_synced : Bool
+  pub keeps_questions : Bool
+  pub logs : Bool
+
+-- the journal of a part, in a file of the system
+abbrev pub PartJournal : Type 0
+PartJournal = Journal (WrittenFile SystemFile × ListEnd)
+
+-- an end was put behind the list of such a journal
+abbrev pub puts_end : WrittenFile SystemFile × ListEnd → WrittenFile SystemFile × ListEnd → Type 0
+puts_end old new = PutsEnd old.1 new.1 None None
+
+-- a log that is written or not, and a journal or none, are as a part is watched over
+pub record AreOf (watch : Watch) (logs : Bool) (journal : Option PartJournal) : Type 0 where
+  pub logged : logs ≡ watch.logs
+  pub kept : is_some journal ≡ watch.has_journal
+  pub synced : IfSome journal (λ it. it.is_synced ≡ watch.is_synced)
+  pub of : IfSome journal (λ it. it.keeps_questions ≡ watch.keeps_questions)
+
+module _ {S : Type 0} (g : Ghosts S) (watch : Watch) (terms : Terms) where
+  -- A part was served, which is a start, with this log and this journal, and ended so. Once it was
+  -- served, and then only, an end is put in the journal, unless its list was truncated. What the
+  -- list holds no contract can say.
   pub record IsPart (old new : Interval S) (result : Result Done Failure) : Type 0 where
-    pub kept : Option (List ℕ)
-    pub keeps : Option (List ℕ)
-    pub fails : Bool
+    pub logs : Bool
+    -- the journal as the part begins, as serving ended, and as the part ended
+    pub journal : Option PartJournal
+    pub later : Option PartJournal
+    pub last : Option PartJournal
+    pub are : AreOf watch logs journal
     pub served : Result Done Failure
-    pub ends : EndsAs has_journal served result
-    pub is : ServesRoom g has_journal room_text message_text answer_text terms.history old.conn
+    pub ends : EndsAs watch.has_journal served result
+    pub found : Finding
+    pub ended : watch.has_journal ≡ true → found ≢ Truncated
+        → EndsAfter puts_end later last served result
+    pub cut : found ≡ Truncated → (result ≡ served) × (last ≡ later)
+    pub is : ServesRoom g watch.has_journal room_text message_text answer_text terms.history old.conn
         (λ store. record {
           heard = old.heard;
-          told = old.told;
-          stage = record { given = old.given; kept = kept; has_failed = false; store = store };
+          written = old.written;
+          stage = record {
+            given = old.given;
+            kept = held_by (λ _. None) journal;
+            has_failed = false;
+            store = store;
+          };
         })
         (λ store. record {
           heard = new.heard;
-          told = new.told;
-          stage = record { given = new.given; kept = keeps; has_failed = fails; store = store };
+          written = new.written;
+          stage = record {
+            given = new.given;
+            kept = held_by (λ _. None) later;
+            has_failed = failed_by later;
+            store = store;
+          };
         })
         terms.renews terms.connections (served, new.conn)
 
@@ -70,8 +120,8 @@ module _ {S : Type 0} (g : Ghosts S) (has_journal : Bool) (terms : Terms) where
     pub renews : terms.renews ≡ true
     pub before : PartsBefore first last
     pub fault : Failure
-    pub told : result ≡ Err fault
-    pub why : (fault ≡ Memory) ⊎ (fault ≡ Journal)
+    pub result_is : result ≡ Err fault
+    pub why : (fault ≡ failure.Memory) ⊎ (fault ≡ failure.Journal)
 
   -- the room was served in parts, and so that ended
   abbrev pub ServesParts : Interval S → Interval S → Result Done Failure → Type 0

@@ -4,7 +4,7 @@ ghost use Rattle.dispatch_room_cli.specs.declared.exit_status.Failure.TheVariant
 ghost use Rattle.dispatch_room_disk.specs.RoomFiles.{IsDoneInFile, IsUndoneInFile};
 
 use dispatch_room_cli::exit_status::Failure;
-use dispatch_room_cli::explainer::Explainer;
+use dispatch_room_cli::failure_causes::Explainer;
 use dispatch_room_disk::room_files::{self, RoomFile, RoomTask};
 use dispatch_room_serving::journal_files::{self, OpenedList};
 use std::alloc::Global;

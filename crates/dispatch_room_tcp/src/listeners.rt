@@ -5,7 +5,7 @@ ghost use Rattle.dispatch_room_serving.specs.Callers.{Grows, Opening};
 ghost use Rattle.dispatch_room_sockets.specs.LingeringClose.{Step};
 
 use dispatch_room_cli::exit_status::Failure;
-use dispatch_room_cli::explainer::Explainer;
+use dispatch_room_cli::failure_causes::Explainer;
 use dispatch_room_sockets::connection_halves::sides;
 use dispatch_room_sockets::lingering_close::{Parting, Peer};
 use dispatch_room_sockets::socket_readers::SocketReader;
@@ -35,12 +35,12 @@ pub trait Listener: Drop {
     ghost heard: { Self → Option (List (Option Opening)) };
 
     // What each writer held that was taken back, where that is known.
-    ghost told: { Self → Option (List (Option (List ℕ))) };
+    ghost written: { Self → Option (List (Option (List ℕ))) };
 
     // Whether it listens.
     ghost is_listening: { Self → Bool };
 
-    // What was done to part from each peer that was let go, where that is known.
+    // What was done to part from each peer that was released, where that is known.
     ghost parted: { Self → Option (List (Option (List Step))) };
 
     // The peer of two sides.
@@ -51,34 +51,38 @@ pub trait Listener: Drop {
         ensures listens { OnOk result (is_listening self.new ≡ true) }
         ensures deaf { OnErr result (is_listening self.new ≡ is_listening self.old) }
         ensures heard { heard self.new ≡ heard self.old }
-        ensures told { told self.new ≡ told self.old }
+        ensures written { written self.new ≡ written self.old }
         ensures fault { IfErr result (λ fault. fault ≡ Network) };
 
     /// Whether it listens.
     fn is_listening(&self) -> bool
         ensures { result ≡ is_listening self.now };
 
-    /// The sides of the next connection: none where it came to nothing.
+    /// The sides of the next connection: none where it failed.
     fn accept(&mut self) -> Option<(Self::Reader, Self::Writer)>
         ensures heard { Grows (heard self.old) (heard self.new) (option_map (λ sides. record {
           left = Self.Reader.left sides.0;
           held = Self.Writer.held sides.1;
         }) result ∷ []) }
-        ensures told { told self.new ≡ told self.old }
+        ensures written { written self.new ≡ written self.old }
+        ensures listens { is_listening self.new ≡ is_listening self.old }
         ensures reader { IfSome result (λ sides. Self.Reader.has_failed sides.0 ≡ false) }
         ensures writer { IfSome result (λ sides. Self.Writer.has_failed sides.1 ≡ false) };
 
     /// Takes the sides of a connection back that was served, as its peer.
     fn peer(&mut self, reader: Self::Reader, writer: Self::Writer) -> Self::Peer
         ensures heard { heard self.new ≡ heard self.old }
-        ensures told { Grows (told self.old) (told self.new) (Self.Writer.held writer ∷ []) }
+        ensures written { Grows (written self.old) (written self.new)
+            (Self.Writer.held writer ∷ []) }
         ensures parted { parted self.new ≡ parted self.old }
+        ensures listens { is_listening self.new ≡ is_listening self.old }
         ensures peer { result ≡ peer_of reader writer };
 
     /// Lets a peer go that was parted from.
-    fn let_go(&mut self, peer: Self::Peer)
+    fn release(&mut self, peer: Self::Peer)
         ensures heard { heard self.new ≡ heard self.old }
-        ensures told { told self.new ≡ told self.old }
+        ensures written { written self.new ≡ written self.old }
+        ensures listens { is_listening self.new ≡ is_listening self.old }
         ensures parted { Grows (parted self.old) (parted self.new) (Self.Peer.done peer ∷ []) };
 }
 
@@ -105,7 +109,8 @@ impl<'a> TcpAddress<'a> {
         address: SocketAddr,
         waits: Waits,
     ) -> TcpAddress<'a>
-        ensures { (result.address ≡ address) × (result.waits ≡ waits) }
+        ensures times { (result.address ≡ address) × (result.waits ≡ waits) }
+        ensures deaf { is_some result.listener ≡ false }
     {
         TcpAddress {
             rt,
@@ -127,7 +132,7 @@ impl<'a> Listener for TcpAddress<'a> {
 
     ghost heard = { λ _. None };
 
-    ghost told = { λ _. None };
+    ghost written = { λ _. None };
 
     ghost is_listening = { λ it. is_some it.listener };
 
@@ -151,6 +156,7 @@ impl<'a> Listener for TcpAddress<'a> {
 
     // Beside what all that listens ensures: the sides have the waits of the address.
     fn accept(&mut self) -> Option<(Self::Reader, Self::Writer)>
+        ensures listens { is_some self.new.listener ≡ is_some self.old.listener }
         ensures reader { IfSome result (λ sides. sides.0.failed ≡ false) }
         ensures writer { IfSome result (λ sides. sides.1.failed ≡ false) }
         ensures paced { IfSome result (λ sides. (sides.0.pace.waits ≡ self.old.waits)
@@ -170,7 +176,7 @@ impl<'a> Listener for TcpAddress<'a> {
         Peer::new(reader, writer)
     }
 
-    fn let_go(&mut self, peer: Self::Peer) {
+    fn release(&mut self, peer: Self::Peer) {
         drop(peer);
     }
 }
@@ -192,7 +198,7 @@ pub(crate) fn bound(
     }
 }
 
-// Waits after a connection that was not to be had, but where it was the peer's doing.
+// Waits after a connection that failed, but where it was the peer's doing.
 fn pause_after(rt: &HostRuntime, error: &Error) {
     if error.kind() != ErrorKind::ConnectionAborted {
         thread::sleep(rt, Duration::from_millis(PAUSE));

@@ -4,10 +4,12 @@ ghost use Rattle.std.specs.Prelude.{◌≡◌, ◌≢◌, ◌⊎◌, ◌*◌, Op
 ghost use Rattle.std.specs.Duration.{as_nanos};
 ghost use Rattle.dispatch_room_cli.specs.declared.exit_status.Failure.TheVariants as failure;
 ghost use Rattle.dispatch_room_tasks.specs.OpenedRoom.{IsUnopened};
+ghost use Rattle.dispatch_room_serving.specs.Callers.{MayCall, Prints, PrintsStart};
 ghost use Rattle.dispatch_room_serving.specs.Journals.{EndsAfter, failed_by};
 ghost use Rattle.dispatch_room_serving.specs.declared.list_places.Finding.TheVariants.{Truncated};
-ghost use Rattle.dispatch_room_tcp.specs.ServedFiles.{FailsAt, FailsBy, FailsServe, IsAddressOf, IsDoorOf, IsServe, IsServedAt, IsServedBy};
-ghost use Rattle.dispatch_room_tcp.specs.ServedFiles.{Serves, ServesNone, ended, is_endless, is_synced_by, keeps_questions_by, terms_of};
+ghost use Rattle.dispatch_room_tcp.specs.ServedFiles.{FailsAt, FailsBy, FailsServe, IsAddressOf, IsDoorOf, IsServe, IsServed, IsServedAt, IsServedBy};
+ghost use Rattle.dispatch_room_tcp.specs.ServedFiles.{OpensNone, PrintsServing};
+ghost use Rattle.dispatch_room_tcp.specs.ServedFiles.{Serves, ServesNone, ended, is_endless, is_synced_by, keeps_questions_by, terms_of, watch_of};
 ghost use Rattle.dispatch_room_tcp.specs.ServedParts.{EndsAs, IsPart, OpensNoPart, ServesParts};
 
 use crate::hosts::Host;
@@ -15,7 +17,7 @@ use crate::listeners::{Listener, TcpAddress};
 use crate::tcp_callers::Heard;
 use crate::tcp_doors::TcpDoor;
 use dispatch_room_cli::exit_status::{Done, Failure};
-use dispatch_room_cli::explainer::Explainer;
+use dispatch_room_cli::failure_causes::Explainer;
 use dispatch_room_cli::tasks::{self, Service};
 use dispatch_room_disk::room_files::{RoomFile, RoomTask};
 use dispatch_room_serving::callers::Callers;
@@ -95,7 +97,8 @@ fn serve_at_door<O: Write, E: Write>(
 
 // The door of a service, at which the room of a file is served.
 fn door_of<'a>(file: &'a str, run: &ServiceRun<'a>) -> TcpDoor<'a>
-    ensures { IsDoorOf run.now.service.now result }
+    ensures door { IsDoorOf run.now.service.now result }
+    ensures deaf { is_some result.waiting ≡ false }
 {
     let keep = Duration::from_secs(u64::from(run.service.keep));
     let patience = waits_of(run.service).patience;
@@ -120,7 +123,8 @@ fn serve_at_address<O: Write, E: Write>(
 
 // The address of a service that serves so many connections.
 fn address_of<'a>(run: &ServiceRun<'a>) -> TcpAddress<'a>
-    ensures { IsAddressOf run.now.service.now result }
+    ensures address { IsAddressOf run.now.service.now result }
+    ensures deaf { is_some result.listener ≡ false }
 {
     TcpAddress::new(
         run.host.rt,
@@ -140,9 +144,11 @@ fn serve_at<L: Listener, O: Write, E: Write>(
     err: &mut E,
 ) -> Result<Done, Failure>
     ensures done { IfOk result (λ done. IsServedAt (O.contents out.old) (O.contents out.new) done
-        L.heard L.told (is_some journal) (terms_of run.now.service.now) listener) }
+        L.heard L.written (L.is_listening listener)
+        (watch_of (is_some journal) run.now.service.now) (terms_of run.now.service.now) listener) }
     ensures undone { IfErr result (λ fault. FailsAt (O.contents out.old) (O.contents out.new) fault
-        L.heard L.told (is_some journal) (terms_of run.now.service.now) listener) }
+        L.heard L.written (L.is_listening listener)
+        (watch_of (is_some journal) run.now.service.now) (terms_of run.now.service.now) listener) }
 {
     let serving = Serving {
         run,
@@ -191,10 +197,12 @@ struct Serving<'a, L, E> {
 impl<'a, L: Listener, E: Write> RoomTask for Serving<'a, L, E> {
     type Done = Served<L>;
 
-    ghost says = { λ work. Serves L.heard L.told (is_some work.list)
+    ghost says = { λ work. Serves L.heard L.written (L.is_listening work.listener)
+        (watch_of (is_some work.list) work.run.now.service.now)
         (terms_of work.run.now.service.now) work.listener };
 
-    ghost refuses = { λ work. ServesNone L.heard L.told (is_some work.list)
+    ghost refuses = { λ work. ServesNone L.heard L.written (L.is_listening work.listener)
+        (watch_of (is_some work.list) work.run.now.service.now)
         (terms_of work.run.now.service.now) work.listener };
 
     fn run<S: Alter + Drop, O: Write>(
@@ -223,17 +231,22 @@ fn serve_listened<S: Alter + Drop, L: Listener, O: Write, E: Write>(
     err: &mut E,
 ) -> TaskResult<Served<L>, S>
     requires outside { conn.in_transaction ≡ false }
-    ensures served { IfOk result (λ worked. Serves L.heard L.told
-        (is_some list) (terms_of run.now.service.now)
-        listener S S.Store conn worked.1 (O.contents out.old) (O.contents out.new)
-        worked.0) }
-    ensures fault { IfErr result (ServesNone L.heard L.told (is_some list)
-        (terms_of run.now.service.now) listener S S.Store conn) }
+    ensures served { IfOk result (λ worked. IsServed L.heard L.written S.Store conn worked.1
+        (watch_of (is_some list) run.now.service.now) (terms_of run.now.service.now)
+        listener worked.0) }
+    ensures printed { IfOk result (λ worked. PrintsServing (L.is_listening listener)
+        (O.contents out.old) (O.contents out.new) (ended worked.0)) }
+    ensures fault { IfErr result (OpensNone L.heard L.written S.Store conn
+        (watch_of (is_some list) run.now.service.now) (terms_of run.now.service.now) listener) }
+    ensures unopened { OnErr result ((O.contents out.new ≡ O.contents out.old)
+        ⊎ PrintsStart (L.is_listening listener) (O.contents out.old) (O.contents out.new)) }
 {
     let mut callers = Heard::new(listener, out);
     let mut clock = MachineClock::new(run.host.rt);
-    let (done, conn) = serve_parts(conn, run, list, &mut callers, &mut clock, err)?;
-    Ok((given_back(done, callers.into_listener()), conn))
+    let came = serve_parts(conn, run, list, &mut callers, &mut clock, err);
+    let listener = callers.into_listener();
+    let (done, conn) = came?;
+    Ok((given_back(done, listener), conn))
 }
 
 // How serving ended, with what listened for it.
@@ -258,29 +271,33 @@ fn serve_parts<S: Alter + Drop, P: Callers, C: Clock, E: Write>(
     err: &mut E,
 ) -> TaskResult<Done, S>
     requires outside { conn.in_transaction ≡ false }
-    ensures served { IfOk result (λ worked. ServesParts S.Store (is_some list)
-        (terms_of run.now.service.now)
+    ensures served { IfOk result (λ worked. ServesParts S.Store
+        (watch_of (is_some list) run.now.service.now) (terms_of run.now.service.now)
         (record {
           conn = conn;
           heard = P.heard callers.old;
-          told = P.told callers.old;
+          written = P.written callers.old;
           given = C.given clock.old;
         })
         (record {
           conn = worked.1;
           heard = P.heard callers.new;
-          told = P.told callers.new;
+          written = P.written callers.new;
           given = C.given clock.new;
         })
         worked.0) }
-    ensures fault { IfErr result (OpensNoPart S.Store (is_some list)
-        (terms_of run.now.service.now)
+    ensures prints { IfOk result (λ worked.
+        Prints (P.prints callers.old) (P.prints callers.new) worked.0) }
+    ensures fault { IfErr result (OpensNoPart S.Store
+        (watch_of (is_some list) run.now.service.now) (terms_of run.now.service.now)
         (record {
           conn = conn;
           heard = P.heard callers.old;
-          told = P.told callers.old;
+          written = P.written callers.old;
           given = C.given clock.old;
         })) }
+    ensures unopened { OnErr result ((P.prints callers.new ≡ P.prints callers.old)
+        ⊎ MayCall (P.prints callers.old) (P.prints callers.new)) }
 {
     let (first, left) = serve_part(conn, run, &list, callers, clock, err)?;
     if !terms_of(run.service).renews {
@@ -339,22 +356,25 @@ fn serve_part<S: Alter + Drop, P: Callers, C: Clock, E: Write>(
 ) -> TaskResult<Done, S>
     requires outside { conn.in_transaction ≡ false }
     ensures outside { IfOk result (λ worked. worked.1.in_transaction ≡ false) }
-    ensures served { IfOk result (λ worked. IsPart S.Store (is_some list.now)
-        (terms_of run.now.service.now)
+    ensures served { IfOk result (λ worked. IsPart S.Store
+        (watch_of (is_some list.now) run.now.service.now) (terms_of run.now.service.now)
         (record {
           conn = conn;
           heard = P.heard callers.old;
-          told = P.told callers.old;
+          written = P.written callers.old;
           given = C.given clock.old;
         })
         (record {
           conn = worked.1;
           heard = P.heard callers.new;
-          told = P.told callers.new;
+          written = P.written callers.new;
           given = C.given clock.new;
         })
         worked.0) }
+    ensures prints { IfOk result (λ worked.
+        Prints (P.prints callers.old) (P.prints callers.new) worked.0) }
     ensures fault { IfErr result (IsUnopened S.Store conn) }
+    ensures unopened { OnErr result (P.prints callers.new ≡ P.prints callers.old) }
 {
     let host = run.host;
     let service = run.service;

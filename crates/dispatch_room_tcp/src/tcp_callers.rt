@@ -2,7 +2,7 @@
 ghost use Rattle.std.specs.Io.KnownBytes.{Appends};
 ghost use Rattle.std.specs.Prelude.{◌≡◌, ◌⊎◌, ◌∷◌, [], IfErr, IfSome, IsOk, MatchBool, OnErr, OnOk, codes, false, option_map, true};
 ghost use Rattle.dispatch_room_cli.specs.declared.exit_status.Failure.TheVariants.{Network};
-ghost use Rattle.dispatch_room_serving.specs.Callers.{Grows};
+ghost use Rattle.dispatch_room_serving.specs.Callers.{Grows, Prints, printing};
 ghost use Rattle.dispatch_room_tcp.specs.Listeners.{PartsFrom};
 
 use crate::listeners::Listener;
@@ -24,13 +24,15 @@ impl<'a, L: Listener, O: Write> Heard<'a, L, O> {
     pub fn new(listener: L, out: &'a mut O) -> Heard<'a, L, O>
         ensures listener { result.listener ≡ listener }
         ensures out { result.out.now ≡ out.old }
+        ensures same_reference { result.out.ghost_name ≡ out.entry.ghost_name }
     {
         Heard { listener, out }
     }
 
     /// What listened for them.
     pub fn into_listener(self) -> L
-        ensures { result ≡ self.entry.listener }
+        ensures listener { result ≡ self.entry.listener }
+        ensures out { self.exit.1.0.now ≡ self.entry.out.now }
     {
         self.listener
     }
@@ -43,13 +45,22 @@ impl<'a, L: Listener, O: Write> Callers for Heard<'a, L, O> {
 
     ghost heard = { λ callers. L.heard callers.listener };
 
-    ghost told = { λ callers. L.told callers.listener };
+    ghost written = { λ callers. L.written callers.listener };
+
+    ghost prints = { λ callers. printing (L.is_listening callers.listener)
+        (O.contents callers.out.now) callers.out.ghost_name };
 
     // Beside what all callers ensure: something listens for them, and where nothing did, that is
     // reported.
     fn begin(&mut self) -> Result<(), Failure>
         ensures heard { L.heard self.new.listener ≡ L.heard self.old.listener }
-        ensures told { L.told self.new.listener ≡ L.told self.old.listener }
+        ensures written { L.written self.new.listener ≡ L.written self.old.listener }
+        ensures prints { Prints
+            (printing (L.is_listening self.old.listener) (O.contents self.old.out.now)
+            self.old.out.ghost_name)
+            (printing (L.is_listening self.new.listener) (O.contents self.new.out.now)
+            self.new.out.ghost_name)
+            result }
         ensures fault { IfErr result (λ fault. fault ≡ Network) }
         ensures listens { OnOk result (L.is_listening self.new.listener ≡ true) }
         ensures said { OnOk result (MatchBool (L.is_listening self.old.listener)
@@ -66,7 +77,7 @@ impl<'a, L: Listener, O: Write> Callers for Heard<'a, L, O> {
         if let Err(fault) = self.listener.listen() {
             return Err(fault);
         }
-        tell(self.out)
+        print_serving(self.out)
     }
 
     // Beside what all callers ensure: nothing is said.
@@ -76,7 +87,11 @@ impl<'a, L: Listener, O: Write> Callers for Heard<'a, L, O> {
               left = L.Reader.left sides.0;
               held = L.Writer.held sides.1;
             }) result ∷ []) }
-        ensures told { L.told self.new.listener ≡ L.told self.old.listener }
+        ensures written { L.written self.new.listener ≡ L.written self.old.listener }
+        ensures prints { printing (L.is_listening self.new.listener) (O.contents self.new.out.now)
+            self.new.out.ghost_name
+            ≡ printing (L.is_listening self.old.listener) (O.contents self.old.out.now)
+            self.old.out.ghost_name }
         ensures reader { IfSome result (λ sides. L.Reader.has_failed sides.0 ≡ false) }
         ensures writer { IfSome result (λ sides. L.Writer.has_failed sides.1 ≡ false) }
         ensures unsaid { self.new.out.now ≡ self.old.out.now }
@@ -84,12 +99,17 @@ impl<'a, L: Listener, O: Write> Callers for Heard<'a, L, O> {
         self.listener.accept()
     }
 
-    // Beside what all callers ensure: the peer was parted from, and then let go, and nothing is said.
+    // Beside what all callers ensure: the peer was parted from, and then released, and nothing is
+    // said.
     #[tactic(auto, using(crate::proofs::ListeningLemmas::parts_from))]
     fn done(&mut self, reader: L::Reader, writer: L::Writer)
         ensures heard { L.heard self.new.listener ≡ L.heard self.old.listener }
-        ensures told { Grows (L.told self.old.listener) (L.told self.new.listener)
+        ensures written { Grows (L.written self.old.listener) (L.written self.new.listener)
             (L.Writer.held writer ∷ []) }
+        ensures prints { printing (L.is_listening self.new.listener) (O.contents self.new.out.now)
+            self.new.out.ghost_name
+            ≡ printing (L.is_listening self.old.listener) (O.contents self.old.out.now)
+            self.old.out.ghost_name }
         ensures parted { PartsFrom L.Peer.done L.Peer.is_open L.Peer.answered
             (L.peer_of reader writer) (L.parted self.old.listener)
             (L.parted self.new.listener) }
@@ -97,12 +117,12 @@ impl<'a, L: Listener, O: Write> Callers for Heard<'a, L, O> {
     {
         let mut peer = self.listener.peer(reader, writer);
         part(&mut peer);
-        self.listener.let_go(peer);
+        self.listener.release(peer);
     }
 }
 
 // Says that a room is served.
-fn tell<O: Write>(out: &mut O) -> Result<(), Failure>
+fn print_serving<O: Write>(out: &mut O) -> Result<(), Failure>
     ensures said { OnOk result (Appends (O.contents out.old) (O.contents out.new)
         (codes "serving\n")) }
     ensures fault { IfErr result (λ fault. fault ≡ Network) }

@@ -39,8 +39,9 @@ impl<'a> TcpDoor<'a> {
         keep: Duration,
         patience: Duration,
     ) -> TcpDoor<'a>
-        ensures { (result.address ≡ address) × (result.keep ≡ keep)
+        ensures times { (result.address ≡ address) × (result.keep ≡ keep)
             × (result.patience ≡ patience) }
+        ensures deaf { is_some result.waiting ≡ false }
     {
         TcpDoor {
             host,
@@ -119,7 +120,7 @@ impl<'a> Listener for TcpDoor<'a> {
 
     ghost heard = { λ _. None };
 
-    ghost told = { λ _. None };
+    ghost written = { λ _. None };
 
     ghost is_listening = { λ it. is_some it.waiting };
 
@@ -154,6 +155,7 @@ impl<'a> Listener for TcpDoor<'a> {
 
     // Beside what all that listens ensures: an answer has the patience of the door.
     fn accept(&mut self) -> Option<(Self::Reader, Self::Writer)>
+        ensures listens { is_some self.new.waiting ≡ is_some self.old.waiting }
         ensures reader { IfSome result (λ sides. sides.0.failed ≡ false) }
         ensures writer { IfSome result (λ sides. sides.1.failed ≡ false) }
         ensures patient { IfSome result (λ sides. sides.1.patience ≡ self.old.patience) }
@@ -166,7 +168,7 @@ impl<'a> Listener for TcpDoor<'a> {
         PiecePeer { reader, writer }
     }
 
-    fn let_go(&mut self, peer: Self::Peer) {
+    fn release(&mut self, peer: Self::Peer) {
         if let Some(waiting) = &mut self.waiting {
             take_back(waiting, peer.reader, peer.writer);
         }

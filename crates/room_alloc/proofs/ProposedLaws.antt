@@ -24,12 +24,12 @@ any_plan : (d : ℕ) (i : Incident) (at : ℕ) (plan : List Area) (s : DivisionR
 unfolding candidates holders point_of served
 any_plan d i at plan s = refl
 
-pub told : (d n at : ℕ) (plan : List Area) (s : DivisionRows) (i : Incident)
+pub all_proposals : (d n at : ℕ) (plan : List Area) (s : DivisionRows) (i : Incident)
     → ((decide : Incident → Verdict)
     → where_active (incident_of d n (room_of plan s)) decide ≡ decide i)
     → propose d n at (room_of plan s) ≡ show (Proposals (all_proposed d i at (unplanned s)))
 unfolding propose
-told d n at plan s i there =
+all_proposals d n at plan s i there =
     there (λ j. show (Proposals (all_proposed d j at (room_of plan s))))
     ∙ ap (λ ps. show (Proposals ps)) (sym (any_plan d i at plan s))
 
@@ -46,16 +46,16 @@ module _ (d n at : ℕ) (r : Room) (order : IsInOrder r) (i : Incident) (x : Dec
     joined = e;
   }
 
-  same_told : (b : Bool)
+  same_proposals : (b : Bool)
       → refuse_if b IncidentNotOpen (show (Proposals (all_proposed d i at r))) ≡ Ok x
       → x.answer ≡ Proposals (all_proposed d i at r)
   unfolding refuse_if
-  same_told true e = cc
-  same_told false e = let answers = ap answer_of e in cc
+  same_proposals true e = cc
+  same_proposals false e = let answers = ap answer_of e in cc
 
   pub for_incident : incident_of d n r ≡ Some i → propose d n at r ≡ Ok x
       → AreForIncident d i at r x.answer
   unfolding propose
   for_incident there e =
-      of_incident (same_told (not (is_active i.state))
+      of_incident (same_proposals (not (is_active i.state))
       (ap (λ o. where_active o (λ j. show (Proposals (all_proposed d j at r)))) (sym there) ∙ e))

@@ -19,7 +19,7 @@ use Rattle.room_model.specs.RoomSlices.{room_of}
 abbrev pub unplanned : DivisionRows → Room
 unplanned s = room_of [] s
 
--- the point has no more holders than it wants
+-- the point has no more holders than it needs
 abbrev pub is_point_short : ℕ → ℕ → Room → Point → Bool
 is_point_short d at r p = is_short (length (holders d p.number at r)) (Some p)
 

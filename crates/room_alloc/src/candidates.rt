@@ -22,10 +22,10 @@ pub(crate) fn short_points(alloc: Global, slice: &Slice, at: Moment) -> Result<R
 {
     // It also says that the points are in order.
     let _in_order = slice.rows.points.as_slice();
-    points_in_want(alloc, slice, at)
+    points_in_need(alloc, slice, at)
 }
 
-fn points_in_want(alloc: Global, slice: &Slice, at: Moment) -> Result<Rows<Point>, Refusal>
+fn points_in_need(alloc: Global, slice: &Slice, at: Moment) -> Result<Rows<Point>, Refusal>
     ensures ok { IfOk result (λ short.
         short ≡ filter (is_point_short slice.now.division at
         (unplanned slice.now.rows)) slice.now.rows.points) }

@@ -51,19 +51,19 @@ module _ (d p : ℕ) (f : CallForm) (at : ℕ) (r : Room) (formed : IsWellFormed
   ]
 
 -- the same of a call that is of this form
-pub told_by : (d : ℕ) (new : NewCall) (r : Room) (f : CallForm) (rows : Room) → IsWellFormed r
+pub decided_by : (d : ℕ) (new : NewCall) (r : Room) (f : CallForm) (rows : Room) → IsWellFormed r
     → new ≡ new_call new.position f new.at → kept_call new.position f.serial r ≡ None
     → division_of r.plan f.place ≡ Some d → AreRead d (ask.Call f) new.at rows r
     → take_call new r ≡ call_in d new rows
-told_by d new r f rows formed same none placed read =
+decided_by d new r f rows formed same none placed read =
     ap (λ n. take_call n r) same ∙ by_read d new.position f new.at r formed none placed rows read
     ∙ ap (λ n. call_in d n rows) (sym same)
 
 -- and in another room with an equal share it is decided alike
-pub told_apart : (d : ℕ) (new : NewCall) (r other : Room) (f : CallForm) → IsWellFormed r
+pub decided_apart : (d : ℕ) (new : NewCall) (r other : Room) (f : CallForm) → IsWellFormed r
     → IsWellFormed other → new ≡ new_call new.position f new.at → own d r ≡ own d other
     → kept_call new.position f.serial r ≡ None → kept_call new.position f.serial other ≡ None
     → division_of r.plan f.place ≡ Some d → take_call new r ≡ take_call new other
-told_apart d new r other f formed good same shares none nor placed =
+decided_apart d new r other f formed good same shares none nor placed =
     ap (λ n. take_call n r) same ∙ call_equal d new.position f new.at r other formed good shares none nor placed
     ∙ sym (ap (λ n. take_call n other) same)

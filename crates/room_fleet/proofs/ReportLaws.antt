@@ -23,7 +23,7 @@ use Rattle.room_types.specs.declared.tables.Turn.{Turn}
 use Rattle.room_types.specs.declared.tables.Vehicle.{Vehicle}
 use Rattle.room_model.proofs.OpenTurns.{open_is, open_there}
 use Rattle.room_model.proofs.Tests.{none_of}
-use Rattle.room_model.specs.Decisions.{Verdict, tell}
+use Rattle.room_model.specs.Decisions.{Verdict, with_changes}
 use Rattle.room_model.specs.Queries.{borrowed, held, kept_report, open_turn, vehicle_at}
 use Rattle.room_model.specs.Reports.{back_changes, drop_changes, ends_turn, is_due, is_home, outcome_of, report_acts}
 use Rattle.room_model.specs.Reports.{report_held, report_in, report_kept, report_made, report_somewhere, take_report}
@@ -72,20 +72,21 @@ decided x p at = report_held (Some x.vehicle) x.turn x.loan p at
 made_so : (x : CrewRows) (p : Press) (at : ℕ) (o : Outcome)
     → acts (reported_as x p at o).report.outcome ≡ true
     → report_made x.vehicle x.turn x.loan p at o
-    ≡ tell (answer_of (reported_as x p at o)) (put_one_by_one x (reported_as x p at o))
-made_so x p at Normal h = ap (tell (answer_of (acted x p at Normal))) (acts_so x p at Normal)
-made_so x p at Skipped h = ap (tell (answer_of (acted x p at Skipped))) (acts_so x p at Skipped)
+    ≡ with_changes (answer_of (reported_as x p at o)) (put_one_by_one x (reported_as x p at o))
+made_so x p at Normal h = ap (with_changes (answer_of (acted x p at Normal))) (acts_so x p at Normal)
+made_so x p at Skipped h = ap (with_changes (answer_of (acted x p at Skipped))) (acts_so x p at Skipped)
 made_so x p at Wrong h = absurd (false≢true h)
 made_so x p at Late h = absurd (false≢true h)
 made_so x p at Stale h = absurd (false≢true h)
 
 pub acted_so : (x : CrewRows) (y : Rows) (p : Press) (at : ℕ) (changes : List Change)
     (answer : Answer) → acts y.report.outcome ≡ true → y ≡ reported x p at
-    → changes ≡ put_one_by_one x y → answer ≡ answer_of y → decided x p at ≡ tell answer changes
-acted_so x y p at changes answer acting same are told =
-    subst (λ (z : Rows). acts z.report.outcome ≡ true → decided x p at ≡ tell (answer_of z) (put_one_by_one x z))
+    → changes ≡ put_one_by_one x y → answer ≡ answer_of y → decided x p at ≡ with_changes answer changes
+acted_so x y p at changes answer acting same are answered_so =
+    subst
+    (λ (z : Rows). acts z.report.outcome ≡ true → decided x p at ≡ with_changes (answer_of z) (put_one_by_one x z))
     (sym same) (made_so x p at (outcome_of x.vehicle x.turn p)) acting
-    ∙ (ap (tell (answer_of y)) (sym are) ∙ ap (λ a. tell a changes) (sym told))
+    ∙ (ap (with_changes (answer_of y)) (sym are) ∙ ap (λ a. with_changes a changes) (sym answered_so))
 
 -- ---- a room that has a vehicle's rows decides its report by them
 pub decided_so : (x : CrewRows) (r : Room) (p : Press) (at : ℕ) → AreHolders r x

@@ -25,8 +25,8 @@ acted x p at o = record {
 }
 
 -- one that does not: its row is kept, and the greatest number
-abbrev pub kept_alone : CrewRows → Press → ℕ → Outcome → Reported
-kept_alone x p at o = record {
+abbrev pub only_kept : CrewRows → Press → ℕ → Outcome → Reported
+only_kept x p at o = record {
   vehicle = with_report x.vehicle p;
   turn = x.turn;
   loan = x.loan;
@@ -35,7 +35,7 @@ kept_alone x p at o = record {
 
 -- a report acts by its outcome
 abbrev pub reported_as : CrewRows → Press → ℕ → Outcome → Reported
-reported_as x p at o = cond (acts o) (acted x p at o) (kept_alone x p at o)
+reported_as x p at o = cond (acts o) (acted x p at o) (only_kept x p at o)
 
 -- the rows after a report whose number is new
 abbrev pub reported : CrewRows → Press → ℕ → Reported
@@ -43,8 +43,8 @@ reported x p at = reported_as x p at (outcome_of x.vehicle x.turn p)
 
 -- ---- in plain words
 -- late, stale or wrong
-abbrev pub IsKeptAlone : Reported → Type 0
-IsKeptAlone y = acts y.report.outcome ≡ false
+abbrev pub IsOnlyKept : Reported → Type 0
+IsOnlyKept y = acts y.report.outcome ≡ false
 
 -- a moment that is set stays
 abbrev pub Stays : Option ℕ → Option ℕ → Type 0

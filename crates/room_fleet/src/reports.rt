@@ -14,7 +14,7 @@ ghost use Rattle.room_model.specs.Reports.{back_changes, drop_changes, ends_turn
 ghost use Rattle.room_model.specs.Room.{Room};
 ghost use Rattle.room_model.specs.RoomSlices.{AreCrewRows};
 ghost use Rattle.room_model.specs.RoomAgreements.{IsWellFormed};
-ghost use Rattle.room_fleet.specs.ReportedRows.{AreHolders, IsKeptAlone, TurnKeepsMoments, acted, kept_alone, reported};
+ghost use Rattle.room_fleet.specs.ReportedRows.{AreHolders, IsOnlyKept, TurnKeepsMoments, acted, only_kept, reported};
 
 use crate::buttons::{acts, ends_turn, is_home, names_order, press as outcome_at, status_after};
 use room_types::answers::{Answer, Listed};
@@ -145,10 +145,10 @@ pub struct Reported {
 #[tactic(auto, using(crate::proofs::MomentLaws::turn_keeps, crate::proofs::MomentLaws::same_turn_keeps))]
 pub fn report(slice: &CrewSlice, press: &Press, at: Moment) -> Reported
     ensures rows { result ≡ reported slice.now.rows press.now at }
-    ensures status_stays { IsKeptAlone result
+    ensures status_stays { IsOnlyKept result
         → result.vehicle.status ≡ slice.now.rows.vehicle.status }
-    ensures place_stays { IsKeptAlone result → result.vehicle.place ≡ slice.now.rows.vehicle.place }
-    ensures turn_stays { IsKeptAlone result → result.turn ≡ slice.now.rows.turn }
+    ensures place_stays { IsOnlyKept result → result.vehicle.place ≡ slice.now.rows.vehicle.place }
+    ensures turn_stays { IsOnlyKept result → result.turn ≡ slice.now.rows.turn }
     ensures moments_stay { TurnKeepsMoments slice.now.rows.turn result.turn }
     ensures owner { result.report.division ≡ slice.now.rows.vehicle.holder }
     ensures greatest { result.vehicle.last_report ≡ max slice.now.rows.vehicle.last_report
@@ -159,7 +159,7 @@ pub fn report(slice: &CrewSlice, press: &Press, at: Moment) -> Reported
     if acts(outcome) {
         act(rows, press, at, outcome)
     } else {
-        keep_alone(rows, press, at, outcome)
+        keep_only(rows, press, at, outcome)
     }
 }
 
@@ -186,8 +186,8 @@ fn act(rows: &CrewRows, press: &Press, at: Moment, outcome: Outcome) -> Reported
 }
 
 // Of a report that does not act, its row is kept, and the greatest number.
-fn keep_alone(rows: &CrewRows, press: &Press, at: Moment, outcome: Outcome) -> Reported
-    ensures { result ≡ kept_alone rows.now press.now at outcome }
+fn keep_only(rows: &CrewRows, press: &Press, at: Moment, outcome: Outcome) -> Reported
+    ensures { result ≡ only_kept rows.now press.now at outcome }
 {
     Reported {
         vehicle: with_report(&rows.vehicle, press),

@@ -12,16 +12,15 @@ use Rattle.room_model.specs.Room.{Room}
 use Rattle.room_model.specs.Step.{is_for}
 use Rattle.room_http_messages.specs.Messages.{WholeMessage, terminal_of}
 use Rattle.room_http_time.specs.Dates.{Date}
-use Rattle.room_http_requests.specs.Targets.{routed}
-use Rattle.room_http_requests.specs.declared.targets.Target.{Target}
-use Rattle.room_http_requests.specs.declared.targets.Target.TheVariants as target
-use Rattle.room_http_requests.specs.RequestAsks.{request_by}
+use Rattle.room_http_requests.specs.RequestTable.{is_known, is_of, request_by, role_of}
+use Rattle.room_http_requests.specs.Routes.{routed}
+use Rattle.room_http_requests.specs.declared.request_table.Target.{Target}
+use Rattle.room_http_requests.specs.declared.request_table.Target.TheVariants as target
 use Rattle.room_http_requests.specs.Bodies.{ask_with_body}
 use Rattle.room_http_requests.specs.BodyFields.{fields_of}
-use Rattle.room_http_requests.specs.Roles.{is_known, is_of, role_of}
-use Rattle.room_http_requests.specs.declared.request_asks.Request.{Request}
-use Rattle.room_http_requests.specs.declared.request_asks.Request.TheVariants as request
-use Rattle.room_http_requests.specs.declared.roles.Role.TheVariants as role
+use Rattle.room_http_requests.specs.declared.request_table.Request.{Request}
+use Rattle.room_http_requests.specs.declared.request_table.Request.TheVariants as request
+use Rattle.room_http_requests.specs.declared.request_table.Role.TheVariants as role
 use Rattle.room_http_requests.proofs.RoleLaws.{asked_is, addressed}
 use Rattle.room_http.specs.declared.settings.Setting.{Setting}
 use Rattle.room_http.specs.MessageEvents.{AsksAs, AsksAt, AsksBy, AsksFor, IsAskFor, named}
@@ -48,11 +47,13 @@ pub request_addressed : (setting : Setting) (t : Target) (body : List ℕ) (give
     (who : Who) (room : Room) → request_by t body ≡ Some given
     → IsAskFor setting given asks → is_of (role_of t) who ≡ true → is_known who room ≡ true
     → is_for who asks room ≡ true
-request_addressed setting t body (request.Ask a) asks who room wants is may known =
-    ap (λ (x : Ask). is_for who x room) is ∙ addressed (role_of t) a who room (asked_is t body a wants).0 may ∙ known
-request_addressed setting t body (request.Times day) asks who room wants is may known =
+request_addressed setting t body (request.Ask a) asks who room body_asks is may known =
+    ap (λ (x : Ask). is_for who x room) is ∙ addressed (role_of t) a who room (asked_is t body a body_asks).0 may
+    ∙ known
+request_addressed setting t body (request.Times day) asks who room body_asks is may known =
     ap (λ (x : Ask). is_for who x room) is.2
-    ∙ addressed role.Desk (ask.Times is.0.0 is.0.1) who room refl (rw (times_are_desks t body day wants) at may) ∙ known
+    ∙ addressed role.Desk (ask.Times is.0.0 is.0.1) who room refl (rw (times_are_desks t body day body_asks) at may)
+    ∙ known
 
 -- what a message asks for, found step by step
 pub asks_for : (setting : Setting) (terminals : List Terminal) (m : WholeMessage) (at : ℕ)
@@ -64,15 +65,15 @@ pub asks_for : (setting : Setting) (terminals : List Terminal) (m : WholeMessage
     → request_by t body ≡ Some given → IsAskFor setting given asks
     → AsksFor setting terminals m at (Ok (record { who = who; ask = asks; at = at }))
 asks_for setting terminals m at method bytes body field t who given asks method_is target_is body_is field_is routed_is
-    named_is may wants is =
+    named_is may body_asks is =
     let found : Result Event Refusal = Ok (record { who = who; ask = asks; at = at }) in
     let path : routed setting.history m.head.method m.head.target ≡ Ok t =
     ap (λ x. routed setting.history x m.head.target) (sym method_is)
     ∙ ap (λ x. routed setting.history method x) (sym target_is) ∙ routed_is in
     let shows : named terminals (terminal_of m.head) ≡ Some who = ap (named terminals) (sym field_is) ∙ named_is in
-    let wanting : request_by t m.body ≡ Some given = ap (request_by t) (sym body_is) ∙ wants in
+    let body_asked : request_by t m.body ≡ Some given = ap (request_by t) (sym body_is) ∙ body_asks in
     let by_body : AsksBy setting at who (request_by t m.body) found = subst
-    (λ (g : Option Request). AsksBy setting at who g found) (sym wanting) (asks, is, refl) in
+    (λ (g : Option Request). AsksBy setting at who g found) (sym body_asked) (asks, is, refl) in
     let by_role : AsksAs setting t m.body at (Some who) found = subst
     (λ (b : Bool). MatchBool b (AsksBy setting at who (request_by t m.body) found) (found ≡ Err WrongRole)) (sym may)
     by_body in

@@ -14,12 +14,11 @@ use Rattle.room_model.specs.Room.{Room}
 use Rattle.room_model.specs.Step.{answer_to}
 use Rattle.room_model.specs.Rooms.{machine}
 use Rattle.room_http_messages.specs.Messages.{terminal_of}
-use Rattle.room_http_requests.specs.RequestAsks.{request_by}
-use Rattle.room_http_requests.specs.Roles.{is_of, role_of}
-use Rattle.room_http_requests.specs.Targets.{routed}
-use Rattle.room_http_requests.specs.declared.request_asks.Request.{Request}
-use Rattle.room_http_requests.specs.declared.request_asks.Request.TheVariants as request
-use Rattle.room_http_requests.specs.declared.targets.Target.{Target}
+use Rattle.room_http_requests.specs.RequestTable.{is_of, request_by, role_of}
+use Rattle.room_http_requests.specs.Routes.{routed}
+use Rattle.room_http_requests.specs.declared.request_table.Request.{Request}
+use Rattle.room_http_requests.specs.declared.request_table.Request.TheVariants as request
+use Rattle.room_http_requests.specs.declared.request_table.Target.{Target}
 use Rattle.room_http.proofs.DatedMoments.{always_there_law}
 use Rattle.room_http_time.specs.Days.{zone_of}
 use Rattle.room_http.specs.declared.moments.TheConstants.{LAST_MOMENT}
@@ -29,7 +28,7 @@ use Rattle.room_http.specs.Arrivals.{is_closing, is_head_only, message, refused}
 use Rattle.room_http.specs.MessageEvents.{AsksAs, AsksAt, AsksBy, IsAskFor, named}
 use Rattle.room_http.specs.Runs.{AreAnswered, Exchange}
 use Rattle.room_http.specs.Settings.{IsSetting}
-use Rattle.room_http.specs.Talk.{Finds, Timed, replied}
+use Rattle.room_http.specs.Dialogues.{Finds, Timed, replied}
 
 module _ (text : List ℕ) (a b : Setting) (in_a : IsSetting text b.history a)
     (in_b : IsPosixZone text (zone_of b.zone)) where

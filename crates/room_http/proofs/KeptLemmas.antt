@@ -14,7 +14,7 @@ use Rattle.room_http_messages.proofs.StreamLemmas.{Appends-more, Appends-none}
 use Rattle.room_http.specs.declared.moments.TheConstants.{LAST_MOMENT}
 use Rattle.room_http.specs.declared.settings.Setting.{Setting}
 use Rattle.room_http.specs.ClockMoments.{HasNoMoment}
-use Rattle.room_model.specs.Rooms.{IsWant, Step}
+use Rattle.room_model.specs.Rooms.{IsUnavailable, Step}
 use Rattle.room_http.specs.declared.arrivals.Arrived.{Arrived}
 use Rattle.room_http.specs.declared.arrivals.Arrived.TheVariants.{Message, Refused}
 use Rattle.room_http.specs.declared.session.ServeEnd.{ServeEnd}
@@ -22,8 +22,8 @@ use Rattle.room_http.specs.declared.session.ServeEnd.TheVariants.{Closed, Cut, R
 use Rattle.room_http.specs.declared.session.ServeEnd.TheVariants.{Unkept, ReadsSpent, Memory}
 use Rattle.room_http.specs.Arrivals.{Arrival, message, refused, is_closing, is_head_only, Begins, HasNext, IsShown}
 use Rattle.room_http.specs.KeptMessages.{Acts, ActsOnEach, AreKept, AreReplies, DoesNothing, Grow, IsBegun, IsCome, IsRecord}
-use Rattle.room_http.specs.KeptMessages.{KeepsEach, KeepsOne, Tapes, Unmoved, answer_kept, came_of, told_of}
-use Rattle.room_http.specs.Talk.{Timed, IsFront, IsReplyTo}
+use Rattle.room_http.specs.KeptMessages.{KeepsEach, KeepsOne, Tapes, Unmoved, answer_kept, came_of, response_of}
+use Rattle.room_http.specs.Dialogues.{Timed, IsFront, IsReplyTo}
 use Rattle.room_http.specs.Course.{Course}
 use Rattle.room_http.proofs.ServeLemmas.{last_of, still_begins}
 use Rattle.room_http.proofs.StreamLemmas.{Passes, Begins-push}
@@ -54,16 +54,16 @@ AreReplies-push step setting terminals room mid after (y ∷ outs) [] x answer a
 AreReplies-push step setting terminals room mid after (y ∷ outs) (z ∷ answers) x answer are is =
     (are.0, are.1, AreReplies-push step setting terminals are.0 mid after outs answers x answer are.2 is)
 
-module _ (came : ℕ → List ℕ → List ℕ) (told : List ℕ → List ℕ) where
+module _ (came : ℕ → List ℕ → List ℕ) (response : List ℕ → List ℕ) where
   come : (arrived : Arrived) (o : Arrival) (at : ℕ) → at ≤ LAST_MOMENT → IsShown arrived o
-      → IsCome came told (o, at) (came_of came arrived at)
+      → IsCome came response (o, at) (came_of came arrived at)
   come (Message shown bytes) (message m) at within is = (bytes.now, is.1, within, refl)
   come (Message shown bytes) (refused r head_only) at within is = absurd is
   come (Refused r head_only) (message m) at within is = absurd is
   come (Refused r head_only) (refused s without) at within is = refl
 
   answer_is : (arrived : Arrived) (o : Arrival) (answer : List ℕ) → IsShown arrived o
-      → told_of told arrived answer ≡ answer_kept came told o answer
+      → response_of response arrived answer ≡ answer_kept came response o answer
   answer_is (Message shown bytes) (message m) answer is = refl
   answer_is (Message shown bytes) (refused r head_only) answer is = absurd is
   answer_is (Refused r head_only) (message m) answer is = absurd is
@@ -78,11 +78,11 @@ module _ (came : ℕ → List ℕ → List ℕ) (told : List ℕ → List ℕ) w
     abbrev Here : Option (List ℕ) → Option (List ℕ) → Option (List ℕ) → Option (List ℕ)
         → Result (Unit {0}) ServeEnd → Type 0
     Here kept keeps held holds =
-        KeepsOne came told lasts unmoved moved (record { given = given; kept = kept; held = held })
+        KeepsOne came response lasts unmoved moved (record { given = given; kept = kept; held = held })
         (record { given = gives; kept = keeps; held = holds }) at o
 
-    is_record : (answer : List ℕ) → IsRecord came told (o, at) answer
-        (coming ++ told_of told arrived answer)
+    is_record : (answer : List ℕ) → IsRecord came response (o, at) answer
+        (coming ++ response_of response arrived answer)
     is_record answer =
         (coming, come arrived o at within shown, ap (λ t. coming ++ t) (answer_is arrived o answer shown))
 
@@ -97,18 +97,18 @@ module _ (came : ℕ → List ℕ → List ℕ) (told : List ℕ → List ℕ) w
       record { given = moment; kept = cut.2; held = Appends-none held },
     )
 
-    -- memory or storage was wanting, however serving ended by that
-    pub kept_want : (end : ServeEnd) (kept comes last held holds : Option (List ℕ)) (r : Refusal)
+    -- memory or storage was unavailable, however serving ended by that
+    pub kept_unserved_tail : (end : ServeEnd) (kept comes last held holds : Option (List ℕ)) (r : Refusal)
         (wrote : List ℕ)
-        → unmoved → IsWant r → Appends kept comes coming → last ≡ comes
+        → unmoved → IsUnavailable r → Appends kept comes coming → last ≡ comes
         → IsFront wrote (fixed_bytes r (is_head_only o)) → Appends held holds wrote
-        → (tail wrote : List ℕ) × IsBegun came told end lasts unmoved (moved (o, at)) (o, at) tail wrote
+        → (tail wrote : List ℕ) × IsBegun came response end lasts unmoved (moved (o, at)) (o, at) tail wrote
         × Grow (record { given = given; kept = kept; held = held })
         (record { given = gives; kept = last; held = holds }) (at ∷ []) tail wrote
-    kept_want end kept comes last held holds r wrote still want first same front written = (
+    kept_unserved_tail end kept comes last held holds r wrote still cause first same front written = (
       coming,
       wrote,
-      inl (still, inr (come arrived o at within shown, (r, want, front))),
+      inl (still, inr (come arrived o at within shown, (r, cause, front))),
       record { given = moment; kept = rw same first; held = written },
     )
 
@@ -120,7 +120,7 @@ module _ (came : ℕ → List ℕ → List ℕ) (told : List ℕ → List ℕ) w
 
       -- it could not be kept
       pub kept_part : (kept comes keeps held : Option (List ℕ)) → Appends kept comes coming
-          → ((front : List ℕ) × IsFront front (told_of told arrived answer)
+          → ((front : List ℕ) × IsFront front (response_of response arrived answer)
           × Appends comes keeps front)
           → Here kept keeps held held (Err Unkept)
       kept_part kept comes keeps held first cut = (
@@ -151,45 +151,45 @@ module _ (came : ℕ → List ℕ → List ℕ) (told : List ℕ → List ℕ) w
 
       -- the record was kept, and it was written
       pub kept_all : (kept comes keeps last held holds : Option (List ℕ))
-          → Appends kept comes coming → Appends comes keeps (told_of told arrived answer)
+          → Appends kept comes coming → Appends comes keeps (response_of response arrived answer)
           → last ≡ keeps
           → Appends held holds answer → Here kept last held holds (Ok tt)
       kept_all kept comes keeps last held holds first second same wrote = (
         answer,
-        coming ++ told_of told arrived answer,
+        coming ++ response_of response arrived answer,
         acted,
         is_record answer,
         record {
           given = moment;
           kept = rw same
-              (Appends-more kept comes keeps coming (told_of told arrived answer) first second);
+              (Appends-more kept comes keeps coming (response_of response arrived answer) first second);
           held = wrote;
         },
       )
 
       -- it was not written wholly
       pub kept_cut : (kept comes keeps last held holds : Option (List ℕ)) (wrote : List ℕ)
-          → Appends kept comes coming → Appends comes keeps (told_of told arrived answer)
+          → Appends kept comes coming → Appends comes keeps (response_of response arrived answer)
           → last ≡ keeps
           → IsFront wrote answer → Appends held holds wrote
           → Here kept last held holds (Err WriteFault)
       kept_cut kept comes keeps last held holds wrote first second same front written = (
-        coming ++ told_of told arrived answer,
+        coming ++ response_of response arrived answer,
         wrote,
         inr (answer, acted, stays, inr (is_record answer, front)),
         record {
           given = moment;
           kept = rw same
-              (Appends-more kept comes keeps coming (told_of told arrived answer) first second);
+              (Appends-more kept comes keeps coming (response_of response arrived answer) first second);
           held = written;
         },
       )
 
   -- ---- a connection
   AreKept-push : (outs : List Timed) (answers : List (List ℕ)) (text : List ℕ) (x : Timed)
-      (answer last : List ℕ) → AreKept came told outs answers text
-      → IsRecord came told x answer last
-      → AreKept came told (outs ++ x ∷ []) (answers ++ answer ∷ []) (text ++ last)
+      (answer last : List ℕ) → AreKept came response outs answers text
+      → IsRecord came response x answer last
+      → AreKept came response (outs ++ x ∷ []) (answers ++ answer ∷ []) (text ++ last)
   AreKept-push [] [] text x answer last kept is = (last, [], is, ap (λ t. t ++ last) kept ∙ sym (append-nil last), refl)
   AreKept-push [] (y ∷ answers) text x answer last kept is = absurd kept
   AreKept-push (y ∷ outs) [] text x answer last kept is = absurd kept
@@ -211,7 +211,7 @@ module _ (came : ℕ → List ℕ → List ℕ) (told : List ℕ → List ℕ) w
     pub begins : (stream : List ℕ) → left ≡ Some stream
         → (rest : List ℕ) × (remains ≡ Some rest) × Begins stream (map (λ x. x.0) outs) rest
     pub stay : All (λ x. is_closing x.0 ≡ false) outs
-    pub kept : AreKept came told outs answers text
+    pub kept : AreKept came response outs answers text
     pub grew : Grow old new (map (λ x. x.1) outs) text (concat answers)
     pub moved : ActsOnEach step setting trusted stood stands outs answers
 
@@ -248,7 +248,7 @@ module _ (came : ℕ → List ℕ → List ℕ) (told : List ℕ → List ℕ) w
         (answers : List (List ℕ))
         → Noted step setting left old remains new trusted stood stands outs answers
         → (end : ServeEnd) (lasts : Type 0) → lasts
-        → KeepsEach came told lasts (ActsOnEach step setting trusted stood stands) left old new end
+        → KeepsEach came response lasts (ActsOnEach step setting trusted stood stands) left old new end
         (record { outs = outs; answers = answers; last = None })
     Noted-ends remains new trusted stood stands outs answers before end lasts same = record {
       text = before.text;
@@ -281,7 +281,7 @@ module _ (came : ℕ → List ℕ → List ℕ) (told : List ℕ → List ℕ) w
       Now = ActsOnEach step setting late stood stands
 
       abbrev One : Result (Unit {0}) ServeEnd → Type 0
-      One = KeepsOne came told later (Unmoved late stays stands) (Acts step setting late stays stands) mid new at o
+      One = KeepsOne came response later (Unmoved late stays stands) (Acts step setting late stays stands) mid new at o
 
       same_moves : Unmoved late stays stands → Now outs answers
       same_moves still trust terminals room standing =
@@ -351,7 +351,7 @@ module _ (came : ℕ → List ℕ → List ℕ) (told : List ℕ → List ℕ) w
       }
 
       -- it was answered, and closes
-      pub Noted-closes : (one : One (Ok tt)) → lasts → KeepsEach came told lasts Now left old new Closed
+      pub Noted-closes : (one : One (Ok tt)) → lasts → KeepsEach came response lasts Now left old new Closed
           (record { outs = outs ++ (o, at) ∷ []; answers = answers ++ one.0 ∷ []; last = None })
       Noted-closes one same = record {
         text = before.text ++ one.1;
@@ -366,7 +366,7 @@ module _ (came : ℕ → List ℕ → List ℕ) (told : List ℕ → List ℕ) w
       }
 
       stopped : later → Unmoved late stays stands → DoesNothing mid new
-          → KeepsEach came told lasts Now left old new ClockFault (Course-to ClockFault)
+          → KeepsEach came response lasts Now left old new ClockFault (Course-to ClockFault)
       stopped same still none = record {
         text = before.text;
         kept = before.kept;
@@ -380,20 +380,20 @@ module _ (came : ℕ → List ℕ → List ℕ) (told : List ℕ → List ℕ) w
       }
 
       begun_after : (end : ServeEnd) (tail wrote : List ℕ)
-          → IsBegun came told end later (Unmoved late stays stands)
+          → IsBegun came response end later (Unmoved late stays stands)
           (Acts step setting late stays stands (o, at)) (o, at) tail wrote
-          → IsBegun came told end lasts (Now outs answers)
+          → IsBegun came response end lasts (Now outs answers)
           (λ answer. Now (outs ++ (o, at) ∷ []) (answers ++ answer ∷ []))
           (o, at) tail wrote
       begun_after end tail wrote (inl (still, inl cut)) = inl (same_moves still, inl (both cut.0, cut.1, cut.2))
-      begun_after end tail wrote (inl (still, inr want)) = inl (same_moves still, inr want)
+      begun_after end tail wrote (inl (still, inr cause)) = inl (same_moves still, inr cause)
       begun_after end tail wrote (inr some) = inr (some.0, one_moves some.0 some.1, both some.2, some.3)
 
       begun : (end : ServeEnd) (tail wrote : List ℕ)
-          → IsBegun came told end later (Unmoved late stays stands)
+          → IsBegun came response end later (Unmoved late stays stands)
           (Acts step setting late stays stands (o, at)) (o, at) tail wrote
           → Grow mid new (at ∷ []) tail wrote
-          → KeepsEach came told lasts Now left old new end
+          → KeepsEach came response lasts Now left old new end
           (record { outs = outs; answers = answers; last = Some (o, at) })
       begun end tail wrote is grew = record {
         text = before.text;
@@ -403,7 +403,7 @@ module _ (came : ℕ → List ℕ → List ℕ) (told : List ℕ → List ℕ) w
 
       -- serving ended with it
       pub Noted-breaks : (end : ServeEnd) → One (Err end)
-          → KeepsEach came told lasts Now left old new end (Course-to end)
+          → KeepsEach came response lasts Now left old new end (Course-to end)
       Noted-breaks ClockFault one = stopped one.0 one.1 one.2
       Noted-breaks Closed one = begun Closed one.0 one.1 one.2 one.3
       Noted-breaks Cut one = begun Cut one.0 one.1 one.2 one.3

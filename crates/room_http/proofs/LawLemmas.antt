@@ -14,24 +14,23 @@ use Rattle.room_model.specs.Room.{Room}
 use Rattle.room_http_messages.specs.declared.read_faults.Unread.TheVariants.{Refused}
 use Rattle.room_http_messages.specs.Messages.{WholeMessage, terminal_of}
 use Rattle.room_http_messages.proofs.LawLemmas.{one_message_law, no_end_law}
-use Rattle.room_http_requests.specs.Targets.{routed}
-use Rattle.room_http_requests.specs.declared.targets.Target.{Target}
-use Rattle.room_http_requests.specs.RequestAsks.{request_by}
-use Rattle.room_http_requests.specs.Roles.{is_of, role_of}
-use Rattle.room_http_requests.specs.declared.request_asks.Request.{Request}
-use Rattle.room_http_requests.specs.declared.request_asks.Request.TheVariants as request
+use Rattle.room_http_requests.specs.RequestTable.{is_of, request_by, role_of}
+use Rattle.room_http_requests.specs.Routes.{routed}
+use Rattle.room_http_requests.specs.declared.request_table.Target.{Target}
+use Rattle.room_http_requests.specs.declared.request_table.Request.{Request}
+use Rattle.room_http_requests.specs.declared.request_table.Request.TheVariants as request
 use Rattle.room_http.specs.ReplyMessages.{IsReply}
 use Rattle.room_http.proofs.Dates.{one_reply_law}
 use Rattle.room_http_time.specs.Days.{zone_of}
 use Rattle.room_http.specs.declared.settings.Setting.{Setting}
 use Rattle.room_http_time.proofs.SpanLaws.{one_span_law}
 use Rattle.room_http.specs.MessageEvents.{AsksAs, AsksAt, AsksBy, IsAskFor, named}
-use Rattle.room_http.specs.Laws.{AreFirstOf, IsOneStream, IsOneTalk}
+use Rattle.room_http.specs.Laws.{AreFirstOf, IsOneDialogue, IsOneStream}
 use Rattle.room_http.specs.Arrivals.{Arrival, message, refused, is_head_only, is_closing, Begins}
 use Rattle.room_model.specs.Rooms.{Step, machine}
 use Rattle.room_http.specs.KeptMessages.{AreReplies}
 use Rattle.room_http.specs.Runs.{AreAnswered, Exchange, answers_of, arrivals_of}
-use Rattle.room_http.specs.Talk.{Timed, Finds, replied, IsReplyTo, IsTalk}
+use Rattle.room_http.specs.Dialogues.{Timed, Finds, replied, IsReplyTo, IsDialogue}
 
 none_more : (few many : List Arrival) → few ≡ [] → AreFirstOf few many
 none_more few many none = rw none tt
@@ -107,12 +106,13 @@ one_reply_to step setting terminals room x after other bytes others is also =
       one_reply_law (replied step also.0 room).1 x.1 (is_head_only x.0) (is_closing x.0) bytes others again also.3,
     )
 
-pub one_talk_law : IsOneTalk
-one_talk_law step setting terminals room [] after other bytes others is also = (is.0 ∙ sym also.0, is.1 ∙ sym also.1)
-one_talk_law step setting terminals room (x ∷ more) after other bytes others is also =
+pub one_dialogue_law : IsOneDialogue
+one_dialogue_law step setting terminals room [] after other bytes others is also =
+    (is.0 ∙ sym also.0, is.1 ∙ sym also.1)
+one_dialogue_law step setting terminals room (x ∷ more) after other bytes others is also =
     let first = one_reply_to step setting terminals room x is.0 also.0 is.1 also.1 is.4 also.4 in
-    let again = subst (λ (r : Room). IsTalk step setting terminals r more after is.2) first.0 is.5 in
-    let rest = one_talk_law step setting terminals also.0 more after other is.2 also.2 again also.5 in
+    let again = subst (λ (r : Room). IsDialogue step setting terminals r more after is.2) first.0 is.5 in
+    let rest = one_dialogue_law step setting terminals also.0 more after other is.2 also.2 again also.5 in
     (rest.0, is.3 ∙ ap (λ t. t ++ is.2) first.1 ∙ ap (λ t. also.1 ++ t) rest.1 ∙ sym also.3)
 
 -- what is answered to equal arrivals, one after another, is the same, each answer by itself
@@ -128,10 +128,10 @@ one_course_law setting terminals room after (o ∷ outs) (a ∷ answers) [] repl
 one_course_law setting terminals room after (o ∷ outs) (a ∷ answers) (x ∷ xs) replies answered is =
     let head : x.arrival ≡ o = cc in
     let tail : arrivals_of xs ≡ outs = cc in
-    let told = subst
+    let stated = subst
     (λ (y : Timed). IsReplyTo machine setting terminals room y (replied machine x.found room).0 x.bytes) head
     (x.found, answered.0, refl, answered.1) in
-    let same = one_reply_to machine setting terminals room o (replied machine x.found room).0 replies.0 x.bytes a told
+    let same = one_reply_to machine setting terminals room o (replied machine x.found room).0 replies.0 x.bytes a stated
     replies.1 in
     let more = one_course_law setting terminals replies.0 after outs answers xs replies.2
     (subst (AreAnswered setting terminals xs) same.0 answered.2) tail in

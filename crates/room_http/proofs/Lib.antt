@@ -4,7 +4,7 @@ pub mod HeadLines
 pub mod Dates
 pub mod DatedMoments
 pub mod StreamLemmas
-pub mod TalkLemmas
+pub mod DialogueLemmas
 pub mod ServeLemmas
 pub mod KeptLemmas
 pub mod TerminalLemmas

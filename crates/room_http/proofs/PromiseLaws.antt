@@ -15,9 +15,9 @@ use Rattle.room_types.specs.declared.refusal_statuses.Refusal.TheVariants.{Seria
 use Rattle.room_model.proofs.AssignedOnce.{of_one_order, one_assignment, one_open_turn}
 use Rattle.room_model.proofs.CrewLaws.{mine_answer, mine_equal}
 use Rattle.room_model.proofs.KeptEvents.{addressed_run, run_kept}
-use Rattle.room_model.proofs.RefusedAgain.{outside_still, report_told_again, serial_again}
+use Rattle.room_model.proofs.RefusedAgain.{outside_still, report_answered_again, serial_again}
 use Rattle.room_model.proofs.RepeatLaws.{call_repeated}
-use Rattle.room_model.proofs.Runs.{equal_answers, equal_shares, meet_well_formed, run_everyday, run_share, run_told}
+use Rattle.room_model.proofs.Runs.{equal_answers, equal_shares, meet_well_formed, run_answers, run_everyday, run_share}
 use Rattle.room_model.proofs.Unlent.{unlent_run}
 use Rattle.room_model.specs.Calls.{outside_again}
 use Rattle.room_model.specs.Crossing.{crossings}
@@ -25,7 +25,7 @@ use Rattle.room_model.specs.Decisions.{answer_of}
 use Rattle.room_model.specs.Events.{AreAddressed, OnlyAnswers, by_crew, by_position, received}
 use Rattle.room_model.specs.Queries.{kept_call}
 use Rattle.room_model.specs.Room.{IsInOrder, Room}
-use Rattle.room_model.specs.Run.{is_desk, room_run, told}
+use Rattle.room_model.specs.Run.{desk_answers, is_desk, room_run}
 use Rattle.room_model.specs.Shares.{mine, own}
 use Rattle.room_model.specs.Step.{IsAddressed, answer_to, room_after}
 use Rattle.room_model.specs.RoomAgreements.{IsWellFormed}
@@ -35,9 +35,9 @@ use Rattle.room_http.specs.declared.settings.Setting.{Setting}
 use Rattle.room_model.specs.Rooms.{machine}
 use Rattle.room_http.specs.Arrivals.{is_closing, is_head_only}
 use Rattle.room_http.specs.Promises.{ActsOnce, IsDeskAlike, AreSentOnce, Promises, StaysOutside}
-use Rattle.room_http.specs.Runs.{AreAnswered, AreTold, Exchange, IsRun, IsTold, answers_of, arrivals_of, asker}
+use Rattle.room_http.specs.Runs.{AreAnswered, Exchange, HasAnswer, HaveAnswers, IsRun, answers_of, arrivals_of, asker}
 use Rattle.room_http.specs.Runs.{event_then, events_of, is_by_desk, room_by, with_desk}
-use Rattle.room_http.specs.Talk.{Finds, Timed, replied}
+use Rattle.room_http.specs.Dialogues.{Finds, Timed, replied}
 use Rattle.room_http.proofs.RunLemmas.{found_asked_by, room_push, room_split, run_first}
 
 -- ---- parts of a run
@@ -71,13 +71,13 @@ module _ (known : Room) where
       go (Err r) early all = early all
 
 -- what an arrival is answered, after those before it
-told_at : (setting : Setting) (terminals : List Terminal) (before rest : List Exchange) (x : Exchange)
+answer_at : (setting : Setting) (terminals : List Terminal) (before rest : List Exchange) (x : Exchange)
     (room : Room) → AreAnswered setting terminals (before ++ x ∷ rest) room
-    → IsTold x (replied machine x.found (room_by before room)).1
-told_at setting terminals [] rest x room are = are.1
-told_at setting terminals (y ∷ before) rest x room are =
-    subst (λ r. IsTold x (replied machine x.found r).1) (sym (run_first y.found (events_of before) room))
-    (told_at setting terminals before rest x (replied machine y.found room).0 are.2)
+    → HasAnswer x (replied machine x.found (room_by before room)).1
+answer_at setting terminals [] rest x room are = are.1
+answer_at setting terminals (y ∷ before) rest x room are =
+    subst (λ r. HasAnswer x (replied machine x.found r).1) (sym (run_first y.found (events_of before) room))
+    (answer_at setting terminals before rest x (replied machine y.found room).0 are.2)
 
 -- who asks of one of them
 asked_in : (setting : Setting) (terminals : List Terminal) (xs : List Exchange) (room : Room)
@@ -92,43 +92,43 @@ asked_in setting terminals (y ∷ xs) room are x event (inr there) is =
     asked_in setting terminals xs (replied machine y.found room).0 are.2 x event there is
 
 -- ---- what a desk is answered
-told_apart : (d : ℕ) (b : Bool) (x : Exchange) (xs : List Exchange)
+answers_apart : (d : ℕ) (b : Bool) (x : Exchange) (xs : List Exchange)
     (answer : Result Answer Refusal) (answers : List (Result Answer Refusal))
-    → IsTold x answer → AreTold xs answers
-    → AreTold (cond b (x ∷ xs) xs) (cond b (answer ∷ answers) answers)
-told_apart d true x xs answer answers first rest = (first, rest)
-told_apart d false x xs answer answers first rest = rest
+    → HasAnswer x answer → HaveAnswers xs answers
+    → HaveAnswers (cond b (x ∷ xs) xs) (cond b (answer ∷ answers) answers)
+answers_apart d true x xs answer answers first rest = (first, rest)
+answers_apart d false x xs answer answers first rest = rest
 
 desk_answered : (setting : Setting) (terminals : List Terminal) (d : ℕ) (xs : List Exchange)
     (room : Room) → AreAnswered setting terminals xs room
-    → AreTold (with_desk d xs) (told d (events_of xs) room)
+    → HaveAnswers (with_desk d xs) (desk_answers d (events_of xs) room)
 desk_answered setting terminals d [] room are = tt
 desk_answered setting terminals d (x ∷ xs) room are =
     go x.found are.1 (desk_answered setting terminals d xs (replied machine x.found room).0 are.2)
   where
-    go : (found : Result Event Refusal) → IsTold x (replied machine found room).1
-        → AreTold (with_desk d xs) (told d (events_of xs) (replied machine found room).0)
-        → AreTold (cond (is_by_desk d found) (x ∷ with_desk d xs) (with_desk d xs))
-        (told d (event_then found (events_of xs)) room)
+    go : (found : Result Event Refusal) → HasAnswer x (replied machine found room).1
+        → HaveAnswers (with_desk d xs) (desk_answers d (events_of xs) (replied machine found room).0)
+        → HaveAnswers (cond (is_by_desk d found) (x ∷ with_desk d xs) (with_desk d xs))
+        (desk_answers d (event_then found (events_of xs)) room)
     go (Ok event) first rest =
-        told_apart d (is_desk d event.who) x (with_desk d xs) (answer_to event room)
-        (told d (events_of xs) (room_after event room)) first rest
+        answers_apart d (is_desk d event.who) x (with_desk d xs) (answer_to event room)
+        (desk_answers d (events_of xs) (room_after event room)) first rest
     go (Err r) first rest = rest
 
 -- equal answers to equal arrivals are equal bytes
-told_alike : (xs ys : List Exchange) (answers : List (Result Answer Refusal)) → AreTold xs answers
-    → AreTold ys answers → arrivals_of xs ≡ arrivals_of ys → answers_of xs ≡ answers_of ys
-told_alike [] [] answers are also same = refl
-told_alike [] (y ∷ ys) answers are also same = cc
-told_alike (x ∷ xs) [] answers are also same = cc
-told_alike (x ∷ xs) (y ∷ ys) [] are also same = absurd are
-told_alike (x ∷ xs) (y ∷ ys) (answer ∷ answers) are also same =
+answers_alike : (xs ys : List Exchange) (answers : List (Result Answer Refusal)) → HaveAnswers xs answers
+    → HaveAnswers ys answers → arrivals_of xs ≡ arrivals_of ys → answers_of xs ≡ answers_of ys
+answers_alike [] [] answers are also same = refl
+answers_alike [] (y ∷ ys) answers are also same = cc
+answers_alike (x ∷ xs) [] answers are also same = cc
+answers_alike (x ∷ xs) (y ∷ ys) [] are also same = absurd are
+answers_alike (x ∷ xs) (y ∷ ys) (answer ∷ answers) are also same =
     let first : x.arrival ≡ y.arrival = cc in
     let rest : arrivals_of xs ≡ arrivals_of ys = cc in
     let again = subst (λ (o : Timed). IsReply answer o.1 (is_head_only o.0) (is_closing o.0) x.bytes) first are.0 in
     let bytes = one_reply_law answer y.arrival.1 (is_head_only y.arrival.0) (is_closing y.arrival.0) x.bytes y.bytes
     again also.0 in
-    λ i. bytes i ∷ told_alike xs ys answers are.1 also.1 rest i
+    λ i. bytes i ∷ answers_alike xs ys answers are.1 also.1 rest i
 
 -- ---- the promises
 sent_once_in : (room : Room) → IsWellFormed room → AreSentOnce room
@@ -148,12 +148,12 @@ module _ (setting : Setting) (terminals : List Terminal) (xs : List Exchange) (r
       run_kept (events_of before) room formed
       (addressed_early room before rest (subst (λ l. AreAddressed (events_of l) room) split run.addressed))
 
-  told_in : (before rest : List Exchange) (x : Exchange) (found : Result Event Refusal)
+  answer_in : (before rest : List Exchange) (x : Exchange) (found : Result Event Refusal)
       → xs ≡ before ++ x ∷ rest → x.found ≡ found
-      → IsTold x (replied machine found (room_by before room)).1
-  told_in before rest x found split is =
-      subst (λ (found : Result Event Refusal). IsTold x (replied machine found (room_by before room)).1) is
-      (told_at setting terminals before rest x room
+      → HasAnswer x (replied machine found (room_by before room)).1
+  answer_in before rest x found split is =
+      subst (λ (found : Result Event Refusal). HasAnswer x (replied machine found (room_by before room)).1) is
+      (answer_at setting terminals before rest x room
       (subst (λ l. AreAnswered setting terminals l room) split run.answered))
 
   room_on : (before : List Exchange) (x : Exchange) (found : Result Event Refusal)
@@ -194,35 +194,35 @@ module _ (setting : Setting) (terminals : List Terminal) (xs : List Exchange) (r
       let here = desk_answered setting terminals d xs room run.answered in
       let there = desk_answered zone_there terminals_there d ys other runs.answered in
       record {
-        told =
-            told_alike (with_desk d xs) (with_desk d ys) (told d (events_of ys) other)
-            (subst (AreTold (with_desk d xs)) answers here) there;
+        same_answers =
+            answers_alike (with_desk d xs) (with_desk d ys) (desk_answers d (events_of ys) other)
+            (subst (HaveAnswers (with_desk d xs)) answers here) there;
         shares = equal_shares d (events_of xs) (events_of ys) room other meets meet same handed;
       }
 
   crew : (before rest : List Exchange) (x : Exchange) (c : Callsign) (ask : Ask) (at : ℕ)
       (other : Room) → xs ≡ before ++ x ∷ rest → x.found ≡ Ok (by_crew c ask at)
       → IsInOrder other → mine c (room_by before room) ≡ mine c other
-      → IsTold x (answer_to (by_crew c ask at) other)
+      → HasAnswer x (answer_to (by_crew c ask at) other)
       × (mine c (room_by (before ++ x ∷ []) room) ≡ mine c (room_after (by_crew c ask at) other))
   crew before rest x c ask at other split is in_order same =
       let order = (formed_at before (x ∷ rest) split).order in (
-        subst (IsTold x) (ap answer_of (mine_answer c ask at (room_by before room) other order in_order same))
-            (told_in before rest x (Ok (by_crew c ask at)) split is),
+        subst (HasAnswer x) (ap answer_of (mine_answer c ask at (room_by before room) other order in_order same))
+            (answer_in before rest x (Ok (by_crew c ask at)) split is),
         ap (mine c) (room_on before x (Ok (by_crew c ask at)) is)
             ∙ mine_equal c ask at (room_by before room) other order in_order same,
       )
 
-  -- what is only answered when it comes again is told so, and changes nothing
-  told_again : (sent : ℕ → Event) (before between rest : List Exchange) (first again : Exchange)
+  -- what is only answered when it comes again is answered so, and changes nothing
+  answered_again : (sent : ℕ → Event) (before between rest : List Exchange) (first again : Exchange)
       (at later : ℕ) (answer : Result Answer Refusal)
       → xs ≡ before ++ first ∷ between ++ again ∷ rest
       → first.found ≡ Ok (sent at) → again.found ≡ Ok (sent later)
       → OnlyAnswers (sent later) (room_run (events_of between) (room_after (sent at) (room_by before room))) answer
-      → (IsTold first (answer_to (sent at) (room_by before room)) × IsTold again answer)
+      → (HasAnswer first (answer_to (sent at) (room_by before room)) × HasAnswer again answer)
       × (room_by (before ++ first ∷ between ++ again ∷ []) room
       ≡ room_by (before ++ first ∷ between) room)
-  told_again sent before between rest first again at later answer split is is_again law =
+  answered_again sent before between rest first again at later answer split is is_again law =
       let s = room_by before room in
       let early = before ++ first ∷ between in
       let split_first : xs
@@ -230,8 +230,8 @@ module _ (setting : Setting) (terminals : List Terminal) (xs : List Exchange) (r
       let only : OnlyAnswers (sent later) (room_by early room) answer = subst
       (λ now. OnlyAnswers (sent later) now answer) (sym (after before between first (sent at) is)) law in (
         (
-          told_in before (between ++ again ∷ rest) first (Ok (sent at)) split_first is,
-          subst (IsTold again) only.1 (told_in early rest again (Ok (sent later)) split is_again),
+          answer_in before (between ++ again ∷ rest) first (Ok (sent at)) split_first is,
+          subst (HasAnswer again) only.1 (answer_in early rest again (Ok (sent later)) split is_again),
         ),
         room_on early again (Ok (sent later)) is_again ∙ only.0,
       )
@@ -247,9 +247,10 @@ module _ (setting : Setting) (terminals : List Terminal) (xs : List Exchange) (r
       let s = room_by before room in
       let is_on = known_at before (between ++ again ∷ rest) first (sent at)
       (split ∙ append_assoc before (first ∷ between) (again ∷ rest)) is in
-      let told = told_again sent before between rest first again at later (answer_to (sent at) s) split is is_again
+      let desk_answers = answered_again sent before between rest first again at later (answer_to (sent at) s) split is
+      is_again
       (law at later s (events_of between) is_on.0 is_on.1 ok) in
-      (told.0.0, told.0.1, told.1)
+      (desk_answers.0.0, desk_answers.0.1, desk_answers.1)
 
   serial : (position : ℕ) (form : CallForm)
       → ActsOnce xs room (by_position position (Call form)) (λ answer. answer ≡ Err SerialReused)
@@ -271,10 +272,10 @@ module _ (setting : Setting) (terminals : List Terminal) (xs : List Exchange) (r
       OnlyAnswers (sent later) (room_run (events_of between) (room_after (sent at) s))
       (Err (outside_again (kept_call position form.serial now_s)))) (sym now)
       (outside_still position form at s (events_of between) is_on.0 refused later) in
-      let told = told_again sent before between rest first again at later
+      let desk_answers = answered_again sent before between rest first again at later
       (Err (outside_again (kept_call position form.serial (room_by (before ++ first ∷ between) room)))) split is
       is_again law in
-      (told.0.1, told.1)
+      (desk_answers.0.1, desk_answers.1)
 
   pub promises_kept : Promises terminals xs room
   promises_kept =
@@ -282,10 +283,10 @@ module _ (setting : Setting) (terminals : List Terminal) (xs : List Exchange) (r
       record {
         asked_by = asked_in setting terminals xs room run.answered;
         share = λ d. run_share d (events_of xs) room meets;
-        desk_told = λ d. desk_answered setting terminals d xs room run.answered;
+        desk_responses = λ d. desk_answered setting terminals d xs room run.answered;
         desk_apart =
             λ d.
-            subst (AreTold (with_desk d xs)) (run_told d (events_of xs) room meets)
+            subst (HaveAnswers (with_desk d xs)) (run_answers d (events_of xs) room meets)
             (desk_answered setting terminals d xs room run.answered);
         desk_alike = alike;
         desk_by_itself =
@@ -293,13 +294,13 @@ module _ (setting : Setting) (terminals : List Terminal) (xs : List Exchange) (r
             run_everyday d (events_of xs) room (unlent_run (events_of xs) room formed run.addressed unlent nobody).0;
         crew_alike = crew;
         refused_alike =
-            λ before rest x r split is. (told_in before rest x (Err r) split is, room_on before x (Err r) is);
+            λ before rest x r split is. (answer_in before rest x (Err r) split is, room_on before x (Err r) is);
         formed = formed_at;
         sent_once = λ before rest split. sent_once_in (room_by before room) (formed_at before rest split);
         report_once =
             λ c press.
             once (by_crew c (Report press)) (λ answer. ⊤)
-            (λ at later s between in_order known ok. report_told_again c press at s between in_order known later);
+            (λ at later s between in_order known ok. report_answered_again c press at s between in_order known later);
         call_once =
             λ position form.
             once (by_position position (Call form)) (λ answer. is_ok answer ≡ true)

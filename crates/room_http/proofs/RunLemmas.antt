@@ -1,4 +1,4 @@
--- A talk with the dispatch machine is a run of events that the room knows.
+-- A dialogue with the dispatch machine is a run of events that the room knows.
 use Rattle.std.proofs.Common.{◌≡◌, ◌∙◌, ap, refl, subst, sym, ℕ, List, [], ◌∷◌, ◌++◌, Bool, true, Option, Some, None}
 use Rattle.std.proofs.Common.{Result, Ok, Err}
 use Rattle.std.specs.Prelude.{MatchBool, false, option_and_then}
@@ -15,12 +15,11 @@ use Rattle.room_model.specs.Room.{Room}
 use Rattle.room_model.specs.Run.{room_run}
 use Rattle.room_model.specs.Step.{IsAddressed}
 use Rattle.room_http_messages.specs.Messages.{WholeMessage, terminal_of}
-use Rattle.room_http_requests.specs.RequestAsks.{request_by}
-use Rattle.room_http_requests.specs.Roles.{is_known, is_of, role_of}
-use Rattle.room_http_requests.specs.Targets.{routed}
-use Rattle.room_http_requests.specs.declared.request_asks.Request.{Request}
-use Rattle.room_http_requests.specs.declared.request_asks.Request.TheVariants as request
-use Rattle.room_http_requests.specs.declared.targets.Target.{Target}
+use Rattle.room_http_requests.specs.RequestTable.{is_known, is_of, request_by, role_of}
+use Rattle.room_http_requests.specs.Routes.{routed}
+use Rattle.room_http_requests.specs.declared.request_table.Request.{Request}
+use Rattle.room_http_requests.specs.declared.request_table.Request.TheVariants as request
+use Rattle.room_http_requests.specs.declared.request_table.Target.{Target}
 use Rattle.room_http_requests.proofs.RoleLaws.{asked_is}
 use Rattle.room_http.specs.declared.settings.Setting.{Setting}
 use Rattle.room_model.specs.Rooms.{machine, who_at}
@@ -28,7 +27,7 @@ use Rattle.room_http.specs.Arrivals.{message, refused}
 use Rattle.room_http.specs.MessageEvents.{AsksAs, AsksAt, AsksBy, AsksFor, IsAskFor, named, token_of}
 use Rattle.room_http.specs.Runs.{AreAnswered, Exchange, IsRun, IsRunOf, arrivals_of, asker, bytes_of, event_then}
 use Rattle.room_http.specs.Runs.{events_of, room_by}
-use Rattle.room_http.specs.Talk.{Finds, IsTalk, Timed, replied}
+use Rattle.room_http.specs.Dialogues.{Finds, IsDialogue, Timed, replied}
 use Rattle.room_http.proofs.AskLemmas.{request_addressed}
 use Rattle.room_http.proofs.TerminalLemmas.{found_known}
 
@@ -42,8 +41,9 @@ module _ (setting : Setting) (terminals : List Terminal) (m : WholeMessage) (at 
   by_body : (t : Target) (who : Who) (given : Option Request) (found : Result Event Refusal)
       → named terminals (terminal_of m.head) ≡ Some who → is_of (role_of t) who ≡ true
       → request_by t m.body ≡ given → AsksBy setting at who given found → Holds found
-  by_body t who None found shows may wants asks = rw asks (refusals BadBody)
-  by_body t who (Some given) found shows may wants asks = rw asks.2 (events t who given asks.0 shows may wants asks.1)
+  by_body t who None found shows may body_asks asks = rw asks (refusals BadBody)
+  by_body t who (Some given) found shows may body_asks asks =
+      rw asks.2 (events t who given asks.0 shows may body_asks asks.1)
 
   by_role : (may : Bool) (t : Target) (who : Who) (found : Result Event Refusal)
       → named terminals (terminal_of m.head) ≡ Some who → is_of (role_of t) who ≡ may
@@ -74,15 +74,15 @@ pub found_asked_by : (setting : Setting) (terminals : List Terminal) (o : Timed)
     (found : Result Event Refusal) → Finds setting terminals o found → IsAskedBy terminals o found
 found_asked_by setting terminals (message m, at) found finds =
     by_steps setting terminals m at (IsAskedBy terminals (message m, at)) (λ r. tt)
-    (λ t who given asks shows may wants is. (shows, refl)) found finds
+    (λ t who given asks shows may body_asks is. (shows, refl)) found finds
 found_asked_by setting terminals (refused r head_only, at) found finds = rw finds tt
 
 -- ---- what is asked is addressed
 -- what is asked has a number from 1
 request_numbered : (setting : Setting) (t : Target) (body : List ℕ) (given : Request) (asks : Ask)
     → request_by t body ≡ Some given → IsAskFor setting given asks → IsNumbered asks
-request_numbered setting t body (request.Ask a) asks wants is = rw is (asked_is t body a wants).1
-request_numbered setting t body (request.Times day) asks wants is = rw is.2 tt
+request_numbered setting t body (request.Ask a) asks body_asks is = rw is (asked_is t body a body_asks).1
+request_numbered setting t body (request.Times day) asks body_asks is = rw is.2 tt
 
 -- an event, if one was found, is of those that the room knows
 abbrev IsKnownEvent : Room → Result Event Refusal → Type 0
@@ -99,10 +99,10 @@ module _ (setting : Setting) (terminals : List Terminal) (room : Room)
   found_event : (o : Timed) (found : Result Event Refusal) → Finds setting terminals o found
       → IsKnownEvent room found
   found_event (message m, at) found finds =
-      by_steps setting terminals m at (IsKnownEvent room) (λ r. tt) (λ t who given asks shows may wants is. (
-        request_addressed setting t m.body given asks who room wants is may
+      by_steps setting terminals m at (IsKnownEvent room) (λ r. tt) (λ t who given asks shows may body_asks is. (
+        request_addressed setting t m.body given asks who room body_asks is may
             (named_known (token_of (terminal_of m.head)) who shows),
-        request_numbered setting t m.body given asks wants is,
+        request_numbered setting t m.body given asks body_asks is,
       )) found finds
   found_event (refused r head_only, at) found finds = rw finds tt
 
@@ -162,44 +162,44 @@ module _ (setting : Setting) (terminals : List Terminal) where
   run_join room xs ys fit first second =
       run_of room (xs ++ ys) fit (answered_join xs ys room first.answered second.answered)
 
--- ---- a talk
+-- ---- a dialogue
 module _ (setting : Setting) (terminals : List Terminal) where
-  -- the exchanges of a talk
+  -- the exchanges of a dialogue
   record Exchanged (outs : List Timed) (after : Room) (bytes : List ℕ) (xs : List Exchange)
       (room : Room) : Type 0 where
     answered : AreAnswered setting terminals xs room
     arrivals : arrivals_of xs ≡ outs
     leads : room_by xs room ≡ after
-    told : bytes_of xs ≡ bytes
+    spoken : bytes_of xs ≡ bytes
 
   exchanged : (room : Room) (outs : List Timed) (after : Room) (bytes : List ℕ)
-      → IsTalk machine setting terminals room outs after bytes
+      → IsDialogue machine setting terminals room outs after bytes
       → (xs : List Exchange) × Exchanged outs after bytes xs room
-  exchanged room [] after bytes talk =
-      ([], record { answered = tt; arrivals = refl; leads = sym talk.0; told = sym talk.1 })
-  exchanged room (o ∷ more) after bytes (next, first, others, joins, (found, finds, is, replies), talk) =
+  exchanged room [] after bytes dialogue =
+      ([], record { answered = tt; arrivals = refl; leads = sym dialogue.0; spoken = sym dialogue.1 })
+  exchanged room (o ∷ more) after bytes (next, first, others, joins, (found, finds, is, replies), dialogue) =
       let x : Exchange = record { arrival = o; found = found; bytes = first } in
       let rest = exchanged (replied machine found room).0 more after others
-      (subst (λ r. IsTalk machine setting terminals r more after others) is talk) in (
+      (subst (λ r. IsDialogue machine setting terminals r more after others) is dialogue) in (
         x ∷ rest.0,
         record {
           answered = (finds, replies, rest.1.answered);
           arrivals = ap (λ os. o ∷ os) rest.1.arrivals;
           leads = run_first found (events_of rest.0) room ∙ rest.1.leads;
-          told = ap (λ bs. first ++ bs) rest.1.told ∙ sym joins;
+          spoken = ap (λ bs. first ++ bs) rest.1.spoken ∙ sym joins;
         },
       )
 
-  pub talk_run : (room : Room) (outs : List Timed) (after : Room) (bytes : List ℕ)
-      → AreTerminals room terminals → IsTalk machine setting terminals room outs after bytes
+  pub dialogue_run : (room : Room) (outs : List Timed) (after : Room) (bytes : List ℕ)
+      → AreTerminals room terminals → IsDialogue machine setting terminals room outs after bytes
       → (xs : List Exchange) × IsRunOf setting terminals outs after bytes xs room
-  talk_run room outs after bytes fit talk =
-      let of = exchanged room outs after bytes talk in (
+  dialogue_run room outs after bytes fit dialogue =
+      let of = exchanged room outs after bytes dialogue in (
         of.0,
         record {
           run = run_of setting terminals room of.0 fit of.1.answered;
           arrivals = of.1.arrivals;
           leads = of.1.leads;
-          told = of.1.told;
+          spoken = of.1.spoken;
         },
       )

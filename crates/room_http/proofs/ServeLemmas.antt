@@ -30,9 +30,9 @@ use Rattle.room_http.specs.Course.{Course}
 use Rattle.room_http.specs.ConnectionReads.{EndsAs}
 use Rattle.room_http.specs.Session.{Sides, Finish, Answered, Unserved, Unwritten, Broken, LeavesPart, MissesNone}
 use Rattle.room_http.specs.Session.{ServeIs}
-use Rattle.room_http.specs.Talk.{Timed, IsCaused, IsFront, BreaksOff, Stays, Talks, Wants}
+use Rattle.room_http.specs.Dialogues.{Timed, IsCaused, IsFront, BreaksOff, Stays, WritesDialogue, IsUnserved}
 use Rattle.room_http.proofs.StreamLemmas.{Passes, Begins-push, nothing_left}
-use Rattle.room_http.proofs.TalkLemmas.{Talks-append, Talks-as, Talks-none}
+use Rattle.room_http.proofs.DialogueLemmas.{WritesDialogue-append, WritesDialogue-as, WritesDialogue-none}
 
 -- the arrivals were answered, all of them stay open, and these bytes are left
 pub record Going (step : Step) (setting : Setting) (old : Sides) (left held given : Option (List ℕ))
@@ -43,7 +43,7 @@ pub record Going (step : Step) (setting : Setting) (old : Sides) (left held give
   pub stay : All (λ x. is_closing x.0 ≡ false) outs
   pub timed : All (λ x. x.1 ≤ LAST_MOMENT) outs
   pub moments : Appends old.given given (map (λ x. x.1) outs)
-  pub talk : Talks step setting trusted stood old.held held outs
+  pub dialogue : WritesDialogue step setting trusted stood old.held held outs
       (λ terminals after tail. stands terminals after × (tail ≡ []))
 
 -- the arrival with which serving ended, if it had a moment
@@ -76,7 +76,7 @@ still_begins stream outs (Some rest) (Some next) begins same =
     let is : begins.0 ≡ next = cc in
     (next, refl, subst (λ (t : List ℕ). Begins stream (map (λ x. x.0) outs) t) is begins.2)
 
--- where serving ends with an answer no read failed or was wanting
+-- where serving ends with an answer no read failed or was missing
 pub ends_missing_none : (left remains given gives : Option (List ℕ)) (e : ServeEnd)
     → EndsAnswering e → MissesNone left remains given gives e
 ends_missing_none left remains given gives Closed ends = tt
@@ -97,7 +97,7 @@ module _ (step : Step) (setting : Setting) (old : Sides) where
     stay = All-nil (λ (x : Timed). is_closing x.0 ≡ false);
     timed = All-nil (λ (x : Timed). x.1 ≤ LAST_MOMENT);
     moments = Appends-none old.given;
-    talk = Talks-none step setting trusted stood stands old.held is;
+    dialogue = WritesDialogue-none step setting trusted stood stands old.held is;
   }
 
   module _ (early : Type 0) (stood stays : List Terminal → Room → Type 0)
@@ -111,7 +111,7 @@ module _ (step : Step) (setting : Setting) (old : Sides) where
       stay = before.stay;
       timed = before.timed;
       moments = before.moments;
-      talk = before.talk;
+      dialogue = before.dialogue;
     }
 
     -- serving ended between arrivals
@@ -134,7 +134,7 @@ module _ (step : Step) (setting : Setting) (old : Sides) where
     Going-ends reads read_failed read_ended write_failed was_none observer_failed follows before then = record {
       begins = λ stream known. let begins = before.begins stream known in (begins.0, begins.2, then begins.0 begins.1);
       timed = (before.timed, before.moments);
-      talk = before.talk;
+      dialogue = before.dialogue;
     }
 
     -- of what was read, all is answered but what is in the inbox
@@ -181,7 +181,7 @@ module _ (step : Step) (setting : Setting) (old : Sides) where
         (leaves_part early stood stays (prepend_known kept remains) held given outs kept remains refl reached says.0)
 
     module _ (reads : Option ℕ) (write_failed was_none observer_failed : Bool)
-        (wants : Timed → List Terminal → Room → Type 0) (failed : Type 0)
+        (unserved : Timed → List Terminal → Room → Type 0) (failed : Type 0)
         (answers : List (List ℕ)) (budget : ℕ)
         (count : CountsBy (budget - granted) old.reads reads) where
       abbrev new : Finish
@@ -204,7 +204,7 @@ module _ (step : Step) (setting : Setting) (old : Sides) where
           write_failed was_none observer_failed follows reached then
 
       pub stops : (read : Result Layout Unread) (e : ServeEnd) → Says read → EndsAs read e
-          → ServeIs step setting old new early stood stays wants failed
+          → ServeIs step setting old new early stood stays unserved failed
           (record { outs = outs; answers = answers; last = None }) budget e
       stops (Ok layout) e says is = absurd is
       stops (Err (Refused r head_only)) e says is = absurd is
@@ -235,20 +235,21 @@ module _ (step : Step) (setting : Setting) (old : Sides) where
     abbrev AnswersHere : ℕ → Result (Unit {0}) ServeEnd → Type 0
     AnswersHere at =
         Answers step setting held new.held given new.given new.write_failed new.was_none new.observer_failed late stays
-        (Stays is_kept stands leaves) (Wants step setting is_kept stands leaves) failed at o
+        (Stays is_kept stands leaves) (IsUnserved step setting is_kept stands leaves) failed at o
 
     abbrev ServeHere : Course → ℕ → ServeEnd → Type 0
     ServeHere =
-        ServeIs step setting old new late stood (Stays was stands leaves) (Wants step setting was stands leaves) failed
+        ServeIs step setting old new late stood (Stays was stands leaves) (IsUnserved step setting was stands leaves)
+        failed
 
     still : late → (terminals : List Terminal) (room : Room)
         → Stays is_kept stands leaves terminals room → Stays was stands leaves terminals room
     still trust terminals room it = (it.0, λ before. it.1 (kept trust before))
 
-    still_wants : late → (x : Timed) (terminals : List Terminal) (room : Room)
-        → Wants step setting is_kept stands leaves x terminals room
-        → Wants step setting was stands leaves x terminals room
-    still_wants trust x terminals room it = (it.0, λ before. it.1 (kept trust before))
+    still_unserved : late → (x : Timed) (terminals : List Terminal) (room : Room)
+        → IsUnserved step setting is_kept stands leaves x terminals room
+        → IsUnserved step setting was stands leaves x terminals room
+    still_unserved trust x terminals room it = (it.0, λ before. it.1 (kept trust before))
 
     begins_more : (at : ℕ) (stream : List ℕ) → old.left ≡ Some stream
         → (next : List ℕ) × (after ≡ Some next)
@@ -275,33 +276,34 @@ module _ (step : Step) (setting : Setting) (old : Sides) where
     timed_more at within = All-push (λ (x : Timed). x.1 ≤ LAST_MOMENT) outs (o, at) before.timed within
 
     -- what is said goes on from here
-    talk_more : (more : List Timed) (says less : List Terminal → Room → List ℕ → Type 0)
+    dialogue_more : (more : List Timed) (says less : List Terminal → Room → List ℕ → Type 0)
         → (late → (terminals : List Terminal) (room : Room) (tail : List ℕ)
         → says terminals room tail → less terminals room tail)
-        → Talks step setting late stays held new.held more says
-        → Talks step setting late stood old.held new.held (outs ++ more) less
-    talk_more more says less tells talk =
-        Talks-append step setting early late stood (Stays was stays lefts) old.held held new.held outs more less earlier
-        before.talk
-        (Talks-as step setting late stays (Stays was stays lefts) held new.held more says less
-        (λ terminals room it. it.0) tells talk)
+        → WritesDialogue step setting late stays held new.held more says
+        → WritesDialogue step setting late stood old.held new.held (outs ++ more) less
+    dialogue_more more says less states dialogue =
+        WritesDialogue-append step setting early late stood (Stays was stays lefts) old.held held new.held outs more
+        less earlier
+        before.dialogue
+        (WritesDialogue-as step setting late stays (Stays was stays lefts) held new.held more says less
+        (λ terminals room it. it.0) states dialogue)
 
-    talk_kept : (says less : List Terminal → Room → List ℕ → Type 0)
+    dialogue_kept : (says less : List Terminal → Room → List ℕ → Type 0)
         → (late → (terminals : List Terminal) (room : Room) (tail : List ℕ)
         → says terminals room tail → less terminals room tail)
-        → Talks step setting late stays held new.held [] says
-        → Talks step setting late stood old.held new.held outs less
-    talk_kept says less tells talk = rw append-nil at (talk_more [] says less tells talk)
+        → WritesDialogue step setting late stays held new.held [] says
+        → WritesDialogue step setting late stood old.held new.held outs less
+    dialogue_kept says less states dialogue = rw append-nil at (dialogue_more [] says less states dialogue)
 
     abbrev Said : Type 0 → (List ℕ → Type 0) → List Terminal → Room → List ℕ → Type 0
-    Said before tells terminals room tail = Stays before stands leaves terminals room × tells tail
+    Said before states terminals room tail = Stays before stands leaves terminals room × states tail
 
-    more_said : (more : List Timed) (tells : List ℕ → Type 0)
-        → Talks step setting late stays held new.held more (Said is_kept tells)
-        → Talks step setting late stood old.held new.held (outs ++ more) (Said was tells)
-    more_said more tells talk =
-        talk_more more (Said is_kept tells) (Said was tells)
-        (λ trust terminals room tail it. (still trust terminals room it.0, it.1)) talk
+    more_said : (more : List Timed) (states : List ℕ → Type 0)
+        → WritesDialogue step setting late stays held new.held more (Said is_kept states)
+        → WritesDialogue step setting late stood old.held new.held (outs ++ more) (Said was states)
+    more_said more states dialogue =
+        dialogue_more more (Said is_kept states) (Said was states)
+        (λ trust terminals room tail it. (still trust terminals room it.0, it.1)) dialogue
 
     -- one more was answered, and stays open
     pub Going-more : (at : ℕ) → AnswersHere at (Ok tt) → is_closing o ≡ false
@@ -312,60 +314,61 @@ module _ (step : Step) (setting : Setting) (old : Sides) where
       stay = All-push (λ (x : Timed). is_closing x.0 ≡ false) outs (o, at) before.stay open_;
       timed = timed_more at answers.0.0;
       moments = moments_more at answers.0.1;
-      talk = more_said ((o, at) ∷ []) (λ tail. tail ≡ []) answers.2;
+      dialogue = more_said ((o, at) ∷ []) (λ tail. tail ≡ []) answers.2;
     }
 
     -- one more was answered, and closes
-    pub closes : (told : List (List ℕ)) (budget at : ℕ) → AnswersHere at (Ok tt)
+    pub closes : (stated : List (List ℕ)) (budget at : ℕ) → AnswersHere at (Ok tt)
         → is_closing o ≡ true
-        → ServeHere (record { outs = outs ++ (o, at) ∷ []; answers = told; last = None }) budget
+        → ServeHere (record { outs = outs ++ (o, at) ∷ []; answers = stated; last = None }) budget
         Closed
-    closes told budget at answers closing = inr (inl (
+    closes stated budget at answers closing = inr (inl (
       (
         refl,
         record {
           begins = λ stream known. let begins = begins_more at stream known in (begins.0, begins.2, tt);
           timed = (timed_more at answers.0.0, moments_more at answers.0.1);
-          talk = more_said ((o, at) ∷ []) (λ tail. tail ≡ []) answers.2;
+          dialogue = more_said ((o, at) ∷ []) (λ tail. tail ≡ []) answers.2;
         },
       ),
       (outs, (o, at), refl, closing),
     ))
 
-    wanted : (at : ℕ) (r : Refusal) (more : List ℕ → List ℕ → Type 0) → at ≤ LAST_MOMENT
+    unserved_at : (at : ℕ) (r : Refusal) (more : List ℕ → List ℕ → Type 0) → at ≤ LAST_MOMENT
         → Appends given new.given (at ∷ []) → IsCaused failed r
-        → Talks step setting late stays held new.held []
-        (λ terminals room tail. Wants step setting is_kept stands leaves (o, at) terminals room
+        → WritesDialogue step setting late stays held new.held []
+        (λ terminals room tail. IsUnserved step setting is_kept stands leaves (o, at) terminals room
         × more tail (fixed_bytes r (is_head_only o)))
         → Unserved step setting old new late stood (Stays was stands leaves)
-        (Wants step setting was stands leaves) failed outs (o, at) more
-    wanted at r more within moment want talk = record {
+        (IsUnserved step setting was stands leaves) failed outs (o, at) more
+    unserved_at at r more within moment cause dialogue = record {
       begins = has_next;
       next = λ stream known. let begins = begins_more at stream known in (begins.0, begins.2, tt);
       timed = (timed_more at within, moments_more at moment);
       refusal = r;
-      want = want;
-      talk =
-          talk_kept (λ terminals room tail.
-          Wants step setting is_kept stands leaves (o, at) terminals room × more tail (fixed_bytes r (is_head_only o)))
+      caused = cause;
+      dialogue =
+          dialogue_kept (λ terminals room tail.
+          IsUnserved step setting is_kept stands leaves (o, at) terminals room
+          × more tail (fixed_bytes r (is_head_only o)))
           (λ terminals room tail.
-          Wants step setting was stands leaves (o, at) terminals room × more tail (fixed_bytes r (is_head_only o)))
-          (λ trust terminals room tail it. (still_wants trust (o, at) terminals room it.0, it.1)) talk;
+          IsUnserved step setting was stands leaves (o, at) terminals room × more tail (fixed_bytes r (is_head_only o)))
+          (λ trust terminals room tail it. (still_unserved trust (o, at) terminals room it.0, it.1)) dialogue;
     }
 
     broken : (at : ℕ) → at ≤ LAST_MOMENT → Appends given new.given (at ∷ [])
-        → Talks step setting late stays held new.held []
+        → WritesDialogue step setting late stays held new.held []
         (λ terminals room tail. BreaksOff step setting terminals
         (Stays is_kept stands leaves) room (o, at) tail)
         → Broken step setting old new late stood (Stays was stands leaves) outs (o, at)
-    broken at within moment talk = record {
+    broken at within moment dialogue = record {
       begins = λ stream known. let begins = begins_more at stream known in (begins.0, begins.2, tt);
       timed = (timed_more at within, moments_more at moment);
-      talk =
-          talk_kept
+      dialogue =
+          dialogue_kept
           (λ terminals room tail. BreaksOff step setting terminals (Stays is_kept stands leaves) room (o, at) tail)
           (λ terminals room tail. BreaksOff step setting terminals (Stays was stands leaves) room (o, at) tail)
-          (λ trust terminals room tail it. (it.0, it.1, it.2, still trust terminals it.0 it.3, it.4)) talk;
+          (λ trust terminals room tail it. (it.0, it.1, it.2, still trust terminals it.0 it.3, it.4)) dialogue;
     }
 
     -- no byte was written, and so much holds of the room
@@ -373,59 +376,60 @@ module _ (step : Step) (setting : Setting) (old : Sides) where
         → (late → (terminals : List Terminal) (room : Room) → says terminals room
         → less terminals room)
         → at ≤ LAST_MOMENT → Appends given new.given (at ∷ [])
-        → Talks step setting late stays held new.held []
+        → WritesDialogue step setting late stays held new.held []
         (λ terminals room tail. says terminals room × (tail ≡ []))
         → Unwritten step setting old new late stood (Stays was stands leaves) outs (o, at) less
-    unwritten at says less tells within moment talk = record {
+    unwritten at says less states within moment dialogue = record {
       begins = has_next;
       next = λ stream known. let begins = begins_more at stream known in (begins.0, begins.2, tt);
       timed = (timed_more at within, moments_more at moment);
-      talk =
-          talk_kept (λ terminals room tail. says terminals room × (tail ≡ []))
+      dialogue =
+          dialogue_kept (λ terminals room tail. says terminals room × (tail ≡ []))
           (λ terminals room tail. less terminals room × (tail ≡ []))
-          (λ trust terminals room tail it. (tells trust terminals room it.0, it.1)) talk;
+          (λ trust terminals room tail it. (states trust terminals room it.0, it.1)) dialogue;
     }
 
     abbrev Acted : Type 0 → ℕ → List Terminal → Room → Type 0
     Acted before at terminals room = BreaksOff step setting terminals (Stays before stands leaves) room (o, at) []
 
     -- serving ended with one more
-    pub ends : (told : List (List ℕ)) (budget at : ℕ) (e : ServeEnd) → AnswersHere at (Err e)
-        → ServeHere (record { outs = outs; answers = told; last = last_of e (o, at) }) budget e
-    ends told budget at Closed answers =
+    pub ends : (stated : List (List ℕ)) (budget at : ℕ) (e : ServeEnd) → AnswersHere at (Err e)
+        → ServeHere (record { outs = outs; answers = stated; last = last_of e (o, at) }) budget e
+    ends stated budget at Closed answers =
         inr (inr (
           (o, at),
           refl,
-          wanted at answers.1.0 (λ tail fixed. tail ≡ fixed) answers.0.0 answers.0.1 answers.1.1 answers.1.2,
+          unserved_at at answers.1.0 (λ tail fixed. tail ≡ fixed) answers.0.0 answers.0.1 answers.1.1 answers.1.2,
         ))
-    ends told budget at WriteFault answers = (
+    ends stated budget at WriteFault answers = (
       (
         (o, at),
         refl,
         elim answers.2 [
-          | inl talk ↦ inl (broken at answers.0.0 answers.0.1 talk)
-          | inr want ↦ inr (wanted at want.0 IsFront answers.0.0 answers.0.1 want.1 want.2)
+          | inl dialogue ↦ inl (broken at answers.0.0 answers.0.1 dialogue)
+          | inr cause ↦ inr (unserved_at at cause.0 IsFront answers.0.0 answers.0.1 cause.1 cause.2)
         ],
       ),
       answers.1,
     )
-    ends told budget at Unkept answers = (
+    ends stated budget at Unkept answers = (
       (
         (o, at),
         refl,
         elim answers.2 [
-          | inl talk ↦
+          | inl dialogue ↦
               inl
-              (unwritten at (Stays is_kept stands leaves) (Stays was stands leaves) still answers.0.0 answers.0.1 talk)
-          | inr talk ↦
+              (unwritten at (Stays is_kept stands leaves) (Stays was stands leaves) still answers.0.0 answers.0.1
+              dialogue)
+          | inr dialogue ↦
               inr (unwritten at (Acted is_kept at) (Acted was at)
               (λ trust terminals room it. (it.0, it.1, it.2, still trust terminals it.0 it.3, it.4)) answers.0.0
-              answers.0.1 talk)
+              answers.0.1 dialogue)
         ],
       ),
       answers.1,
     )
-    ends told budget at ClockFault answers = (
+    ends stated budget at ClockFault answers = (
       refl,
       (
         o,
@@ -433,13 +437,13 @@ module _ (step : Step) (setting : Setting) (old : Sides) where
           begins = has_next;
           timed = before.timed;
           clock = no_moment_later old.given given new.given new.was_none (map (λ x. x.1) outs) before.moments answers.0;
-          talk =
-              talk_kept (Said is_kept (λ tail. tail ≡ [])) (Said was (λ tail. tail ≡ []))
+          dialogue =
+              dialogue_kept (Said is_kept (λ tail. tail ≡ [])) (Said was (λ tail. tail ≡ []))
               (λ trust terminals room tail it. (still trust terminals room it.0, it.1)) answers.1;
         },
       ),
     )
-    ends told budget at Cut answers = absurd answers
-    ends told budget at ReadFault answers = absurd answers
-    ends told budget at ReadsSpent answers = absurd answers
-    ends told budget at Memory answers = absurd answers
+    ends stated budget at Cut answers = absurd answers
+    ends stated budget at ReadFault answers = absurd answers
+    ends stated budget at ReadsSpent answers = absurd answers
+    ends stated budget at Memory answers = absurd answers

@@ -11,7 +11,7 @@ use Rattle.room_model.specs.Room.{Room}
 use Rattle.room_model.specs.RoomAgreements.{IsWellFormed}
 use Rattle.room_http.specs.declared.settings.Setting.{Setting}
 use Rattle.room_http.specs.ClockMoments.{HasNoMoment}
-use Rattle.room_model.specs.Rooms.{IsWant, Step, machine}
+use Rattle.room_model.specs.Rooms.{IsUnavailable, Step, machine}
 use Rattle.room_http.specs.declared.session.ServeEnd.{ServeEnd}
 use Rattle.room_http.specs.declared.session.ServeEnd.TheVariants.{Closed, Cut, ReadFault, WriteFault, ClockFault}
 use Rattle.room_http.specs.declared.session.ServeEnd.TheVariants.{Unkept, ReadsSpent, Memory}
@@ -20,13 +20,14 @@ use Rattle.room_http.specs.ReplyMessages.{fixed_bytes}
 use Rattle.room_http.specs.ArrivalAnswers.{Answers}
 use Rattle.room_http.specs.Arrivals.{Arrival, Begins, HasNext, is_head_only}
 use Rattle.room_http.specs.Course.{AreFirstIn, Course, OneCourse}
-use Rattle.room_http.specs.ServedRuns.{AreFirst, AreGiven, AreWritten, IsAtMost, IsWantTail, KeepsPromises, Served}
-use Rattle.room_http.specs.Runs.{Exchange, IsRun, IsTold, arrivals_of, room_by}
+use Rattle.room_http.specs.ServedRuns.{AreFirst, AreGiven, AreWritten, IsAtMost, IsUnservedTail, KeepsPromises, Served}
+use Rattle.room_http.specs.Runs.{Exchange, HasAnswer, IsRun, arrivals_of, room_by}
 use Rattle.room_http.specs.Session.{Answered, Broken, Finish, HasActed, ServeIs, Sides, Unserved, Untimed, Unwritten}
-use Rattle.room_http.specs.Talk.{BreaksOff, IsCaused, IsFront, IsTalk, LeavesNext, Stays, Talks, Timed, Wants, replied}
+use Rattle.room_http.specs.Dialogues.{BreaksOff, IsCaused, IsDialogue, IsFront, IsUnserved, LeavesNext, Stays, Timed}
+use Rattle.room_http.specs.Dialogues.{WritesDialogue, replied}
 use Rattle.room_http.proofs.PromiseLaws.{promises_kept}
-use Rattle.room_http.proofs.RunLemmas.{answered_join, room_push, run_of, talk_run}
-use Rattle.room_http.proofs.TalkLemmas.{Talks-as, Talks-none}
+use Rattle.room_http.proofs.RunLemmas.{answered_join, dialogue_run, room_push, run_of}
+use Rattle.room_http.proofs.DialogueLemmas.{WritesDialogue-as, WritesDialogue-none}
 
 module _ (setting : Setting) (are : List Timed → Type 0) (was_kept : Type 0)
     (stands : List Terminal → Room → Type 0) (leaves : List Terminal → List Room → Type 0) where
@@ -38,15 +39,15 @@ module _ (setting : Setting) (are : List Timed → Type 0) (was_kept : Type 0)
       → leaves terminals (room ∷ [])
       ⊎ ((x : Timed) × are (outs ++ x ∷ []) × LeavesNext machine setting leaves x terminals room))
 
-  alone : (outs : List Timed) (terminals : List Terminal) (room : Room)
+  only_room : (outs : List Timed) (terminals : List Terminal) (room : Room)
       → Stays was_kept stands leaves terminals room → IsLeft outs terminals room
-  alone outs terminals room stays = (stays.0, λ was. inl (stays.1 was))
+  only_room outs terminals room stays = (stays.0, λ was. inl (stays.1 was))
 
-  wanting : (outs : List Timed) (x : Timed) → are (outs ++ x ∷ [])
+  unserved_next : (outs : List Timed) (x : Timed) → are (outs ++ x ∷ [])
       → (terminals : List Terminal) (room : Room)
-      → Wants machine setting was_kept stands leaves x terminals room → IsLeft outs terminals room
-  wanting outs x first terminals room wants =
-      (wants.0, λ was. elim (wants.1 was) [ inl one ↦ inl one | inr next ↦ inr (x, first, next) ])
+      → IsUnserved machine setting was_kept stands leaves x terminals room → IsLeft outs terminals room
+  unserved_next outs x first terminals room unserved =
+      (unserved.0, λ was. elim (unserved.1 was) [ inl one ↦ inl one | inr next ↦ inr (x, first, next) ])
 
 module _ (setting : Setting) (are : List Timed → Type 0) (held holds : Option (List ℕ))
     (was_kept : Type 0) (stands : List Terminal → Room → Type 0)
@@ -72,62 +73,62 @@ module _ (setting : Setting) (are : List Timed → Type 0) (held holds : Option 
 
     -- the answers were written, and a tail
     whole : (outs : List Timed) (after : Room) (bytes tail : List ℕ) → are outs
-        → IsTalk machine setting terminals room outs after bytes → LeftHere outs terminals after
-        → IsWantTail tail → Appends held holds (bytes ++ tail)
+        → IsDialogue machine setting terminals room outs after bytes → LeftHere outs terminals after
+        → IsUnservedTail tail → Appends held holds (bytes ++ tail)
         → Served setting are held holds was_kept stands leaves terminals room
-    whole outs after bytes tail arrivals talk stay wants appends =
-        let of = talk_run setting terminals room outs after bytes fit talk in
+    whole outs after bytes tail arrivals dialogue stay unserved appends =
+        let of = dialogue_run setting terminals room outs after bytes fit dialogue in
         served_by of.0 (bytes ++ tail) of.1.run (subst are (sym of.1.arrivals) arrivals)
         (subst (λ os. LeftHere os terminals (room_by of.0 room)) (sym of.1.arrivals)
         (subst (LeftHere outs terminals) (sym of.1.leads) stay)) appends
-        (inl (tail, wants, ap (λ b. b ++ tail) (sym of.1.told)))
+        (inl (tail, unserved, ap (λ b. b ++ tail) (sym of.1.spoken)))
 
     -- the last answer was not written wholly
     short : (outs : List Timed) (x : Timed) (now : Room) (bytes tail : List ℕ)
-        → are (outs ++ x ∷ []) → IsTalk machine setting terminals room outs now bytes
+        → are (outs ++ x ∷ []) → IsDialogue machine setting terminals room outs now bytes
         → BreaksOff machine setting terminals (Stays was_kept stands leaves) now x tail
         → Appends held holds (bytes ++ tail)
         → Served setting are held holds was_kept stands leaves terminals room
-    short outs x now bytes tail arrivals talk (after, answer, (found, finds, is, replies), stay, front) appends =
-        let of = talk_run setting terminals room outs now bytes fit talk in
+    short outs x now bytes tail arrivals dialogue (after, answer, (found, finds, is, replies), stay, front) appends =
+        let of = dialogue_run setting terminals room outs now bytes fit dialogue in
         let last : Exchange = record { arrival = x; found = found; bytes = answer } in
         let outs_are : arrivals_of (of.0 ++ last ∷ [])
         ≡ outs ++ x ∷ [] =
         map-append (λ (y : Exchange). y.arrival) of.0 (last ∷ []) ∙ ap (λ os. os ++ x ∷ []) of.1.arrivals in
         let leads : room_by (of.0 ++ last ∷ []) room
         ≡ after = room_push of.0 last room ∙ ap (λ r. (replied machine found r).0) of.1.leads ∙ sym is in
-        let told : IsTold last (replied machine found (room_by of.0 room)).1 = subst
-        (λ r. IsTold last (replied machine found r).1) (sym of.1.leads) replies in
+        let stated : HasAnswer last (replied machine found (room_by of.0 room)).1 = subst
+        (λ r. HasAnswer last (replied machine found r).1) (sym of.1.leads) replies in
         served_by (of.0 ++ last ∷ []) (bytes ++ tail) (run_of setting terminals room (of.0 ++ last ∷ []) fit
-        (answered_join setting terminals of.0 (last ∷ []) room of.1.run.answered (finds, told, tt)))
+        (answered_join setting terminals of.0 (last ∷ []) room of.1.run.answered (finds, stated, tt)))
         (subst are (sym outs_are) arrivals)
         (subst (LeftHere (arrivals_of (of.0 ++ last ∷ [])) terminals) (sym leads)
-        (alone setting are was_kept stands leaves (arrivals_of (of.0 ++ last ∷ [])) terminals after stay)) appends
-        (inr (of.0, last, tail, refl, front, ap (λ b. b ++ tail) (sym of.1.told)))
+        (only_room setting are was_kept stands leaves (arrivals_of (of.0 ++ last ∷ [])) terminals after stay)) appends
+        (inr (of.0, last, tail, refl, front, ap (λ b. b ++ tail) (sym of.1.spoken)))
 
   module _ (trusted : Type 0) (stood : List Terminal → Room → Type 0)
       (fit : (terminals : List Terminal) (room : Room) → stood terminals room
       → AreTerminals room terminals) where
     kept_whole : (outs : List Timed) (says : List Terminal → Room → Type 0)
-        (tells : List ℕ → Type 0) → are outs
+        (states : List ℕ → Type 0) → are outs
         → ((terminals : List Terminal) (room : Room) → says terminals room
         → LeftHere outs terminals room)
-        → ((tail : List ℕ) → tells tail → IsWantTail tail)
-        → Talks machine setting trusted stood held holds outs
-        (λ terminals after tail. says terminals after × tells tail)
+        → ((tail : List ℕ) → states tail → IsUnservedTail tail)
+        → WritesDialogue machine setting trusted stood held holds outs
+        (λ terminals after tail. says terminals after × states tail)
         → KeepsPromises setting are held holds trusted was_kept stood stands leaves
-    kept_whole outs says tells arrivals left wants talk trust terminals room standing formed =
-        let t = talk trust terminals room standing in
+    kept_whole outs says states arrivals left unserved dialogue trust terminals room standing formed =
+        let t = dialogue trust terminals room standing in
         whole terminals room (fit terminals room standing) formed outs t.0 t.1 t.2 arrivals t.3
-        (left terminals t.0 t.4.0) (wants t.2 t.4.1) t.5
+        (left terminals t.0 t.4.0) (unserved t.2 t.4.1) t.5
 
     kept_short : (outs : List Timed) (x : Timed) → are (outs ++ x ∷ [])
-        → Talks machine setting trusted stood held holds outs
+        → WritesDialogue machine setting trusted stood held holds outs
         (λ terminals after tail. BreaksOff machine setting terminals
         (Stays was_kept stands leaves) after x tail)
         → KeepsPromises setting are held holds trusted was_kept stood stands leaves
-    kept_short outs x arrivals talk trust terminals room standing formed =
-        let t = talk trust terminals room standing in
+    kept_short outs x arrivals dialogue trust terminals room standing formed =
+        let t = dialogue trust terminals room standing in
         short terminals room (fit terminals room standing) formed outs x t.0 t.1 t.2 arrivals t.3 t.4 t.5
 
 -- nothing was answered
@@ -140,36 +141,37 @@ pub none_served : (setting : Setting) (are : List Timed → Type 0) (held : Opti
     → are [] → KeepsPromises setting are held held trusted was_kept stood stood leaves
 none_served setting are held was_kept trusted stood leaves fit leaves_it none =
     kept_whole setting are held held was_kept stood leaves trusted stood fit [] (Stays was_kept stood leaves)
-    (λ tail. tail ≡ []) none (alone setting are was_kept stood leaves []) (λ tail is. inl is)
-    (Talks-none machine setting trusted stood (Stays was_kept stood leaves) held
+    (λ tail. tail ≡ []) none (only_room setting are was_kept stood leaves []) (λ tail is. inl is)
+    (WritesDialogue-none machine setting trusted stood (Stays was_kept stood leaves) held
     (λ terminals room standing. (standing, λ was. leaves_it terminals room was standing)))
 
--- what is caused is a want
-pub want_of : (failed : Type 0) (r : Refusal) → IsCaused failed r → IsWant r
-want_of failed r (inl memory) = inl memory
-want_of failed r (inr storage) = inr storage.0
+-- what is caused is unavailability
+pub unavailable_of : (failed : Type 0) (r : Refusal) → IsCaused failed r → IsUnavailable r
+unavailable_of failed r (inl memory) = inl memory
+unavailable_of failed r (inr storage) = inr storage.0
 
 -- a fixed answer that was written, or some first bytes of it
 all_of : (failed : Type 0) (r : Refusal) (head_only : Bool) → IsCaused failed r → (tail : List ℕ)
-    → tail ≡ fixed_bytes r head_only → IsWantTail tail
-all_of failed r head_only want tail is = inr (r, want_of failed r want, head_only, ([], sym (append-nil tail ∙ is)))
+    → tail ≡ fixed_bytes r head_only → IsUnservedTail tail
+all_of failed r head_only cause tail is =
+    inr (r, unavailable_of failed r cause, head_only, ([], sym (append-nil tail ∙ is)))
 
 some_of : (failed : Type 0) (r : Refusal) (head_only : Bool) → IsCaused failed r → (tail : List ℕ)
-    → IsFront tail (fixed_bytes r head_only) → IsWantTail tail
-some_of failed r head_only want tail is = inr (r, want_of failed r want, head_only, is)
+    → IsFront tail (fixed_bytes r head_only) → IsUnservedTail tail
+some_of failed r head_only cause tail is = inr (r, unavailable_of failed r cause, head_only, is)
 
 -- the room has acted and nothing was written, so the answer was not written wholly
 silent : (setting : Setting) (trusted : Type 0) (stood stays : List Terminal → Room → Type 0)
     (held holds : Option (List ℕ)) (outs : List Timed) (x : Timed)
-    → Talks machine setting trusted stood held holds outs
+    → WritesDialogue machine setting trusted stood held holds outs
     (λ terminals after tail. BreaksOff machine setting terminals stays after x [] × (tail ≡ []))
-    → Talks machine setting trusted stood held holds outs
+    → WritesDialogue machine setting trusted stood held holds outs
     (λ terminals after tail. BreaksOff machine setting terminals stays after x tail)
-silent setting trusted stood stays held holds outs x talk =
-    Talks-as machine setting trusted stood stood held holds outs
+silent setting trusted stood stays held holds outs x dialogue =
+    WritesDialogue-as machine setting trusted stood stood held holds outs
     (λ terminals after tail. BreaksOff machine setting terminals stays after x [] × (tail ≡ []))
     (λ terminals after tail. BreaksOff machine setting terminals stays after x tail) (λ terminals room it. it)
-    (λ trust terminals room tail it. subst (BreaksOff machine setting terminals stays room x) (sym it.1) it.0) talk
+    (λ trust terminals room tail it. subst (BreaksOff machine setting terminals stays room x) (sym it.1) it.0) dialogue
 
 -- ---- one arrival
 module _ (setting : Setting) (held holds given gives : Option (List ℕ))
@@ -184,49 +186,49 @@ module _ (setting : Setting) (held holds given gives : Option (List ℕ))
   abbrev AnswersHere : Step → Result (Unit {0}) ServeEnd → Type 0
   AnswersHere step result =
       Answers step setting held holds given gives write_failed was_none observer_failed trusted stood
-      (Stays was_kept stands leaves) (Wants step setting was_kept stands leaves) failed at o result
+      (Stays was_kept stands leaves) (IsUnserved step setting was_kept stands leaves) failed at o result
 
-  none_answered : (says : List Terminal → Room → Type 0) (tells : List ℕ → Type 0)
+  none_answered : (says : List Terminal → Room → Type 0) (states : List ℕ → Type 0)
       → ((terminals : List Terminal) (room : Room) → says terminals room
       → IsLeft setting (IsAtMost o given gives) was_kept stands leaves [] terminals room)
-      → ((tail : List ℕ) → tells tail → IsWantTail tail)
-      → Talks machine setting trusted stood held holds []
-      (λ terminals after tail. says terminals after × tells tail) → KeptOne
-  none_answered says tells left wants talk =
-      kept_whole setting (IsAtMost o given gives) held holds was_kept stands leaves trusted stood fit [] says tells tt
-      left wants talk
+      → ((tail : List ℕ) → states tail → IsUnservedTail tail)
+      → WritesDialogue machine setting trusted stood held holds []
+      (λ terminals after tail. says terminals after × states tail) → KeptOne
+  none_answered says states left unserved dialogue =
+      kept_whole setting (IsAtMost o given gives) held holds was_kept stands leaves trusted stood fit [] says states tt
+      left unserved dialogue
 
   kept_one : (result : Result (Unit {0}) ServeEnd) → AnswersHere machine result → KeptOne
   kept_one (Ok done) a =
       kept_whole setting (IsAtMost o given gives) held holds was_kept stands leaves trusted stood fit ((o, at) ∷ [])
       (Stays was_kept stands leaves) (λ tail. tail ≡ []) (refl, ([], a.0.1))
-      (alone setting (IsAtMost o given gives) was_kept stands leaves ((o, at) ∷ [])) (λ tail is. inl is) a.2
+      (only_room setting (IsAtMost o given gives) was_kept stands leaves ((o, at) ∷ [])) (λ tail is. inl is) a.2
   kept_one (Err Closed) a =
-      none_answered (Wants machine setting was_kept stands leaves (o, at))
+      none_answered (IsUnserved machine setting was_kept stands leaves (o, at))
       (λ tail. tail ≡ fixed_bytes a.1.0 (is_head_only o))
-      (wanting setting (IsAtMost o given gives) was_kept stands leaves [] (o, at) (refl, ([], a.0.1)))
+      (unserved_next setting (IsAtMost o given gives) was_kept stands leaves [] (o, at) (refl, ([], a.0.1)))
       (all_of failed a.1.0 (is_head_only o) a.1.1) a.1.2
   kept_one (Err WriteFault) a = elim a.2 [
-    | inl talk ↦
+    | inl dialogue ↦
         kept_short setting (IsAtMost o given gives) held holds was_kept stands leaves trusted stood fit [] (o, at)
-        (refl, ([], a.0.1)) talk
-    | inr want ↦
-        none_answered (Wants machine setting was_kept stands leaves (o, at))
-        (λ tail. IsFront tail (fixed_bytes want.0 (is_head_only o)))
-        (wanting setting (IsAtMost o given gives) was_kept stands leaves [] (o, at) (refl, ([], a.0.1)))
-        (some_of failed want.0 (is_head_only o) want.1) want.2
+        (refl, ([], a.0.1)) dialogue
+    | inr cause ↦
+        none_answered (IsUnserved machine setting was_kept stands leaves (o, at))
+        (λ tail. IsFront tail (fixed_bytes cause.0 (is_head_only o)))
+        (unserved_next setting (IsAtMost o given gives) was_kept stands leaves [] (o, at) (refl, ([], a.0.1)))
+        (some_of failed cause.0 (is_head_only o) cause.1) cause.2
   ]
   kept_one (Err ClockFault) a =
       none_answered (Stays was_kept stands leaves) (λ tail. tail ≡ [])
-      (alone setting (IsAtMost o given gives) was_kept stands leaves []) (λ tail is. inl is) a.1
+      (only_room setting (IsAtMost o given gives) was_kept stands leaves []) (λ tail is. inl is) a.1
   kept_one (Err Unkept) a = elim a.2 [
-    | inl talk ↦
+    | inl dialogue ↦
         none_answered (Stays was_kept stands leaves) (λ tail. tail ≡ [])
-        (alone setting (IsAtMost o given gives) was_kept stands leaves []) (λ tail is. inl is) talk
-    | inr talk ↦
+        (only_room setting (IsAtMost o given gives) was_kept stands leaves []) (λ tail is. inl is) dialogue
+    | inr dialogue ↦
         kept_short setting (IsAtMost o given gives) held holds was_kept stands leaves trusted stood fit [] (o, at)
         (refl, ([], a.0.1))
-        (silent setting trusted stood (Stays was_kept stands leaves) held holds [] (o, at) talk)
+        (silent setting trusted stood (Stays was_kept stands leaves) held holds [] (o, at) dialogue)
   ]
   kept_one (Err Cut) a = absurd a
   kept_one (Err ReadFault) a = absurd a
@@ -272,7 +274,8 @@ module _ (setting : Setting) (old : Sides) (new : Finish) (was_kept trusted has_
 
   abbrev ServeHere : Step → ℕ → ServeEnd → Type 0
   ServeHere step =
-      ServeIs step setting old new trusted stood StaysHere (Wants step setting was_kept stands leaves) has_failed course
+      ServeIs step setting old new trusted stood StaysHere (IsUnserved step setting was_kept stands leaves) has_failed
+      course
 
   abbrev Kept : Type 0
   Kept = KeepsPromises setting AreFirstHere old.held new.held trusted was_kept stood stands leaves
@@ -297,45 +300,47 @@ module _ (setting : Setting) (old : Sides) (new : Finish) (was_kept trusted has_
   )
 
   kept_all : AreFirstHere course.outs
-      → Talks machine setting trusted stood old.held new.held course.outs
+      → WritesDialogue machine setting trusted stood old.held new.held course.outs
       (λ terminals after tail. StaysHere terminals after × (tail ≡ [])) → Kept
-  kept_all first talk =
+  kept_all first dialogue =
       kept_whole setting AreFirstHere old.held new.held was_kept stands leaves trusted stood fit course.outs StaysHere
-      (λ tail. tail ≡ []) first (alone setting AreFirstHere was_kept stands leaves course.outs) (λ tail is. inl is) talk
+      (λ tail. tail ≡ []) first (only_room setting AreFirstHere was_kept stands leaves course.outs) (λ tail is. inl is)
+      dialogue
 
   kept_answered : (follows : List ℕ → Type 0)
       → Answered machine setting old new trusted stood StaysHere course.outs follows → Kept
   kept_answered follows a =
-      kept_all (answered_first follows a.begins (no_more old.given new.given course.outs a.timed.1)) a.talk
+      kept_all (answered_first follows a.begins (no_more old.given new.given course.outs a.timed.1)) a.dialogue
 
   kept_unserved : (x : Timed) (so_much : List ℕ → List ℕ → Type 0) → course.last ≡ Some x
       → ((failed : Type 0) (r : Refusal) (head_only : Bool) → IsCaused failed r → (tail : List ℕ)
-      → so_much tail (fixed_bytes r head_only) → IsWantTail tail)
+      → so_much tail (fixed_bytes r head_only) → IsUnservedTail tail)
       → Unserved machine setting old new trusted stood StaysHere
-      (Wants machine setting was_kept stands leaves) has_failed course.outs x so_much → Kept
-  kept_unserved x so_much last wants u =
+      (IsUnserved machine setting was_kept stands leaves) has_failed course.outs x so_much → Kept
+  kept_unserved x so_much last unserved u =
       kept_whole setting AreFirstHere old.held new.held was_kept stands leaves trusted stood fit course.outs
-      (Wants machine setting was_kept stands leaves x) (λ tail. so_much tail (fixed_bytes u.refusal (is_head_only x.0)))
+      (IsUnserved machine setting was_kept stands leaves x)
+      (λ tail. so_much tail (fixed_bytes u.refusal (is_head_only x.0)))
       (answered_first (HasNext x.0) u.begins (one_more old.given new.given course.outs x u.timed.1))
-      (wanting setting AreFirstHere was_kept stands leaves course.outs x (with_last x last u.next u.timed.1))
-      (wants has_failed u.refusal (is_head_only x.0) u.want) u.talk
+      (unserved_next setting AreFirstHere was_kept stands leaves course.outs x (with_last x last u.next u.timed.1))
+      (unserved has_failed u.refusal (is_head_only x.0) u.caused) u.dialogue
 
   kept_untimed : (o : Arrival)
       → Untimed machine setting old new trusted stood StaysHere course.outs o → Kept
   kept_untimed o u =
       kept_all (answered_first (HasNext o) u.begins (no_moment old.given new.given new.was_none course.outs u.clock))
-      u.talk
+      u.dialogue
 
   kept_broken : (x : Timed) → course.last ≡ Some x
       → Broken machine setting old new trusted stood StaysHere course.outs x → Kept
   kept_broken x last b =
       kept_short setting AreFirstHere old.held new.held was_kept stands leaves trusted stood fit course.outs x
-      (with_last x last b.begins b.timed.1) b.talk
+      (with_last x last b.begins b.timed.1) b.dialogue
 
   kept_unwritten : (x : Timed)
       → Unwritten machine setting old new trusted stood StaysHere course.outs x StaysHere → Kept
   kept_unwritten x u =
-      kept_all (answered_first (HasNext x.0) u.begins (one_more old.given new.given course.outs x u.timed.1)) u.talk
+      kept_all (answered_first (HasNext x.0) u.begins (one_more old.given new.given course.outs x u.timed.1)) u.dialogue
 
   kept_acted : (x : Timed) → course.last ≡ Some x
       → Unwritten machine setting old new trusted stood StaysHere course.outs x
@@ -343,13 +348,13 @@ module _ (setting : Setting) (old : Sides) (new : Finish) (was_kept trusted has_
   kept_acted x last u =
       kept_short setting AreFirstHere old.held new.held was_kept stands leaves trusted stood fit course.outs x
       (with_last x last u.next u.timed.1)
-      (silent setting trusted stood StaysHere old.held new.held course.outs x u.talk)
+      (silent setting trusted stood StaysHere old.held new.held course.outs x u.dialogue)
 
   -- however serving ended
   kept : (budget : ℕ) (end : ServeEnd) → ServeHere machine budget end → Kept
   kept budget Closed (inl ended) = kept_answered (λ rest. rest ≡ []) ended.0.1
   kept budget Closed (inr (inl closed)) = kept_answered (λ rest. ⊤) closed.0.1
-  kept budget Closed (inr (inr want)) = kept_unserved want.0 (λ tail fixed. tail ≡ fixed) want.1 all_of want.2
+  kept budget Closed (inr (inr cause)) = kept_unserved cause.0 (λ tail fixed. tail ≡ fixed) cause.1 all_of cause.2
   kept budget Cut cut = kept_answered IsCut cut.0.1
   kept budget ReadFault failed = kept_answered (λ rest. ⊤) failed.0.1
   kept budget WriteFault failed = elim failed.0.2 [
@@ -373,12 +378,12 @@ module _ (setting : Setting) (old : Sides) (new : Finish) (was_kept trusted has_
       → ServeHere step budget end → keeps course
       → OneCourse
       (λ c. ServeIs step setting old new trusted stood StaysHere
-      (Wants step setting was_kept stands leaves) has_failed c budget end)
+      (IsUnserved step setting was_kept stands leaves) has_failed c budget end)
       (λ c. step ≡ machine → KeepsPromises setting (AreFirstIn c old.left old.given new.given) old.held
       new.held trusted was_kept stood stands leaves) keeps
   one_course keeps step budget end is observed = record {
     course = course;
-    talk = is;
+    dialogue = is;
     promised = promised step budget end is;
     observed = observed;
   }

@@ -18,7 +18,8 @@ use Rattle.room_http_messages.specs.declared.read_faults.Unread.TheVariants.{End
 use Rattle.room_http_messages.specs.Readings.{SaysOf}
 use Rattle.room_http.specs.declared.arrivals.Arrived.{Arrived}
 use Rattle.room_http.specs.declared.arrivals.Arrived.TheVariants.{Message, Refused as Shut}
-use Rattle.room_http.specs.Arrivals.{Arrival, message, refused, is_closing, BeginsWith, Begins, IsAlone, IsBounded}
+use Rattle.room_http.specs.Arrivals.{Arrival, message, refused, is_closing, BeginsWith, Begins, IsJustMessage}
+use Rattle.room_http.specs.Arrivals.{IsBounded}
 use Rattle.room_http.specs.Arrivals.{IsShown}
 use Rattle.room_http.specs.ConnectionReads.{IsReadAs, kept_after}
 
@@ -73,11 +74,11 @@ message_passes kept after (Some left) m n has is = record {
 }
 
 -- the bytes of the message at the front are that message and nothing more
-pub message_alone : (kept bytes : List ℕ) (layout : Layout) (m : WholeMessage)
+pub just_message : (kept bytes : List ℕ) (layout : Layout) (m : WholeMessage)
     → HasMessage kept m (drop layout.body.end kept) → IsLayout kept layout m
     → layout.body.end ≤ length kept → bytes ≡ kept → length bytes ≤ INBOX_ROOM
-    → IsAlone (take layout.body.end bytes) m
-message_alone kept bytes layout m has is within same fits =
+    → IsJustMessage (take layout.body.end bytes) m
+just_message kept bytes layout m has is within same fits =
     let n = layout.body.end in
     let rest = drop n kept in
     let size : length (print_request m.head ++ m.body) ≡ n = length-append (print_request m.head) m.body ∙ sym is.end in

@@ -13,7 +13,7 @@ use Rattle.room_http.specs.Arrivals.{Arrival, is_head_only}
 use Rattle.room_http.specs.ClockMoments.{HasNoMoment}
 use Rattle.room_http.specs.ReplyMessages.{fixed_bytes}
 use Rattle.room_http.specs.declared.settings.Setting.{Setting}
-use Rattle.room_http.specs.Talk.{Timed, Talks, IsCaused, IsFront, BreaksOff}
+use Rattle.room_http.specs.Dialogues.{Timed, WritesDialogue, IsCaused, IsFront, BreaksOff}
 
 -- serving ends with an answer in one of these ways
 abbrev pub EndsAnswering : ServeEnd → Type 0
@@ -29,7 +29,7 @@ EndsAnswering Memory = ⊥
 module _ (step : Step) (setting : Setting) (held holds given gives : Option (List ℕ))
     (write_failed was_none observer_failed : Bool)
     (trusted : Type 0) (stood stands : List Terminal → Room → Type 0)
-    (wants : Timed → List Terminal → Room → Type 0) (failed : Type 0)
+    (unserved : Timed → List Terminal → Room → Type 0) (failed : Type 0)
     (at : ℕ) (o : Arrival) where
   -- the arrival had this moment
   abbrev pub IsAt : Type 0
@@ -38,25 +38,25 @@ module _ (step : Step) (setting : Setting) (held holds given gives : Option (Lis
   -- it was answered, or serving ends with it
   abbrev pub Answers : Result (Unit {0}) ServeEnd → Type 0
   Answers (Ok done) = IsAt × (write_failed ≡ false)
-      × Talks step setting trusted stood held holds ((o, at) ∷ [])
+      × WritesDialogue step setting trusted stood held holds ((o, at) ∷ [])
       (λ terminals after tail. stands terminals after × (tail ≡ []))
   Answers (Err Closed) = IsAt × ((r : Refusal) × IsCaused failed r
-      × Talks step setting trusted stood held holds []
-      (λ terminals after tail. wants (o, at) terminals after
+      × WritesDialogue step setting trusted stood held holds []
+      (λ terminals after tail. unserved (o, at) terminals after
       × (tail ≡ fixed_bytes r (is_head_only o))))
   Answers (Err WriteFault) = IsAt × (write_failed ≡ true)
-      × (Talks step setting trusted stood held holds []
+      × (WritesDialogue step setting trusted stood held holds []
       (λ terminals after tail. BreaksOff step setting terminals stands after (o, at) tail)
-      ⊎ ((r : Refusal) × IsCaused failed r × Talks step setting trusted stood held holds []
-      (λ terminals after tail. wants (o, at) terminals after
+      ⊎ ((r : Refusal) × IsCaused failed r × WritesDialogue step setting trusted stood held holds []
+      (λ terminals after tail. unserved (o, at) terminals after
       × IsFront tail (fixed_bytes r (is_head_only o)))))
   Answers (Err ClockFault) = HasNoMoment given gives was_none []
-      × Talks step setting trusted stood held holds []
+      × WritesDialogue step setting trusted stood held holds []
       (λ terminals after tail. stands terminals after × (tail ≡ []))
   Answers (Err Unkept) = IsAt × (observer_failed ≡ true)
-      × (Talks step setting trusted stood held holds []
+      × (WritesDialogue step setting trusted stood held holds []
       (λ terminals after tail. stands terminals after × (tail ≡ []))
-      ⊎ Talks step setting trusted stood held holds []
+      ⊎ WritesDialogue step setting trusted stood held holds []
       (λ terminals after tail. BreaksOff step setting terminals stands after (o, at) []
       × (tail ≡ [])))
   Answers (Err Cut) = ⊥

@@ -40,14 +40,14 @@ abbrev pub HasNext : Arrival → List ℕ → Type 0
 HasNext o stream = (next : List ℕ) × BeginsWith stream o next
 
 -- the bytes are this message and nothing more
-pub record IsAlone (bytes : List ℕ) (m : WholeMessage) : Type 0 where
+pub record IsJustMessage (bytes : List ℕ) (m : WholeMessage) : Type 0 where
   pub whole : HasMessage bytes m []
   pub some : 1 ≤ length bytes
   pub fits : length bytes ≤ INBOX_ROOM
 
 -- what is shown of an arrival: of a message also its bytes
 abbrev pub IsShown : Arrived → Arrival → Type 0
-IsShown (Message shown bytes) (message m) = Shows shown m × IsAlone bytes.now m
+IsShown (Message shown bytes) (message m) = Shows shown m × IsJustMessage bytes.now m
 IsShown (Message shown bytes) (refused r head_only) = ⊥
 IsShown (Refused r head_only) (message m) = ⊥
 IsShown (Refused r head_only) (refused s without) = (r ≡ s) × (head_only ≡ without)

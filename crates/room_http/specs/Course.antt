@@ -1,7 +1,7 @@
 -- One run over a connection.
 use Rattle.std.specs.Prelude.{◌≡◌, ◌⊎◌, ℕ, List, [], ◌∷◌, ◌++◌, Option, Some}
 use Rattle.room_http.specs.ServedRuns.{AreFirst}
-use Rattle.room_http.specs.Talk.{Timed}
+use Rattle.room_http.specs.Dialogues.{Timed}
 
 -- The arrivals that were answered wholly, at their moments, the bytes of their answers, and the
 -- arrival with which serving ended, if there is one: it had a moment, and was not answered wholly.
@@ -23,6 +23,6 @@ AreFirstIn course left given gives outs = AreOf course outs × AreFirst left giv
 -- Of one course all this holds: how serving ended, what is promised, and what the observer kept.
 pub record OneCourse (says promises keeps : Course → Type 0) : Type 0 where
   pub course : Course
-  pub talk : says course
+  pub dialogue : says course
   pub promised : promises course
   pub observed : keeps course

@@ -6,7 +6,7 @@ use Rattle.room_types.specs.declared.refusal_statuses.Refusal.{Refusal}
 use Rattle.room_model.specs.Room.{Room}
 use Rattle.room_http.specs.declared.arrivals.Arrived.{Arrived}
 use Rattle.room_http.specs.Arrivals.{Arrival, IsShown}
-use Rattle.room_http.specs.Talk.{Finds, IsReplyTo, Timed, replied}
+use Rattle.room_http.specs.Dialogues.{Finds, IsReplyTo, Timed, replied}
 use Rattle.room_http.specs.declared.settings.Setting.{Setting}
 use Rattle.room_model.specs.Digests.{DigitsOf, IsHeadOf, IsMiss}
 use Rattle.room_model.specs.Rooms.{Step}
@@ -29,7 +29,7 @@ pub record RepliesTowards {M A : Type 0} (step : Step) (digits_of : DigitsOf)
     (setting : Setting) (request : Arrived) (at : ℕ) (head : Head)
     (result : Result (Vec ℕ A) Miss) : Type 0 where
   pub trusted : is_trusted new → is_trusted old
-  pub wants : IfErr result IsMiss
+  pub unavailable : IfErr result IsMiss
   pub says : is_trusted new → (terminals : List Terminal) (room : Room) → stands old terminals room
       → MatchResult result
       (λ bytes. (o : Arrival) → IsShown request o

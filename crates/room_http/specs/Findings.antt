@@ -7,13 +7,13 @@ use Rattle.room_types.specs.declared.refusal_statuses.Refusal.{Refusal}
 use Rattle.room_types.specs.declared.refusal_statuses.Refusal.TheVariants.{NoTerminal, Storage}
 use Rattle.room_model.specs.Room.{Room}
 use Rattle.room_model.specs.Step.{IsAddressed}
-use Rattle.room_http_requests.specs.Roles.{is_known}
+use Rattle.room_http_requests.specs.RequestTable.{is_known}
 use Rattle.room_http_messages.specs.declared.messages.Message.{Message}
 use Rattle.room_http_messages.specs.Layouts.{Shows}
 use Rattle.room_http_messages.specs.Messages.{WholeMessage}
 use Rattle.room_http.specs.MessageEvents.{AsksFor, named}
 use Rattle.room_http.specs.declared.settings.Setting.{Setting}
-use Rattle.room_model.specs.Rooms.{IsWant}
+use Rattle.room_model.specs.Rooms.{IsUnavailable}
 
 -- The room was asked who shows the token of a field, and stayed as it was. Storage fails only
 -- where that call was refused.
@@ -26,7 +26,7 @@ pub record FindsTerminal {M : Type 0} (is_trusted has_failed : M → Type 0)
   pub says : is_trusted new → (terminals : List Terminal) (room : Room) → stands old terminals room
       → MatchResult result
       (λ who. (named terminals field ≡ Some who) × (is_known who room ≡ true))
-      (λ refusal. IsWant refusal ⊎ ((refusal ≡ NoTerminal) × (named terminals field ≡ None)))
+      (λ refusal. IsUnavailable refusal ⊎ ((refusal ≡ NoTerminal) × (named terminals field ≡ None)))
   pub failed : result ≡ Err Storage → has_failed new
 
 -- The room was asked who shows a token, and stayed as it was. What was found holds of each message
@@ -41,7 +41,7 @@ pub record FindsMessage {M : Type 0} (is_trusted has_failed : M → Type 0)
       → MatchResult result
       (λ event. ((m : WholeMessage) → Shows shown m → AsksFor setting terminals m at (Ok event))
       × IsAddressed event room)
-      (λ refusal. IsWant refusal
+      (λ refusal. IsUnavailable refusal
       ⊎ ((m : WholeMessage) → Shows shown m → AsksFor setting terminals m at (Err refusal)))
   pub failed : result ≡ Err Storage → has_failed new
 
@@ -51,6 +51,6 @@ pub record LooksOnly {M T : Type 0} (is_trusted is_kept : M → Type 0)
     (stands : M → List Terminal → Room → Type 0) (leaves : M → List Terminal → List Room → Type 0)
     (old new : M) (result : Result T Refusal) : Type 0 where
   pub kept : is_trusted new → is_kept old
-      → MatchResult result (λ _. is_kept new) (λ refusal. IsWant refusal ⊎ is_kept new)
+      → MatchResult result (λ _. is_kept new) (λ refusal. IsUnavailable refusal ⊎ is_kept new)
   pub left : is_trusted new → is_kept old → (terminals : List Terminal) (room : Room)
       → stands old terminals room → leaves new terminals (room ∷ [])

@@ -8,14 +8,14 @@ use Rattle.room_model.specs.Room.{Room}
 use Rattle.room_http.specs.ReplyMessages.{fixed_bytes}
 use Rattle.room_http.specs.declared.moments.TheConstants.{LAST_MOMENT}
 use Rattle.room_http.specs.declared.settings.Setting.{Setting}
-use Rattle.room_model.specs.Rooms.{IsWant, Step}
+use Rattle.room_model.specs.Rooms.{IsUnavailable, Step}
 use Rattle.room_http.specs.declared.arrivals.Arrived.{Arrived}
 use Rattle.room_http.specs.declared.arrivals.Arrived.TheVariants.{Message, Refused}
 use Rattle.room_http.specs.declared.session.ServeEnd.{ServeEnd}
 use Rattle.room_http.specs.declared.session.ServeEnd.TheVariants.{ClockFault, Unkept}
-use Rattle.room_http.specs.Arrivals.{Arrival, Begins, HasNext, IsAlone, is_head_only, message, refused}
+use Rattle.room_http.specs.Arrivals.{Arrival, Begins, HasNext, IsJustMessage, is_head_only, message, refused}
 use Rattle.room_http.specs.Course.{Course}
-use Rattle.room_http.specs.Talk.{IsFront, IsReplyTo, Timed}
+use Rattle.room_http.specs.Dialogues.{IsFront, IsReplyTo, Timed}
 
 -- the observer keeps all these bytes more, or could keep some of the first of them
 abbrev pub KeepsAll : {E : Type 0} → Option (List ℕ) → Option (List ℕ) → List ℕ
@@ -31,9 +31,9 @@ came_of came (Message shown bytes) at = came at bytes.now
 came_of came (Refused r head_only) at = []
 
 -- what is to be kept of its answer
-abbrev pub told_of : (List ℕ → List ℕ) → Arrived → List ℕ → List ℕ
-told_of told (Message shown bytes) answer = told answer
-told_of told (Refused r head_only) answer = []
+abbrev pub response_of : (List ℕ → List ℕ) → Arrived → List ℕ → List ℕ
+response_of response (Message shown bytes) answer = response answer
+response_of response (Refused r head_only) answer = []
 
 -- what is known of the moments that were given, of what the observer keeps, and of what the writer
 -- holds
@@ -93,17 +93,17 @@ module _ (step : Step) (setting : Setting) where
         → (after : Room) × AreReplies terminals room outs answers after × stands terminals after
 
 -- what a observer keeps of a message at its moment, and of an answer
-module _ (came : ℕ → List ℕ → List ℕ) (told : List ℕ → List ℕ) where
+module _ (came : ℕ → List ℕ → List ℕ) (response : List ℕ → List ℕ) where
   -- what is kept of an arrival at its moment as it comes: a message's bytes as they came, and
   -- nothing of what is refused
   abbrev pub IsCome : Timed → List ℕ → Type 0
   IsCome (message m, at) text =
-      (bytes : List ℕ) × IsAlone bytes m × (at ≤ LAST_MOMENT) × (text ≡ came at bytes)
+      (bytes : List ℕ) × IsJustMessage bytes m × (at ≤ LAST_MOMENT) × (text ≡ came at bytes)
   IsCome (refused r head_only, at) text = text ≡ []
 
   -- what is kept of its answer
   abbrev pub answer_kept : Arrival → List ℕ → List ℕ
-  answer_kept (message m) answer = told answer
+  answer_kept (message m) answer = response answer
   answer_kept (refused r head_only) answer = []
 
   -- its record: what is kept of it as it comes, and then of its answer
@@ -125,9 +125,10 @@ module _ (came : ℕ → List ℕ → List ℕ) (told : List ℕ → List ℕ) w
 
   -- memory or storage failed: it is kept as it came, and some first bytes of the fixed answer
   -- were written
-  abbrev pub IsWanting : Timed → List ℕ → List ℕ → Type 0
-  IsWanting x tail wrote =
-      IsCome x tail × ((r : Refusal) × IsWant r × IsFront wrote (fixed_bytes r (is_head_only x.0)))
+  abbrev pub KeepsUnserved : Timed → List ℕ → List ℕ → Type 0
+  KeepsUnserved x tail wrote =
+      IsCome x tail
+      × ((r : Refusal) × IsUnavailable r × IsFront wrote (fixed_bytes r (is_head_only x.0)))
 
   -- it is kept as it came, and of its answer some first bytes of what is to be kept; and none was
   -- written
@@ -145,7 +146,7 @@ module _ (came : ℕ → List ℕ → List ℕ) (told : List ℕ → List ℕ) w
   abbrev pub IsBegun : ServeEnd → Type 0 → Type 0 → (List ℕ → Type 0) → Timed → List ℕ → List ℕ
       → Type 0
   IsBegun end lasts unmoved moved x tail wrote =
-      (unmoved × ((lasts × IsCutShort x tail wrote × (end ≡ Unkept)) ⊎ IsWanting x tail wrote))
+      (unmoved × ((lasts × IsCutShort x tail wrote × (end ≡ Unkept)) ⊎ KeepsUnserved x tail wrote))
       ⊎ ((answer : List ℕ) × moved answer × lasts
       × ((IsUnwritten x answer tail wrote × (end ≡ Unkept)) ⊎ IsUnfinished x answer tail wrote))
 

@@ -5,7 +5,7 @@ use Rattle.room_model.specs.Room.{Room}
 use Rattle.room_http.specs.declared.settings.Setting.{Setting}
 use Rattle.room_model.specs.Rooms.{Step}
 use Rattle.room_http.specs.Arrivals.{Arrival, message, refused, Begins}
-use Rattle.room_http.specs.Talk.{Timed, IsTalk}
+use Rattle.room_http.specs.Dialogues.{Timed, IsDialogue}
 
 -- both are the same message, or both are refused
 abbrev pub AreAlike : Arrival → Arrival → Type 0
@@ -29,10 +29,10 @@ IsOneStream =
     → AreFirstOf few many
 
 -- equal arrivals at equal moments, in equal rooms, leave equal rooms and get equal bytes
-abbrev pub IsOneTalk : Type 0
-IsOneTalk =
+abbrev pub IsOneDialogue : Type 0
+IsOneDialogue =
     (step : Step) (setting : Setting) (terminals : List Terminal) (room : Room) (outs : List Timed)
     (after other : Room) (bytes others : List ℕ)
-    → IsTalk step setting terminals room outs after bytes
-    → IsTalk step setting terminals room outs other others
+    → IsDialogue step setting terminals room outs after bytes
+    → IsDialogue step setting terminals room outs other others
     → (after ≡ other) × (bytes ≡ others)

@@ -7,7 +7,7 @@ pub mod Settings
 pub mod ClockMoments
 pub mod Arrivals
 pub mod MessageEvents
-pub mod Talk
+pub mod Dialogues
 pub mod Findings
 pub mod Replies
 pub mod Runs

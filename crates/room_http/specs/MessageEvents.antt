@@ -11,12 +11,11 @@ use Rattle.room_types.specs.declared.fleet.Terminal.{Terminal}
 use Rattle.room_types.specs.declared.refusal_statuses.Refusal.{Refusal}
 use Rattle.room_types.specs.declared.refusal_statuses.Refusal.TheVariants.{BadBody, NoTerminal, WrongRole}
 use Rattle.room_http_messages.specs.Messages.{WholeMessage, terminal_of}
-use Rattle.room_http_requests.specs.Targets.{routed}
-use Rattle.room_http_requests.specs.declared.targets.Target.{Target}
-use Rattle.room_http_requests.specs.RequestAsks.{request_by}
-use Rattle.room_http_requests.specs.Roles.{is_of, role_of}
-use Rattle.room_http_requests.specs.declared.request_asks.Request.{Request}
-use Rattle.room_http_requests.specs.declared.request_asks.Request.TheVariants as request
+use Rattle.room_http_requests.specs.RequestTable.{is_of, request_by, role_of}
+use Rattle.room_http_requests.specs.Routes.{routed}
+use Rattle.room_http_requests.specs.declared.request_table.Target.{Target}
+use Rattle.room_http_requests.specs.declared.request_table.Request.{Request}
+use Rattle.room_http_requests.specs.declared.request_table.Request.TheVariants as request
 use Rattle.room_http_time.specs.Days.{IsSpan, zone_of}
 use Rattle.room_http.specs.declared.settings.Setting.{Setting}
 use Rattle.room_model.specs.Rooms.{who_at}
@@ -37,7 +36,7 @@ IsAskFor setting (request.Times day) asks =
     × IsSpan (zone_of setting.zone) (days_from_civil (pos day.year) day.month day.day) span
     × (asks ≡ ask.Times span.0 span.1)
 
--- what a terminal asks for, if its body wants anything
+-- what a terminal asks for, if its body asks for anything
 abbrev pub AsksBy : Setting → ℕ → Who → Option Request → Result Event Refusal → Type 0
 AsksBy setting at who None found = found ≡ Err BadBody
 AsksBy setting at who (Some given) found = (asks : Ask) × IsAskFor setting given asks

@@ -15,18 +15,18 @@ use Rattle.room_types.specs.declared.refusal_statuses.Refusal.{Refusal}
 use Rattle.room_types.specs.declared.refusal_statuses.Refusal.TheVariants.{OutsideArea, SerialReused}
 use Rattle.room_types.specs.declared.tables.Assignment.{Assignment}
 use Rattle.room_types.specs.declared.tables.Turn.{Turn}
-use Rattle.room_model.specs.Isolation.{alone, told_alone}
+use Rattle.room_model.specs.Isolation.{share_answers, share_run}
 use Rattle.room_model.specs.Calls.{outside_again}
 use Rattle.room_model.specs.Crossing.{crossings}
 use Rattle.room_model.specs.Events.{IsUnlent, NobodyLends, by_crew, by_position, is_everyday, received}
 use Rattle.room_model.specs.Queries.{kept_call}
 use Rattle.room_model.specs.Room.{IsInOrder, Room}
-use Rattle.room_model.specs.Run.{told}
+use Rattle.room_model.specs.Run.{desk_answers}
 use Rattle.room_model.specs.Shares.{mine, own}
 use Rattle.room_model.specs.Step.{answer_to, room_after}
 use Rattle.room_model.specs.RoomAgreements.{IsWellFormed}
 use Rattle.room_http.specs.declared.settings.Setting.{Setting}
-use Rattle.room_http.specs.Runs.{AreTold, Exchange, IsRun, IsTold, answers_of, arrivals_of, asker, events_of, room_by}
+use Rattle.room_http.specs.Runs.{Exchange, HasAnswer, HaveAnswers, IsRun, answers_of, arrivals_of, asker, events_of, room_by}
 use Rattle.room_http.specs.Runs.{with_desk}
 
 -- no vehicle is sent to two incidents
@@ -46,7 +46,7 @@ pub record AreSentOnce (room : Room) : Type 0 where
 -- handed the same is answered with equal bytes to equal messages at equal moments, and the shares
 -- stay equal.
 pub record IsDeskAlike (d : ℕ) (xs ys : List Exchange) (room other : Room) : Type 0 where
-  pub told : arrivals_of (with_desk d xs) ≡ arrivals_of (with_desk d ys)
+  pub same_answers : arrivals_of (with_desk d xs) ≡ arrivals_of (with_desk d ys)
       → answers_of (with_desk d xs) ≡ answers_of (with_desk d ys)
   pub shares : own d (room_by xs room) ≡ own d (room_by ys other)
 
@@ -58,8 +58,8 @@ ActsOnce xs room sent lasts =
     → xs ≡ before ++ first ∷ between ++ again ∷ rest
     → first.found ≡ Ok (sent at) → again.found ≡ Ok (sent later)
     → lasts (answer_to (sent at) (room_by before room))
-    → IsTold first (answer_to (sent at) (room_by before room))
-    × IsTold again (answer_to (sent at) (room_by before room))
+    → HasAnswer first (answer_to (sent at) (room_by before room))
+    × HasAnswer again (answer_to (sent at) (room_by before room))
     × (room_by (before ++ first ∷ between ++ again ∷ []) room
     ≡ room_by (before ++ first ∷ between) room)
 
@@ -74,7 +74,7 @@ StaysOutside xs room position form =
     → again.found ≡ Ok (by_position position (Call form) later)
     → answer_to (by_position position (Call form) at) (room_by before room) ≡ Err OutsideArea
     → let now = room_by (before ++ first ∷ between) room in
-    IsTold again (Err (outside_again (kept_call position form.serial now)))
+    HasAnswer again (Err (outside_again (kept_call position form.serial now)))
     × (room_by (before ++ first ∷ between ++ again ∷ []) room ≡ now)
 
 pub record Promises (terminals : List Terminal) (xs : List Exchange) (room : Room) : Type 0 where
@@ -83,12 +83,12 @@ pub record Promises (terminals : List Terminal) (xs : List Exchange) (room : Roo
       → (asker terminals x.arrival.0 ≡ Some event.who) × (event.at ≡ x.arrival.1)
   -- a division's rows are made of its first rows and of what it was handed
   pub share : (d : ℕ) → own d (room_by xs room)
-      ≡ alone d (crossings d (events_of xs) room) (own d room)
+      ≡ share_run d (crossings d (events_of xs) room) (own d room)
   -- its desk was answered with the bytes of what the room gave it
-  pub desk_told : (d : ℕ) → AreTold (with_desk d xs) (told d (events_of xs) room)
+  pub desk_responses : (d : ℕ) → HaveAnswers (with_desk d xs) (desk_answers d (events_of xs) room)
   -- and they are of what its first rows and what it was handed determine
-  pub desk_apart : (d : ℕ) → AreTold (with_desk d xs)
-      (told_alone d (crossings d (events_of xs) room) (own d room))
+  pub desk_apart : (d : ℕ) → HaveAnswers (with_desk d xs)
+      (share_answers d (crossings d (events_of xs) room) (own d room))
   -- in whatever other room, a desk of an equal share that is handed the same is answered alike
   pub desk_alike : (d : ℕ) (setting : Setting) (others : List Terminal) (ys : List Exchange)
       (other : Room)
@@ -105,12 +105,12 @@ pub record Promises (terminals : List Terminal) (xs : List Exchange) (room : Roo
       (other : Room)
       → xs ≡ before ++ x ∷ rest → x.found ≡ Ok (by_crew c ask at) → IsInOrder other
       → mine c (room_by before room) ≡ mine c other
-      → IsTold x (answer_to (by_crew c ask at) other)
+      → HasAnswer x (answer_to (by_crew c ask at) other)
       × (mine c (room_by (before ++ x ∷ []) room) ≡ mine c (room_after (by_crew c ask at) other))
   -- what is refused before it reaches the room is answered so in every room, and changes nothing
   pub refused_alike : (before rest : List Exchange) (x : Exchange) (r : Refusal)
       → xs ≡ before ++ x ∷ rest → x.found ≡ Err r
-      → IsTold x (Err r) × (room_by (before ++ x ∷ []) room ≡ room_by before room)
+      → HasAnswer x (Err r) × (room_by (before ++ x ∷ []) room ≡ room_by before room)
   -- every room on the way, the first and the last among them, is well-formed
   pub formed : (before rest : List Exchange) → xs ≡ before ++ rest
       → IsWellFormed (room_by before room)

@@ -7,7 +7,7 @@ use Rattle.room_http.specs.declared.arrivals.Arrived.{Arrived}
 use Rattle.room_http.specs.Arrivals.{Arrival, IsShown}
 use Rattle.room_http.specs.declared.settings.Setting.{Setting}
 use Rattle.room_model.specs.Rooms.{Step}
-use Rattle.room_http.specs.Talk.{IsCaused, IsReplyTo, LeavesNext}
+use Rattle.room_http.specs.Dialogues.{IsCaused, IsReplyTo, LeavesNext}
 
 -- the bytes are the answer, and the room is the one after it; or memory or storage fails, and
 -- the room is as it was
@@ -15,7 +15,7 @@ pub record Replies {M A : Type 0} (step : Step) (is_trusted has_failed : M → T
     (stands : M → List Terminal → Room → Type 0) (old new : M) (setting : Setting)
     (request : Arrived) (at : ℕ) (result : Result (Vec ℕ A) Refusal) : Type 0 where
   pub trusted : is_trusted new → is_trusted old
-  pub wants : IfErr result (IsCaused (has_failed new))
+  pub unavailable : IfErr result (IsCaused (has_failed new))
   pub says : is_trusted new → (terminals : List Terminal) (room : Room) → stands old terminals room
       → MatchResult result
       (λ bytes. (o : Arrival) → IsShown request o

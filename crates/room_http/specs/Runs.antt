@@ -1,4 +1,4 @@
--- A talk with the dispatch machine, as a run: what each arrival asked for, and what it was
+-- A dialogue with the dispatch machine, as a run: what each arrival asked for, and what it was
 -- answered.
 use Rattle.std.specs.Prelude.{◌≡◌, ⊤, ℕ, List, [], ◌∷◌, Bool, false, filter, flat_map, map, Option, None, Result, Ok}
 use Rattle.std.specs.Prelude.{Err}
@@ -16,7 +16,7 @@ use Rattle.room_http.specs.declared.settings.Setting.{Setting}
 use Rattle.room_model.specs.Rooms.{machine}
 use Rattle.room_http.specs.Arrivals.{Arrival, is_closing, is_head_only, message, refused}
 use Rattle.room_http.specs.MessageEvents.{named}
-use Rattle.room_http.specs.Talk.{Finds, Timed, replied}
+use Rattle.room_http.specs.Dialogues.{Finds, Timed, replied}
 
 -- an arrival, the event that it asked for or the refusal in its place, and the bytes that it was
 -- answered with
@@ -64,23 +64,23 @@ abbrev pub with_desk : ℕ → List Exchange → List Exchange
 with_desk d xs = filter (λ x. is_by_desk d x.found) xs
 
 -- the bytes are this answer to the arrival
-abbrev pub IsTold : Exchange → Result Answer Refusal → Type 0
-IsTold x answer =
+abbrev pub HasAnswer : Exchange → Result Answer Refusal → Type 0
+HasAnswer x answer =
     IsReply answer x.arrival.1 (is_head_only x.arrival.0) (is_closing x.arrival.0) x.bytes
 
 -- these are the answers, one to each
-abbrev pub AreTold : List Exchange → List (Result Answer Refusal) → Type 0
-AreTold [] [] = ⊤
-AreTold [] (answer ∷ answers) = ⊥
-AreTold (x ∷ xs) [] = ⊥
-AreTold (x ∷ xs) (answer ∷ answers) = IsTold x answer × AreTold xs answers
+abbrev pub HaveAnswers : List Exchange → List (Result Answer Refusal) → Type 0
+HaveAnswers [] [] = ⊤
+HaveAnswers [] (answer ∷ answers) = ⊥
+HaveAnswers (x ∷ xs) [] = ⊥
+HaveAnswers (x ∷ xs) (answer ∷ answers) = HasAnswer x answer × HaveAnswers xs answers
 
 module _ (setting : Setting) (terminals : List Terminal) where
   -- each is of what the arrival asks for, and is answered as the room answers at its turn
   abbrev pub AreAnswered : List Exchange → Room → Type 0
   AreAnswered [] room = ⊤
   AreAnswered (x ∷ xs) room =
-      Finds setting terminals x.arrival x.found × IsTold x (replied machine x.found room).1
+      Finds setting terminals x.arrival x.found × HasAnswer x (replied machine x.found room).1
       × AreAnswered xs (replied machine x.found room).0
 
   -- a run: its events are of those that the room knows
@@ -88,10 +88,10 @@ module _ (setting : Setting) (terminals : List Terminal) where
     pub addressed : AreAddressed (events_of xs) room
     pub answered : AreAnswered xs room
 
-  -- the talk is the run: of its arrivals, to its room afterwards, with its bytes
+  -- the dialogue is the run: of its arrivals, to its room afterwards, with its bytes
   pub record IsRunOf (outs : List Timed) (after : Room) (bytes : List ℕ) (xs : List Exchange)
       (room : Room) : Type 0 where
     pub run : IsRun xs room
     pub arrivals : arrivals_of xs ≡ outs
     pub leads : room_by xs room ≡ after
-    pub told : bytes_of xs ≡ bytes
+    pub spoken : bytes_of xs ≡ bytes

@@ -7,22 +7,22 @@ use Rattle.room_model.specs.Room.{Room}
 use Rattle.room_model.specs.RoomAgreements.{IsWellFormed}
 use Rattle.room_http.specs.ReplyMessages.{fixed_bytes}
 use Rattle.room_http.specs.declared.settings.Setting.{Setting}
-use Rattle.room_model.specs.Rooms.{IsWant, machine}
+use Rattle.room_model.specs.Rooms.{IsUnavailable, machine}
 use Rattle.room_http.specs.Arrivals.{Arrival, Begins}
 use Rattle.room_http.specs.Promises.{Promises}
 use Rattle.room_http.specs.Runs.{Exchange, IsRun, arrivals_of, bytes_of, room_by}
-use Rattle.room_http.specs.Talk.{IsFront, LeavesNext, Timed}
+use Rattle.room_http.specs.Dialogues.{IsFront, LeavesNext, Timed}
 
 -- nothing, or some first bytes of the answer where memory or storage failed
-abbrev pub IsWantTail : List ℕ → Type 0
-IsWantTail tail = (tail ≡ []) ⊎ ((r : Refusal) × IsWant r × (head_only : Bool)
+abbrev pub IsUnservedTail : List ℕ → Type 0
+IsUnservedTail tail = (tail ≡ []) ⊎ ((r : Refusal) × IsUnavailable r × (head_only : Bool)
     × IsFront tail (fixed_bytes r head_only))
 
 -- All the answers were written, and perhaps that one after them; or all but the last, and some
 -- first bytes of the last.
 abbrev pub AreWritten : List Exchange → List ℕ → Type 0
 AreWritten xs written =
-    ((tail : List ℕ) × IsWantTail tail × (written ≡ bytes_of xs ++ tail))
+    ((tail : List ℕ) × IsUnservedTail tail × (written ≡ bytes_of xs ++ tail))
     ⊎ ((before : List Exchange) × (last : Exchange) × (front : List ℕ) × (xs ≡ before ++ last ∷ [])
     × IsFront front last.bytes × (written ≡ bytes_of before ++ front))
 

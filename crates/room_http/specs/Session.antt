@@ -17,7 +17,7 @@ use Rattle.room_http.specs.Arrivals.{Arrival, is_head_only, is_closing, Begins, 
 use Rattle.room_http.specs.declared.settings.Setting.{Setting}
 use Rattle.room_http.specs.ClockMoments.{HasNoMoment}
 use Rattle.room_http.specs.Course.{Course}
-use Rattle.room_http.specs.Talk.{Timed, IsCaused, IsFront, BreaksOff, Talks}
+use Rattle.room_http.specs.Dialogues.{Timed, IsCaused, IsFront, BreaksOff, WritesDialogue}
 
 -- what is known of a connection: the bytes to come, the reads made, the bytes written, and the
 -- moments given
@@ -62,20 +62,20 @@ module _ (step : Step) (setting : Setting) (old : Sides) (new : Finish) (trusted
 
   -- what was written, and the room after it
   abbrev pub Spoke : List Timed → (List Terminal → Room → List ℕ → Type 0) → Type 0
-  Spoke = Talks step setting trusted stood old.held new.held
+  Spoke = WritesDialogue step setting trusted stood old.held new.held
 
   -- the first arrivals of the stream were answered, and no more was done
   pub record Answered (outs : List Timed) (follows : List ℕ → Type 0) : Type 0 where
     pub begins : Reaches outs follows
     pub timed : AreTimed outs
-    pub talk : Spoke outs (λ terminals after tail. stands terminals after × (tail ≡ []))
+    pub dialogue : Spoke outs (λ terminals after tail. stands terminals after × (tail ≡ []))
 
   -- The arrivals were answered. The next one was acted on, and its answer was not written, or not
   -- wholly.
   pub record Broken (outs : List Timed) (x : Timed) : Type 0 where
     pub begins : Reaches (outs ++ x ∷ []) (λ rest. ⊤)
     pub timed : AreTimed (outs ++ x ∷ [])
-    pub talk : Spoke outs (λ terminals after tail.
+    pub dialogue : Spoke outs (λ terminals after tail.
         BreaksOff step setting terminals stands after x tail)
 
   -- The arrivals were answered. The next one had no moment, and nothing was done.
@@ -83,7 +83,7 @@ module _ (step : Step) (setting : Setting) (old : Sides) (new : Finish) (trusted
     pub begins : Reaches outs (HasNext o)
     pub timed : All (λ x. x.1 ≤ LAST_MOMENT) outs
     pub clock : HasNoMoment old.given new.given new.was_none (map (λ x. x.1) outs)
-    pub talk : Spoke outs (λ terminals after tail. stands terminals after × (tail ≡ []))
+    pub dialogue : Spoke outs (λ terminals after tail. stands terminals after × (tail ≡ []))
 
   -- The arrivals were answered. The next one had a moment, and of it this holds: no byte of an
   -- answer was written.
@@ -92,7 +92,7 @@ module _ (step : Step) (setting : Setting) (old : Sides) (new : Finish) (trusted
     pub begins : Reaches outs (HasNext x.0)
     pub next : Reaches (outs ++ x ∷ []) (λ rest. ⊤)
     pub timed : AreTimed (outs ++ x ∷ [])
-    pub talk : Spoke outs (λ terminals after tail. holds terminals after × (tail ≡ []))
+    pub dialogue : Spoke outs (λ terminals after tail. holds terminals after × (tail ≡ []))
 
   -- the room has acted on the arrival
   abbrev pub HasActed : Timed → List Terminal → Room → Type 0
@@ -100,7 +100,7 @@ module _ (step : Step) (setting : Setting) (old : Sides) (new : Finish) (trusted
 
   -- where memory or storage failed for an arrival, so much holds of the room; and so much
   -- where its last call was refused
-  module _ (wants : Timed → List Terminal → Room → Type 0) (failed : Type 0) where
+  module _ (unserved : Timed → List Terminal → Room → Type 0) (failed : Type 0) where
     -- The arrivals were answered. For the next one memory or storage failed: the room stayed
     -- as it was, and of the fixed answer so much was written.
     pub record Unserved (outs : List Timed) (x : Timed)
@@ -109,8 +109,8 @@ module _ (step : Step) (setting : Setting) (old : Sides) (new : Finish) (trusted
       pub next : Reaches (outs ++ x ∷ []) (λ rest. ⊤)
       pub timed : AreTimed (outs ++ x ∷ [])
       pub refusal : Refusal
-      pub want : IsCaused failed refusal
-      pub talk : Spoke outs (λ terminals after tail. wants x terminals after
+      pub caused : IsCaused failed refusal
+      pub dialogue : Spoke outs (λ terminals after tail. unserved x terminals after
           × so_much tail (fixed_bytes refusal (is_head_only x.0)))
 
     -- of this course

@@ -6,7 +6,7 @@ ghost use Rattle.room_http.specs.KeptMessages.{Acts, KeepsOne, Unmoved};
 ghost use Rattle.room_http.specs.declared.session.ServeEnd.TheVariants as endings;
 ghost use Rattle.room_http_messages.specs.Streams.{WritesAll};
 ghost use Rattle.room_http.specs.ServedRuns.{IsAtMost, KeepsPromises};
-ghost use Rattle.room_http.specs.Talk.{Stays, Wants};
+ghost use Rattle.room_http.specs.Dialogues.{IsUnserved, Stays};
 ghost use Rattle.room_model.specs.Rooms.{machine};
 
 use crate::arrivals::Arrived;
@@ -44,10 +44,10 @@ pub fn answer<W: Sink, M: Room, C: Clock, N: Observer>(
         (W.has_failed writer.new) (C.was_none clock.new) (N.has_failed observer.new)
         (M.is_trusted room.new) (M.stands room.old)
         (Stays (M.is_kept room.old) (M.stands room.new) (M.leaves_one_of room.new))
-        (Wants M.step handler.now.setting (M.is_kept room.old) (M.stands room.new)
+        (IsUnserved M.step handler.now.setting (M.is_kept room.old) (M.stands room.new)
         (M.leaves_one_of room.new))
         (M.has_failed room.new) at o result
-        × KeepsOne N.came N.told
+        × KeepsOne N.came N.response
         (M.is_trusted room.new → M.is_kept room.old → M.is_kept room.new)
         (Unmoved (M.is_trusted room.new) (M.stands room.old) (M.stands room.new))
         (Acts M.step handler.now.setting (M.is_trusted room.new) (M.stands room.old)
@@ -90,12 +90,12 @@ pub fn answer<W: Sink, M: Room, C: Clock, N: Observer>(
             if let Err(_) = observer.answering(arrived, text) {
                 return Err(ServeEnd::Unkept);
             }
-            match tell(writer, observer, &asked, text) {
+            match write_answer(writer, observer, &asked, text) {
                 Ok(()) => Ok(()),
                 Err(_) => Err(ServeEnd::WriteFault),
             }
         }
-        Err(refusal) => match tell(
+        Err(refusal) => match write_answer(
             writer,
             observer,
             &asked,
@@ -108,7 +108,7 @@ pub fn answer<W: Sink, M: Room, C: Clock, N: Observer>(
 }
 
 // Writes an answer, and then lets the observer know of it.
-fn tell<W: Sink, N: Observer>(
+fn write_answer<W: Sink, N: Observer>(
     writer: &mut W,
     observer: &mut N,
     asked: &Asked<'_>,

@@ -37,8 +37,8 @@ pub fn reply_towards<M: Digested>(
         Ok(event) => room.act_towards(handler.alloc, &event, head, |answer| {
             render(handler.alloc, answer, at, head_only, closing)
         }),
-        Err(Refusal::Memory) => Err(Miss::Want(Refusal::Memory)),
-        Err(Refusal::Storage) => Err(Miss::Want(Refusal::Storage)),
+        Err(Refusal::Memory) => Err(Miss::Unavailable(Refusal::Memory)),
+        Err(Refusal::Storage) => Err(Miss::Unavailable(Refusal::Storage)),
         Err(_) => Err(Miss::Another),
     }
 }

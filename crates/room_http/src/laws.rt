@@ -8,10 +8,10 @@ ghost use Rattle.room_model.specs.RoomAgreements.{IsWellFormed};
 ghost use Rattle.room_http.specs.declared.settings.Setting.{Setting};
 ghost use Rattle.room_model.specs.Rooms.{machine};
 ghost use Rattle.room_http.specs.KeptMessages.{AreReplies};
-ghost use Rattle.room_http.specs.Laws.{IsOneStream, IsOneTalk};
+ghost use Rattle.room_http.specs.Laws.{IsOneDialogue, IsOneStream};
 ghost use Rattle.room_http.specs.Promises.{Promises};
 ghost use Rattle.room_http.specs.Runs.{Exchange, IsRun, IsRunOf, answers_of, arrivals_of, room_by};
-ghost use Rattle.room_http.specs.Talk.{IsTalk, Timed};
+ghost use Rattle.room_http.specs.Dialogues.{IsDialogue, Timed};
 
 /// A stream has the same messages however it was cut into pieces. Two readings of it differ only in
 /// how far they went, and, where it is refused, perhaps in the refusal.
@@ -20,16 +20,16 @@ pub fn one_stream()
 {}
 
 /// Equal messages at equal moments, in equal rooms, leave equal rooms and get equal bytes.
-pub fn one_talk()
-    ensures { IsOneTalk }
+pub fn one_dialogue()
+    ensures { IsOneDialogue }
 {}
 
-/// A talk with the dispatch machine is a run. Its messages ask for events that the room knows, they
-/// lead to the room after it, and each gets what the room answers at its turn.
-pub fn a_talk_is_a_run()
+/// A dialogue with the dispatch machine is a run. Its messages ask for events that the room knows,
+/// they lead to the room after it, and each gets what the room answers at its turn.
+pub fn a_dialogue_is_a_run()
     ensures { (setting : Setting) (terminals : List Terminal) (room : Room) (outs : List Timed)
         (after : Room) (bytes : List ℕ) →
-        AreTerminals room terminals → IsTalk machine setting terminals room outs after bytes →
+        AreTerminals room terminals → IsDialogue machine setting terminals room outs after bytes →
         (xs : List Exchange) × IsRunOf setting terminals outs after bytes xs room }
 {}
 

@@ -2,7 +2,6 @@
 //! answer is a message of HTTP/1.1 whose content is JSON.
 #![tactic(auto)]
 
-mod answer_lines;
 pub mod arrival_answers;
 pub mod arrivals;
 pub mod clocks;

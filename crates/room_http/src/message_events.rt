@@ -1,15 +1,14 @@
 //! The event that a message asks for, or the first refusal on the way to it.
 ghost use Rattle.std.specs.Prelude.{◌≡◌};
 ghost use Rattle.std.specs.Option.{option_map};
-ghost use Rattle.room_http_requests.specs.declared.request_asks.Request.TheVariants as request;
+ghost use Rattle.room_http_requests.specs.declared.request_table.Request.TheVariants as request;
 ghost use Rattle.room_http.specs.MessageEvents.{IsAskFor};
 ghost use Rattle.room_http.specs.Findings.{FindsMessage, FindsTerminal, LooksOnly};
 
 use crate::handlers::Handler;
 use crate::settings::Setting;
 use room_http_messages::messages::Message;
-use room_http_requests::request_asks::{Request, ask_of};
-use room_http_requests::roles::Role;
+use room_http_requests::request_table::{Request, Role, ask_of};
 use room_http_time::days::Day;
 use room_model::rooms::Room;
 use room_types::asks::{Ask, Event, Who};

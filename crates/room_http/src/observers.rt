@@ -1,7 +1,7 @@
 //! Observers of what is served, which may keep it.
 ghost use Rattle.std.specs.Prelude.{◌≡◌, ◌||◌, ℕ, List, [], Bool, false, is_err, Option, None, ⊤};
 ghost use Rattle.room_http.specs.Arrivals.{IsBounded};
-ghost use Rattle.room_http.specs.KeptMessages.{KeepsAll, came_of, told_of};
+ghost use Rattle.room_http.specs.KeptMessages.{KeepsAll, came_of, response_of};
 ghost use Rattle.room_http.specs.declared.observers.Asked.{Asked};
 
 use crate::arrivals::Arrived;
@@ -26,7 +26,7 @@ pub trait Observer {
     ghost came: { ℕ → List ℕ → List ℕ };
 
     // What it keeps of the answer's bytes.
-    ghost told: { List ℕ → List ℕ };
+    ghost response: { List ℕ → List ℕ };
 
     // What it is before and after it was given what was asked, and the bytes of the answer.
     ghost notes: { Self → Self → Asked → List ℕ → Type 0 };
@@ -42,7 +42,7 @@ pub trait Observer {
     /// is not called.
     fn answering(&mut self, arrived: &Arrived<'_>, answer: &[u8]) -> Result<(), Unkept>
         ensures kept { KeepsAll (held self.old) (held self.new)
-            (told_of told arrived.now answer.now) result }
+            (response_of response arrived.now answer.now) result }
         ensures failed { has_failed self.new ≡ (has_failed self.old || is_err result) };
 
     /// It was answered, and the bytes of its answer were written, or as many of them as were taken.
@@ -73,7 +73,7 @@ impl Observer for Nobody {
 
     ghost came = { λ _ _. [] };
 
-    ghost told = { λ _. [] };
+    ghost response = { λ _. [] };
 
     ghost notes = { λ _ _ _ _. ⊤ };
 

@@ -58,7 +58,7 @@ fn refused(
     closing: bool,
 ) -> Result<Vec<u8>, Refusal>
     ensures ok { IfOk result (λ bytes. IsReply (Err refusal) at head_only closing bytes.items) }
-    ensures err { IfErr result (λ want. want ≡ refusals.Memory) }
+    ensures err { IfErr result (λ cause. cause ≡ refusals.Memory) }
 {
     render(alloc, &Err(refusal), at, head_only, closing)
 }

@@ -9,7 +9,7 @@ ghost use Rattle.room_http.specs.ConnectionReads.{EndsAs, IsReadAs};
 ghost use Rattle.room_http.specs.Course.{AreFirstIn, OneCourse};
 ghost use Rattle.room_http.specs.ServedRuns.{KeepsPromises};
 ghost use Rattle.room_http.specs.Session.{MissesNone, ReadsAtMost, ServeIs};
-ghost use Rattle.room_http.specs.Talk.{Stays, Wants};
+ghost use Rattle.room_http.specs.Dialogues.{IsUnserved, Stays};
 
 use crate::arrival_answers::answer;
 use crate::arrivals::Arrived;
@@ -94,7 +94,7 @@ pub fn serve<R: Source, W: Sink, M: Room, C: Clock, N: Observer>(
         })
         (M.is_trusted room.new) (M.stands room.old)
         (Stays (M.is_kept room.old) (M.stands room.new) (M.leaves_one_of room.new))
-        (Wants M.step handler.now.setting (M.is_kept room.old) (M.stands room.new)
+        (IsUnserved M.step handler.now.setting (M.is_kept room.old) (M.stands room.new)
         (M.leaves_one_of room.new))
         (M.has_failed room.new) course budget result)
         (λ course. M.step ≡ machine → KeepsPromises handler.now.setting
@@ -102,7 +102,7 @@ pub fn serve<R: Source, W: Sink, M: Room, C: Clock, N: Observer>(
         (W.held connection.old.writer) (W.held connection.new.writer)
         (M.is_trusted room.new) (M.is_kept room.old)
         (M.stands room.old) (M.stands room.new) (M.leaves_one_of room.new))
-        (λ course. KeepsEach N.came N.told
+        (λ course. KeepsEach N.came N.response
         (M.is_trusted room.new → M.is_kept room.old → M.is_kept room.new)
         (ActsOnEach M.step handler.now.setting (M.is_trusted room.new) (M.stands room.old)
         (M.stands room.new))

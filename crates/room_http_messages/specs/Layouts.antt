@@ -7,7 +7,7 @@ use Rattle.room_http_messages.specs.declared.limits.TheConstants.{INBOX_ROOM}
 use Rattle.room_http_messages.specs.declared.messages.Layout.{Layout}
 use Rattle.room_http_messages.specs.declared.messages.Message.{Message}
 use Rattle.room_http_messages.specs.declared.message_prefixes.MessagePrefix.{MessagePrefix}
-use Rattle.room_http_messages.specs.declared.message_prefixes.MessagePrefix.TheVariants.{Whole, Refused, Wants}
+use Rattle.room_http_messages.specs.declared.message_prefixes.MessagePrefix.TheVariants.{Whole, Refused, Needs}
 use Rattle.room_http_messages.specs.Messages.{WholeMessage, is_head, closes, terminal_of, HasMessage, IsRefused, IsPart}
 
 -- the parts of a message that is in the bytes
@@ -48,6 +48,6 @@ IsWhole bytes layout =
 abbrev pub LookIs : List ℕ → MessagePrefix → Type 0
 LookIs bytes (Whole layout) = IsWhole bytes layout
 LookIs bytes (Refused r head_only) = (more : List ℕ) → IsRefused (bytes ++ more) r head_only
-LookIs bytes (Wants count) =
+LookIs bytes (Needs count) =
     (length bytes < count) × (count ≤ INBOX_ROOM)
     × ((more : List ℕ) → length (bytes ++ more) < count → IsPart (bytes ++ more))

@@ -20,7 +20,7 @@ pub enum MessagePrefix {
     /// They are refused, whatever follows.
     Refused { refusal: Refusal, head_only: bool },
     /// More is to come: the stream is a part of a message as long as it has fewer bytes than these.
-    Wants(usize),
+    Needs(usize),
 }
 
 /// What the first bytes of a stream are.
@@ -33,7 +33,7 @@ pub fn look_at(bytes: &[u8]) -> MessagePrefix
     let head = match parse_request(window, &mut headers) {
         Ok(Status::Complete(head)) => head,
         Ok(Status::Partial) if bytes.len() < HEAD_LIMIT => {
-            return MessagePrefix::Wants(bytes.len() + 1);
+            return MessagePrefix::Needs(bytes.len() + 1);
         }
         Ok(Status::Partial) => {
             return MessagePrefix::Refused {
@@ -52,7 +52,7 @@ pub fn look_at(bytes: &[u8]) -> MessagePrefix
     let head_only = head.method.of(window) == b"HEAD".as_slice();
     match check_head(window, fields, head.version) {
         Err(refusal) => MessagePrefix::Refused { refusal, head_only },
-        Ok(size) if bytes.len() < head.len + size => MessagePrefix::Wants(head.len + size),
+        Ok(size) if bytes.len() < head.len + size => MessagePrefix::Needs(head.len + size),
         Ok(size) => MessagePrefix::Whole(Layout {
             method: head.method,
             target: head.path,

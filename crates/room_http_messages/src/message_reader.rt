@@ -30,7 +30,7 @@ pub fn read_message<R: Source>(
             MessagePrefix::Refused { refusal, head_only } => {
                 return Err(Unread::Refused { refusal, head_only });
             }
-            MessagePrefix::Wants(count) => count,
+            MessagePrefix::Needs(count) => count,
         };
         'reads: while inbox.bytes().len() < wanted {
             inbox.read_once(reader, budget)?;

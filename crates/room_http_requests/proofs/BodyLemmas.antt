@@ -5,9 +5,9 @@ use Rattle.serde_json.specs.Data.{Data}
 use Rattle.room_http_requests.specs.Bodies.{ask_with_body, call_form, duty, exactly, lend, merge, mobilise}
 use Rattle.room_http_requests.specs.Bodies.{needs_change, point_form, press, standby}
 use Rattle.room_http_requests.specs.BodyFields.{has_members}
-use Rattle.room_http_requests.specs.Targets.{members_of}
-use Rattle.room_http_requests.specs.declared.targets.Target.{Target}
-use Rattle.room_http_requests.specs.declared.targets.Target.TheVariants as target
+use Rattle.room_http_requests.specs.RequestTable.{members_of}
+use Rattle.room_http_requests.specs.declared.request_table.Target.{Target}
+use Rattle.room_http_requests.specs.declared.request_table.Target.TheVariants as target
 
 pub not_exact : (t : Target) (fields : Data) → has_members (members_of t) fields ≡ false
     → None ≡ ask_with_body t fields

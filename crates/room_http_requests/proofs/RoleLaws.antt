@@ -10,20 +10,19 @@ use Rattle.room_types.specs.declared.asks.Ask.TheVariants as ask
 use Rattle.room_types.specs.declared.asks.Who.{Who}
 use Rattle.room_types.specs.declared.asks.Who.TheVariants.{Crew, Desk, Position}
 use Rattle.room_http_requests.specs.Parameters.{within}
-use Rattle.room_http_requests.specs.declared.targets.Target.{Target}
-use Rattle.room_http_requests.specs.declared.targets.Target.TheVariants as target
+use Rattle.room_http_requests.specs.declared.request_table.Target.{Target}
+use Rattle.room_http_requests.specs.declared.request_table.Target.TheVariants as target
 use Rattle.room_model.specs.Events.{IsNumbered}
 use Rattle.room_model.specs.Room.{Room}
 use Rattle.room_model.specs.Step.{is_crews, is_desks, is_for, is_positions}
-use Rattle.room_http_requests.specs.RequestAsks.{request_by}
+use Rattle.room_http_requests.specs.RequestTable.{is_known, is_of, request_by, role_of}
 use Rattle.room_http_requests.specs.Bodies.{and_then, call_form, exactly, duty, lend, merge, mobilise, needs_change}
 use Rattle.room_http_requests.specs.Bodies.{point_form, ask_with_body, press, standby}
 use Rattle.room_http_requests.specs.BodyFields.{fields_of, has_members, number_at, number_in}
-use Rattle.room_http_requests.specs.Roles.{is_known, is_of, role_of}
-use Rattle.room_http_requests.specs.declared.request_asks.Request.{Request}
-use Rattle.room_http_requests.specs.declared.request_asks.Request.TheVariants as request
-use Rattle.room_http_requests.specs.declared.roles.Role.{Role}
-use Rattle.room_http_requests.specs.declared.roles.Role.TheVariants as role
+use Rattle.room_http_requests.specs.declared.request_table.Request.{Request}
+use Rattle.room_http_requests.specs.declared.request_table.Request.TheVariants as request
+use Rattle.room_http_requests.specs.declared.request_table.Role.{Role}
+use Rattle.room_http_requests.specs.declared.request_table.Role.TheVariants as role
 
 -- ---- what holds of all that may be found
 some_if : {A : Type 0} (P : A → Type 0) (test : Bool) (found : Option A) → IfSome found P

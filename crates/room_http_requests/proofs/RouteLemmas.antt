@@ -9,17 +9,12 @@ use Rattle.room_types.specs.declared.refusal_statuses.Refusal.TheVariants.{NoPat
 use Rattle.room_types.specs.KeyedRows.{keep}
 use Rattle.room_http_time.specs.Dates.{day_of}
 use Rattle.room_http_requests.specs.Parameters.{callsign_of, number_of, point_number_of, segment_at, text_of}
-use Rattle.room_http_requests.specs.Paths.{allow_of, is_allowed, is_of_history, path_at}
-use Rattle.room_http_requests.specs.Targets.{is_served, named_by, path_of, routed, target_of}
-use Rattle.room_http_requests.specs.declared.paths.Path.{Path}
-use Rattle.room_http_requests.specs.declared.paths.Path.TheVariants as path
-use Rattle.room_http_requests.specs.declared.targets.Target.{Target}
-use Rattle.room_http_requests.specs.declared.targets.Target.TheVariants.{Call, Incidents, Incident, Propose, Mobilise}
-use Rattle.room_http_requests.specs.declared.targets.Target.TheVariants.{Needs, Merge, Close, Vehicles, StandDown}
-use Rattle.room_http_requests.specs.declared.targets.Target.TheVariants.{Standby, Duty, Off, Lend, Withdraw, Decline}
-use Rattle.room_http_requests.specs.declared.targets.Target.TheVariants.{Accept, Recall, GiveBack, Queue, Clear, Points}
-use Rattle.room_http_requests.specs.declared.targets.Target.TheVariants.{SetPoint, Loans, Offers, Times, Order, Report}
-use Rattle.room_http_requests.specs.declared.targets.Target.TheVariants.{Last}
+use Rattle.room_http_requests.specs.RequestTable.{allow_of, is_of_history, named_by, path_of}
+use Rattle.room_http_requests.specs.Routes.{is_allowed, is_served, path_at, routed, target_of}
+use Rattle.room_http_requests.specs.declared.request_table.Path.{Path}
+use Rattle.room_http_requests.specs.declared.request_table.Path.TheVariants as path
+use Rattle.room_http_requests.specs.declared.request_table.Target.{Target}
+use Rattle.room_http_requests.specs.declared.request_table.Target.TheVariants as target
 
 -- what is made of a parameter is of the path
 made_of : {A : Type 0} (make : A → Target) (p : Path) (found : Option A)
@@ -28,7 +23,7 @@ made_of make p None all = tt
 made_of make p (Some x) all = all x
 
 cleared_of : (callsign : Option Callsign) (number : Option ℕ)
-    → IfSome (option_and_then (λ c. option_and_then (λ n. Some (Clear c n)) number) callsign)
+    → IfSome (option_and_then (λ c. option_and_then (λ n. Some (target.Clear c n)) number) callsign)
     (λ t. path_of t ≡ path.Clear)
 cleared_of None number = tt
 cleared_of (Some c) None = tt
@@ -38,30 +33,30 @@ cleared_of (Some c) (Some n) = refl
 named_of : (p : Path) (text : List ℕ) → IfSome (named_by p text) (λ t. path_of t ≡ p)
 named_of path.Call text = refl
 named_of path.Incidents text = refl
-named_of path.Incident text = made_of Incident path.Incident (number_of (segment_at 2 text)) (λ n. refl)
-named_of path.Propose text = made_of Propose path.Propose (number_of (segment_at 2 text)) (λ n. refl)
-named_of path.Mobilise text = made_of Mobilise path.Mobilise (number_of (segment_at 2 text)) (λ n. refl)
-named_of path.Needs text = made_of Needs path.Needs (number_of (segment_at 2 text)) (λ n. refl)
-named_of path.Merge text = made_of Merge path.Merge (number_of (segment_at 2 text)) (λ n. refl)
-named_of path.Close text = made_of Close path.Close (number_of (segment_at 2 text)) (λ n. refl)
+named_of path.Incident text = made_of target.Incident path.Incident (number_of (segment_at 2 text)) (λ n. refl)
+named_of path.Propose text = made_of target.Propose path.Propose (number_of (segment_at 2 text)) (λ n. refl)
+named_of path.Mobilise text = made_of target.Mobilise path.Mobilise (number_of (segment_at 2 text)) (λ n. refl)
+named_of path.Needs text = made_of target.Needs path.Needs (number_of (segment_at 2 text)) (λ n. refl)
+named_of path.Merge text = made_of target.Merge path.Merge (number_of (segment_at 2 text)) (λ n. refl)
+named_of path.Close text = made_of target.Close path.Close (number_of (segment_at 2 text)) (λ n. refl)
 named_of path.Vehicles text = refl
-named_of path.StandDown text = made_of StandDown path.StandDown (callsign_of (segment_at 2 text)) (λ c. refl)
-named_of path.Standby text = made_of Standby path.Standby (callsign_of (segment_at 2 text)) (λ c. refl)
-named_of path.Duty text = made_of Duty path.Duty (callsign_of (segment_at 2 text)) (λ c. refl)
-named_of path.Off text = made_of Off path.Off (callsign_of (segment_at 2 text)) (λ c. refl)
-named_of path.Lend text = made_of Lend path.Lend (callsign_of (segment_at 2 text)) (λ c. refl)
-named_of path.Withdraw text = made_of Withdraw path.Withdraw (callsign_of (segment_at 2 text)) (λ c. refl)
-named_of path.Decline text = made_of Decline path.Decline (callsign_of (segment_at 2 text)) (λ c. refl)
-named_of path.Accept text = made_of Accept path.Accept (callsign_of (segment_at 2 text)) (λ c. refl)
-named_of path.Recall text = made_of Recall path.Recall (callsign_of (segment_at 2 text)) (λ c. refl)
-named_of path.GiveBack text = made_of GiveBack path.GiveBack (callsign_of (segment_at 2 text)) (λ c. refl)
+named_of path.StandDown text = made_of target.StandDown path.StandDown (callsign_of (segment_at 2 text)) (λ c. refl)
+named_of path.Standby text = made_of target.Standby path.Standby (callsign_of (segment_at 2 text)) (λ c. refl)
+named_of path.Duty text = made_of target.Duty path.Duty (callsign_of (segment_at 2 text)) (λ c. refl)
+named_of path.Off text = made_of target.Off path.Off (callsign_of (segment_at 2 text)) (λ c. refl)
+named_of path.Lend text = made_of target.Lend path.Lend (callsign_of (segment_at 2 text)) (λ c. refl)
+named_of path.Withdraw text = made_of target.Withdraw path.Withdraw (callsign_of (segment_at 2 text)) (λ c. refl)
+named_of path.Decline text = made_of target.Decline path.Decline (callsign_of (segment_at 2 text)) (λ c. refl)
+named_of path.Accept text = made_of target.Accept path.Accept (callsign_of (segment_at 2 text)) (λ c. refl)
+named_of path.Recall text = made_of target.Recall path.Recall (callsign_of (segment_at 2 text)) (λ c. refl)
+named_of path.GiveBack text = made_of target.GiveBack path.GiveBack (callsign_of (segment_at 2 text)) (λ c. refl)
 named_of path.Queue text = refl
 named_of path.Clear text = cleared_of (callsign_of (segment_at 2 text)) (number_of (segment_at 3 text))
 named_of path.Points text = refl
-named_of path.SetPoint text = made_of SetPoint path.SetPoint (point_number_of (segment_at 2 text)) (λ n. refl)
+named_of path.SetPoint text = made_of target.SetPoint path.SetPoint (point_number_of (segment_at 2 text)) (λ n. refl)
 named_of path.Loans text = refl
 named_of path.Offers text = refl
-named_of path.Times text = made_of Times path.Times (day_of (segment_at 2 text)) (λ d. refl)
+named_of path.Times text = made_of target.Times path.Times (day_of (segment_at 2 text)) (λ d. refl)
 named_of path.Order text = refl
 named_of path.Report text = refl
 named_of path.Last text = refl

@@ -4,9 +4,9 @@ use Rattle.std.proofs.Common.{arith}
 use Rattle.std.specs.List.{fold}
 use Rattle.std.proofs.lemmas.Bool.{and_parts}
 use Rattle.matchit.proofs.OnLiterals.{matchit_on_literals}
-use Rattle.room_http_requests.specs.Paths.{Table, is_free_for, with_path}
-use Rattle.room_http_requests.specs.declared.paths.Path.{Path}
-use Rattle.room_http_requests.specs.declared.paths.TheConstants.{PATHS}
+use Rattle.room_http_requests.specs.Routes.{Table, is_free_for, with_path}
+use Rattle.room_http_requests.specs.declared.request_table.Path.{Path}
+use Rattle.room_http_requests.specs.declared.request_table.TheConstants.{PATHS}
 
 -- each of these paths can be added to the rows with those before it
 abbrev pub are_free : Table → List Path → Bool

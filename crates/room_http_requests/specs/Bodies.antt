@@ -6,8 +6,8 @@ use Rattle.room_types.specs.declared.asks.Ask.{Ask}
 use Rattle.room_types.specs.declared.asks.Ask.TheVariants as ask
 use Rattle.room_types.specs.declared.asks.CallForm.{CallForm}
 use Rattle.room_types.specs.declared.asks.Press.{Press}
-use Rattle.room_http_requests.specs.declared.targets.Target.{Target}
-use Rattle.room_http_requests.specs.declared.targets.Target.TheVariants as target
+use Rattle.room_http_requests.specs.declared.request_table.Target.{Target}
+use Rattle.room_http_requests.specs.declared.request_table.Target.TheVariants as target
 use Rattle.room_http_requests.specs.BodyFields.{button_at, callsign_at, has_members, needs_at, note_at, number_at}
 use Rattle.room_http_requests.specs.BodyFields.{place_at, point_at}
 

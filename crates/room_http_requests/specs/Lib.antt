@@ -1,10 +1,8 @@
 -- Paths and their parameters, bodies, and what they ask.
 
+pub mod RequestTable
 pub mod Parameters
-pub mod Paths
-pub mod Targets
-pub mod TargetExamples
-pub mod RequestAsks
 pub mod Bodies
 pub mod BodyFields
-pub mod Roles
+pub mod Routes
+pub mod TargetExamples

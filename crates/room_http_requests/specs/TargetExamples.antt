@@ -5,14 +5,9 @@ use Rattle.room_types.specs.declared.refusal_statuses.Allow.TheVariants.{GetHead
 use Rattle.room_types.specs.declared.refusal_statuses.Refusal.{Refusal}
 use Rattle.room_types.specs.declared.refusal_statuses.Refusal.TheVariants.{NoPath, WrongMethod}
 use Rattle.room_http_time.specs.Dates.{Date}
-use Rattle.room_http_requests.specs.Targets.{routed, target_of}
-use Rattle.room_http_requests.specs.declared.targets.Target.{Target}
-use Rattle.room_http_requests.specs.declared.targets.Target.TheVariants.{Call, Incidents, Incident, Propose, Mobilise}
-use Rattle.room_http_requests.specs.declared.targets.Target.TheVariants.{Needs, Merge, Close, Vehicles, StandDown}
-use Rattle.room_http_requests.specs.declared.targets.Target.TheVariants.{Standby, Duty, Off, Lend, Withdraw, Decline}
-use Rattle.room_http_requests.specs.declared.targets.Target.TheVariants.{Accept, Recall, GiveBack, Queue, Clear, Points}
-use Rattle.room_http_requests.specs.declared.targets.Target.TheVariants.{SetPoint, Loans, Offers, Times, Order, Report}
-use Rattle.room_http_requests.specs.declared.targets.Target.TheVariants.{Last}
+use Rattle.room_http_requests.specs.Routes.{routed, target_of}
+use Rattle.room_http_requests.specs.declared.request_table.Target.{Target}
+use Rattle.room_http_requests.specs.declared.request_table.Target.TheVariants as target
 
 abbrev pub date : ℕ → ℕ → ℕ → Date
 date year month day = record { year = year; month = month; day = day }
@@ -20,51 +15,51 @@ date year month day = record { year = year; month = month; day = day }
 -- targets of incidents and calls, with what they name
 abbrev pub incident_names : List (List ℕ × Target)
 incident_names =
-    (codes "/call", Call) ∷
-    (codes "/incidents", Incidents) ∷
-    (codes "/incidents/2147483647", Incident 2147483647) ∷
-    (codes "/incidents/2147483647/propose", Propose 2147483647) ∷
-    (codes "/incidents/2147483647/mobilise", Mobilise 2147483647) ∷
-    (codes "/incidents/2147483647/needs", Needs 2147483647) ∷
-    (codes "/incidents/2147483647/merge", Merge 2147483647) ∷
-    (codes "/incidents/2147483647/close", Close 2147483647) ∷
-    (codes "/incidents/1/close", Close 1) ∷
+    (codes "/call", target.Call) ∷
+    (codes "/incidents", target.Incidents) ∷
+    (codes "/incidents/2147483647", target.Incident 2147483647) ∷
+    (codes "/incidents/2147483647/propose", target.Propose 2147483647) ∷
+    (codes "/incidents/2147483647/mobilise", target.Mobilise 2147483647) ∷
+    (codes "/incidents/2147483647/needs", target.Needs 2147483647) ∷
+    (codes "/incidents/2147483647/merge", target.Merge 2147483647) ∷
+    (codes "/incidents/2147483647/close", target.Close 2147483647) ∷
+    (codes "/incidents/1/close", target.Close 1) ∷
     []
 
 -- targets of vehicles
 abbrev pub vehicle_names : List (List ℕ × Target)
 vehicle_names =
-    (codes "/vehicles", Vehicles) ∷
-    (codes "/vehicles/A1/standdown", StandDown (codes "A1")) ∷
-    (codes "/vehicles/A1/standby", Standby (codes "A1")) ∷
-    (codes "/vehicles/A1/duty", Duty (codes "A1")) ∷
-    (codes "/vehicles/A1/off", Off (codes "A1")) ∷
-    (codes "/vehicles/A1/lend", Lend (codes "A1")) ∷
-    (codes "/vehicles/A1/withdraw", Withdraw (codes "A1")) ∷
-    (codes "/vehicles/A1/decline", Decline (codes "A1")) ∷
-    (codes "/vehicles/A1/accept", Accept (codes "A1")) ∷
-    (codes "/vehicles/A1/recall", Recall (codes "A1")) ∷
-    (codes "/vehicles/A1/giveback", GiveBack (codes "A1")) ∷
-    (codes "/vehicles/0/off", Off (codes "0")) ∷
+    (codes "/vehicles", target.Vehicles) ∷
+    (codes "/vehicles/A1/standdown", target.StandDown (codes "A1")) ∷
+    (codes "/vehicles/A1/standby", target.Standby (codes "A1")) ∷
+    (codes "/vehicles/A1/duty", target.Duty (codes "A1")) ∷
+    (codes "/vehicles/A1/off", target.Off (codes "A1")) ∷
+    (codes "/vehicles/A1/lend", target.Lend (codes "A1")) ∷
+    (codes "/vehicles/A1/withdraw", target.Withdraw (codes "A1")) ∷
+    (codes "/vehicles/A1/decline", target.Decline (codes "A1")) ∷
+    (codes "/vehicles/A1/accept", target.Accept (codes "A1")) ∷
+    (codes "/vehicles/A1/recall", target.Recall (codes "A1")) ∷
+    (codes "/vehicles/A1/giveback", target.GiveBack (codes "A1")) ∷
+    (codes "/vehicles/0/off", target.Off (codes "0")) ∷
     []
 
 -- the other targets
 abbrev pub other_names : List (List ℕ × Target)
 other_names =
-    (codes "/queue", Queue) ∷
-    (codes "/queue/ZZZZ9999/1/clear", Clear (codes "ZZZZ9999") 1) ∷
-    (codes "/points", Points) ∷
-    (codes "/points/99", SetPoint 99) ∷
-    (codes "/loans", Loans) ∷
-    (codes "/offers", Offers) ∷
-    (codes "/times/2024-02-29", Times (date 2024 2 29)) ∷
-    (codes "/order", Order) ∷
-    (codes "/report", Report) ∷
-    (codes "/last", Last) ∷
-    (codes "/points/1", SetPoint 1) ∷
-    (codes "/times/1970-01-01", Times (date 1970 1 1)) ∷
-    (codes "/times/2099-12-31", Times (date 2099 12 31)) ∷
-    (codes "/times/2000-02-29", Times (date 2000 2 29)) ∷
+    (codes "/queue", target.Queue) ∷
+    (codes "/queue/ZZZZ9999/1/clear", target.Clear (codes "ZZZZ9999") 1) ∷
+    (codes "/points", target.Points) ∷
+    (codes "/points/99", target.SetPoint 99) ∷
+    (codes "/loans", target.Loans) ∷
+    (codes "/offers", target.Offers) ∷
+    (codes "/times/2024-02-29", target.Times (date 2024 2 29)) ∷
+    (codes "/order", target.Order) ∷
+    (codes "/report", target.Report) ∷
+    (codes "/last", target.Last) ∷
+    (codes "/points/1", target.SetPoint 1) ∷
+    (codes "/times/1970-01-01", target.Times (date 1970 1 1)) ∷
+    (codes "/times/2099-12-31", target.Times (date 2099 12 31)) ∷
+    (codes "/times/2000-02-29", target.Times (date 2000 2 29)) ∷
     []
 
 -- targets that miss a path
@@ -143,12 +138,12 @@ stray_days =
 -- methods and targets, with what they come to where no history is served
 abbrev pub requests : List ((List ℕ × List ℕ) × Result Target Refusal)
 requests =
-    ((codes "GET", codes "/queue"), Ok Queue) ∷
-    ((codes "HEAD", codes "/queue"), Ok Queue) ∷
+    ((codes "GET", codes "/queue"), Ok target.Queue) ∷
+    ((codes "HEAD", codes "/queue"), Ok target.Queue) ∷
     ((codes "BREW", codes "/queue"), Err (WrongMethod GetHead)) ∷
     ((codes "POST", codes "/queue"), Err (WrongMethod GetHead)) ∷
     ((codes "get", codes "/queue"), Err (WrongMethod GetHead)) ∷
-    ((codes "POST", codes "/call"), Ok Call) ∷
+    ((codes "POST", codes "/call"), Ok target.Call) ∷
     ((codes "GET", codes "/call"), Err (WrongMethod Post)) ∷
     ((codes "HEAD", codes "/call"), Err (WrongMethod Post)) ∷
     ((codes "BREW", codes "/points/100"), Err NoPath) ∷
@@ -159,11 +154,11 @@ requests =
 -- those of history, where it is served
 abbrev pub history_requests : List ((List ℕ × List ℕ) × Result Target Refusal)
 history_requests =
-    ((codes "GET", codes "/incidents/1"), Ok (Incident 1)) ∷
-    ((codes "HEAD", codes "/last"), Ok Last) ∷
+    ((codes "GET", codes "/incidents/1"), Ok (target.Incident 1)) ∷
+    ((codes "HEAD", codes "/last"), Ok target.Last) ∷
     ((codes "POST", codes "/last"), Err (WrongMethod GetHead)) ∷
     ((codes "GET", codes "/incidents/0"), Err NoPath) ∷
-    ((codes "POST", codes "/incidents/1/close"), Ok (Close 1)) ∷
+    ((codes "POST", codes "/incidents/1/close"), Ok (target.Close 1)) ∷
     []
 
 -- each of the targets names what stands beside it
@@ -173,7 +168,7 @@ Name examples =
 
 -- none of the targets names anything
 abbrev pub NameNothing : List (List ℕ) → Type 0
-NameNothing targets = map target_of targets ≡ map (λ target. None) targets
+NameNothing targets = map target_of targets ≡ map (λ bytes. None) targets
 
 -- each request comes to what stands beside it, with history or without
 abbrev pub AreRouted : Bool → List ((List ℕ × List ℕ) × Result Target Refusal) → Type 0

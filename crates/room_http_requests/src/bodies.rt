@@ -4,13 +4,13 @@ ghost use Rattle.serde_json.specs.View.{view};
 ghost use Rattle.room_http_requests.specs.Bodies.{ask_with_body, call_form, exactly, press};
 
 use crate::body_fields::{button, callsign, has_members, needs, number, place, point};
-use crate::targets::Target;
+use crate::request_table::Target;
 use room_types::asks::{Ask, CallForm, Press};
 use room_types::note::Note;
 use serde_json::Value;
 
 /// What the fields ask for of a target that takes a body: none where they are not exactly those
-/// that the target wants, each of its form, and none for a target that takes no body.
+/// that the target takes, each of its form, and none for a target that takes no body.
 #[tactic(auto, unfolding(crate::specs::Bodies::mobilise, crate::specs::Bodies::needs_change, crate::specs::Bodies::merge, crate::specs::Bodies::standby, crate::specs::Bodies::duty, crate::specs::Bodies::lend, crate::specs::Bodies::point_form, crate::specs::Bodies::exactly, crate::specs::Bodies::and_then))]
 pub(crate) fn ask_with_body(target: &Target, fields: &Value) -> Option<Ask>
     ensures { result ≡ ask_with_body target.now (view fields.now) }

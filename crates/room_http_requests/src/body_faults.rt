@@ -1,7 +1,7 @@
 //! What is wrong with a body that is refused, in words.
 
 use crate::body_fields::{button, callsign, fields_of, needs, number, place, point};
-use crate::targets::Target;
+use crate::request_table::Target;
 use room_place::bounded_numbers::Bounded;
 use room_place::plans::DivisionNumber;
 use room_types::note::Note;
@@ -51,7 +51,7 @@ impl fmt::Display for BodyFault {
     }
 }
 
-/// What is wrong with the body of a request: nothing where it is what the target wants, or memory
+/// What is wrong with the body of a request: nothing where it is what the target takes, or memory
 /// is lacking.
 pub fn fault_of(alloc: Global, target: &Target, body: &[u8]) -> Option<BodyFault> {
     match fields_of(alloc, body) {
@@ -61,7 +61,7 @@ pub fn fault_of(alloc: Global, target: &Target, body: &[u8]) -> Option<BodyFault
     }
 }
 
-// The first member that is not what the target wants, or that there are more.
+// The first member that is not what the target takes, or that there are more.
 fn fault_in(target: &Target, fields: &Value) -> Option<BodyFault> {
     let Some(members) = fields.as_object() else {
         return Some(BodyFault::NoObject);

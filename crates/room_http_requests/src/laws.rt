@@ -3,17 +3,16 @@
 ghost use Rattle.room_http_requests.specs.TargetExamples.{AreRouted, Name, NameNothing, history_requests, incident_names, other_names, requests, stray_days, stray_incidents, stray_numbers, stray_paths, stray_points, stray_vehicles, vehicle_names};
 ghost use Rattle.std.specs.Prelude.{◌≡◌, ℕ, ℤ, List, Some, true, false, Err, IfSome};
 ghost use Rattle.room_types.specs.declared.refusal_statuses.Refusal.TheVariants.{NoPath};
-ghost use Rattle.room_http_requests.specs.Paths.{is_of_history};
-ghost use Rattle.room_http_requests.specs.Targets.{path_of, routed, target_of};
+ghost use Rattle.room_http_requests.specs.RequestTable.{is_known, is_of, is_of_history, path_of};
+ghost use Rattle.room_http_requests.specs.RequestTable.{request_by, role_of};
+ghost use Rattle.room_http_requests.specs.Routes.{routed, target_of};
 ghost use Rattle.room_types.specs.declared.asks.Ask.{Ask};
 ghost use Rattle.room_types.specs.declared.asks.Who.{Who};
 ghost use Rattle.room_http_time.specs.Dates.{Date};
-ghost use Rattle.room_http_requests.specs.declared.targets.Target.{Target};
+ghost use Rattle.room_http_requests.specs.declared.request_table.Target.{Target};
 ghost use Rattle.room_model.specs.Events.{IsNumbered};
 ghost use Rattle.room_model.specs.Room.{Room};
 ghost use Rattle.room_model.specs.Step.{is_for};
-ghost use Rattle.room_http_requests.specs.RequestAsks.{request_by};
-ghost use Rattle.room_http_requests.specs.Roles.{is_known, is_of, role_of};
 
 /// Each path is found by its targets.
 pub fn targets_name_paths()
@@ -52,8 +51,8 @@ pub fn history_adds_paths()
 {}
 
 ghost use Rattle.room_types.specs.declared.asks.Ask.TheVariants as ask;
-ghost use Rattle.room_http_requests.specs.declared.targets.Target.TheVariants as target;
-ghost use Rattle.room_http_requests.specs.declared.request_asks.Request.TheVariants as request;
+ghost use Rattle.room_http_requests.specs.declared.request_table.Target.TheVariants as target;
+ghost use Rattle.room_http_requests.specs.declared.request_table.Request.TheVariants as request;
 
 /// An ask that a request makes is for any known terminal of its target's role, and a report's
 /// number is from 1. So a request that passed the test of its role is addressed.

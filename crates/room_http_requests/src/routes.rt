@@ -1,12 +1,11 @@
 //! The paths in a router, and the one that a request names.
 ghost use Rattle.std.specs.Prelude.{◌≡◌, true, OnOk, IfErr};
-ghost use Rattle.room_http_requests.specs.Paths.{table, with_path, is_free_for, is_allowed};
-ghost use Rattle.room_http_requests.specs.Targets.{routed};
+ghost use Rattle.room_http_requests.specs.Routes.{is_allowed, is_free_for, routed};
+ghost use Rattle.room_http_requests.specs.Routes.{table, with_path};
 ghost use Rattle.room_types.specs.declared.refusal_statuses.Refusal.TheVariants.{Memory};
 
 use crate::parameters::text_of;
-use crate::paths::{PATHS, Path};
-use crate::targets::Target;
+use crate::request_table::{PATHS, Path, Target};
 use matchit::{InsertError, Router};
 use room_types::refusal_statuses::{Allow, Refusal};
 use std::alloc::Global;
@@ -19,7 +18,7 @@ pub struct Routes {
 }
 
 /// Adds a path. An error is lack of memory.
-#[tactic(auto, unfolding(crate::specs::Paths::with_path, crate::specs::Paths::is_free_for))]
+#[tactic(auto, unfolding(crate::specs::Routes::with_path, crate::specs::Routes::is_free_for))]
 fn add(router: &mut Router<Path>, path: Path) -> Result<(), Refusal>
     requires { is_free_for router.old path ≡ true }
     ensures ok { OnOk result (router.new ≡ with_path router.old path) }
@@ -34,7 +33,7 @@ fn add(router: &mut Router<Path>, path: Path) -> Result<(), Refusal>
 
 impl Routes {
     /// All paths in a router. An error is lack of memory.
-    #[tactic(auto, unfolding(crate::specs::Paths::table))]
+    #[tactic(auto, unfolding(crate::specs::Routes::table))]
     pub fn new(alloc: Global) -> Result<Routes, Refusal>
         ensures { IfErr result (λ refusal. refusal ≡ Memory) }
     {

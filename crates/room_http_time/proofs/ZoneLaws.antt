@@ -70,6 +70,6 @@ same-midnight a b day second e (at, nanos, is) =
     (at, nanos, is ∙ ap (λ (n : ℤ). int_div n (pos 1_000_000_000)) (same-instant a b at e))
 
 pub one_zone_law : IsOneZone
-one_zone_law text a b told told_too day span (from, to) =
-    let e = same_Some (tz_view a.rule) (tz_view b.rule) (sym told ∙ told_too) in
+one_zone_law text a b first_is second_is day span (from, to) =
+    let e = same_Some (tz_view a.rule) (tz_view b.rule) (sym first_is ∙ second_is) in
     (same-midnight a.rule b.rule day _ e from, same-midnight a.rule b.rule (day +ℤ pos 1) _ e to)

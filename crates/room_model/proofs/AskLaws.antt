@@ -1,13 +1,17 @@
 -- A desk decides alike in rooms that agree on what it asks.
-use Rattle.std.proofs.Common.{ap, subst, sym, ◌∙◌}
+use Rattle.std.proofs.Common.{ap, eq-eqb, subst, sym, ◌∙◌}
+use Rattle.std.specs.Ordering.{is_eq, ordering_reverse}
 use Rattle.std.specs.Prelude.{Bool, List, None, Option, Some, [], is_some, length, map, nat_le, not, option_map, refl}
-use Rattle.std.specs.Prelude.{ℕ, ℤ, ◌&&◌, ◌++◌, ◌-◌, ◌≡◌}
+use Rattle.std.specs.Prelude.{true, ℕ, ℤ, ◌&&◌, ◌++◌, ◌-◌, ◌==◌, ◌≡◌}
+use Rattle.std.specs.declared.cmp.Ordering.{Ordering}
+use Rattle.std.specs.declared.cmp.Ordering.TheVariants.{Equal, Greater, Less}
 use Rattle.room_place.specs.Choice.{Among, chosen}
 use Rattle.room_place.specs.declared.places.Place.{Place}
-use Rattle.room_types.specs.Keys.{incident_key, pair_cmp}
-use Rattle.room_types.specs.Orders.{exact_pair, pairs_total}
+use Rattle.room_types.specs.Keys.{callsign_cmp, incident_key, pair_cmp, same_callsign}
+use Rattle.room_types.specs.Orders.{callsigns_total, exact_pair, pairs_total}
 use Rattle.room_types.specs.declared.answers.PointLine.{PointLine}
 use Rattle.room_types.specs.declared.answers.VehicleLine.{VehicleLine}
+use Rattle.room_types.specs.declared.asks.Ask.{Ask}
 use Rattle.room_types.specs.declared.codes.Kind.{Kind}
 use Rattle.room_types.specs.declared.codes.Kind.TheVariants.{Ambulance, Car, Support}
 use Rattle.room_types.specs.declared.needs.Counts.{Counts}
@@ -17,8 +21,8 @@ use Rattle.room_types.specs.declared.tables.Loan.{Loan}
 use Rattle.room_types.specs.declared.tables.Point.{Point}
 use Rattle.room_types.specs.declared.tables.Vehicle.{Vehicle}
 use Rattle.room_types.specs.Texts.{Callsign}
-use Rattle.room_model.proofs.Sights.{SeesCover, SeesIncident, SeesVehicle}
-use Rattle.room_model.proofs.Tests.{map_among, row_key}
+use Rattle.room_model.proofs.Sights.{SeesAsked, SeesCover, SeesIncident, SeesVehicle}
+use Rattle.room_model.proofs.Tests.{map_among, or_left, or_right, row_key}
 use Rattle.room_types.specs.Codes.{is_active, is_free}
 use Rattle.room_types.specs.Needs.{need_of, needs_by}
 use Rattle.room_model.specs.DayTimes.{show_times, times_line, times_of}
@@ -35,10 +39,24 @@ use Rattle.room_model.specs.Queries.{offered_by, offered_to, offers_of, open_tur
 use Rattle.room_model.specs.Queries.{served, turns_of}
 use Rattle.room_model.specs.Queue.{clear, clear_found, entries, ordered_from, show_queue}
 use Rattle.room_model.specs.Room.{Room}
+use Rattle.room_model.specs.Step.{desk_asks}
 use Rattle.room_model.specs.Vehicles.{duty, mobilise, mobilise_held, off, posted, show_vehicles, stand_down}
 use Rattle.room_model.specs.Vehicles.{stand_down_held, standby, stands_by, vehicle_line}
+use Rattle.room_model.specs.WorkingRows.{reads_point}
 use Rattle.room_types.specs.declared.answers.Answer.TheVariants as answer
+use Rattle.room_types.specs.declared.asks.Ask.TheVariants as ask
 use Rattle.room_types.specs.declared.refusal_statuses.Refusal.TheVariants as refusal
+
+itself : (n : ℕ) → n == n ≡ true
+itself n = eq-eqb n n refl
+
+same_equal : (o : Ordering) → o ≡ ordering_reverse o → is_eq o ≡ true
+same_equal Less h = cc
+same_equal Equal h = refl
+same_equal Greater h = cc
+
+pub same_self : (c : Callsign) → same_callsign c c ≡ true
+same_self c = same_equal (callsign_cmp c c) (callsigns_total.antisymm c c)
 
 -- what is decided of a vehicle, where it is there
 held_by : (o : Option Vehicle) (l : Option Loan) (f g : Vehicle → Verdict)
@@ -287,3 +305,59 @@ module _ (d : ℕ) (s r : Room) where
       → clear d c n s ≡ clear d c n r
   unfolding clear
   clear_same c n h = ap clear_found h
+
+  -- ---- whatever is asked
+  by_callsign : (c : Callsign)
+      → ((k : Callsign) → same_callsign c k ≡ true → same_callsign c k ≡ true → SeesVehicle d k s r)
+      → SeesVehicle d c s r
+  by_callsign c sees = sees c (same_self c) (same_self c)
+
+  -- it is decided by what it reads
+  pub asked_same : (a : Ask) (at : ℕ) → SeesAsked d a at s r
+      → desk_asks d a at s ≡ desk_asks d a at r
+  asked_same (ask.Call f) at sees = refl
+  asked_same ask.Incidents at sees =
+      incidents_same (sees.same_active refl) (sees.active refl) (sees.same_active_calls refl refl)
+  asked_same (ask.Incident n) at sees =
+      incident_same n (sees.incident n (itself n)) (sees.same_calls n (itself n) refl) (sees.same_turns n (itself n))
+  asked_same (ask.Propose n) at sees =
+      propose_same n at (sees.incident n (itself n)) (sees.cover (λ k. refl) (λ m. refl))
+      (sees.same_eligible (λ k. refl))
+  asked_same (ask.Mobilise n c) at sees =
+      mobilise_same n c at (by_callsign c sees.vehicle) (sees.incident n (itself n))
+  asked_same (ask.Needs n needs) at sees = needs_same n needs (sees.incident n (itself n))
+  asked_same (ask.Merge n m) at sees =
+      let first = or_left _ _ (itself n) in
+      merge_same n m (sees.incident n first) (sees.same_calls n first refl)
+      (sees.incident m (or_right (n == m) _ (itself m))).same_incident
+  asked_same (ask.Close n) at sees = close_same n (sees.incident n (itself n))
+  asked_same ask.Vehicles at sees = vehicles_same (sees.same_all_held (λ k. refl)) (sees.same_assignment refl)
+  asked_same (ask.StandDown c) at sees =
+      stand_down_same c at (by_callsign c sees.vehicle) (λ v e. sees.same_last_turn c v refl e)
+  asked_same (ask.Standby c p) at sees =
+      standby_same c p at (by_callsign c sees.vehicle)
+      (λ n e. sees.same_point n (subst (λ q. reads_point (ask.Standby c q) n ≡ true) (sym e) (itself n)))
+  asked_same (ask.Duty c place until) at sees =
+      duty_same c place until at (by_callsign c sees.vehicle)
+  asked_same (ask.Off c) at sees = off_same c (by_callsign c sees.vehicle)
+  asked_same (ask.Lend c to until) at sees =
+      lend_same c to until at (by_callsign c sees.vehicle) sees.same_plan
+  asked_same (ask.Withdraw c) at sees =
+      withdraw_same c (by_callsign c sees.vehicle) (sees.same_offered_by c (same_self c))
+  asked_same (ask.Decline c) at sees = decline_same c (sees.same_offered_to c (same_self c))
+  asked_same (ask.Accept c) at sees = accept_same c at (sees.same_offered_to c (same_self c))
+  asked_same (ask.Recall c) at sees = recall_same c (by_callsign c sees.vehicle)
+  asked_same (ask.GiveBack c) at sees =
+      give_back_same c (by_callsign c sees.vehicle) (sees.same_borrowed c (same_self c))
+  asked_same ask.Queue at sees = queue_same at (sees.same_entries refl)
+  asked_same (ask.Clear c n) at sees = sees.cleared_alike c n refl
+  asked_same ask.Points at sees =
+      points_same at (sees.same_points (λ n. refl))
+      (λ n. (sees.cover (λ k. refl) (λ m. refl)).same_holders n at)
+  asked_same (ask.SetPoint n place cover) at sees = refl
+  asked_same ask.Loans at sees = loans_same (sees.same_loans (λ k. refl))
+  asked_same ask.Offers at sees = offers_same (sees.same_offers (λ k. refl))
+  asked_same (ask.Times from to) at sees = times_same from to (sees.same_opened from to refl)
+  asked_same ask.Order at sees = refl
+  asked_same (ask.Report p) at sees = refl
+  asked_same ask.Last at sees = refl

@@ -31,7 +31,7 @@ use Rattle.room_model.proofs.OwnChanges.{own_apply_own}
 use Rattle.room_model.proofs.OwnDesk.{call_own}
 use Rattle.room_model.proofs.Tests.{among_filter, both_true, filter_filter, is_equal, keep_row, left_true, right_true}
 use Rattle.room_model.proofs.Tests.{row_key}
-use Rattle.room_model.specs.Isolation.{share_by, told_by}
+use Rattle.room_model.specs.Isolation.{answers_by, share_by}
 use Rattle.room_model.specs.Calls.{call_in, call_kept, call_somewhere, call_taken, new_call, new_incident, take_call}
 use Rattle.room_model.specs.Calls.{with_call}
 use Rattle.room_types.specs.Codes.{is_active}
@@ -189,21 +189,21 @@ module _ (d : ℕ) (r : Room) (w : IsWellFormed r) (p : ℕ) (f : CallForm) (at 
         | false ↦ λ other. call_leaves d h r w other call k
       ]) refl
 
-  -- a kept call is told again
-  told_again : (k : Call) → own d (apply r (changes_of (call_kept (Some k) call r))) ≡ own d r
-  told_again k = by_refuse (λ x. own d (apply r (changes_of x)) ≡ own d r) _ _ _ refl (λ e. refl)
+  -- a kept call is answered again
+  answered_again : (k : Call) → own d (apply r (changes_of (call_kept (Some k) call r))) ≡ own d r
+  answered_again k = by_refuse (λ x. own d (apply r (changes_of x)) ≡ own d r) _ _ _ refl (λ e. refl)
 
   call_event : (o : Option Call) → kept_call p f.serial r ≡ o
       → own d (apply r (changes_of (call_kept o call r)))
       ≡ share_by d (own d r) (cross_call d taken f o r)
   call_event None e = placed (division_of r.plan f.place) e refl
-  call_event (Some k) e = told_again k
+  call_event (Some k) e = answered_again k
 
-  told_call : (o : Option Call) → told_by (own d r) (cross_call d taken f o r) ≡ []
-  told_call (Some k) = refl
-  told_call None =
+  answers_call : (o : Option Call) → answers_by (own d r) (cross_call d taken f o r) ≡ []
+  answers_call (Some k) = refl
+  answers_call None =
       (elim (is_division_of d
-      (division_of r.plan f.place)) as (λ (b : Bool). told_by (own d r) (cond b (Some (CallIn taken)) None) ≡ [])
+      (division_of r.plan f.place)) as (λ (b : Bool). answers_by (own d r) (cond b (Some (CallIn taken)) None) ≡ [])
       [ true ↦ refl | false ↦ refl ])
 
 -- in two rooms with equal shares a call that neither has kept is decided alike
@@ -223,6 +223,6 @@ module _ (d : ℕ) (r : Room) (w : IsWellFormed r) (p : ℕ) (at : ℕ) where
   position_event (ask.Call f) = call_event d r w p f at (kept_call p f.serial r) refl
   position_event a = refl
 
-  pub told_position : (a : Ask) → told_by (own d r) (cross_position d p (sent a) a r) ≡ []
-  told_position (ask.Call f) = told_call d r w p f at (kept_call p f.serial r)
-  told_position a = refl
+  pub answers_position : (a : Ask) → answers_by (own d r) (cross_position d p (sent a) a r) ≡ []
+  answers_position (ask.Call f) = answers_call d r w p f at (kept_call p f.serial r)
+  answers_position a = refl

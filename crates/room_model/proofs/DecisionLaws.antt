@@ -8,7 +8,7 @@ use Rattle.room_types.specs.declared.refusal_statuses.Refusal.{Refusal}
 use Rattle.room_types.specs.declared.tables.Loan.{Loan}
 use Rattle.room_types.specs.declared.tables.Turn.{Turn}
 use Rattle.room_types.specs.declared.tables.Vehicle.{Vehicle}
-use Rattle.room_model.specs.Decisions.{Verdict, refuse_if, tell}
+use Rattle.room_model.specs.Decisions.{Verdict, refuse_if, with_changes}
 use Rattle.room_model.specs.Reports.{is_due, is_home, report_acts, report_made, report_row, status_after, with_report}
 use Rattle.room_types.specs.declared.answers.Answer.TheVariants as answer
 
@@ -22,10 +22,10 @@ by_refuse P false e x f g = g refl
 pub by_report : (P : Verdict → Type 0) (v : Vehicle) (t : Option Turn) (l : Option Loan)
     (p : Press) (at : ℕ) →
     ((o : Outcome)
-    → P (tell (answer.Reported p.number o (status_after v.status p.button))
+    → P (with_changes (answer.Reported p.number o (status_after v.status p.button))
     (report_acts v t l p at o (is_home p.button && is_due at l)))) →
     ((o : Outcome)
-    → P (tell (answer.Reported p.number o v.status)
+    → P (with_changes (answer.Reported p.number o v.status)
     (PutReport (report_row v p at o v.status) ∷ PutVehicle (with_report v p) ∷ []))) →
     (o : Outcome) → P (report_made v t l p at o)
 by_report P v t l p at f g Normal = f Normal

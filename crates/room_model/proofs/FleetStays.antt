@@ -39,7 +39,7 @@ use Rattle.room_model.proofs.Tests.{row_key}
 use Rattle.room_model.proofs.VehicleRows.{settle}
 use Rattle.room_model.specs.Calls.{call_in, call_kept, call_new, call_somewhere, call_taken, new_call}
 use Rattle.room_types.specs.Codes.{acts, same_kind}
-use Rattle.room_model.specs.Decisions.{Verdict, changes_of, refuse_if, tell, where_active, where_held}
+use Rattle.room_model.specs.Decisions.{Verdict, changes_of, refuse_if, where_active, where_held, with_changes}
 use Rattle.room_model.specs.FleetRows.{AreTerminals, fate_by, fate_of, fleet_at, home_and_kind, is_crews_terminal}
 use Rattle.room_model.specs.FleetRows.{terminal_at}
 use Rattle.room_model.specs.Incidents.{change_needs, close, close_active, merge, merge_of, moved_call, needs_changed}
@@ -262,7 +262,7 @@ module _ (r : Room) where
   made_fleet : (v : Vehicle) (t : Option Turn) (l : Option Loan) (p : Press) (at : ℕ) (o : Outcome)
       → IsThere v → SameFleet (report_made v t l p at o)
   made_fleet v t l p at o k =
-      either_fleet (acts o) _ (tell (answer.Reported p.number o v.status)
+      either_fleet (acts o) _ (with_changes (answer.Reported p.number o v.status)
       (PutReport (report_row v p at o v.status) ∷ PutVehicle (with_report v p) ∷ [])) (
         tt,
         fleet_append (turn_changes p.button at t) _ (turns_fleet p.button at t)

@@ -26,7 +26,7 @@ use Rattle.room_model.proofs.VehicleAgreements.{Agrees, agreed, free_is_idle, ke
 use Rattle.room_model.proofs.VehicleChanges.{like_offer, like_post, returned_agrees}
 use Rattle.room_model.proofs.VehicleRows.{AllConcern, VehicleRows, all_after, all_concern, bare, put_at, rows_of}
 use Rattle.room_types.specs.Codes.{acts, is_busy, is_free, is_offered}
-use Rattle.room_model.specs.Decisions.{changes_of, tell}
+use Rattle.room_model.specs.Decisions.{changes_of, with_changes}
 use Rattle.room_model.specs.Queries.{borrowed, held, kept_report, open_turn, vehicle_at}
 use Rattle.room_model.specs.Reports.{back_changes, drop_changes, ends_turn, is_acknowledged, is_due, is_home}
 use Rattle.room_model.specs.Reports.{names_order, outcome_of, press, report_acts, report_held, report_in, report_kept}
@@ -351,9 +351,9 @@ module _ (c : Callsign) (r : Room) (w : IsWellFormed r) (p : Press) (at : ℕ)
       (elim (acts o) as (λ (b : Bool).
       acts o ≡ b
       → Kept d r w (cond b
-      (tell (answer.Reported p.number o (status_after v.status p.button))
+      (with_changes (answer.Reported p.number o (status_after v.status p.button))
       (report_acts v (open_turn d c r) (borrowed d c r) p at o (is_home p.button && is_due at (borrowed d c r))))
-      (tell (answer.Reported p.number o v.status)
+      (with_changes (answer.Reported p.number o v.status)
       (PutReport (report_row v p at o v.status) ∷ PutVehicle (with_report v p) ∷ [])))) [
         | true ↦
             λ f.

@@ -19,6 +19,7 @@ pub mod KeptIncidents
 pub mod KeptLoans
 pub mod KeptMerge
 pub mod KeptReports
+pub mod NamedIncidents
 pub mod NearLaws
 pub mod OfferLaws
 pub mod OffersMade

@@ -29,7 +29,7 @@ use Rattle.room_types.specs.declared.tables.Turn.{Turn}
 use Rattle.room_types.specs.declared.tables.Vehicle.{Vehicle}
 use Rattle.room_model.proofs.Questions.{IsQuiet, by_quiet}
 use Rattle.room_model.specs.Calls.{call_in, call_kept, call_new, call_somewhere, call_taken, new_call}
-use Rattle.room_model.specs.Decisions.{Verdict, changes_of, refuse_if, tell, where_active, where_held}
+use Rattle.room_model.specs.Decisions.{Verdict, changes_of, refuse_if, where_active, where_held, with_changes}
 use Rattle.room_model.specs.Incidents.{change_needs, close, close_active, merge, merge_of, moved_call, needs_changed}
 use Rattle.room_model.specs.Loans.{accept, accepted, decline, declined, give_back, given_back, recall, recall_lent}
 use Rattle.room_model.specs.Loans.{withdraw, withdrawn}
@@ -206,7 +206,7 @@ back_none c false = tt
 made_none : (v : Vehicle) (t : Option Turn) (l : Option Loan) (p : Press) (at : ℕ) (o : Outcome)
     → NoneMade (report_made v t l p at o)
 made_none v t l p at o =
-    either_none (acts o) _ (tell (answer.Reported p.number o v.status)
+    either_none (acts o) _ (with_changes (answer.Reported p.number o v.status)
     (PutReport (report_row v p at o v.status) ∷ PutVehicle (with_report v p) ∷ [])) (
       tt,
       append_none (turn_changes p.button at t) _ (turns_none p.button at t)

@@ -24,12 +24,8 @@ use Rattle.room_types.specs.declared.tables.Point.{Point}
 use Rattle.room_types.specs.declared.tables.Turn.{Turn}
 use Rattle.room_types.specs.declared.tables.Vehicle.{Vehicle}
 use Rattle.room_types.specs.Texts.{Callsign}
-use Rattle.room_model.proofs.AskLaws.{accept_same, clear_same, close_same, decline_same, duty_same, give_back_same}
-use Rattle.room_model.proofs.AskLaws.{incident_same, incidents_same, lend_same, loans_same, merge_same, mobilise_same}
-use Rattle.room_model.proofs.AskLaws.{needs_same, off_same, offers_same, points_same, propose_same, queue_same}
-use Rattle.room_model.proofs.AskLaws.{recall_same, stand_down_same, standby_same, times_same, vehicles_same}
-use Rattle.room_model.proofs.AskLaws.{withdraw_same}
-use Rattle.room_model.proofs.Sights.{SeesCover, SeesIncident, SeesVehicle, SeesVehicles, sees_beside}
+use Rattle.room_model.proofs.AskLaws.{asked_same, clear_same}
+use Rattle.room_model.proofs.Sights.{SeesAsked, SeesCover, SeesIncident, SeesVehicle, SeesVehicles, sees_beside}
 use Rattle.room_model.proofs.Tests.{any_filter, filter_filter, filter_map_among, filter_map_filter, is_equal, keep_keep}
 use Rattle.room_model.proofs.Tests.{keep_row, left_true}
 use Rattle.room_model.specs.Calls.{call_in, call_taken}
@@ -44,7 +40,6 @@ use Rattle.room_model.specs.Reports.{report_held, report_in}
 use Rattle.room_model.specs.Room.{IsInOrder, Room}
 use Rattle.room_model.specs.Shares.{own}
 use Rattle.room_model.specs.Step.{desk_asks}
-use Rattle.room_types.specs.declared.asks.Ask.TheVariants as ask
 
 module _ (d : ℕ) (r : Room) (in_order : IsInOrder r) where
   pub sees_own : SeesVehicles d (own d r) r
@@ -196,38 +191,35 @@ module _ (d : ℕ) (r : Room) (in_order : IsInOrder r) where
       ++ (exception_own i ++ (overdue_own at i ++ (shift_own at i ++ (uncovered_own at i ++ unanswered_own at i))))))
 
   -- ---- the decisions
+  asked_own : (a : Ask) (at : ℕ) → SeesAsked d a at (own d r) r
+  asked_own a at = record {
+    same_plan = refl;
+    vehicle = λ c e f. sees_vehicle_own c;
+    same_borrowed = λ c e. sees_own.same_borrowed c;
+    same_offered_by = λ c e. sees_own.same_offered_by c;
+    same_offered_to = λ c e. sees_own.same_offered_to c;
+    same_point = λ n e. sees_own.same_point n;
+    same_last_turn = λ c v e f. turn_own c;
+    cleared_alike = λ c n e. clear_same d (own d r) r c n (report_own c n);
+    incident = λ n e. sees_incident_own n;
+    same_calls = λ n e f. calls_own n;
+    same_turns = λ n e. turns_own n;
+    same_active = λ e. active_own;
+    active = λ e i m. sees_incident_own i.number;
+    same_active_calls = λ e f i m. calls_own i.number;
+    same_opened = λ from to e. opened_own from to;
+    same_entries = λ e. entries_own at;
+    same_all_held = λ e. sees_own.same_all_held;
+    same_assignment = λ e. sees_own.same_assignment;
+    same_eligible = λ e k. sees_own.same_eligible k at;
+    cover = λ e f. sees_cover_own;
+    same_points = λ e. sees_own.same_points;
+    same_loans = λ e. sees_own.same_loans;
+    same_offers = λ e. sees_own.same_offers;
+  }
+
   pub desk_own : (a : Ask) (at : ℕ) → desk_asks d a at (own d r) ≡ desk_asks d a at r
-  desk_own (ask.Call f) at = refl
-  desk_own ask.Incidents at =
-      incidents_same d (own d r) r active_own (λ i m. sees_incident_own i.number) (λ i m. calls_own i.number)
-  desk_own (ask.Incident n) at = incident_same d (own d r) r n (sees_incident_own n) (calls_own n) (turns_own n)
-  desk_own (ask.Propose n) at =
-      propose_same d (own d r) r n at (sees_incident_own n) sees_cover_own (λ k. sees_own.same_eligible k at)
-  desk_own (ask.Mobilise n c) at = mobilise_same d (own d r) r n c at (sees_vehicle_own c) (sees_incident_own n)
-  desk_own (ask.Needs n needs) at = needs_same d (own d r) r n needs (sees_incident_own n)
-  desk_own (ask.Merge n m) at = merge_same d (own d r) r n m (sees_incident_own n) (calls_own n) (incident_own m)
-  desk_own (ask.Close n) at = close_same d (own d r) r n (sees_incident_own n)
-  desk_own ask.Vehicles at = vehicles_same d (own d r) r sees_own.same_all_held sees_own.same_assignment
-  desk_own (ask.StandDown c) at = stand_down_same d (own d r) r c at (sees_vehicle_own c) (λ v e. turn_own c)
-  desk_own (ask.Standby c p) at = standby_same d (own d r) r c p at (sees_vehicle_own c) (λ n e. sees_own.same_point n)
-  desk_own (ask.Duty c place until) at = duty_same d (own d r) r c place until at (sees_vehicle_own c)
-  desk_own (ask.Off c) at = off_same d (own d r) r c (sees_vehicle_own c)
-  desk_own (ask.Lend c to until) at = lend_same d (own d r) r c to until at (sees_vehicle_own c) refl
-  desk_own (ask.Withdraw c) at = withdraw_same d (own d r) r c (sees_vehicle_own c) (sees_own.same_offered_by c)
-  desk_own (ask.Decline c) at = decline_same d (own d r) r c (sees_own.same_offered_to c)
-  desk_own (ask.Accept c) at = accept_same d (own d r) r c at (sees_own.same_offered_to c)
-  desk_own (ask.Recall c) at = recall_same d (own d r) r c (sees_vehicle_own c)
-  desk_own (ask.GiveBack c) at = give_back_same d (own d r) r c (sees_vehicle_own c) (sees_own.same_borrowed c)
-  desk_own ask.Queue at = queue_same d (own d r) r at (entries_own at)
-  desk_own (ask.Clear c n) at = clear_same d (own d r) r c n (report_own c n)
-  desk_own ask.Points at = points_same d (own d r) r at sees_own.same_points (λ n. sees_own.same_holders n at)
-  desk_own (ask.SetPoint n place cover) at = refl
-  desk_own ask.Loans at = loans_same d (own d r) r sees_own.same_loans
-  desk_own ask.Offers at = offers_same d (own d r) r sees_own.same_offers
-  desk_own (ask.Times from to) at = times_same d (own d r) r from to (opened_own from to)
-  desk_own ask.Order at = refl
-  desk_own (ask.Report p) at = refl
-  desk_own ask.Last at = refl
+  desk_own a at = asked_same d (own d r) r a at (asked_own a at)
 
   -- a call in the division, and a report of a vehicle that it holds
   pub call_own : (new : NewCall) → call_in d new (own d r) ≡ call_in d new r

@@ -20,7 +20,7 @@ use Rattle.room_model.proofs.Others.{keep_some, none_own}
 use Rattle.room_model.proofs.OwnChanges.{in_order_one, in_order_own, own_apply, own_apply_one, own_apply_own, own_twice}
 use Rattle.room_model.proofs.OwnDesk.{desk_own, sees_own}
 use Rattle.room_model.proofs.Tests.{row_key}
-use Rattle.room_model.specs.Isolation.{put_vehicle, share_by, told_by}
+use Rattle.room_model.specs.Isolation.{answers_by, put_vehicle, share_by}
 use Rattle.room_model.specs.Crossing.{Asked, cross_own, with_vehicle}
 use Rattle.room_model.specs.Decisions.{answer_of, changes_of}
 use Rattle.room_model.specs.Loans.{accept, accepted, decline, declined, loan_row}
@@ -203,19 +203,19 @@ module _ (d : ℕ) (r : Room) (w : IsWellFormed r) where
   own_request (ask.Accept c) at = accept_own c at
   own_request a at = own_desk d r a at w.order refl
 
-  told_accept : (c : Callsign) (at : ℕ) (b : Bool) (o : Option Vehicle)
-      → told_by (own d r) (Some (cond b (with_vehicle (request (ask.Accept c) at) o)
+  answers_accept : (c : Callsign) (at : ℕ) (b : Bool) (o : Option Vehicle)
+      → answers_by (own d r) (Some (cond b (with_vehicle (request (ask.Accept c) at) o)
       (Asked (request (ask.Accept c) at)))) ≡ answer_of (accept d c at r) ∷ []
-  told_accept c at false o = ap (λ x. answer_of x ∷ []) (desk_own d r w.order (ask.Accept c) at)
-  told_accept c at true None = ap (λ x. answer_of x ∷ []) (desk_own d r w.order (ask.Accept c) at)
-  told_accept c at true (Some v) = ap (λ x. answer_of x ∷ []) (accept_by_offers c at v)
+  answers_accept c at false o = ap (λ x. answer_of x ∷ []) (desk_own d r w.order (ask.Accept c) at)
+  answers_accept c at true None = ap (λ x. answer_of x ∷ []) (desk_own d r w.order (ask.Accept c) at)
+  answers_accept c at true (Some v) = ap (λ x. answer_of x ∷ []) (accept_by_offers c at v)
 
   -- and its answer
-  pub told_request : (a : Ask) (at : ℕ)
-      → told_by (own d r) (Some (cross_own (is_ok (desk_asks d a at r)) (request a at) a r))
+  pub answers_request : (a : Ask) (at : ℕ)
+      → answers_by (own d r) (Some (cross_own (is_ok (desk_asks d a at r)) (request a at) a r))
       ≡ answer_of (desk_asks d a at r) ∷ []
-  told_request (ask.Accept c) at = told_accept c at (is_ok (accept d c at r)) (vehicle_at c r)
-  told_request a at = ap (λ x. answer_of x ∷ []) (desk_own d r w.order a at)
+  answers_request (ask.Accept c) at = answers_accept c at (is_ok (accept d c at r)) (vehicle_at c r)
+  answers_request a at = ap (λ x. answer_of x ∷ []) (desk_own d r w.order a at)
 
 -- ---- the offer only
 module _ (d : ℕ) (c : Callsign) (at : ℕ) (r s : Room) (same : offer_at c r ≡ offer_at c s) where
@@ -223,10 +223,10 @@ module _ (d : ℕ) (c : Callsign) (at : ℕ) (r s : Room) (same : offer_at c r �
   unfolding offered_to offer_at
   same_offered = ap (keep (λ o. o.borrower == d)) same
 
-  pub accept_alone : desk_asks d (ask.Accept c) at r ≡ desk_asks d (ask.Accept c) at s
+  pub only_accept : desk_asks d (ask.Accept c) at r ≡ desk_asks d (ask.Accept c) at s
   unfolding accept
-  accept_alone = ap (λ o. accepted o at) same_offered
+  only_accept = ap (λ o. accepted o at) same_offered
 
-  pub decline_alone : desk_asks d (ask.Decline c) at r ≡ desk_asks d (ask.Decline c) at s
+  pub only_decline : desk_asks d (ask.Decline c) at r ≡ desk_asks d (ask.Decline c) at s
   unfolding decline
-  decline_alone = ap declined same_offered
+  only_decline = ap declined same_offered

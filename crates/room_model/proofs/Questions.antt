@@ -3,32 +3,26 @@ use Rattle.std.proofs.Common.{ap, subst, sym}
 use Rattle.std.specs.Prelude.{List, None, Option, Some, [], not, refl, true, ℕ, ◌||◌, ◌≡◌}
 use Rattle.room_types.specs.Codes.{is_active}
 use Rattle.room_types.specs.Texts.{Callsign}
-use Rattle.room_types.specs.declared.answers.Served.{Served}
 use Rattle.room_types.specs.declared.asks.Ask.{Ask}
 use Rattle.room_types.specs.declared.asks.Event.{Event}
 use Rattle.room_types.specs.declared.asks.Who.{Who}
 use Rattle.room_types.specs.declared.asks.Who.TheVariants.{Crew, Desk, Position}
 use Rattle.room_types.specs.declared.changes.Change.{Change}
-use Rattle.room_types.specs.declared.tables.Assignment.{Assignment}
+use Rattle.room_types.specs.declared.refusal_statuses.Refusal.{Refusal}
 use Rattle.room_types.specs.declared.tables.Call.{Call}
 use Rattle.room_types.specs.declared.tables.Incident.{Incident}
-use Rattle.room_types.specs.declared.tables.Turn.{Turn}
-use Rattle.room_types.specs.declared.tables.Vehicle.{Vehicle}
 use Rattle.room_model.proofs.DecisionLaws.{by_refuse}
 use Rattle.room_model.proofs.Tests.{or_left}
 use Rattle.room_model.specs.DayTimes.{show_times}
-use Rattle.room_model.specs.Decisions.{Verdict, changes_of, show, where_active}
-use Rattle.room_model.specs.Incidents.{history_of, show_incident, show_incidents}
+use Rattle.room_model.specs.Decisions.{Verdict, changes_of, where_active, where_found}
+use Rattle.room_model.specs.Incidents.{show_incident, show_incidents}
 use Rattle.room_model.specs.Loans.{show_loans, show_offers}
 use Rattle.room_model.specs.Points.{show_points}
-use Rattle.room_model.specs.Proposals.{all_proposed, propose}
-use Rattle.room_model.specs.Queries.{assignment_at, incident_of, vehicle_at}
+use Rattle.room_model.specs.Proposals.{propose}
 use Rattle.room_model.specs.Queue.{show_queue}
-use Rattle.room_model.specs.Reports.{last_of, order_of}
 use Rattle.room_model.specs.Room.{Room, apply}
 use Rattle.room_model.specs.Step.{crew_asks, desk_asks, is_of_role, is_question, position_asks, room_after, who_asks}
 use Rattle.room_model.specs.Vehicles.{show_vehicles}
-use Rattle.room_types.specs.declared.answers.Answer.TheVariants as answer
 use Rattle.room_types.specs.declared.asks.Ask.TheVariants as ask
 use Rattle.room_types.specs.declared.refusal_statuses.Refusal.TheVariants as refusal
 
@@ -41,18 +35,10 @@ by_active None f g = refl
 by_active (Some i) f g =
     by_refuse ChangesNothing (not (is_active i.state)) refusal.IncidentNotOpen (f i) refl (λ e. g i)
 
-by_history : (o : Option Incident) (serving : Served) (calls : List Call) (turns : List Turn)
-    → ChangesNothing (history_of o serving calls turns)
-by_history None serving calls turns = refl
-by_history (Some i) serving calls turns = refl
-
-by_order : (o : Option Vehicle) (a : Option Assignment) → ChangesNothing (order_of o a)
-by_order None a = refl
-by_order (Some v) a = refl
-
-by_last : (o : Option Vehicle) → ChangesNothing (last_of o)
-by_last None = refl
-by_last (Some v) = refl
+by_found : {X : Type 0} (o : Option X) (why : Refusal) (f : X → Verdict)
+    → ((x : X) → ChangesNothing (f x)) → ChangesNothing (where_found o why f)
+by_found None why f g = refl
+by_found (Some x) why f g = g x
 
 -- a question, or what another role may ask
 abbrev pub IsQuiet : Who → Ask → Type 0
@@ -61,15 +47,12 @@ IsQuiet who a = is_question a || not (is_of_role who a) ≡ true
 module _ (at : ℕ) (r : Room) where
   desk_shows : (d : ℕ) (a : Ask) → IsQuiet (Desk d) a → ChangesNothing (desk_asks d a at r)
   unfolding show_incidents show_incident show_vehicles show_queue show_points show_loans show_offers show_times propose
-  desk_shows d (ask.Incident n) h = by_history (incident_of d n r) _ _ _
-  desk_shows d (ask.Propose n) h =
-      by_active (incident_of d n r) (λ i. show (answer.Proposals (all_proposed d i at r))) (λ i. refl)
-  desk_shows d a h = cc
+  desk_shows d (ask.Propose n) h = by_active _ _ (λ i. refl)
+  desk_shows d a h = first_of (cc, search by_found depth 9)
 
   crew_shows : (c : Callsign) (a : Ask) → IsQuiet (Crew c) a → ChangesNothing (crew_asks c a at r)
-  crew_shows c ask.Order h = by_order (vehicle_at c r) (assignment_at c r)
-  crew_shows c ask.Last h = by_last (vehicle_at c r)
-  crew_shows c a h = cc
+  crew_shows c (ask.Report p) h = cc
+  crew_shows c a h = first_of (cc, search by_found depth 9)
 
   position_shows : (p : ℕ) (a : Ask) → IsQuiet (Position p) a
       → ChangesNothing (position_asks p a at r)

@@ -2,13 +2,11 @@
 use Rattle.std.specs.Prelude.{Bool, Err, IfErr, List, None, Ok, Option, Some, false, refl, true, ℕ, ◌≡◌}
 use Rattle.room_types.specs.declared.asks.Ask.{Ask}
 use Rattle.room_types.specs.declared.asks.Event.{Event}
-use Rattle.room_types.specs.declared.answers.Served.{Served}
 use Rattle.room_types.specs.declared.asks.NewCall.{NewCall}
 use Rattle.room_types.specs.declared.asks.Press.{Press}
 use Rattle.room_types.specs.declared.asks.Who.{Who}
 use Rattle.room_types.specs.declared.asks.Who.TheVariants.{Crew, Desk, Position}
 use Rattle.room_types.specs.declared.refusal_statuses.Refusal.{Refusal}
-use Rattle.room_types.specs.declared.tables.Assignment.{Assignment}
 use Rattle.room_types.specs.declared.tables.Call.{Call}
 use Rattle.room_types.specs.declared.tables.Division.{Division}
 use Rattle.room_types.specs.declared.tables.Incident.{Incident}
@@ -21,14 +19,14 @@ use Rattle.room_types.specs.Texts.{Callsign}
 use Rattle.room_model.proofs.DecisionLaws.{by_report}
 use Rattle.room_model.specs.Calls.{call_in, call_kept, call_new, call_somewhere, call_taken, new_call}
 use Rattle.room_model.specs.DayTimes.{show_times}
-use Rattle.room_model.specs.Decisions.{Verdict, answer_of, refuse_if, where_active, where_held}
-use Rattle.room_model.specs.Incidents.{change_needs, close, history_of, merge, merge_of, show_incident, show_incidents}
+use Rattle.room_model.specs.Decisions.{Verdict, answer_of, refuse_if, where_active, where_found, where_held}
+use Rattle.room_model.specs.Incidents.{change_needs, close, merge, merge_of, show_incident, show_incidents}
 use Rattle.room_model.specs.Loans.{accept, accepted, decline, declined, give_back, lend, recall, recall_lent}
 use Rattle.room_model.specs.Loans.{show_loans, show_offers, withdraw, withdrawn}
 use Rattle.room_model.specs.Points.{show_points}
 use Rattle.room_model.specs.Proposals.{propose}
 use Rattle.room_model.specs.Queue.{clear, clear_found, show_queue}
-use Rattle.room_model.specs.Reports.{last_of, order_of, report_held, report_in, report_kept, report_somewhere}
+use Rattle.room_model.specs.Reports.{report_held, report_in, report_kept, report_somewhere}
 use Rattle.room_model.specs.Room.{Room}
 use Rattle.room_model.specs.Step.{answer_to, crew_asks, desk_asks, is_of_role, is_of_the_room, position_asks, who_asks}
 use Rattle.room_model.specs.Vehicles.{duty, mobilise, off, show_vehicles, stand_down, standby, standby_at}
@@ -59,6 +57,11 @@ by_active None f g = refl
 by_active (Some i) f g = by_test _ _ _ refl (g i)
 
 -- ---- by what is looked up
+by_found : {X : Type 0} (o : Option X) (why : Refusal) (f : X → Verdict)
+    → is_of_the_room why ≡ true → ((x : X) → Refuses (f x)) → Refuses (where_found o why f)
+by_found None why f h g = h
+by_found (Some x) why f h g = g x
+
 by_merge : (n m : Option Incident) (b : Bool) (cs : List Call) → Refuses (merge_of n m b cs)
 by_merge None m b cs = refl
 by_merge (Some n) None b cs = refl
@@ -71,11 +74,6 @@ by_point (Some n) has at v = by_test _ _ _ refl (by_test _ _ _ refl tt)
 by_withdrawn : (o : Option Offer) (v : Vehicle) → Refuses (withdrawn o v)
 by_withdrawn None v = refl
 by_withdrawn (Some o) v = tt
-
-by_history : (o : Option Incident) (serving : Served) (calls : List Call) (turns : List Turn)
-    → Refuses (history_of o serving calls turns)
-by_history None serving calls turns = refl
-by_history (Some i) serving calls turns = tt
 
 by_declined : (o : Option Offer) → Refuses (declined o)
 by_declined None = refl
@@ -94,42 +92,27 @@ by_exception : (x : Option Report) → Refuses (clear_found x)
 by_exception None = refl
 by_exception (Some x) = by_test _ _ _ refl tt
 
-ruleset by_form = (by_test, by_held, by_active, by_point, by_withdrawn)
+ruleset by_form = (
+  by_test,
+  by_held,
+  by_active,
+  by_found,
+  by_merge,
+  by_point,
+  by_withdrawn,
+  by_declined,
+  by_accepted,
+  by_lent,
+  by_exception,
+)
 
 module _ (r : Room) where
   desk_refuses : (d : ℕ) (a : Ask) (at : ℕ) → is_of_role (Desk d) a ≡ true
       → Refuses (desk_asks d a at r)
   unfolding show_incidents show_incident show_vehicles show_queue show_points show_loans show_offers show_times propose
       mobilise change_needs merge close stand_down standby duty off lend withdraw decline accept recall give_back clear
-  desk_refuses d ask.Incidents at h = tt
-  desk_refuses d (ask.Incident n) at h = by_history _ _ _ _
-  desk_refuses d (ask.Propose n) at h = search by_form depth 9
-  desk_refuses d (ask.Mobilise n c) at h = search by_form depth 9
-  desk_refuses d (ask.Needs n needs) at h = search by_form depth 9
-  desk_refuses d (ask.Merge n m) at h = by_merge _ _ _ _
-  desk_refuses d (ask.Close n) at h = search by_form depth 9
-  desk_refuses d ask.Vehicles at h = tt
-  desk_refuses d (ask.StandDown c) at h = search by_form depth 9
-  desk_refuses d (ask.Standby c p) at h = search by_form depth 9
-  desk_refuses d (ask.Duty c place until) at h = search by_form depth 9
-  desk_refuses d (ask.Off c) at h = search by_form depth 9
-  desk_refuses d (ask.Lend c to until) at h = search by_form depth 9
-  desk_refuses d (ask.Withdraw c) at h = search by_form depth 9
-  desk_refuses d (ask.Decline c) at h = by_declined _
-  desk_refuses d (ask.Accept c) at h = by_accepted _ at
-  desk_refuses d (ask.Recall c) at h = by_lent _ _
-  desk_refuses d (ask.GiveBack c) at h = search by_form depth 9
-  desk_refuses d ask.Queue at h = tt
-  desk_refuses d (ask.Clear c n) at h = by_exception _
-  desk_refuses d ask.Points at h = tt
-  desk_refuses d (ask.SetPoint n place cover) at h = tt
-  desk_refuses d ask.Loans at h = tt
-  desk_refuses d ask.Offers at h = tt
-  desk_refuses d (ask.Times from to) at h = tt
   desk_refuses d (ask.Call f) at h = cc
-  desk_refuses d ask.Order at h = cc
-  desk_refuses d (ask.Report p) at h = cc
-  desk_refuses d ask.Last at h = cc
+  desk_refuses d a at h = first_of (cc, search by_form depth 9)
 
   -- ---- calls
   by_number : (d : ℕ) (new : NewCall) (v : Option Division) → Refuses (call_new d new v)
@@ -173,20 +156,10 @@ module _ (r : Room) where
   by_report_number None c p at = by_holder _ c p at
   by_report_number (Some k) c p at = by_test _ _ _ refl tt
 
-  by_order : (v : Option Vehicle) (a : Option Assignment) → Refuses (order_of v a)
-  by_order None a = refl
-  by_order (Some v) a = tt
-
-  by_last : (v : Option Vehicle) → Refuses (last_of v)
-  by_last None = refl
-  by_last (Some v) = tt
-
   crew_refuses : (c : Callsign) (a : Ask) (at : ℕ) → is_of_role (Crew c) a ≡ true
       → Refuses (crew_asks c a at r)
-  crew_refuses c ask.Order at h = by_order _ _
-  crew_refuses c ask.Last at h = by_last _
   crew_refuses c (ask.Report p) at h = by_report_number _ c p at
-  crew_refuses c a at h = cc
+  crew_refuses c a at h = first_of (cc, search by_form depth 9)
 
   who_refuses : (who : Who) (a : Ask) (at : ℕ) → is_of_role who a ≡ true
       → Refuses (who_asks who a at r)
@@ -222,10 +195,10 @@ module _ (r : Room) where
   wrong_role (Position p) a at h = position_wrong p a at h
   wrong_role (Crew c) a at h = crew_wrong c a at h
 
-told_so : (x : Verdict) → Refuses x → IfErr (answer_of x) (λ why. is_of_the_room why ≡ true)
-told_so (Ok x) h = tt
-told_so (Err why) h = h
+refused_so : (x : Verdict) → Refuses x → IfErr (answer_of x) (λ why. is_of_the_room why ≡ true)
+refused_so (Ok x) h = tt
+refused_so (Err why) h = h
 
 pub refusals_of_room : (e : Event) (r : Room) → is_of_role e.who e.ask ≡ true
     → IfErr (answer_to e r) (λ why. is_of_the_room why ≡ true)
-refusals_of_room e r h = told_so _ (who_refuses r e.who e.ask e.at h)
+refusals_of_room e r h = refused_so _ (who_refuses r e.who e.ask e.at h)

@@ -49,15 +49,15 @@ use Rattle.room_types.specs.declared.refusal_statuses.Refusal.TheVariants as ref
 -- what is refused changes nothing
 unchanged : (e : Event) (r : Room) (x : Verdict) (why : Refusal) → decided e r ≡ x
     → answer_of x ≡ Err why → room_after e r ≡ r
-unchanged e r (Ok x) why same told = cc
-unchanged e r (Err y) why same told = ap (λ z. apply r (changes_of z)) same
+unchanged e r (Ok x) why same answered = cc
+unchanged e r (Err y) why same answered = ap (λ z. apply r (changes_of z)) same
 
 -- what is refused for a test does not pass it
 test_fails : (b : Bool) (e : Refusal) (a : Answer)
     → answer_of (refuse_if (not b) e (show a)) ≡ Err e → b ≡ true → ⊥
 unfolding refuse_if
-test_fails true e a told same = cc
-test_fails false e a told same = cc
+test_fails true e a answered same = cc
+test_fails false e a answered same = cc
 
 -- ---- a report's number
 module _ (c : Callsign) (p : Press) (at : ℕ) (r : Room) where
@@ -72,24 +72,25 @@ module _ (c : Callsign) (p : Press) (at : ℕ) (r : Room) where
 
   held_numberless : (v : Option Vehicle) (t : Option Turn) (l : Option Loan)
       → IsNumberless (report_held v t l p at)
-  held_numberless None t l told = cc
-  held_numberless (Some v) t l told = by_report IsNumberless v t l p at (λ o g. cc) (λ o g. cc) (outcome_of v t p) told
+  held_numberless None t l answered = cc
+  held_numberless (Some v) t l answered =
+      by_report IsNumberless v t l p at (λ o g. cc) (λ o g. cc) (outcome_of v t p) answered
 
   in_numberless : (h : ℕ) → IsNumberless (report_in h c p at r)
   unfolding report_in
   in_numberless h = held_numberless (held h c r) (open_turn h c r) (borrowed h c r)
 
   somewhere_numberless : (v : Option Vehicle) → IsNumberless (report_somewhere v c p at r)
-  somewhere_numberless None told = cc
-  somewhere_numberless (Some v) told = in_numberless v.holder told
+  somewhere_numberless None answered = cc
+  somewhere_numberless (Some v) answered = in_numberless v.holder answered
 
   is_reused : (o : Option Report) → kept_report c p.number r ≡ o
       → answer_of (report_kept o c p at r) ≡ Err refusal.NumberReused → IsReused
-  is_reused None e told = absurd (somewhere_numberless (vehicle_at c r) told)
-  is_reused (Some k) e told = record {
+  is_reused None e answered = absurd (somewhere_numberless (vehicle_at c r) answered)
+  is_reused (Some k) e answered = record {
     row = k;
     there = e;
-    other = test_fails (same_press k p) refusal.NumberReused (answer.Reported k.number k.outcome k.status) told;
+    other = test_fails (same_press k p) refusal.NumberReused (answer.Reported k.number k.outcome k.status) answered;
   }
 
   pub reused_again : (es : List Event) → IsInOrder r
@@ -98,8 +99,8 @@ module _ (c : Callsign) (p : Press) (at : ℕ) (r : Room) where
       (room_run es (room_after (by_crew c (ask.Report p) at) r))
       (Err refusal.NumberReused)
   unfolding kept_report
-  reused_again es order told later =
-      let is = is_reused (kept_report c p.number r) refl told in
+  reused_again es order answered later =
+      let is = is_reused (kept_report c p.number r) refl answered in
       let key : (c, p.number)
       ≡ report_key is.row =
       row_key numbered_cmp report_key numbered_total exact_numbered r.reports (c, p.number) is.row is.there in
@@ -111,7 +112,7 @@ module _ (c : Callsign) (p : Press) (at : ℕ) (r : Room) where
       let still : room_after (by_crew c (ask.Report p) at) r
       ≡ r =
       unchanged (by_crew c (ask.Report p) at) r (decided (by_crew c (ask.Report p) at) r) refusal.NumberReused refl
-      told in
+      answered in
       let again = report_lasts is.row es r order here in
       subst (λ s. OnlyAnswers (by_crew c (ask.Report p) later) (room_run es s) (Err refusal.NumberReused)) (sym still)
       (only_answers (by_crew c (ask.Report p) later) (room_run es r) (Err refusal.NumberReused) _
@@ -145,28 +146,28 @@ module _ (c : Callsign) (p : Press) (at : ℕ) (r : Room) where
   kept_taken None there = somewhere_taken (vehicle_at c r) refl there
   kept_taken (Some k) there = by_refuse IsNumbers _ _ _ refl (λ e. tt)
 
-  pub number_alone : IsAddressed (by_crew c (ask.Report p) at) r
+  pub only_number : IsAddressed (by_crew c (ask.Report p) at) r
       → IfErr (answer_to (by_crew c (ask.Report p) at) r) (λ why. why ≡ refusal.NumberReused)
-  number_alone there = kept_taken (kept_report c p.number r) there
+  only_number there = kept_taken (kept_report c p.number r) there
 
-  told_again : (es : List Event) → IsInOrder r → (later : ℕ) (x : Result Answer Refusal)
+  answered_again : (es : List Event) → IsInOrder r → (later : ℕ) (x : Result Answer Refusal)
       → answer_to (by_crew c (ask.Report p) at) r ≡ x → IfErr x (λ why. why ≡ refusal.NumberReused)
       → OnlyAnswers (by_crew c (ask.Report p) later)
       (room_run es (room_after (by_crew c (ask.Report p) at) r))
       (answer_to (by_crew c (ask.Report p) at) r)
-  told_again es order later (Ok x) e why = report_repeated c p at r es order (ap is_ok e) later
-  told_again es order later (Err x) e why =
-      let told = e ∙ ap Err why in
+  answered_again es order later (Ok x) e why = report_repeated c p at r es order (ap is_ok e) later
+  answered_again es order later (Err x) e why =
+      let answered = e ∙ ap Err why in
       subst (OnlyAnswers (by_crew c (ask.Report p) later) (room_run es (room_after (by_crew c (ask.Report p) at) r)))
-      (sym told) (reused_again es order told later)
+      (sym answered) (reused_again es order answered later)
 
-  pub report_told_again : (es : List Event) → IsInOrder r
+  pub report_answered_again : (es : List Event) → IsInOrder r
       → IsAddressed (by_crew c (ask.Report p) at) r → (later : ℕ)
       → OnlyAnswers (by_crew c (ask.Report p) later)
       (room_run es (room_after (by_crew c (ask.Report p) at) r))
       (answer_to (by_crew c (ask.Report p) at) r)
-  report_told_again es order there later =
-      told_again es order later (answer_to (by_crew c (ask.Report p) at) r) refl (number_alone there)
+  report_answered_again es order there later =
+      answered_again es order later (answer_to (by_crew c (ask.Report p) at) r) refl (only_number there)
 
 -- ---- a call's serial
 module _ (p : ℕ) (f : CallForm) (at : ℕ) (r : Room) where
@@ -177,7 +178,7 @@ module _ (p : ℕ) (f : CallForm) (at : ℕ) (r : Room) where
   first = by_position p (ask.Call f) at
 
   still : (why : Refusal) → answer_to first r ≡ Err why → room_after first r ≡ r
-  still why told = unchanged first r (decided first r) why refl told
+  still why answered = unchanged first r (decided first r) why refl answered
 
   -- a call of a division is refused where its numbers are used up, and never else
   abbrev IsTaken : Verdict → Type 0
@@ -194,8 +195,8 @@ module _ (p : ℕ) (f : CallForm) (at : ℕ) (r : Room) where
 
   not_taken : (x : Verdict) (why : Refusal) → IsTaken x → answer_of x ≡ Err why
       → why ≡ refusal.NumbersUsedUp
-  not_taken (Ok x) why h told = cc
-  not_taken (Err y) why h told = let same : y ≡ why = cc in sym same ∙ h
+  not_taken (Ok x) why h answered = cc
+  not_taken (Err y) why h answered = let same : y ≡ why = cc in sym same ∙ h
 
   -- the serial is another call's
   record IsAnothers : Type 0 where
@@ -205,16 +206,17 @@ module _ (p : ℕ) (f : CallForm) (at : ℕ) (r : Room) where
 
   somewhere_serial : (o : Option ℕ)
       → answer_of (call_somewhere o call r) ≡ Err refusal.SerialReused → ⊥
-  somewhere_serial None told = cc
-  somewhere_serial (Some d) told = let clash = not_taken (call_in d call r) refusal.SerialReused (in_taken d) told in cc
+  somewhere_serial None answered = cc
+  somewhere_serial (Some d) answered =
+      let clash = not_taken (call_in d call r) refusal.SerialReused (in_taken d) answered in cc
 
   is_anothers : (o : Option Call) → kept_call p f.serial r ≡ o
       → answer_of (call_kept o call r) ≡ Err refusal.SerialReused → IsAnothers
-  is_anothers None e told = absurd (somewhere_serial (division_of r.plan f.place) told)
-  is_anothers (Some k) e told = record {
+  is_anothers None e answered = absurd (somewhere_serial (division_of r.plan f.place) answered)
+  is_anothers (Some k) e answered = record {
     row = k;
     there = e;
-    other = test_fails (same_call k call) refusal.SerialReused (answer.Called k.division k.given k.linked) told;
+    other = test_fails (same_call k call) refusal.SerialReused (answer.Called k.division k.given k.linked) answered;
   }
 
   pub serial_again : (es : List Event) → IsInOrder r
@@ -222,15 +224,15 @@ module _ (p : ℕ) (f : CallForm) (at : ℕ) (r : Room) where
       → OnlyAnswers (by_position p (ask.Call f) later) (room_run es (room_after first r))
       (Err refusal.SerialReused)
   unfolding kept_call
-  serial_again es order told later =
-      let is = is_anothers (kept_call p f.serial r) refl told in
+  serial_again es order answered later =
+      let is = is_anothers (kept_call p f.serial r) refl answered in
       let key : (p, f.serial)
       ≡ call_key is.row = row_key pair_cmp call_key pairs_total exact_pair r.calls (p, f.serial) is.row is.there in
       let here : CallThere is.row
       r = (is.row.incident, subst (λ (z : ℕ × ℕ). row_at pair_cmp call_key r.calls z ≡ Some is.row) key is.there) in
       let again = call_lasts is.row es r order here in
       subst (λ s. OnlyAnswers (by_position p (ask.Call f) later) (room_run es s) (Err refusal.SerialReused))
-      (sym (still refusal.SerialReused told))
+      (sym (still refusal.SerialReused answered))
       (only_answers (by_position p (ask.Call f) later) (room_run es r) (Err refusal.SerialReused) _
       (call_later p f later (room_run es r) is.row key again
       ∙ refused_if (same_call is.row (new_call p f later)) refusal.SerialReused _ is.other) refl refl)
@@ -242,15 +244,16 @@ module _ (p : ℕ) (f : CallForm) (at : ℕ) (r : Room) where
 
   outside_somewhere : (o : Option ℕ)
       → answer_of (call_somewhere o call r) ≡ Err refusal.OutsideArea → o ≡ None
-  outside_somewhere None told = refl
-  outside_somewhere (Some d) told = let clash = not_taken (call_in d call r) refusal.OutsideArea (in_taken d) told in cc
+  outside_somewhere None answered = refl
+  outside_somewhere (Some d) answered =
+      let clash = not_taken (call_in d call r) refusal.OutsideArea (in_taken d) answered in cc
 
   is_outside : (o : Option Call) → kept_call p f.serial r ≡ o
       → answer_of (call_kept o call r) ≡ Err refusal.OutsideArea → IsOutside
-  is_outside None e told = (e, outside_somewhere (division_of r.plan f.place) told)
-  is_outside (Some k) e told =
+  is_outside None e answered = (e, outside_somewhere (division_of r.plan f.place) answered)
+  is_outside (Some k) e answered =
       absurd (by_refuse (λ x. answer_of x ≡ Err refusal.OutsideArea → ⊥) (not (same_call k call)) refusal.SerialReused _
-      (λ t. cc) (λ s t. cc) told)
+      (λ t. cc) (λ s t. cc) answered)
 
 -- ---- calls of a position and serial have places in the plan
 module _ (plan : List Area) (k : ℕ × ℕ) where
@@ -341,8 +344,8 @@ module _ (p : ℕ) (f : CallForm) (at : ℕ) (r : Room) where
       OnlyAnswers (by_position p (ask.Call f) later) now
       (Err (outside_again (kept_call p f.serial now)))
   unfolding kept_call
-  outside_still es order told later =
-      let is = is_outside p f at r (kept_call p f.serial r) refl told in
+  outside_still es order answered later =
+      let is = is_outside p f at r (kept_call p f.serial r) refl answered in
       let here : IsStill r.plan (p, f.serial)
       r = (refl, subst (λ o. IfSome o (HasDivision r.plan (p, f.serial))) (sym is.0) tt) in
       let now = room_run es r in
@@ -354,6 +357,6 @@ module _ (p : ℕ) (f : CallForm) (at : ℕ) (r : Room) where
       let outside = ap (λ areas. division_of areas f.place) there.0 ∙ is.1 in
       subst (λ s.
       OnlyAnswers (by_position p (ask.Call f) later) (room_run es s)
-      (Err (outside_again (kept_call p f.serial (room_run es s))))) (sym (still p f at r refusal.OutsideArea told))
+      (Err (outside_again (kept_call p f.serial (room_run es s))))) (sym (still p f at r refusal.OutsideArea answered))
       (only_answers (by_position p (ask.Call f) later) now (Err (outside_again (kept_call p f.serial now))) _
       (outside_now later now (kept_call p f.serial now) refl placed outside) refl refl)

@@ -1,4 +1,4 @@
--- A message that is sent again is told again, and changes nothing.
+-- A message that is sent again is answered again, and changes nothing.
 use Rattle.std.proofs.Common.{ap, eq-eqb, eqb-true, inl, inr, subst, sym, ◌∙◌}
 use Rattle.std.proofs.lemmas.Cmp.{tied_itself}
 use Rattle.std.proofs.lemmas.Map.Lookups.{CmpEqualImpliesEq}
@@ -47,7 +47,7 @@ use Rattle.room_model.specs.Calls.{call_in, call_kept, call_row, call_somewhere,
 use Rattle.room_model.specs.Calls.{same_call, take_call, with_call}
 use Rattle.room_types.specs.Codes.{same_button}
 use Rattle.room_types.specs.Needs.{same_needs}
-use Rattle.room_model.specs.Decisions.{Verdict, answer_of, changes_of, refuse_if, show, tell}
+use Rattle.room_model.specs.Decisions.{Verdict, answer_of, changes_of, refuse_if, show, with_changes}
 use Rattle.room_model.specs.Events.{OnlyAnswers, by_crew, by_position}
 use Rattle.room_model.specs.Queries.{borrowed, held, kept_call, kept_report, last_number, link_target, open_turn}
 use Rattle.room_model.specs.Queries.{vehicle_at}
@@ -258,7 +258,7 @@ record WasReported (c : Callsign) (p : Press) (r : Room) (x : Verdict) : Type 0 
   row : Report
   key : (c, p.number) ≡ report_key row
   content : same_press row p ≡ true
-  told : answer_of x ≡ Ok (answer.Reported row.number row.outcome row.status)
+  answered : answer_of x ≡ Ok (answer.Reported row.number row.outcome row.status)
   there : ReportThere row (apply r (changes_of x))
 
 same_button_self : (b : Button) → same_button b b ≡ true
@@ -279,14 +279,14 @@ module _ (c : Callsign) (p : Press) (at : ℕ) (r : Room) (order : IsInOrder r) 
 
   new_row : (v : Vehicle) → c ≡ v.callsign → (o : Outcome) (s : Status) (cs : List Change)
       → (apply r cs).reports ≡ put_row numbered_cmp report_key r.reports (report_row v p at o s)
-      → WasReported c p r (tell (answer.Reported p.number o s) cs)
+      → WasReported c p r (with_changes (answer.Reported p.number o s) cs)
   new_row v key o s cs reports = record {
     row = report_row v p at o s;
     key = ap (λ (k : Callsign). (k, p.number)) key;
     content =
         both_true _ _ (same_button_self p.button)
         (both_true _ _ (eq-eqb p.order p.order refl) (same_place_self p.place));
-    told = refl;
+    answered = refl;
     there = (
       false,
       ap (λ xs. row_at numbered_cmp report_key xs (v.callsign, p.number)) reports
@@ -328,15 +328,15 @@ module _ (c : Callsign) (p : Press) (at : ℕ) (r : Room) (order : IsInOrder r) 
         row = k;
         key = key;
         content = not_false (same_press k p) same;
-        told = refl;
+        answered = refl;
         there = (k.cleared, subst (λ (z : Callsign × ℕ). row_at numbered_cmp report_key r.reports z ≡ Some k) key e);
       })
 
 -- ---- what is decided of it later
-told_if : (b : Bool) (e : Refusal) (x : Verdict) → b ≡ true → refuse_if (not b) e x ≡ x
+decided_if : (b : Bool) (e : Refusal) (x : Verdict) → b ≡ true → refuse_if (not b) e x ≡ x
 unfolding refuse_if
-told_if true e x h = refl
-told_if false e x h = cc
+decided_if true e x h = refl
+decided_if false e x h = cc
 
 pub refused_if : (b : Bool) (e : Refusal) (x : Verdict) → (b ≡ true → ⊥) → refuse_if (not b) e x ≡ Err e
 unfolding refuse_if
@@ -345,8 +345,8 @@ refused_if false e x h = refl
 
 pub only_answers : (e : Event) (r : Room) (x : Verdict) (a : Result Answer Refusal) → decided e r ≡ x
     → changes_of x ≡ [] → answer_of x ≡ a → OnlyAnswers e r a
-only_answers e r x a same none told =
-    (ap (λ y. apply r (changes_of y)) same ∙ ap (apply r) none, ap answer_of same ∙ told)
+only_answers e r x a same none answered =
+    (ap (λ y. apply r (changes_of y)) same ∙ ap (apply r) none, ap answer_of same ∙ answered)
 
 pub report_later : (c : Callsign) (q : Press) (at : ℕ) (s : Room) (k : Report)
     → (c, q.number) ≡ report_key k → ReportThere k s
@@ -413,7 +413,7 @@ module _ (c : Callsign) (p : Press) (at : ℕ) (r : Room) (es : List Event) (ord
       only_answers (by_crew c (ask.Report p) later) after_report
       (show (answer.Reported reported.row.number reported.row.outcome reported.row.status)) _
       (report_later c p later after_report reported.row reported.key report_stays
-      ∙ told_if (same_press reported.row p) refusal.NumberReused _ reported.content) refl (sym reported.told)
+      ∙ decided_if (same_press reported.row p) refusal.NumberReused _ reported.content) refl (sym reported.answered)
 
   pub number_used : (q : Press) (later : ℕ) → q.number ≡ p.number → (q ≡ p → ⊥)
       → OnlyAnswers (by_crew c (ask.Report q) later) after_report (Err refusal.NumberReused)
@@ -428,7 +428,7 @@ record WasTaken (p : ℕ) (f : CallForm) (at : ℕ) (r : Room) (x : Verdict) : T
   row : Call
   key : (p, f.serial) ≡ call_key row
   content : same_call row (new_call p f at) ≡ true
-  told : answer_of x ≡ Ok (answer.Called row.division row.given row.linked)
+  answered : answer_of x ≡ Ok (answer.Called row.division row.given row.linked)
   there : CallThere row (apply r (changes_of x))
 
 module _ (p : ℕ) (f : CallForm) (at : ℕ) (r : Room) (order : IsInOrder r) where
@@ -446,12 +446,12 @@ module _ (p : ℕ) (f : CallForm) (at : ℕ) (r : Room) (order : IsInOrder r) wh
   new_taken : (d n : ℕ) (linked : Bool) (cs : List Change)
       → (apply r cs).calls ≡ put_row pair_cmp call_key r.calls
       (call_row d n linked (new_call p f at))
-      → WasTaken p f at r (tell (answer.Called d n linked) cs)
+      → WasTaken p f at r (with_changes (answer.Called d n linked) cs)
   new_taken d n linked cs calls = record {
     row = call_row d n linked (new_call p f at);
     key = refl;
     content = call_content d n linked;
-    told = refl;
+    answered = refl;
     there = (
       n,
       ap (λ xs. row_at pair_cmp call_key xs (p, f.serial)) calls
@@ -488,7 +488,7 @@ module _ (p : ℕ) (f : CallForm) (at : ℕ) (r : Room) (order : IsInOrder r) wh
         row = k;
         key = key;
         content = not_false (same_call k (new_call p f at)) same;
-        told = refl;
+        answered = refl;
         there = (k.incident, subst (λ (z : ℕ × ℕ). row_at pair_cmp call_key r.calls z ≡ Some k) key e);
       })
 
@@ -560,7 +560,8 @@ module _ (p : ℕ) (f : CallForm) (at : ℕ) (r : Room) (es : List Event) (order
       only_answers (by_position p (ask.Call f) later) after_call
       (show (answer.Called taken.row.division taken.row.given taken.row.linked)) _
       (call_later p f later after_call taken.row taken.key call_stays
-      ∙ told_if (same_call taken.row (new_call p f later)) refusal.SerialReused _ taken.content) refl (sym taken.told)
+      ∙ decided_if (same_call taken.row (new_call p f later)) refusal.SerialReused _ taken.content) refl
+      (sym taken.answered)
 
   pub serial_used : (g : CallForm) (later : ℕ) → g.serial ≡ f.serial → (g ≡ f → ⊥)
       → OnlyAnswers (by_position p (ask.Call g) later) after_call (Err refusal.SerialReused)

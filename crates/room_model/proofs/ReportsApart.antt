@@ -33,10 +33,10 @@ use Rattle.room_model.proofs.OwnChanges.{in_order_one, own_apply, own_apply_own}
 use Rattle.room_model.proofs.OwnDesk.{report_in_own}
 use Rattle.room_model.proofs.Questions.{quiet_shows}
 use Rattle.room_model.proofs.Tests.{among_filter, first_among, left_true, right_true}
-use Rattle.room_model.specs.Isolation.{share_by, told_by}
+use Rattle.room_model.specs.Isolation.{answers_by, share_by}
 use Rattle.room_model.specs.Crossing.{Arrive, Crossing, ReportIn, arrival, cross_crew, cross_report, is_held_by}
 use Rattle.room_model.specs.Crossing.{is_loan_ended}
-use Rattle.room_model.specs.Decisions.{Verdict, changes_of, tell}
+use Rattle.room_model.specs.Decisions.{Verdict, changes_of, with_changes}
 use Rattle.room_model.specs.Queries.{borrowed, held, kept_report, loan_at, open_turn, vehicle_at}
 use Rattle.room_model.specs.Reports.{back_changes, drop_changes, ends_turn, is_due, is_home, outcome_of, report_acts}
 use Rattle.room_model.specs.Reports.{report_held, report_in, report_kept, report_row, report_somewhere, status_after}
@@ -177,7 +177,7 @@ module _ (d h : ℕ) (r : Room) (w : IsWellFormed r) (apart : h == d ≡ false) 
         ∙ not_ended d (row_at callsign_cmp loan_key r.loans c)))
 
     ignored : (o : Outcome) → HandsOver
-        (tell (answer.Reported p.number o v.status)
+        (with_changes (answer.Reported p.number o v.status)
         (PutReport (report_row v p at o v.status) ∷ PutVehicle (with_report v p) ∷ []))
     ignored o =
         stays (PutReport (report_row v p at o v.status) ∷ PutVehicle (with_report v p) ∷ [])
@@ -381,21 +381,21 @@ module _ (d : ℕ) (r : Room) (w : IsWellFormed r) (c : Callsign) (at : ℕ) whe
 
   -- no desk sees it
   quiet_arrival : (b : Bool) (o : Option Vehicle)
-      → told_by (own d r) (cond b (option_map Arrive o) None) ≡ []
+      → answers_by (own d r) (cond b (option_map Arrive o) None) ≡ []
   quiet_arrival true None = refl
   quiet_arrival true (Some v) = refl
   quiet_arrival false o = refl
 
-  told_report : (p : Press) (o : Option Report) (after : Room)
-      → told_by (own d r) (cross_report d (sent (ask.Report p)) c o r after) ≡ []
-  told_report p (Some k) after = refl
-  told_report p None after =
+  answers_report : (p : Press) (o : Option Report) (after : Room)
+      → answers_by (own d r) (cross_report d (sent (ask.Report p)) c o r after) ≡ []
+  answers_report p (Some k) after = refl
+  answers_report p None after =
       (elim (is_held_by d (vehicle_at c r)) as (λ (b : Bool).
-      told_by (own d r) (cond b (Some (ReportIn (sent (ask.Report p)))) (arrival d c r after)) ≡ []) [
+      answers_by (own d r) (cond b (Some (ReportIn (sent (ask.Report p)))) (arrival d c r after)) ≡ []) [
         | true ↦ refl
         | false ↦ quiet_arrival (is_loan_ended d (loan_at c r) (loan_at c after)) (vehicle_at c after)
       ])
 
-  pub told_crew : (a : Ask) → told_by (own d r) (cross_crew d c (sent a) a r) ≡ []
-  told_crew (ask.Report p) = told_report p (kept_report c p.number r) (room_after (sent (ask.Report p)) r)
-  told_crew a = refl
+  pub answers_crew : (a : Ask) → answers_by (own d r) (cross_crew d c (sent a) a r) ≡ []
+  answers_crew (ask.Report p) = answers_report p (kept_report c p.number r) (room_after (sent (ask.Report p)) r)
+  answers_crew a = refl

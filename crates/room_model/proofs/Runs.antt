@@ -17,13 +17,13 @@ use Rattle.room_types.specs.declared.tables.Loan.{Loan}
 use Rattle.room_types.specs.declared.tables.Offer.{Offer}
 use Rattle.room_types.specs.declared.tables.Report.{Report}
 use Rattle.room_types.specs.declared.tables.Vehicle.{Vehicle}
-use Rattle.room_model.proofs.CallsApart.{position_event, told_position}
+use Rattle.room_model.proofs.CallsApart.{answers_position, position_event}
 use Rattle.room_model.proofs.KeptEvents.{addressed_still, event_kept}
 use Rattle.room_model.proofs.OneEvent.{other_desk}
-use Rattle.room_model.proofs.OwnRequests.{own_request, told_request}
-use Rattle.room_model.proofs.ReportsApart.{crew_event, not_ended, told_crew}
+use Rattle.room_model.proofs.OwnRequests.{answers_request, own_request}
+use Rattle.room_model.proofs.ReportsApart.{answers_crew, crew_event, not_ended}
 use Rattle.room_model.proofs.Tests.{both_true}
-use Rattle.room_model.specs.Isolation.{alone, share_by, told_alone, told_by}
+use Rattle.room_model.specs.Isolation.{answers_by, share_answers, share_by, share_run}
 use Rattle.room_model.specs.Crossing.{Arrive, CallIn, Crossing, Declined, Left, OfferIn, Recalled, ReportIn, Withdrawn}
 use Rattle.room_model.specs.Crossing.{cross, cross_call, cross_crew, cross_other, cross_own, cross_position}
 use Rattle.room_model.specs.Crossing.{cross_report, cross_who, crossings, is_division_of, is_held_by, is_loan_ended}
@@ -32,7 +32,7 @@ use Rattle.room_model.specs.Events.{AreAddressed, AreLocal, is_everyday, receive
 use Rattle.room_model.specs.Decisions.{Verdict, answer_of, changes_of}
 use Rattle.room_model.specs.Queries.{kept_call, kept_report, lent, loan_at, offer_at, vehicle_at}
 use Rattle.room_model.specs.Room.{Room, apply}
-use Rattle.room_model.specs.Run.{is_desk, room_run, told}
+use Rattle.room_model.specs.Run.{desk_answers, is_desk, room_run}
 use Rattle.room_model.specs.Shares.{own}
 use Rattle.room_model.specs.Step.{answer_to, decided, desk_asks, room_after}
 use Rattle.room_model.specs.RoomAgreements.{IsWellFormed}
@@ -40,27 +40,27 @@ use Rattle.room_types.specs.declared.asks.Ask.TheVariants as ask
 
 -- ---- a request of another desk gives this one no answer
 module _ (s : Room) where
-  quiet_if : (b : Bool) (x : Option Crossing) → told_by s x ≡ [] → told_by s (cond b x None) ≡ []
+  quiet_if : (b : Bool) (x : Option Crossing) → answers_by s x ≡ [] → answers_by s (cond b x None) ≡ []
   quiet_if true x e = e
   quiet_if false x e = refl
 
-  quiet_offer : (o : Option Offer) → told_by s (option_map OfferIn o) ≡ []
+  quiet_offer : (o : Option Offer) → answers_by s (option_map OfferIn o) ≡ []
   quiet_offer None = refl
   quiet_offer (Some o) = refl
 
-  quiet_loan : (l : Option Loan) → told_by s (option_map Left l) ≡ []
+  quiet_loan : (l : Option Loan) → answers_by s (option_map Left l) ≡ []
   quiet_loan None = refl
   quiet_loan (Some l) = refl
 
-  quiet_vehicle : (v : Option Vehicle) → told_by s (option_map Arrive v) ≡ []
+  quiet_vehicle : (v : Option Vehicle) → answers_by s (option_map Arrive v) ≡ []
   quiet_vehicle None = refl
   quiet_vehicle (Some v) = refl
 
-  quiet_recall : (d : ℕ) (c : Callsign) (l : Option Loan) → told_by s (newly_recalled d c l) ≡ []
+  quiet_recall : (d : ℕ) (c : Callsign) (l : Option Loan) → answers_by s (newly_recalled d c l) ≡ []
   quiet_recall d c None = refl
   quiet_recall d c (Some l) = quiet_if (l.borrower == d && not l.recalled) (Some (Recalled c)) refl
 
-  quiet_other : (d h : ℕ) (a : Ask) (r after : Room) → told_by s (cross_other d h a r after) ≡ []
+  quiet_other : (d h : ℕ) (a : Ask) (r after : Room) → answers_by s (cross_other d h a r after) ≡ []
   quiet_other d h (ask.Lend c to until) r after =
       quiet_if (to == d) (option_map OfferIn (offer_at c after)) (quiet_offer (offer_at c after))
   quiet_other d h (ask.Withdraw c) r after = quiet_if (is_offered_to d (offer_at c r)) (Some (Withdrawn c)) refl
@@ -91,12 +91,12 @@ module _ (d : ℕ) (r : Room) (w : IsWellFormed r) where
       (sym (eqb-true h d e)) (own_request d r w a at)
   desk_event h a at false e = other_desk d h r a at w e ∙ ap (λ b. share_by d (own d r) (handed b h a at)) e
 
-  told_desk : (h : ℕ) (a : Ask) (at : ℕ) (b : Bool) → h == d ≡ b
-      → told_by (own d r) (handed b h a at) ≡ cond b (answer_to (by_desk h a at) r ∷ []) []
-  told_desk h a at true e =
-      subst (λ k. told_by (own d r) (handed true k a at) ≡ answer_to (by_desk k a at) r ∷ []) (sym (eqb-true h d e))
-      (told_request d r w a at)
-  told_desk h a at false e =
+  answers_desk : (h : ℕ) (a : Ask) (at : ℕ) (b : Bool) → h == d ≡ b
+      → answers_by (own d r) (handed b h a at) ≡ cond b (answer_to (by_desk h a at) r ∷ []) []
+  answers_desk h a at true e =
+      subst (λ k. answers_by (own d r) (handed true k a at) ≡ answer_to (by_desk k a at) r ∷ []) (sym (eqb-true h d e))
+      (answers_request d r w a at)
+  answers_desk h a at false e =
       quiet_if (own d r) (is_ok (desk_asks h a at r)) (cross_other d h a r (apply r (changes_of (desk_asks h a at r))))
       (quiet_other (own d r) d h a r (apply r (changes_of (desk_asks h a at r))))
 
@@ -107,21 +107,21 @@ module _ (d : ℕ) (r : Room) (w : IsWellFormed r) where
   who_event (Position p) a at = position_event d r w p at a
   who_event (Crew c) a at = crew_event d r w c at a
 
-  told_who : (who : Who) (a : Ask) (at : ℕ)
-      → told_by (own d r) (cross d r (record { who = who; ask = a; at = at }))
+  answers_who : (who : Who) (a : Ask) (at : ℕ)
+      → answers_by (own d r) (cross d r (record { who = who; ask = a; at = at }))
       ≡ cond (is_desk d who) (answer_to (record { who = who; ask = a; at = at }) r ∷ []) []
-  told_who (Desk h) a at = told_desk h a at (h == d) refl
-  told_who (Position p) a at = told_position d r w p at a
-  told_who (Crew c) a at = told_crew d r w c at a
+  answers_who (Desk h) a at = answers_desk h a at (h == d) refl
+  answers_who (Position p) a at = answers_position d r w p at a
+  answers_who (Crew c) a at = answers_crew d r w c at a
 
   -- the share after an event is what becomes of it by what it is handed
   pub one_event : (e : Event) → own d (room_after e r) ≡ share_by d (own d r) (cross d r e)
   one_event e = who_event e.who e.ask e.at
 
-  -- and its desk is told the answer to its own requests, and nothing else
-  pub one_told : (e : Event) → told_by (own d r) (cross d r e)
+  -- and its desk is given the answer to its own requests, and nothing else
+  pub one_answer : (e : Event) → answers_by (own d r) (cross d r e)
       ≡ cond (is_desk d e.who) (answer_to e r ∷ []) []
-  one_told e = told_who e.who e.ask e.at
+  one_answer e = answers_who e.who e.ask e.at
 
 -- ---- lists of events
 -- each event of a run meets a well-formed room
@@ -139,53 +139,56 @@ meet_well_formed (e ∷ es) r w known = (
 )
 
 pub run_share : (d : ℕ) (es : List Event) (r : Room) → AreWellFormed es r
-    → own d (room_run es r) ≡ alone d (crossings d es r) (own d r)
+    → own d (room_run es r) ≡ share_run d (crossings d es r) (own d r)
 run_share d [] r w = refl
 run_share d (e ∷ es) r w =
-    run_share d es (room_after e r) w.1 ∙ ap (alone d (crossings d es (room_after e r))) (one_event d r w.0 e)
+    run_share d es (room_after e r) w.1 ∙ ap (share_run d (crossings d es (room_after e r))) (one_event d r w.0 e)
 
-told_first : {X : Type 0} (b : Bool) (x : X) (xs : List X)
+answers_first : {X : Type 0} (b : Bool) (x : X) (xs : List X)
     → cond b (x ∷ xs) xs ≡ cond b (x ∷ []) [] ++ xs
-told_first true x xs = refl
-told_first false x xs = refl
+answers_first true x xs = refl
+answers_first false x xs = refl
 
-pub run_told : (d : ℕ) (es : List Event) (r : Room) → AreWellFormed es r
-    → told d es r ≡ told_alone d (crossings d es r) (own d r)
-run_told d [] r w = refl
-run_told d (e ∷ es) r w =
-    told_first (is_desk d e.who) (answer_to e r) (told d es (room_after e r))
-    ∙ ap (λ ts. ts ++ told d es (room_after e r)) (sym (one_told d r w.0 e))
-    ∙ ap (λ ts. told_by (own d r) (cross d r e) ++ ts)
-    (run_told d es (room_after e r) w.1 ∙ ap (told_alone d (crossings d es (room_after e r))) (one_event d r w.0 e))
+pub run_answers : (d : ℕ) (es : List Event) (r : Room) → AreWellFormed es r
+    → desk_answers d es r ≡ share_answers d (crossings d es r) (own d r)
+run_answers d [] r w = refl
+run_answers d (e ∷ es) r w =
+    answers_first (is_desk d e.who) (answer_to e r) (desk_answers d es (room_after e r))
+    ∙ ap (λ ts. ts ++ desk_answers d es (room_after e r)) (sym (one_answer d r w.0 e))
+    ∙ ap (λ ts. answers_by (own d r) (cross d r e) ++ ts)
+    (run_answers d es (room_after e r) w.1
+    ∙ ap (share_answers d (crossings d es (room_after e r))) (one_event d r w.0 e))
 
 -- ---- what is received, and no more, counts
-alone_received : (d : ℕ) (xs : List (Option Crossing)) (s : Room)
-    → alone d xs s ≡ alone d (map Some (received xs)) s
-alone_received d [] s = refl
-alone_received d (None ∷ xs) s = alone_received d xs s
-alone_received d (Some x ∷ xs) s = alone_received d xs (share_by d s (Some x))
+only_received : (d : ℕ) (xs : List (Option Crossing)) (s : Room)
+    → share_run d xs s ≡ share_run d (map Some (received xs)) s
+only_received d [] s = refl
+only_received d (None ∷ xs) s = only_received d xs s
+only_received d (Some x ∷ xs) s = only_received d xs (share_by d s (Some x))
 
-told_received : (d : ℕ) (xs : List (Option Crossing)) (s : Room)
-    → told_alone d xs s ≡ told_alone d (map Some (received xs)) s
-told_received d [] s = refl
-told_received d (None ∷ xs) s = told_received d xs s
-told_received d (Some x ∷ xs) s = ap (λ ts. told_by s (Some x) ++ ts) (told_received d xs (share_by d s (Some x)))
+answers_received : (d : ℕ) (xs : List (Option Crossing)) (s : Room)
+    → share_answers d xs s ≡ share_answers d (map Some (received xs)) s
+answers_received d [] s = refl
+answers_received d (None ∷ xs) s = answers_received d xs s
+answers_received d (Some x ∷ xs) s =
+    ap (λ ts. answers_by s (Some x) ++ ts) (answers_received d xs (share_by d s (Some x)))
 
 module _ (d : ℕ) (es fs : List Event) (r s : Room) (w : AreWellFormed es r)
     (v : AreWellFormed fs s) (same : own d r ≡ own d s)
     (handed : received (crossings d es r) ≡ received (crossings d fs s)) where
   pub equal_shares : own d (room_run es r) ≡ own d (room_run fs s)
   equal_shares =
-      run_share d es r w ∙ alone_received d (crossings d es r) (own d r)
-      ∙ ap (λ xs. alone d (map Some xs) (own d r)) handed ∙ ap (alone d (map Some (received (crossings d fs s)))) same
-      ∙ sym (run_share d fs s v ∙ alone_received d (crossings d fs s) (own d s))
+      run_share d es r w ∙ only_received d (crossings d es r) (own d r)
+      ∙ ap (λ xs. share_run d (map Some xs) (own d r)) handed
+      ∙ ap (share_run d (map Some (received (crossings d fs s)))) same
+      ∙ sym (run_share d fs s v ∙ only_received d (crossings d fs s) (own d s))
 
-  pub equal_answers : told d es r ≡ told d fs s
+  pub equal_answers : desk_answers d es r ≡ desk_answers d fs s
   equal_answers =
-      run_told d es r w ∙ told_received d (crossings d es r) (own d r)
-      ∙ ap (λ xs. told_alone d (map Some xs) (own d r)) handed
-      ∙ ap (told_alone d (map Some (received (crossings d fs s)))) same
-      ∙ sym (run_told d fs s v ∙ told_received d (crossings d fs s) (own d s))
+      run_answers d es r w ∙ answers_received d (crossings d es r) (own d r)
+      ∙ ap (λ xs. share_answers d (map Some xs) (own d r)) handed
+      ∙ ap (share_answers d (map Some (received (crossings d fs s)))) same
+      ∙ sym (run_answers d fs s v ∙ answers_received d (crossings d fs s) (own d s))
 
 -- ---- where nothing is lent
 everyday_if : (b : Bool) (x y : Option Crossing) → is_everyday x ≡ true → is_everyday y ≡ true

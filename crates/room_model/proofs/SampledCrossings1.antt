@@ -1,6 +1,6 @@
--- Sampled steps: what an event hands to a division, what its desk is told, and its share after it.
--- A program that is independent of this repository, written from the rules in words, made them in
--- random runs; of each kind of step it kept those with the fewest rows.
+-- Sampled steps: what an event hands to a division, what its desk is answered, and its share after
+-- it. A program that is independent of this repository, written from the rules in words, made them
+-- in random runs; of each kind of step it kept those with the fewest rows.
 use Rattle.std.specs.Prelude.{Err, None, Ok, Some, [], codes, false, negsuc, pos, refl, true, ◌∷◌}
 use Rattle.room_types.specs.declared.answers.Answer.TheVariants as answer
 use Rattle.room_types.specs.declared.asks.Ask.TheVariants as ask

@@ -1,23 +1,31 @@
 -- What two rooms must agree on, for a desk to decide alike in both.
 use Rattle.std.proofs.Common.{ap, eq-eqb, sym, ◌∙◌}
-use Rattle.std.specs.Prelude.{List, refl, ℕ, ◌==◌, ◌≡◌}
+use Rattle.std.specs.Prelude.{List, Some, refl, true, ℕ, ℤ, ◌==◌, ◌≡◌}
+use Rattle.room_place.specs.Choice.{Among}
 use Rattle.room_types.proofs.KeyedLaws.{row_filter}
 use Rattle.room_types.specs.KeyedRows.{keep}
 use Rattle.room_types.specs.Keys.{assignment_key, callsign_cmp, loan_key, offer_key, owns_assignment, owns_loan}
 use Rattle.room_types.specs.Keys.{owns_offer, owns_point, owns_vehicle, pair_cmp, point_key, vehicle_key}
 use Rattle.room_types.specs.Orders.{callsigns_total, exact_pair, pairs_total}
+use Rattle.room_types.specs.declared.asks.Ask.{Ask}
 use Rattle.room_types.specs.declared.codes.Kind.{Kind}
 use Rattle.room_types.specs.declared.tables.Call.{Call}
 use Rattle.room_types.specs.declared.tables.Incident.{Incident}
 use Rattle.room_types.specs.declared.tables.Report.{Report}
 use Rattle.room_types.specs.declared.tables.Turn.{Turn}
+use Rattle.room_types.specs.declared.tables.Vehicle.{Vehicle}
 use Rattle.room_types.specs.Texts.{Callsign}
 use Rattle.room_model.proofs.Tests.{filter_filter, is_equal, keep_keep, keep_row, left_true, or_left, or_right}
 use Rattle.room_model.specs.Proposals.{eligible}
-use Rattle.room_model.specs.Queries.{all_held, assignment_of, borrowed, held, holders, incident_of, is_attended, lent}
-use Rattle.room_model.specs.Queries.{loans_of, offered_by, offered_to, offers_of, point_of, points_of, served}
+use Rattle.room_model.specs.Queries.{active_incidents, all_held, assignment_of, borrowed, calls_of, held, holders}
+use Rattle.room_model.specs.Queries.{incident_of, incidents_opened, is_attended, lent, loans_of, offered_by, offered_to}
+use Rattle.room_model.specs.Queries.{offers_of, open_turn, point_of, points_of, served, turns_of}
+use Rattle.room_model.specs.Queue.{clear, entries}
 use Rattle.room_model.specs.Room.{IsInOrder, Room}
 use Rattle.room_model.specs.Shares.{own}
+use Rattle.room_model.specs.WorkingRows.{names_incident, reads_active, reads_assignments, reads_calls, reads_loan}
+use Rattle.room_model.specs.WorkingRows.{reads_offer, reads_point, reads_vehicle}
+use Rattle.room_types.specs.declared.asks.Ask.TheVariants as ask
 
 -- the vehicles that division d holds, and what stands beside them
 pub record SeesVehicles (d : ℕ) (s r : Room) : Type 0 where
@@ -51,6 +59,47 @@ pub record SeesIncident (d n : ℕ) (s r : Room) : Type 0 where
   pub same_incident : incident_of d n s ≡ incident_of d n r
   pub same_served : (k : Kind) → served d n k s ≡ served d n k r
   pub same_attended : is_attended d n s ≡ is_attended d n r
+
+-- what an ask reads of division d, by the table of the rows that it reads: it is decided by this
+pub record SeesAsked (d : ℕ) (a : Ask) (at : ℕ) (s r : Room) : Type 0 where
+  pub same_plan : s.plan ≡ r.plan
+  -- rows that it names
+  pub vehicle : (c : Callsign) → reads_vehicle a c ≡ true → reads_loan a c ≡ true →
+      SeesVehicle d c s r
+  pub same_borrowed : (c : Callsign) → reads_loan a c ≡ true → borrowed d c s ≡ borrowed d c r
+  pub same_offered_by : (c : Callsign) → reads_offer a c ≡ true →
+      offered_by d c s ≡ offered_by d c r
+  pub same_offered_to : (c : Callsign) → reads_offer a c ≡ true →
+      offered_to d c s ≡ offered_to d c r
+  pub same_point : (n : ℕ) → reads_point a n ≡ true → point_of d n s ≡ point_of d n r
+  pub same_last_turn : (c : Callsign) (v : Vehicle) → a ≡ ask.StandDown c → held d c r ≡ Some v →
+      open_turn d c s ≡ open_turn d c r
+  pub cleared_alike : (c : Callsign) (n : ℕ) → a ≡ ask.Clear c n → clear d c n s ≡ clear d c n r
+  -- incidents that it names
+  pub incident : (n : ℕ) → names_incident a n ≡ true → SeesIncident d n s r
+  pub same_calls : (n : ℕ) → names_incident a n ≡ true → reads_calls a ≡ true →
+      calls_of d n s ≡ calls_of d n r
+  pub same_turns : (n : ℕ) → names_incident a n ≡ true → turns_of d n s ≡ turns_of d n r
+  -- the active incidents, those of some seconds, and the queue
+  pub same_active : reads_active a ≡ true → active_incidents d s ≡ active_incidents d r
+  pub active : reads_active a ≡ true → (i : Incident) → Among i (active_incidents d r) →
+      SeesIncident d i.number s r
+  pub same_active_calls : reads_active a ≡ true → reads_calls a ≡ true → (i : Incident) →
+      Among i (active_incidents d r) → calls_of d i.number s ≡ calls_of d i.number r
+  pub same_opened : (from to : ℤ) → a ≡ ask.Times from to →
+      incidents_opened d from to s ≡ incidents_opened d from to r
+  pub same_entries : a ≡ ask.Queue → entries d at s ≡ entries d at r
+  -- tables that it reads whole
+  pub same_all_held : ((k : Callsign) → reads_vehicle a k ≡ true) → all_held d s ≡ all_held d r
+  pub same_assignment : reads_assignments a ≡ true → (c : Callsign) →
+      assignment_of d c s ≡ assignment_of d c r
+  pub same_eligible : ((k : Callsign) → reads_vehicle a k ≡ true) → (k : Kind) →
+      eligible d k at s ≡ eligible d k at r
+  pub cover : ((k : Callsign) → reads_vehicle a k ≡ true) →
+      ((n : ℕ) → reads_point a n ≡ true) → SeesCover d s r
+  pub same_points : ((n : ℕ) → reads_point a n ≡ true) → points_of d s ≡ points_of d r
+  pub same_loans : ((k : Callsign) → reads_loan a k ≡ true) → loans_of d s ≡ loans_of d r
+  pub same_offers : ((k : Callsign) → reads_offer a k ≡ true) → offers_of d s ≡ offers_of d r
 
 -- the share of vehicles, beside whatever incidents, calls, turns and reports
 abbrev pub beside : ℕ → Room → List Incident → List Call → List Turn → List Report → Room

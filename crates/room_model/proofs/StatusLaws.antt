@@ -15,8 +15,8 @@ use Rattle.room_model.proofs.OpenTurns.{row_there}
 use Rattle.room_model.proofs.Tests.{row_among, row_key}
 use Rattle.room_model.specs.Room.{IsInOrder, Room}
 use Rattle.room_model.specs.RoomAgreements.{AssignmentAgrees, AssignmentStands, AssignmentsAgree, AssignmentsStand}
-use Rattle.room_model.specs.RoomAgreements.{HasAssignment, HasOpenTurn, OpenAgrees, StatusTellsAssignments}
-use Rattle.room_model.specs.RoomAgreements.{StatusTellsTurns, TurnAgrees, TurnStands, TurnsAgree, TurnsStand}
+use Rattle.room_model.specs.RoomAgreements.{HasAssignment, HasOpenTurn, OpenAgrees, StatusShowsAssignments}
+use Rattle.room_model.specs.RoomAgreements.{StatusShowsTurns, TurnAgrees, TurnStands, TurnsAgree, TurnsStand}
 
 never_both : (b : Bool) → b ≡ true → b ≡ false → ⊥
 never_both b e f = cc
@@ -69,8 +69,8 @@ module _ (r : Room) (order : IsInOrder r) where
   assignment_of_busy v None e h busy = absurd (never_both (is_busy v.status) busy h)
   assignment_of_busy v (Some a) e h busy = has_assignment v.callsign a e
 
-  pub status_tells_assignments : AssignmentsAgree r → StatusTellsAssignments r
-  status_tells_assignments agree v here =
+  pub status_shows_assignments : AssignmentsAgree r → StatusShowsAssignments r
+  status_shows_assignments agree v here =
       let h : AssignmentAgrees (Some v) (row_at callsign_cmp assignment_key r.assignments v.callsign) = subst
       (λ (o : Option Vehicle). AssignmentAgrees o (row_at callsign_cmp assignment_key r.assignments v.callsign))
       (vehicle_there v here) (agree v.callsign) in (
@@ -78,27 +78,27 @@ module _ (r : Room) (order : IsInOrder r) where
         λ x. (subst (AssignmentAgrees (Some v)) (assignment_found v.callsign x) h).0,
       )
 
-  assignment_agrees : StatusTellsAssignments r
+  assignment_agrees : StatusShowsAssignments r
       → (c : Callsign) (o : Option Vehicle) (p : Option Assignment)
       → row_at callsign_cmp vehicle_key r.vehicles c ≡ o
       → row_at callsign_cmp assignment_key r.assignments c ≡ p → AssignmentStands o p
       → AssignmentAgrees o p
-  assignment_agrees tells c None None e f h = tt
-  assignment_agrees tells c None (Some a) e f h = h
-  assignment_agrees tells c (Some v) None e f h = false_from_ne_true (is_busy v.status) (λ busy.
+  assignment_agrees shows c None None e f h = tt
+  assignment_agrees shows c None (Some a) e f h = h
+  assignment_agrees shows c (Some v) None e f h = false_from_ne_true (is_busy v.status) (λ busy.
       let x : HasAssignment r c = subst (HasAssignment r) (sym (vehicle_name c v e))
-      ((tells v (vehicle_among c v e)).0 busy) in
+      ((shows v (vehicle_among c v e)).0 busy) in
       let found : row_at callsign_cmp assignment_key r.assignments c ≡ Some x.assignment = assignment_found c x in
       cc)
-  assignment_agrees tells c (Some v) (Some a) e f h = (
-    (tells v (vehicle_among c v e)).1 (subst (HasAssignment r) (vehicle_name c v e) (has_assignment c a f)),
+  assignment_agrees shows c (Some v) (Some a) e f h = (
+    (shows v (vehicle_among c v e)).1 (subst (HasAssignment r) (vehicle_name c v e) (has_assignment c a f)),
     h.0,
     h.1,
   )
 
-  pub assignments_by_status : AssignmentsAgree r ↔ (AssignmentsStand r × StatusTellsAssignments r)
+  pub assignments_by_status : AssignmentsAgree r ↔ (AssignmentsStand r × StatusShowsAssignments r)
   assignments_by_status = (
-    λ agree. (λ c. assignment_stands _ _ (agree c), status_tells_assignments agree),
+    λ agree. (λ c. assignment_stands _ _ (agree c), status_shows_assignments agree),
     λ h c. assignment_agrees h.1 c _ _ refl refl (h.0 c),
   )
 
@@ -147,8 +147,8 @@ module _ (r : Room) (order : IsInOrder r) where
       let g : OpenAgrees v x.turn.order x.turn None = subst (OpenAgrees v x.turn.order x.turn) x.unended h.2 in
       g.2
 
-  pub status_tells_turns : TurnsAgree r → StatusTellsTurns r
-  status_tells_turns agree v here =
+  pub status_shows_turns : TurnsAgree r → StatusShowsTurns r
+  status_shows_turns agree v here =
       (λ busy. open_of_busy v _ refl (turn_at agree v here v.last_order) busy, busy_of_turn agree v here)
 
   -- an open turn stands at the vehicle's last order
@@ -163,41 +163,41 @@ module _ (r : Room) (order : IsInOrder r) where
       let same : n ≡ x.turn.order = last ∙ sym (h.2 x.unended).0 in
       ap (λ m. row_at numbered_cmp turn_key r.turns (c, m)) same ∙ turn_found c x
 
-  open_now : StatusTellsTurns r → (c : Callsign) (v : Vehicle)
+  open_now : StatusShowsTurns r → (c : Callsign) (v : Vehicle)
       → row_at callsign_cmp vehicle_key r.vehicles c ≡ Some v → is_busy v.status ≡ true
       → HasOpenTurn r c
-  open_now tells c v e busy = subst (HasOpenTurn r) (sym (vehicle_name c v e)) ((tells v (vehicle_among c v e)).0 busy)
+  open_now shows c v e busy = subst (HasOpenTurn r) (sym (vehicle_name c v e)) ((shows v (vehicle_among c v e)).0 busy)
 
-  open_agrees : TurnsStand r → StatusTellsTurns r → (c : Callsign) (v : Vehicle)
+  open_agrees : TurnsStand r → StatusShowsTurns r → (c : Callsign) (v : Vehicle)
       → row_at callsign_cmp vehicle_key r.vehicles c ≡ Some v → (n : ℕ) (t : Turn)
       → row_at numbered_cmp turn_key r.turns (c, n) ≡ Some t → TurnStands (Some v) n (Some t)
       → (o : Option ℕ) → t.ended ≡ o → OpenAgrees v n t o
-  open_agrees stand tells c v e n t f h None g = (
+  open_agrees stand shows c v e n t f h None g = (
     (h.2 g).0,
     (h.2 g).1,
-    (tells v (vehicle_among c v e)).1 (subst (HasOpenTurn r) (vehicle_name c v e) (has_open_turn c n t f g)),
+    (shows v (vehicle_among c v e)).1 (subst (HasOpenTurn r) (vehicle_name c v e) (has_open_turn c n t f g)),
   )
-  open_agrees stand tells c v e n t f h (Some at) g = λ last. false_from_ne_true (is_busy v.status) (λ busy.
-      let x = open_now tells c v e busy in
+  open_agrees stand shows c v e n t f h (Some at) g = λ last. false_from_ne_true (is_busy v.status) (λ busy.
+      let x = open_now shows c v e busy in
       let found : row_at numbered_cmp turn_key r.turns (c, n) ≡ Some x.turn = last_found stand c v e x n last in
       let same : t ≡ x.turn = cc in
       let unended : t.ended ≡ None = ap (λ (u : Turn). u.ended) same ∙ x.unended in
       cc)
 
-  turn_agrees : TurnsStand r → StatusTellsTurns r
+  turn_agrees : TurnsStand r → StatusShowsTurns r
       → (c : Callsign) (n : ℕ) (o : Option Vehicle) (p : Option Turn)
       → row_at callsign_cmp vehicle_key r.vehicles c ≡ o
       → row_at numbered_cmp turn_key r.turns (c, n) ≡ p → TurnStands o n p → TurnAgrees o n p
-  turn_agrees stand tells c n None None e f h = tt
-  turn_agrees stand tells c n None (Some t) e f h = h
-  turn_agrees stand tells c n (Some v) None e f h = λ last. false_from_ne_true (is_busy v.status) (λ busy.
-      let x = open_now tells c v e busy in
+  turn_agrees stand shows c n None None e f h = tt
+  turn_agrees stand shows c n None (Some t) e f h = h
+  turn_agrees stand shows c n (Some v) None e f h = λ last. false_from_ne_true (is_busy v.status) (λ busy.
+      let x = open_now shows c v e busy in
       let found : row_at numbered_cmp turn_key r.turns (c, n) ≡ Some x.turn = last_found stand c v e x n last in
       cc)
-  turn_agrees stand tells c n (Some v) (Some t) e f h = (h.0, h.1, open_agrees stand tells c v e n t f h t.ended refl)
+  turn_agrees stand shows c n (Some v) (Some t) e f h = (h.0, h.1, open_agrees stand shows c v e n t f h t.ended refl)
 
-  pub turns_by_status : TurnsAgree r ↔ (TurnsStand r × StatusTellsTurns r)
+  pub turns_by_status : TurnsAgree r ↔ (TurnsStand r × StatusShowsTurns r)
   turns_by_status = (
-    λ agree. (λ c n. turn_stands _ n _ (agree c n), status_tells_turns agree),
+    λ agree. (λ c n. turn_stands _ n _ (agree c n), status_shows_turns agree),
     λ h c n. turn_agrees h.0 h.1 c n _ _ refl refl (h.0 c n),
   )

@@ -5,7 +5,7 @@ use Rattle.std.specs.Cmp.{IsTotalOrder}
 use Rattle.std.specs.List.{cons_option, list_any}
 use Rattle.std.specs.Ordering.{is_eq, ordering_reverse}
 use Rattle.std.specs.Prelude.{Bool, List, None, Option, Some, [], cond, false, filter, filter_map, is_none, map, refl}
-use Rattle.std.specs.Prelude.{true, ◌&&◌, ◌||◌, ◌∷◌, ◌≡◌}
+use Rattle.std.specs.Prelude.{true, ◌&&◌, ◌||◌, ◌∷◌, ◌≡◌, ◌⊎◌}
 use Rattle.std.specs.declared.cmp.Ordering.{Ordering}
 use Rattle.std.specs.declared.cmp.Ordering.TheVariants.{Equal, Greater, Less}
 use Rattle.room_place.specs.Choice.{Among, first}
@@ -133,6 +133,10 @@ right_true false b h = cc
 
 pub both_true : (a b : Bool) → a ≡ true → b ≡ true → a && b ≡ true
 both_true a b h g = rw h g
+
+pub either_true : (x y : Bool) → x || y ≡ true → (x ≡ true) ⊎ (y ≡ true)
+either_true true y e = inl e
+either_true false y e = inr e
 
 pub or_left : (a b : Bool) → a ≡ true → a || b ≡ true
 or_left a b h = rw h

@@ -1,4 +1,4 @@
--- What an ask of a desk asks of the room, it is told alike by the rows that it reads.
+-- What an ask of a desk asks of the room, it is answered alike by the rows that it reads.
 use Rattle.std.proofs.Common.{ap, eq-eqb, eqb-true, subst, sym, ◌∙◌}
 use Rattle.std.proofs.lemmas.Bool.{le-leb}
 use Rattle.std.proofs.lemmas.Cmp.{tied_itself}

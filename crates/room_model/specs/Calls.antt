@@ -11,7 +11,7 @@ use Rattle.room_types.specs.declared.tables.Division.{Division}
 use Rattle.room_types.specs.declared.tables.Incident.{Incident}
 use Rattle.room_types.specs.Needs.{larger, same_needs}
 use Rattle.room_types.specs.Texts.{same_note}
-use Rattle.room_model.specs.Decisions.{Verdict, refuse_if, show, tell}
+use Rattle.room_model.specs.Decisions.{Verdict, refuse_if, show, with_changes}
 use Rattle.room_model.specs.Moments.{number_limit}
 use Rattle.room_model.specs.Queries.{kept_call, last_number, last_serial, link_target}
 use Rattle.room_model.specs.Room.{Room}
@@ -70,14 +70,14 @@ new_incident d n new = record {
 abbrev pub call_new : ℕ → NewCall → Option Division → Verdict
 call_new d new None = Err refusal.NumbersUsedUp
 call_new d new (Some v) = refuse_if (nat_le number_limit v.last_incident) refusal.NumbersUsedUp
-    (tell (answer.Called d (v.last_incident + 1) false)
+    (with_changes (answer.Called d (v.last_incident + 1) false)
     (PutDivision (record v { last_incident = v.last_incident + 1 })
     ∷ PutIncident (new_incident d (v.last_incident + 1) new)
     ∷ PutCall (call_row d (v.last_incident + 1) false new) ∷ []))
 
 -- a call that is linked, where there is an incident for it
 abbrev pub call_taken : ℕ → NewCall → Option Incident → Option Division → Verdict
-call_taken d new (Some i) v = tell (answer.Called d i.number true)
+call_taken d new (Some i) v = with_changes (answer.Called d i.number true)
     (PutIncident (with_call new i) ∷ PutCall (call_row d i.number true new) ∷ [])
 call_taken d new None v = call_new d new v
 

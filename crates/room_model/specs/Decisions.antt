@@ -15,15 +15,15 @@ use Rattle.room_types.specs.declared.refusal_statuses.Refusal.TheVariants as ref
 abbrev pub Verdict : Type 0
 Verdict = Result Decision Refusal
 
-abbrev pub tell : Answer → List Change → Verdict
-tell a cs = Ok (record { changes = cs; answer = a })
+abbrev pub with_changes : Answer → List Change → Verdict
+with_changes a cs = Ok (record { changes = cs; answer = a })
 
 -- an answer that changes nothing
 abbrev pub show : Answer → Verdict
-show a = tell a []
+show a = with_changes a []
 
 abbrev pub done : List Change → Verdict
-done cs = tell answer.Done cs
+done cs = with_changes answer.Done cs
 
 -- a refusal, where its condition holds
 unfoldable pub refuse_if : Bool → Refusal → Verdict → Verdict
@@ -33,6 +33,11 @@ refuse_if b e x = cond b (Err e) x
 abbrev pub not_held : Option Loan → Refusal
 not_held None = refusal.NoSuchVehicle
 not_held (Some l) = refusal.VehicleLent
+
+-- what is decided of a row that is looked up
+abbrev pub where_found : {X : Type 0} → Option X → Refusal → (X → Verdict) → Verdict
+where_found None why f = Err why
+where_found (Some x) why f = f x
 
 -- what is decided of a vehicle that the desk holds
 abbrev pub where_held : Option Vehicle → Option Loan → (Vehicle → Verdict) → Verdict

@@ -4,10 +4,10 @@ use Rattle.hex.specs.Hex.{encode_lower}
 use Rattle.room_types.specs.declared.fleet.Terminal.{Terminal}
 use Rattle.room_types.specs.declared.refusal_statuses.Refusal.{Refusal}
 use Rattle.room_model.specs.Room.{Room}
-use Rattle.room_model.specs.Rooms.{IsWant}
+use Rattle.room_model.specs.Rooms.{IsUnavailable}
 use Rattle.room_model.specs.declared.digests.Head.{Head}
 use Rattle.room_model.specs.declared.digests.Miss.{Miss}
-use Rattle.room_model.specs.declared.digests.Miss.TheVariants.{Another, Want}
+use Rattle.room_model.specs.declared.digests.Miss.TheVariants.{Another, Unavailable}
 use Rattle.room_model.specs.declared.digests.Version.{Version}
 
 -- the digests of a room's rows, with its terminals, in digits, one of each version
@@ -25,4 +25,4 @@ IsHeadOf digits_of head terminals room = digits_of head.version terminals room �
 
 -- it would come to another one, or memory or storage fails
 abbrev pub IsMiss : Miss → Type 0
-IsMiss miss = (miss ≡ Another) ⊎ ((r : Refusal) × (miss ≡ Want r) × IsWant r)
+IsMiss miss = (miss ≡ Another) ⊎ ((r : Refusal) × (miss ≡ Unavailable r) × IsUnavailable r)

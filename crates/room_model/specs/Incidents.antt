@@ -14,7 +14,7 @@ use Rattle.room_types.specs.declared.tables.Incident.{Incident}
 use Rattle.room_types.specs.declared.tables.Turn.{Turn}
 use Rattle.room_types.specs.Codes.{is_active}
 use Rattle.room_types.specs.Needs.{larger, need_of, needs_by}
-use Rattle.room_model.specs.Decisions.{Verdict, done, refuse_if, show, where_active}
+use Rattle.room_model.specs.Decisions.{Verdict, done, refuse_if, show, where_active, where_found}
 use Rattle.room_model.specs.Moments.{earlier}
 use Rattle.room_model.specs.Queries.{active_incidents, calls_of, incident_of, is_attended, served, turns_of}
 use Rattle.room_model.specs.Room.{Room}
@@ -50,9 +50,9 @@ all_served d n r = record {
 }
 
 abbrev pub history_of : Option Incident → Served → List Call → List Turn → Verdict
-history_of None serving calls turns = Err refusal.NoSuchIncident
-history_of (Some i) serving calls turns = show
-    (answer.Incident (record { incident = i; served = serving; calls = calls; turns = turns }))
+history_of found serving calls turns = where_found found refusal.NoSuchIncident
+    (λ i.
+    show (answer.Incident (record { incident = i; served = serving; calls = calls; turns = turns })))
 
 -- active, closed and merged ones alike
 unfoldable pub show_incident : ℕ → ℕ → Room → Verdict

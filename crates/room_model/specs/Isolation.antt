@@ -46,16 +46,16 @@ share_by d s (Some (Arrive v)) = apply_one (put_vehicle s v) (DropLoan v.callsig
 share_by d s (Some (Recalled c)) = marked s (loan_at c s)
 
 -- what the division's desk is answered
-abbrev pub told_by : Room → Option Crossing → List (Result Answer Refusal)
-told_by s None = []
-told_by s (Some (Asked e)) = answer_to e s ∷ []
-told_by s (Some (Accepted e v)) = answer_to e (put_vehicle s v) ∷ []
-told_by s (Some x) = []
+abbrev pub answers_by : Room → Option Crossing → List (Result Answer Refusal)
+answers_by s None = []
+answers_by s (Some (Asked e)) = answer_to e s ∷ []
+answers_by s (Some (Accepted e v)) = answer_to e (put_vehicle s v) ∷ []
+answers_by s (Some x) = []
 
-abbrev pub alone : ℕ → List (Option Crossing) → Room → Room
-alone d [] s = s
-alone d (x ∷ xs) s = alone d xs (share_by d s x)
+abbrev pub share_run : ℕ → List (Option Crossing) → Room → Room
+share_run d [] s = s
+share_run d (x ∷ xs) s = share_run d xs (share_by d s x)
 
-abbrev pub told_alone : ℕ → List (Option Crossing) → Room → List (Result Answer Refusal)
-told_alone d [] s = []
-told_alone d (x ∷ xs) s = told_by s x ++ told_alone d xs (share_by d s x)
+abbrev pub share_answers : ℕ → List (Option Crossing) → Room → List (Result Answer Refusal)
+share_answers d [] s = []
+share_answers d (x ∷ xs) s = answers_by s x ++ share_answers d xs (share_by d s x)

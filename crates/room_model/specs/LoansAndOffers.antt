@@ -126,7 +126,7 @@ pub record OfferExamples : Type 0 where
       (at 3000 (Desk 1) (ask.Lend A1 7 9000)) a1_waits ≡ Err refusal.NoSuchDivision
   pub a_borrowed_vehicle_is_not_offered_on : answer_to
       (at 3000 (Desk 2) (ask.Lend A1 1 9000)) a1_lent ≡ Err refusal.NotHome
-  pub a_mobilised_vehicle_is_not_let_go : answer_to (at 2010 (Desk 1) (ask.Lend A1 2 9000)) a1_sent
+  pub a_mobilised_vehicle_is_not_lent : answer_to (at 2010 (Desk 1) (ask.Lend A1 2 9000)) a1_sent
       ≡ Err refusal.StillAssigned
   pub a_vehicle_whose_shift_is_over_is_not_offered : answer_to
       (at 5000 (Desk 1) (ask.Lend A1 2 9000)) (after_a_call ▸ a1_on_duty_until 5000)
@@ -166,7 +166,7 @@ pub record LoanExamples : Type 0 where
   pub the_lender_lists_no_lent_vehicle : answer_to (at 2070 (Desk 1) ask.Vehicles) a1_lent
       ≡ Ok (answer.Vehicles (idle A2 Ambulance "TQ304803" ∷ idle A3 Ambulance "TQ300801"
       ∷ idle C1 Car "TQ300800" ∷ []))
-  pub the_lender_is_told_that_it_is_lent : answer_to (at 2070 (Desk 1) (ask.Off A1)) a1_lent
+  pub the_lender_is_answered_that_it_is_lent : answer_to (at 2070 (Desk 1) (ask.Off A1)) a1_lent
       ≡ Err refusal.VehicleLent
   pub a_recall_is_done : answer_to recall_a1 a1_lent ≡ Ok answer.Done
   pub a_second_recall_is_answered_alike : answer_to recall_a1 (a1_lent ▸ recall_a1) ≡ Ok answer.Done

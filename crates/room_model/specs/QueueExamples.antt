@@ -35,8 +35,8 @@ a1_on_its_way class = example_room
     ▸ at 1010 (Crew A1) (press 1 button.Mobile 1 "TQ303804")
 
 -- A1 is sent at 1100, and has not acknowledged
-abbrev pub a1_not_told : Room
-a1_not_told = after_a_call ▸ a1_on_duty ▸ at 1100 (Desk 1) (ask.Mobilise 1 A1)
+abbrev pub a1_unacknowledged : Room
+a1_unacknowledged = after_a_call ▸ a1_on_duty ▸ at 1100 (Desk 1) (ask.Mobilise 1 A1)
 
 -- a vehicle of this home in division 1, available until 9000
 abbrev pub ready : Callsign → ℕ → Vehicle
@@ -139,9 +139,9 @@ pub record QueueExamples : Type 0 where
       ≡ Ok (answer.Queue (entry 1 1000 1 None ∷ []))
   pub a_merged_incident_waits_since_the_earlier_opening : answer_to (queue_of 1 1200) merged
       ≡ Ok (answer.Queue (entry 1 1000 2 None ∷ []))
-  pub an_order_may_stay_unread_for_60_s : answer_to (queue_of 1 1160) a1_not_told
+  pub an_order_may_stay_unread_for_60_s : answer_to (queue_of 1 1160) a1_unacknowledged
       ≡ Ok (answer.Queue [])
-  pub an_order_is_unread_too_long_after_60_s : answer_to (queue_of 1 1161) a1_not_told
+  pub an_order_is_unread_too_long_after_60_s : answer_to (queue_of 1 1161) a1_unacknowledged
       ≡ Ok (answer.Queue (entry 2 1100 1 (Some A1) ∷ []))
   pub to_class_1_a_vehicle_has_480_s : answer_to (queue_of 1 1480) (a1_on_its_way 1)
       ≡ Ok (answer.Queue [])

@@ -20,7 +20,7 @@ use Rattle.room_types.specs.declared.tables.Turn.{Turn}
 use Rattle.room_types.specs.declared.tables.Vehicle.{Vehicle}
 use Rattle.room_types.specs.Texts.{Callsign}
 use Rattle.room_types.specs.Codes.{acts, same_button}
-use Rattle.room_model.specs.Decisions.{Verdict, refuse_if, show, tell}
+use Rattle.room_model.specs.Decisions.{Verdict, refuse_if, show, where_found, with_changes}
 use Rattle.room_model.specs.Loans.{lender_of}
 use Rattle.room_model.specs.Moments.{first_of}
 use Rattle.room_model.specs.Queries.{assignment_at, borrowed, held, kept_report, open_turn, vehicle_at}
@@ -178,9 +178,9 @@ report_acts v t l p at o back =
 -- a report that does not act is kept, and changes no more
 abbrev pub report_made : Vehicle → Option Turn → Option Loan → Press → ℕ → Outcome → Verdict
 report_made v t l p at o = cond (acts o)
-    (tell (answer.Reported p.number o (status_after v.status p.button))
+    (with_changes (answer.Reported p.number o (status_after v.status p.button))
     (report_acts v t l p at o (is_home p.button && is_due at l)))
-    (tell (answer.Reported p.number o v.status)
+    (with_changes (answer.Reported p.number o v.status)
     (PutReport (report_row v p at o v.status)
     ∷ PutVehicle (with_report v p) ∷ []))
 
@@ -211,16 +211,17 @@ take_report c p at r = report_kept (kept_report c p.number r) c p at r
 
 -- ---- the order
 abbrev pub order_of : Option Vehicle → Option Assignment → Verdict
-order_of None a = Err refusal.NoSuchVehicle
-order_of (Some v) a = show (answer.Order a v.post v.status)
+order_of found a =
+    where_found found refusal.NoSuchVehicle (λ v. show (answer.Order a v.post v.status))
 
 abbrev pub show_order : Callsign → Room → Verdict
 show_order c r = order_of (vehicle_at c r) (assignment_at c r)
 
 -- ---- the last numbers, of its reports and its orders
 abbrev pub last_of : Option Vehicle → Verdict
-last_of None = Err refusal.NoSuchVehicle
-last_of (Some v) = show (answer.LastReport v.last_report v.last_order)
+last_of found =
+    where_found found refusal.NoSuchVehicle
+    (λ v. show (answer.LastReport v.last_report v.last_order))
 
 abbrev pub show_last : Callsign → Room → Verdict
 show_last c r = last_of (vehicle_at c r)

@@ -186,7 +186,7 @@ pub record IsWellFormed (r : Room) : Type 0 where
       PostAgrees r (row_at callsign_cmp vehicle_key r.vehicles c)
   pub plan : AreInPlan r
 
--- ---- who is sent, in the field's words; the_status_tells_who_is_sent is the law
+-- ---- who is sent, in the field's words; the_status_shows_who_is_sent is the law
 -- the vehicle has an open turn
 pub record HasOpenTurn (r : Room) (c : Callsign) : Type 0 where
   pub turn : Turn
@@ -201,13 +201,13 @@ pub record HasAssignment (r : Room) (c : Callsign) : Type 0 where
   pub vehicle : assignment.callsign ≡ c
 
 -- a vehicle is at status 2 to 5 exactly where it has an open turn
-abbrev pub StatusTellsTurns : Room → Type 0
-StatusTellsTurns r = (v : Vehicle) → Among v r.vehicles →
+abbrev pub StatusShowsTurns : Room → Type 0
+StatusShowsTurns r = (v : Vehicle) → Among v r.vehicles →
     (is_busy v.status ≡ true) ↔ HasOpenTurn r v.callsign
 
 -- a vehicle is at status 2 to 5 exactly where it has an assignment
-abbrev pub StatusTellsAssignments : Room → Type 0
-StatusTellsAssignments r = (v : Vehicle) → Among v r.vehicles →
+abbrev pub StatusShowsAssignments : Room → Type 0
+StatusShowsAssignments r = (v : Vehicle) → Among v r.vehicles →
     (is_busy v.status ≡ true) ↔ HasAssignment r v.callsign
 
 -- the rest of what is agreed of turns: a turn is of a vehicle, and of an order that it was given;

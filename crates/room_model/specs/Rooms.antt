@@ -24,5 +24,5 @@ abbrev pub who_at : List Terminal → Token → Option Who
 who_at terminals token = option_map (λ t. t.who) (terminal_at token terminals)
 
 -- memory or storage fails
-abbrev pub IsWant : Refusal → Type 0
-IsWant refusal = (refusal ≡ Memory) ⊎ (refusal ≡ Storage)
+abbrev pub IsUnavailable : Refusal → Type 0
+IsUnavailable refusal = (refusal ≡ Memory) ⊎ (refusal ≡ Storage)

@@ -7,7 +7,7 @@ use Rattle.room_types.specs.declared.asks.Ask.{Ask}
 use Rattle.room_types.specs.declared.asks.Event.{Event}
 use Rattle.room_types.specs.declared.asks.Who.TheVariants.{Crew}
 use Rattle.room_types.specs.declared.refusal_statuses.Refusal.{Refusal}
-use Rattle.room_model.specs.Isolation.{share_by, told_by}
+use Rattle.room_model.specs.Isolation.{answers_by, share_by}
 use Rattle.room_model.specs.Crossing.{Crossing, cross}
 use Rattle.room_model.specs.Room.{Room}
 use Rattle.room_model.specs.Shares.{mine, own}
@@ -21,7 +21,8 @@ Steps e r answer after = (answer_to e r ≡ answer) × (room_after e r ≡ after
 
 -- division d is handed this, its desk is informed of it, and only by that its share becomes this
 abbrev pub Hands : ℕ → Event → Room → Option Crossing → List (Result Answer Refusal) → Room → Type 0
-Hands d e r handed told share = (cross d r e ≡ handed) × (told_by (own d r) handed ≡ told)
+Hands d e r handed answered share =
+    (cross d r e ≡ handed) × (answers_by (own d r) handed ≡ answered)
     × (share_by d (own d r) handed ≡ share) × (own d (room_after e r) ≡ share)
 
 -- the working rows of a desk's ask decide it

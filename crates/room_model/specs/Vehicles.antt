@@ -16,7 +16,7 @@ use Rattle.room_types.specs.declared.tables.Vehicle.{Vehicle}
 use Rattle.room_types.specs.Texts.{Callsign}
 use Rattle.room_types.specs.Codes.{is_busy, is_free, is_mobilised, is_off}
 use Rattle.room_types.specs.Needs.{need_of}
-use Rattle.room_model.specs.Decisions.{Verdict, done, refuse_if, show, tell, where_active, where_held}
+use Rattle.room_model.specs.Decisions.{Verdict, done, refuse_if, show, where_active, where_held, with_changes}
 use Rattle.room_model.specs.Moments.{first_of, number_limit}
 use Rattle.room_model.specs.Queries.{all_held, assignment_of, held, incident_of, lent, open_turn, point_of, served}
 use Rattle.room_model.specs.Room.{Room}
@@ -72,7 +72,7 @@ mobilised d i at got v =
     (refuse_if (nat_le v.shift_end at) refusal.ShiftOver
     (refuse_if (nat_le (need_of i.needs v.kind) (got v.kind)) refusal.NotNeeded
     (refuse_if (nat_le number_limit v.last_order) refusal.NumbersUsedUp
-    (tell (answer.Mobilised (v.last_order + 1) v.callsign)
+    (with_changes (answer.Mobilised (v.last_order + 1) v.callsign)
     (PutIncident (record i { first_order = first_of i.first_order at })
     ∷ PutVehicle (record v { status = Mobilised; post = None; last_order = v.last_order + 1 })
     ∷ PutTurn (turn_row d i.number at v)

@@ -101,15 +101,30 @@ reads_active ask.Incidents = true
 reads_active ask.Queue = true
 reads_active a = false
 
+-- the incidents that an ask names
+pub data NamedIncidents : Type 0 where
+  NoIncident : NamedIncidents
+  OneIncident : ℕ → NamedIncidents
+  TwoIncidents : ℕ → ℕ → NamedIncidents
+
+abbrev pub incidents_named : Ask → NamedIncidents
+incidents_named (ask.Incident m) = OneIncident m
+incidents_named (ask.Propose m) = OneIncident m
+incidents_named (ask.Mobilise m c) = OneIncident m
+incidents_named (ask.Needs m needs) = OneIncident m
+incidents_named (ask.Merge m into) = TwoIncidents m into
+incidents_named (ask.Close m) = OneIncident m
+incidents_named a = NoIncident
+
+-- the incident is one of them
+abbrev pub is_among : NamedIncidents → ℕ → Bool
+is_among NoIncident n = false
+is_among (OneIncident m) n = m == n
+is_among (TwoIncidents m k) n = m == n || k == n
+
 -- the ask names the incident
 abbrev pub names_incident : Ask → ℕ → Bool
-names_incident (ask.Incident m) n = m == n
-names_incident (ask.Propose m) n = m == n
-names_incident (ask.Mobilise m c) n = m == n
-names_incident (ask.Needs m needs) n = m == n
-names_incident (ask.Merge m into) n = m == n || into == n
-names_incident (ask.Close m) n = m == n
-names_incident a n = false
+names_incident a n = is_among (incidents_named a) n
 
 -- in the square whose sides lie as far from a place as a call may be from its incident: whatever
 -- lies outside it is farther away

@@ -13,7 +13,7 @@ ghost use Rattle.room_model.specs.FleetRows.{AreTerminals, fate_again, fate_of, 
 ghost use Rattle.room_model.specs.Fleets.{AreAgain, Reaching, enrolled, fates_of, since};
 ghost use Rattle.room_model.specs.Run.{room_run};
 ghost use Rattle.room_model.specs.Step.{IsAddressed, room_after};
-ghost use Rattle.room_model.specs.RoomAgreements.{AssignmentsAgree, AssignmentsStand, IsWellFormed, StatusTellsAssignments, StatusTellsTurns, TurnsAgree, TurnsStand};
+ghost use Rattle.room_model.specs.RoomAgreements.{AssignmentsAgree, AssignmentsStand, IsWellFormed, StatusShowsAssignments, StatusShowsTurns, TurnsAgree, TurnsStand};
 
 /// An addressed event leaves a well-formed room well-formed.
 pub fn an_event_keeps_the_agreements()
@@ -52,13 +52,13 @@ pub fn no_vehicle_is_assigned_twice()
 
 /// In a well-formed room a vehicle is at status 2 to 5 exactly where it has an open turn, and
 /// exactly where it has an assignment.
-pub fn the_status_tells_who_is_sent()
-    ensures room { (r : Room) → IsWellFormed r → StatusTellsTurns r × StatusTellsAssignments r }
+pub fn the_status_shows_who_is_sent()
+    ensures room { (r : Room) → IsWellFormed r → StatusShowsTurns r × StatusShowsAssignments r }
     // This is all that the agreements say of the status: with the rest of them it gives them back.
     ensures turns { (r : Room) → IsInOrder r →
-        (TurnsAgree r ↔ (TurnsStand r × StatusTellsTurns r)) }
+        (TurnsAgree r ↔ (TurnsStand r × StatusShowsTurns r)) }
     ensures assignments { (r : Room) → IsInOrder r →
-        (AssignmentsAgree r ↔ (AssignmentsStand r × StatusTellsAssignments r)) }
+        (AssignmentsAgree r ↔ (AssignmentsStand r × StatusShowsAssignments r)) }
 {}
 
 /// Who may ask may go on asking. What is addressed stays addressed, whatever happens in between.

@@ -1,14 +1,14 @@
 //! A room that gives the digest of its rows, by which it is known again.
 ghost use Rattle.std.specs.Prelude.{◌≡◌, ℕ, List, [], ◌∷◌, Result, Ok, IfOk, IfErr, OnOk, OnErr, MatchResult};
 ghost use Rattle.std.specs.Fn.{FnOnceReturnsAt};
-ghost use Rattle.room_types.specs.declared.answers.Answer.{Answer as Told};
+ghost use Rattle.room_types.specs.declared.answers.Answer.{Answer as Answered};
 ghost use Rattle.room_types.specs.declared.fleet.Terminal.{Terminal};
 ghost use Rattle.room_types.specs.declared.refusal_statuses.Refusal.{Refusal as Why};
 ghost use Rattle.room_types.specs.declared.refusal_statuses.Refusal.TheVariants.{Memory};
 ghost use Rattle.room_model.specs.Room.{Room as Held};
 ghost use Rattle.room_model.specs.Step.{IsAddressed};
 ghost use Rattle.room_model.specs.Digests.{IsHeadOf, IsMiss, digits_of};
-ghost use Rattle.room_model.specs.Rooms.{IsWant};
+ghost use Rattle.room_model.specs.Rooms.{IsUnavailable};
 ghost use Rattle.room_model.specs.declared.digests.Miss.TheVariants.{Another};
 ghost use Rattle.room_model.specs.declared.digests.Version.{Version as Which};
 
@@ -41,7 +41,7 @@ pub enum Miss {
     /// It would have come to another one.
     Another,
     /// Memory was refused, or storage failed.
-    Want(Refusal),
+    Unavailable(Refusal),
 }
 
 /// A room that gives the digest of its rows.
@@ -66,7 +66,7 @@ pub trait Digested: Room {
         ensures left { Self.is_trusted self.new → Self.is_kept self.old
             → (terminals : List Terminal) (room : Held) → Self.stands self.old terminals room
             → Self.leaves_one_of self.new terminals (room ∷ []) }
-        ensures wants { IfErr result IsWant };
+        ensures unavailable { IfErr result IsUnavailable };
 
     /// Acts on an event of a known terminal, as `act` does, where the room comes by it to the
     /// digest of this head. Where it would come to another one, it stays as it was, and says so.
@@ -79,7 +79,7 @@ pub trait Digested: Room {
     ) -> Result<Vec<u8>, Miss>
         requires ready { Self.is_ready self.old }
         requires callable { F.IsAlwaysCallable render }
-        requires memory { (answer : Result Told Why) (r : _)
+        requires memory { (answer : Result Answered Why) (r : _)
             → FnOnceReturnsAt F.FnOnce render answer r → IfErr r (λ e. e ≡ Memory) }
         ensures ready { Self.is_ready self.new }
         ensures zone { Self.zone self.new ≡ Self.zone self.old }
@@ -109,6 +109,6 @@ pub trait Digested: Room {
             → (terminals : List Terminal) (room : Held) → Self.stands self.old terminals room
             → IsAddressed event.now room
             → Self.leaves_one_of self.new terminals (room ∷ (Self.step event.now room).0 ∷ [])) }
-        ensures wants { IfErr result IsMiss }
+        ensures unavailable { IfErr result IsMiss }
         ensures failed { OnErr result (Self.has_failed self.new) };
 }

@@ -2,7 +2,7 @@
 //! offered. Each law is the contract of a function that does nothing.
 ghost use Rattle.std.specs.Prelude.{◌≡◌, ◌↔◌, ◌++◌, ℕ, List, [], Err, false, filter_map};
 ghost use Rattle.room_types.specs.Texts.{Callsign};
-ghost use Rattle.room_types.specs.declared.answers.Answer.TheVariants.{Offers as OffersTold};
+ghost use Rattle.room_types.specs.declared.answers.Answer.TheVariants.{Offers as OffersAnswer};
 ghost use Rattle.room_types.specs.declared.asks.Ask.TheVariants.{Accept, Decline, Offers, Withdraw};
 ghost use Rattle.room_types.specs.declared.asks.Event.{Event};
 ghost use Rattle.room_types.specs.declared.refusal_statuses.Refusal.TheVariants.{NoSuchOffer};
@@ -53,7 +53,7 @@ pub fn no_offer_is_found()
         ≡ where_held (held d c r) (lent d c r) (λ v. Err NoSuchOffer) }
     ensures shown { (d at : ℕ) (r : Room) →
         IsUnoffered r →
-        decided (by_desk d Offers at) r ≡ show (OffersTold []) }
+        decided (by_desk d Offers at) r ≡ show (OffersAnswer []) }
 {}
 
 /// Only a desk that lends makes an offer. As long as none does, whatever else is asked, a room in

@@ -11,12 +11,12 @@ ghost use Rattle.room_types.specs.declared.asks.Event.{Event};
 ghost use Rattle.room_types.specs.declared.asks.Press.{Press};
 ghost use Rattle.room_types.specs.declared.changes.Change.{Change};
 ghost use Rattle.room_types.specs.declared.tables.Vehicle.{Vehicle};
-ghost use Rattle.room_model.specs.Isolation.{alone, share_by, told_alone, told_by};
+ghost use Rattle.room_model.specs.Isolation.{answers_by, share_answers, share_by, share_run};
 ghost use Rattle.room_model.specs.Crossing.{cross, crossings};
 ghost use Rattle.room_model.specs.Events.{AreAddressed, AreLocal, IsUnlent, NobodyLends, by_crew, by_desk, by_position, is_everyday, received};
 ghost use Rattle.room_model.specs.Queries.{kept_call, kept_report, offer_at, vehicle_at};
 ghost use Rattle.room_model.specs.Room.{Room, IsInOrder, apply};
-ghost use Rattle.room_model.specs.Run.{is_desk, room_run, told};
+ghost use Rattle.room_model.specs.Run.{desk_answers, is_desk, room_run};
 ghost use Rattle.room_model.specs.Shares.{AgreeOn, ArePlain, own};
 ghost use Rattle.room_model.specs.Step.{answer_to, decided, room_after};
 ghost use Rattle.room_model.specs.RoomAgreements.{IsWellFormed};
@@ -28,9 +28,9 @@ pub fn desks_are_apart()
     ensures share { (d : ℕ) (r : Room) (e : Event) →
         IsWellFormed r →
         own d (room_after e r) ≡ share_by d (own d r) (cross d r e) }
-    ensures told { (d : ℕ) (r : Room) (e : Event) →
+    ensures answered { (d : ℕ) (r : Room) (e : Event) →
         IsWellFormed r →
-        told_by (own d r) (cross d r e) ≡ cond (is_desk d e.who) (answer_to e r ∷ []) [] }
+        answers_by (own d r) (cross d r e) ≡ cond (is_desk d e.who) (answer_to e r ∷ []) [] }
 {}
 
 /// Over any list of events, the last share and all answers of the desk follow from the share and
@@ -38,10 +38,10 @@ pub fn desks_are_apart()
 pub fn desks_stay_apart()
     ensures share { (d : ℕ) (es : List Event) (r : Room) →
         IsWellFormed r → AreAddressed es r →
-        own d (room_run es r) ≡ alone d (crossings d es r) (own d r) }
-    ensures told { (d : ℕ) (es : List Event) (r : Room) →
+        own d (room_run es r) ≡ share_run d (crossings d es r) (own d r) }
+    ensures answered { (d : ℕ) (es : List Event) (r : Room) →
         IsWellFormed r → AreAddressed es r →
-        told d es r ≡ told_alone d (crossings d es r) (own d r) }
+        desk_answers d es r ≡ share_answers d (crossings d es r) (own d r) }
 {}
 
 /// Where a division's shares are equal in two rooms, and two lists of events hand it the same, its
@@ -50,7 +50,7 @@ pub fn equal_shares_get_equal_answers()
     ensures answers { (d : ℕ) (es fs : List Event) (r s : Room) →
         IsWellFormed r → IsWellFormed s → AreAddressed es r → AreAddressed fs s →
         own d r ≡ own d s → received (crossings d es r) ≡ received (crossings d fs s) →
-        told d es r ≡ told d fs s }
+        desk_answers d es r ≡ desk_answers d fs s }
     ensures shares { (d : ℕ) (es fs : List Event) (r s : Room) →
         IsWellFormed r → IsWellFormed s → AreAddressed es r → AreAddressed fs s →
         own d r ≡ own d s → received (crossings d es r) ≡ received (crossings d fs s) →

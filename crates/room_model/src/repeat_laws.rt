@@ -79,7 +79,7 @@ pub fn a_used_number_stays_refused()
 
 /// A report of a vehicle that is there, sent again, gets its first answer, accepted or refused, and
 /// changes nothing, whatever happened in between. It is refused only for its number.
-pub fn a_repeated_report_is_told_its_first_answer()
+pub fn a_repeated_report_gets_its_first_answer()
     ensures refused { (c : Callsign) (p : Press) (at : ℕ) (r : Room) →
         IsAddressed (by_crew c (Report p) at) r →
         IfErr (answer_to (by_crew c (Report p) at) r) (λ why. why ≡ NumberReused) }

@@ -1,14 +1,14 @@
 //! What a connection is served with: a room that events act on, and who its terminals are.
 ghost use Rattle.std.specs.Prelude.{◌≡◌, ◌⊎◌, ℕ, List, [], ◌∷◌, Result, Ok, IfOk, IfErr, OnOk, OnErr};
 ghost use Rattle.std.specs.Fn.{FnOnceReturnsAt};
-ghost use Rattle.room_types.specs.declared.answers.Answer.{Answer as Told};
+ghost use Rattle.room_types.specs.declared.answers.Answer.{Answer as Answered};
 ghost use Rattle.room_types.specs.declared.fleet.Terminal.{Terminal};
 ghost use Rattle.room_types.specs.declared.refusal_statuses.Refusal.{Refusal as Why};
 ghost use Rattle.room_types.specs.declared.refusal_statuses.Refusal.TheVariants.{Memory};
 ghost use Rattle.room_model.specs.Room.{Room as Held};
 ghost use Rattle.room_model.specs.Step.{IsAddressed};
 ghost use Rattle.room_model.specs.FleetRows.{AreTerminals};
-ghost use Rattle.room_model.specs.Rooms.{Step, who_at, IsWant};
+ghost use Rattle.room_model.specs.Rooms.{Step, who_at, IsUnavailable};
 
 use room_types::answers::Answer;
 use room_types::asks::{Event, Who};
@@ -60,7 +60,7 @@ pub trait Room {
         ensures left { is_trusted self.new → is_kept self.old → (terminals : List Terminal)
             (room : Held) → stands self.old terminals room
             → leaves_one_of self.new terminals (room ∷ []) }
-        ensures wants { IfErr result IsWant }
+        ensures unavailable { IfErr result IsUnavailable }
         ensures failed { OnErr result (has_failed self.new) };
 
     /// Acts on an event of a known terminal. Gives what `render` makes of the answer, and `render`
@@ -75,7 +75,7 @@ pub trait Room {
     ) -> Result<Vec<u8>, Refusal>
         requires ready { is_ready self.old }
         requires callable { F.IsAlwaysCallable render }
-        requires memory { (answer : Result Told Why) (r : _)
+        requires memory { (answer : Result Answered Why) (r : _)
             → FnOnceReturnsAt F.FnOnce render answer r → IfErr r (λ e. e ≡ Memory) }
         ensures ready { is_ready self.new }
         ensures zone { zone self.new ≡ zone self.old }
@@ -94,7 +94,7 @@ pub trait Room {
             → (terminals : List Terminal) (room : Held) → stands self.old terminals room
             → IsAddressed event.now room
             → leaves_one_of self.new terminals (room ∷ (step event.now room).0 ∷ [])) }
-        ensures wants { IfErr result IsWant }
+        ensures unavailable { IfErr result IsUnavailable }
         ensures failed { OnErr result (has_failed self.new) };
 
     // The terminals fit the room that it stands for.

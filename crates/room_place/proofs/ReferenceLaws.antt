@@ -227,8 +227,8 @@ read_place (a ∷ b ∷ bs) p even there =
     ]) refl there
 
 -- what is said of a text: the place that it names, or its first fault
-pub parse-told : (text : List ℕ) → MatchResult (parse text) (IsReference text) (IsFirstFault text)
-parse-told text =
+pub parse-parsed : (text : List ℕ) → MatchResult (parse text) (IsReference text) (IsFirstFault text)
+parse-parsed text =
     (elim (has_square_fault text) as (λ (s : Bool).
     has_square_fault text ≡ s
     → MatchResult
@@ -270,7 +270,7 @@ parse-told text =
                               λ p r.
                                   let read = parse-reference text p r in
                                   let as_read = unfaulted text square digit length in
-                                  let told : ok_or {T = Place} None Spacing
+                                  let parsed : ok_or {T = Place} None Spacing
                                   ≡ Ok p =
                                   sym (ap (λ (o : Option Place). ok_or o Spacing) none) ∙ (sym as_read ∙ read) in
                                   cc,
@@ -281,16 +281,16 @@ parse-told text =
     ]) refl
 
 -- the same of a result that was read
-pub told_place : (text : List ℕ) (r : Result Place PlaceFault) → r ≡ parse text
+pub parsed_place : (text : List ℕ) (r : Result Place PlaceFault) → r ≡ parse text
     → IfOk r (IsReference text)
-told_place text (Ok p) read =
+parsed_place text (Ok p) read =
     subst (λ (r : Result Place PlaceFault). MatchResult r (IsReference text) (IsFirstFault text)) (sym read)
-    (parse-told text)
-told_place text (Err fault) read = tt
+    (parse-parsed text)
+parsed_place text (Err fault) read = tt
 
-pub told_fault : (text : List ℕ) (r : Result Place PlaceFault) → r ≡ parse text
+pub parsed_fault : (text : List ℕ) (r : Result Place PlaceFault) → r ≡ parse text
     → IfErr r (IsFirstFault text)
-told_fault text (Ok p) read = tt
-told_fault text (Err fault) read =
+parsed_fault text (Ok p) read = tt
+parsed_fault text (Err fault) read =
     subst (λ (r : Result Place PlaceFault). MatchResult r (IsReference text) (IsFirstFault text)) (sym read)
-    (parse-told text)
+    (parse-parsed text)

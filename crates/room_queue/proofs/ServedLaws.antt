@@ -91,16 +91,17 @@ turned o true true true false = refl
 turned o true true false true = refl
 turned o true true false false = refl
 
-abbrev told : Incident → Entry
-told i = record { rank = 1; since = i.opened; number = i.number; callsign = None }
+abbrev unserved_entry : Incident → Entry
+unserved_entry i = record { rank = 1; since = i.opened; number = i.number; callsign = None }
 
 pub unserved_is : (d at : ℕ) (r : Room) (known : List Served) (i : Incident)
     → AreServed d r.turns known → unserved_seen d at known i ≡ unserved d at r i
 unserved_is d at r known i h =
-    turned (told i) (i.division == d) (is_active i.state) (nat_lt 180 (age at i.opened))
+    turned (unserved_entry i) (i.division == d) (is_active i.state) (nat_lt 180 (age at i.opened))
     (not (is_served known i.number))
     ∙ ap
-    (λ b. cond (i.division == d && (is_active i.state && (b && nat_lt 180 (age at i.opened)))) (Some (told i)) None)
+    (λ b.
+    cond (i.division == d && (is_active i.state && (b && nat_lt 180 (age at i.opened)))) (Some (unserved_entry i)) None)
     (none_serve d i.number r known h)
 
 -- ---- gathering

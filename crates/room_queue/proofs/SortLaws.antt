@@ -23,8 +23,8 @@ use Rattle.room_model.proofs.Tests.{is_equal}
 use Rattle.room_model.specs.Queue.{IsQueueOf}
 
 -- ---- the order and the test that entries have in code
-abbrev pub told_cmp : Entry → Entry → Ordering
-told_cmp a b =
+abbrev pub code_cmp : Entry → Entry → Ordering
+code_cmp a b =
     ordering_then (nat_cmp a.rank b.rank) (ordering_then (nat_cmp a.since b.since)
     (ordering_then (nat_cmp a.number b.number) (option_cmp callsign_cmp a.callsign b.callsign)))
 
@@ -39,7 +39,7 @@ same_options None (Some b) = refl
 same_options (Some a) None = refl
 same_options (Some a) (Some b) = refl
 
-same_cmp : (a b : Entry) → told_cmp a b ≡ entry_cmp a b
+same_cmp : (a b : Entry) → code_cmp a b ≡ entry_cmp a b
 same_cmp a b =
     ap (λ o.
     ordering_then (nat_cmp a.rank b.rank)
@@ -96,7 +96,7 @@ all_among (x ∷ xs) =
 among : (xs : List Entry) (x : Entry) → Contains xs x → Among x xs
 among xs x h = All-contains (λ y. Among y xs) xs x (all_among xs) h
 
-pub sorted_queue : (all sorted : List Entry) → IsPermutation all sorted → IsSorted told_cmp sorted
+pub sorted_queue : (all sorted : List Entry) → IsPermutation all sorted → IsSorted code_cmp sorted
     → IsQueueOf all (dedup alike sorted)
 sorted_queue all sorted moved rises = record {
   increasing =

@@ -129,7 +129,7 @@ pub fn shift_over(slice: &Slice, vehicle: &Vehicle, at: Moment) -> Option<Entry>
     })
 }
 
-/// 7: a standby point that fewer vehicles hold than it wants.
+/// 7: a standby point that fewer vehicles hold than it needs.
 pub fn uncovered(slice: &Slice, point: &Point, at: Moment) -> Option<Entry>
     ensures { result ≡ uncovered_seen slice.now.division at slice.now.rows point.now }
 {

@@ -32,11 +32,11 @@ pub fn queue(alloc: Global, slice: &Slice, at: Moment) -> Result<Decision, Refus
         → x.answer ≡ Queue queue
         → IsQueueOf (entries slice.now.division at (room_of plan slice.now.rows)) queue) }
 {
-    let queue = in_order(alloc, slice, at)?;
+    let queue = ordered_entries(alloc, slice, at)?;
     Ok(Decision::show(alloc, Answer::Queue(queue)))
 }
 
-fn in_order(alloc: Global, slice: &Slice, at: Moment) -> Result<Listed<Entry>, Refusal>
+fn ordered_entries(alloc: Global, slice: &Slice, at: Moment) -> Result<Listed<Entry>, Refusal>
     ensures entries { IfOk result (λ queue. (plan : List Area)
         → IsQueueOf (entries slice.now.division at (room_of plan slice.now.rows)) queue) }
     ensures memory { IfErr result (λ refusal. refusal ≡ Memory) }

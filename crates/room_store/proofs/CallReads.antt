@@ -26,10 +26,10 @@ module _ (new : NewCall) (areas : List Area) (room : Room) (planned : room.plan 
   kept_at o is = sym (kept_is new.position new.serial room) ∙ sym row ∙ is
 
   -- one that is kept is answered again
-  pub told_again : (kept : Call) (told : Verdict) → found ≡ Some kept
-      → told ≡ refuse_if (not (same_call kept new)) SerialReused
-      (show (Called kept.division kept.given kept.linked)) → told ≡ take_call new room
-  told_again kept told is gives = gives ∙ rw (kept_at (Some kept) is) refl
+  pub answered_again : (kept : Call) (answered : Verdict) → found ≡ Some kept
+      → answered ≡ refuse_if (not (same_call kept new)) SerialReused
+      (show (Called kept.division kept.given kept.linked)) → answered ≡ take_call new room
+  answered_again kept answered is gives = gives ∙ rw (kept_at (Some kept) is) refl
 
   module _ (division : Option ℕ) (placed : division ≡ division_of areas new.place) where
     place_is : (o : Option ℕ) → division ≡ o → division_of room.plan new.place ≡ o

@@ -27,7 +27,7 @@ use Rattle.room_store.specs.FleetEnrolment.{terminals_after_rows}
 use Rattle.room_store.specs.StoredRoom.{IsKept, IsRoom}
 use Rattle.room_store.proofs.KnownLaws.{knows_nothing, still_known}
 use Rattle.room_store.proofs.StoreLaws.{kept_stands}
-use Rattle.room_store_writes.specs.Houses.{config_of}
+use Rattle.room_store_writes.specs.Configurations.{config_of}
 use Rattle.room_store.specs.declared.store.Store.{Store}
 use Rattle.room_tables_schema.specs.FileConnections.{IsClean}
 
@@ -133,12 +133,12 @@ module _ (rows : List FleetRow) (i : ℕ) (row : FleetRow)
       → enrolled (take (i + 1) rows) r ts ≡ after_row row (enrolled (take i rows) r ts)
   enrolled_more r ts = ap (λ l. enrolled l r ts) more ∙ enrolled_then (take i rows) row r ts
 
-  pub told_more : (r : Room) (ts : List Terminal) (was mid new : List RowFate)
+  pub fates_more : (r : Room) (ts : List Terminal) (was mid new : List RowFate)
       → mid ≡ was ++ fates_of (take i rows) r ts
       → new ≡ mid ++ fate_of (room_after_rows (take i rows) r ts)
       (terminals_after_rows (take i rows) r ts) row ∷ []
       → new ≡ was ++ fates_of (take (i + 1) rows) r ts
-  told_more r ts was mid new before pushed =
+  fates_more r ts was mid new before pushed =
       let one = fate_of (room_after_rows (take i rows) r ts) (terminals_after_rows (take i rows) r ts) row ∷ [] in
       pushed ∙ ap (λ l. l ++ one) before ∙ append_assoc was (fates_of (take i rows) r ts) one
       ∙ ap (λ l. was ++ l) (sym (ap (λ l. fates_of l r ts) more ∙ fates_then (take i rows) row r ts))

@@ -6,4 +6,4 @@ pub mod StoreLaws
 pub mod EnrolledLaws
 pub mod CreationLaws
 pub mod Misses
-pub mod Wants
+pub mod Unavailable

@@ -22,7 +22,7 @@ use Rattle.room_store_cache.specs.Cache.{IsCacheOf}
 use Rattle.room_store.specs.ActedEvents.{IsFor}
 use Rattle.room_store_cache.specs.KnownTerminals.{AreTerminalsOf}
 use Rattle.room_store.specs.StoredRoom.{IsKept, IsReady, IsRoom, LeavesOneOf, ShowsRoom}
-use Rattle.room_store_writes.specs.Houses.{config_of}
+use Rattle.room_store_writes.specs.Configurations.{config_of}
 use Rattle.room_store.specs.declared.store.Store.{Store}
 
 -- a store may be called whose connection shows a room
@@ -106,8 +106,8 @@ pub kept_settled : {S T E : Type 0} (g : Ghosts S) (held : Store S) (r : Result 
     → OnOk r (IsSettled (state g held.conn))
     → OnOk r ((db : Trees) → (state g held.conn).may_leave db → db ≡ (state g held.conn).now.trees)
     → OnOk r (IsKept g held)
-kept_settled g held (Ok x) settled alone = record { is_open = settled.is_open; alone = alone }
-kept_settled g held (Err e) settled alone = tt
+kept_settled g held (Ok x) settled only_left = record { is_open = settled.is_open; only_left = only_left }
+kept_settled g held (Err e) settled only_left = tt
 
 -- a settled connection keeps what it holds, since a stop of an open one leaves what was committed
 pub settled_kept : {S : Type 0} (g : Ghosts S) (held : Store S)
@@ -116,7 +116,7 @@ pub settled_kept : {S : Type 0} (g : Ghosts S) (held : Store S)
     → IsSettled (state g held.conn) → IsKept g held
 settled_kept g held leaves settled = record {
   is_open = settled.is_open;
-  alone = λ db left. leaves db settled.is_open left ∙ ap (λ (b : Database). b.trees) settled.committed;
+  only_left = λ db left. leaves db settled.is_open left ∙ ap (λ (b : Database). b.trees) settled.committed;
 }
 
 -- what is kept, a stop leaves
@@ -125,7 +125,7 @@ pub kept_stands : {S : Type 0} (g : Ghosts S) (held : Store S) (terminals : List
     → (db : Trees) → (state g held.conn).may_leave db
     → Stands db (config_of held.plan terminals) room
 kept_stands g held terminals room kept is db left =
-    subst (λ (trees : Trees). Stands trees (config_of held.plan terminals) room) (sym (kept.alone db left))
+    subst (λ (trees : Trees). Stands trees (config_of held.plan terminals) room) (sym (kept.only_left db left))
     (is.tables kept.is_open)
 
 module _ {S : Type 0} (g : Ghosts S) (old new : Store S) (same : new.plan ≡ old.plan)
@@ -136,8 +136,8 @@ module _ {S : Type 0} (g : Ghosts S) (old new : Store S) (same : new.plan ≡ ol
       → IsKept g new
   looked_kept looked survives is_open = record {
     is_open = is_open;
-    alone = λ db left. elim (survives.crash clean db left) [
-      | inl before ↦ kept.alone db before ∙ sym (ap (λ (b : Database). b.trees) (looked.now_is is_open))
+    only_left = λ db left. elim (survives.crash clean db left) [
+      | inl before ↦ kept.only_left db before ∙ sym (ap (λ (b : Database). b.trees) (looked.now_is is_open))
       | inr none ↦ absurd none
     ];
   }

@@ -12,7 +12,7 @@ use Rattle.room_model.specs.Fleets.{enrolled, fates_of}
 use Rattle.room_model.specs.Room.{Room}
 use Rattle.room_tables.specs.RoomsInTables.{Configuration, Stands}
 use Rattle.room_store.specs.StoredRoom.{IsKept, IsRoom}
-use Rattle.room_store_writes.specs.Houses.{config_of}
+use Rattle.room_store_writes.specs.Configurations.{config_of}
 use Rattle.room_store.specs.declared.store.Store.{Store}
 
 -- The tables stand for this configuration and for this room, which is of the plan.
@@ -46,7 +46,7 @@ pub record HasEnrolled {S : Type 0} (g : Ghosts S) (old new : Store S) (rows : L
     (was is : List RowFate) (terminals : List Terminal) (room : Room) : Type 0 where
   pub count : ℕ
   pub within : count ≤ length rows
-  pub told : is ≡ was ++ fates_of (take count rows) room terminals
+  pub added : is ≡ was ++ fates_of (take count rows) room terminals
   pub stands : IsRoom g new (terminals_after_rows (take count rows) room terminals)
       (room_after_rows (take count rows) room terminals)
   pub left : IsKept g old → (db : Trees) → (state g new.conn).may_leave db

@@ -15,4 +15,4 @@ refusal_of Storage = refusal.Storage
 -- how it is reported that changes were undone which were to lead to a digest
 abbrev pub miss_of : Undone → Miss
 miss_of undone.Another = miss.Another
-miss_of (undone.Want fault) = miss.Want (refusal_of fault)
+miss_of (undone.Unavailable fault) = miss.Unavailable (refusal_of fault)

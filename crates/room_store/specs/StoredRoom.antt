@@ -10,7 +10,7 @@ use Rattle.room_model.specs.Room.{Room}
 use Rattle.room_model.specs.RoomAgreements.{IsWellFormed}
 use Rattle.room_tables_schema.specs.Schema.{room_schema}
 use Rattle.room_tables.specs.RoomsInTables.{Configuration, Stands}
-use Rattle.room_store_writes.specs.Houses.{config_of}
+use Rattle.room_store_writes.specs.Configurations.{config_of}
 use Rattle.room_store_writes.specs.Transactions.{IsSettled}
 use Rattle.room_store_cache.specs.Cache.{IsCacheOf, KnowsNothing}
 use Rattle.room_store_cache.specs.KnownTerminals.{AreTerminalsOf}
@@ -47,7 +47,8 @@ pub record IsRoom {S : Type 0} (g : Ghosts S) (held : Store S) (terminals : List
 -- What its tables hold is kept: the connection is open, and a stop leaves only these tables.
 pub record IsKept {S : Type 0} (g : Ghosts S) (held : Store S) : Type 0 where
   pub is_open : IsTrue (state g held.conn).is_open
-  pub alone : (db : Trees) → (state g held.conn).may_leave db → db ≡ (state g held.conn).now.trees
+  pub only_left : (db : Trees) → (state g held.conn).may_leave db
+      → db ≡ (state g held.conn).now.trees
 
 -- the tables stand for one of these rooms
 abbrev pub StandForOne : Trees → Configuration → List Room → Type 0

@@ -5,14 +5,14 @@ ghost use Rattle.sqlite.specs.Held.{state};
 ghost use Rattle.sqlite.specs.State.{Survives};
 ghost use Rattle.room_tables_schema.specs.FileConnections.{HasRoomSchema, IsClean, StandsOpen};
 ghost use Rattle.room_tables_schema.specs.Outcomes.{ReadsOnly};
-ghost use Rattle.room_types.specs.declared.answers.Answer.{Answer as Told};
+ghost use Rattle.room_types.specs.declared.answers.Answer.{Answer as Answered};
 ghost use Rattle.room_types.specs.declared.refusal_statuses.Refusal.{Refusal as Why};
 ghost use Rattle.room_types.specs.declared.refusal_statuses.Refusal.TheVariants.{Memory};
 ghost use Rattle.room_model.specs.Decisions.{changes_of};
 ghost use Rattle.room_model.specs.Events.{IsNumbered};
 ghost use Rattle.room_model.specs.Room.{Room};
 ghost use Rattle.room_model.specs.Step.{answer_to, decided, room_after};
-ghost use Rattle.room_model.specs.Rooms.{IsWant};
+ghost use Rattle.room_model.specs.Rooms.{IsUnavailable};
 ghost use Rattle.room_tables.specs.RoomsInTables.{Configuration, Stands};
 ghost use Rattle.room_store_writes.specs.Transactions.{Commits, LeavesOnErr};
 ghost use Rattle.room_store_cache.specs.Cache.{IsCacheOf};
@@ -47,7 +47,7 @@ pub(crate) fn act_on<S: Alter, F: FnOnce(&Result<Answer, Refusal>) -> Result<Vec
     requires outside { conn.old.in_transaction ≡ false }
     requires open { IsTrue cache.old.fleet.is_known → StandsOpen S.Store conn.old }
     requires callable { F.IsAlwaysCallable render }
-    requires memory { (answer : Result Told Why) (r : _)
+    requires memory { (answer : Result Answered Why) (r : _)
         → FnOnceReturnsAt F.FnOnce render answer r → IfErr r (λ e. e ≡ Memory) }
     ensures bytes { IsClean S.Store conn.new
         → IfOk result (λ bytes. (config : Configuration) (room : Room)
@@ -62,7 +62,7 @@ pub(crate) fn act_on<S: Alter, F: FnOnce(&Result<Answer, Refusal>) -> Result<Vec
         → IsFor (state S.Store conn.old).now.trees plan.now cache.old event.now config room
         → IsCacheOf cache.new (room_after event.now room)) }
     ensures err { LeavesOnErr S.Store conn.old conn.new result }
-    ensures wants { IfErr result IsWant }
+    ensures unavailable { IfErr result IsUnavailable }
     ensures ended { conn.new.in_transaction ≡ false }
     ensures survives { Survives (state S.Store conn.old) (state S.Store conn.new) (λ db.
         (config : Configuration) (room : Room)
@@ -102,7 +102,7 @@ pub(crate) fn prepare<S: Alter, F: FnOnce(&Result<Answer, Refusal>) -> Result<Ve
     requires room { HasRoomSchema S.Store conn.old }
     requires open { IsTrue cache.old.fleet.is_known → StandsOpen S.Store conn.old }
     requires callable { F.IsAlwaysCallable render }
-    requires memory { (answer : Result Told Why) (r : _)
+    requires memory { (answer : Result Answered Why) (r : _)
         → FnOnceReturnsAt F.FnOnce render answer r → IfErr r (λ e. e ≡ Memory) }
     ensures changes { IsClean S.Store conn.new
         → IfOk result (λ prepared. (config : Configuration) (room : Room)
@@ -117,7 +117,7 @@ pub(crate) fn prepare<S: Alter, F: FnOnce(&Result<Answer, Refusal>) -> Result<Ve
         → IsFor (state S.Store conn.old).now.trees plan.now cache.old event.now config room
         → IsCacheOf cache.new room) }
     ensures reads { ReadsOnly S.Store conn.old conn.new result }
-    ensures wants { IfErr result IsWant }
+    ensures unavailable { IfErr result IsUnavailable }
 {
     let decision = decide(alloc, conn, plan, cache, event);
     let (changes, answer) = match parts(alloc, decision) {

@@ -4,7 +4,7 @@ ghost use Rattle.std.specs.Fn.{FnOnceReturnsAt};
 ghost use Rattle.sqlite.specs.Held.{state};
 ghost use Rattle.sqlite.specs.State.{Survives};
 ghost use Rattle.room_tables_schema.specs.FileConnections.{HasRoomSchema, IsClean, StandsOpen};
-ghost use Rattle.room_types.specs.declared.answers.Answer.{Answer as Told};
+ghost use Rattle.room_types.specs.declared.answers.Answer.{Answer as Answered};
 ghost use Rattle.room_types.specs.declared.refusal_statuses.Refusal.{Refusal as Why};
 ghost use Rattle.room_types.specs.declared.refusal_statuses.Refusal.TheVariants.{Memory};
 ghost use Rattle.room_model.specs.Room.{Room};
@@ -44,7 +44,7 @@ impl<S: Alter> Store<S> {
         requires outside { self.old.conn.in_transaction ≡ false }
         requires open { IsTrue self.old.cache.fleet.is_known → StandsOpen S.Store self.old.conn }
         requires callable { F.IsAlwaysCallable render }
-        requires memory { (answer : Result Told Why) (r : _)
+        requires memory { (answer : Result Answered Why) (r : _)
             → FnOnceReturnsAt F.FnOnce render answer r → IfErr r (λ e. e ≡ Memory) }
         ensures bytes { IsClean S.Store self.new.conn
             → IfOk result (λ bytes. (config : Configuration) (room : Room)
@@ -71,7 +71,7 @@ impl<S: Alter> Store<S> {
             config room
             → ¬ (IsHeadAfter event.now config.zone config.terminals room head.now)) }
         ensures err { LeavesOnErr S.Store self.old.conn self.new.conn result }
-        ensures wants { IfErr result IsMiss }
+        ensures unavailable { IfErr result IsMiss }
         ensures ended { self.new.conn.in_transaction ≡ false }
         ensures survives { Survives (state S.Store self.old.conn) (state S.Store self.new.conn)
             (λ db. (config : Configuration) (room : Room)
@@ -92,7 +92,7 @@ impl<S: Alter> Store<S> {
             render,
         ) {
             Ok(prepared) => prepared,
-            Err(refusal) => return Err(Miss::Want(refusal)),
+            Err(refusal) => return Err(Miss::Unavailable(refusal)),
         };
         let Prepared { changes, bytes } = prepared;
         if let Err(undone) = write_towards(&mut self.conn, changes.as_slice(), head) {
@@ -109,6 +109,6 @@ fn miss_of(undone: Undone) -> Miss
 {
     match undone {
         Undone::Another => Miss::Another,
-        Undone::Want(fault) => Miss::Want(refusal_of(fault)),
+        Undone::Unavailable(fault) => Miss::Unavailable(refusal_of(fault)),
     }
 }

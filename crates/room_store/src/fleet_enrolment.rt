@@ -5,18 +5,18 @@ ghost use Rattle.sqlite.specs.State.{Survives};
 ghost use Rattle.sqlite_trees.specs.Tree.{Trees};
 ghost use Rattle.room_tables_schema.specs.FileConnections.{HasRoomSchema, IsClean};
 ghost use Rattle.room_tables_schema.specs.Outcomes.{ReadsOnly};
-ghost use Rattle.room_types.specs.declared.fleet.RowFate.TheVariants as told;
+ghost use Rattle.room_types.specs.declared.fleet.RowFate.TheVariants as row_fate;
 ghost use Rattle.room_types.specs.declared.fleet.Terminal.{Terminal as Known};
 ghost use Rattle.room_model.specs.FleetRows.{fate_by, fate_of, is_crews_terminal, is_same_vehicle, room_enrolled, terminals_enrolled};
 ghost use Rattle.room_model.specs.Room.{Room};
-ghost use Rattle.room_model.specs.Rooms.{IsWant};
+ghost use Rattle.room_model.specs.Rooms.{IsUnavailable};
 ghost use Rattle.room_tables.specs.RoomsInTables.{Configuration, Stands};
 ghost use Rattle.room_store_writes.specs.Transactions.{IsSettled, LeavesOnErr};
 ghost use Rattle.room_store_writes.specs.EnrolledRows.{Enrols, StandsAfter};
 ghost use Rattle.room_store_cache.specs.Cache.{IsCacheOf};
 ghost use Rattle.room_store.specs.FleetEnrolment.{HasEnrolled, MayBeEnrolled, StandsInPlan, fate_in};
 ghost use Rattle.room_store.specs.StoredRoom.{IsReady, IsRoom};
-ghost use Rattle.room_store_writes.specs.Houses.{config_of};
+ghost use Rattle.room_store_writes.specs.Configurations.{config_of};
 
 use crate::store::Store;
 use crate::store_faults::refusal_of;
@@ -49,7 +49,7 @@ impl<S: Alter> Store<S> {
             → (terminals : List Known) (room : Room) → IsRoom S.Store self.old terminals room
             → (done : HasEnrolled S.Store self.old self.new rows.now out.old.items out.new.items
             terminals room) × OnOk result (done.count ≡ length rows.now) }
-        ensures wants { IfErr result IsWant }
+        ensures unavailable { IfErr result IsUnavailable }
         ensures survives { Survives (state S.Store self.old.conn) (state S.Store self.new.conn)
             (MayBeEnrolled S.Store self.old rows.now) }
     {
@@ -80,12 +80,12 @@ impl<S: Alter> Store<S> {
             (room_enrolled room terminals row.now)) }
         ensures settled { IsClean S.Store self.new.conn
             → OnOk result (IsSettled (state S.Store self.new.conn)) }
-        ensures alone { IsClean S.Store self.new.conn
+        ensures only_left { IsClean S.Store self.new.conn
             → OnOk result ((db : Trees) → (state S.Store self.new.conn).may_leave db
             → db ≡ (state S.Store self.new.conn).now.trees) }
         ensures err { LeavesOnErr S.Store self.old.conn self.new.conn result }
         ensures kept { OnErr result (out.new.items ≡ out.old.items) }
-        ensures wants { IfErr result IsWant }
+        ensures unavailable { IfErr result IsUnavailable }
         ensures survives { Survives (state S.Store self.old.conn) (state S.Store self.new.conn)
             (λ db. IsTrue (state S.Store self.old.conn).is_open
             → (terminals : List Known) (room : Room) → IsRoom S.Store self.old terminals room

@@ -4,7 +4,7 @@ ghost use Rattle.std.proofs.lemmas.Bool.{cases_Bool};
 ghost use Rattle.sqlite.specs.Effect.{Database};
 ghost use Rattle.room_model.specs.Rooms.{machine};
 ghost use Rattle.room_tables.specs.RoomsInTables.{Stands};
-ghost use Rattle.room_store_writes.specs.Houses.{config_of};
+ghost use Rattle.room_store_writes.specs.Configurations.{config_of};
 ghost use Rattle.room_store_cache.specs.Cache.{KnowsNothing};
 ghost use Rattle.room_store.specs.StoredRoom.{IsKept, IsReady, IsRoom, LeavesOneOf};
 ghost use Rattle.room_tables_schema.specs.FileConnections.{IsClean};
@@ -54,13 +54,13 @@ impl<S: Alter> Room for Store<S> {
 
     ghost leaves_it = { λ held terminals room kept is db left. inl
         (subst (λ trees. Stands trees (config_of held.plan terminals) room)
-        (sym (kept.alone db left)) (is.tables kept.is_open)) };
+        (sym (kept.only_left db left)) (is.tables kept.is_open)) };
 
     // A stop of an open store leaves what was committed.
     ghost kept_or_shut = { λ held ready clean. ⊎_elim
         (λ sound. let settled = (ready.sound sound clean).settled in inl (record {
           is_open = settled.is_open;
-          alone = λ db left. S.Store.settled held.conn.store db settled.is_open left
+          only_left = λ db left. S.Store.settled held.conn.store db settled.is_open left
               ∙ ap (λ (b : Database). b.trees) settled.committed;
         }))
         (λ unsound. inr unsound) (cases_Bool held.is_sound) };

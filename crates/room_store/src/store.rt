@@ -4,7 +4,7 @@ ghost use Rattle.std.specs.Fn.{FnOnceReturnsAt};
 ghost use Rattle.sqlite.specs.Held.{state};
 ghost use Rattle.sqlite.specs.State.{Survives};
 ghost use Rattle.sqlite_trees.specs.Tree.{Trees};
-ghost use Rattle.room_types.specs.declared.answers.Answer.{Answer as Told};
+ghost use Rattle.room_types.specs.declared.answers.Answer.{Answer as Answered};
 ghost use Rattle.room_types.specs.declared.fleet.Terminal.{Terminal as Known};
 ghost use Rattle.room_types.specs.declared.refusal_statuses.Refusal.{Refusal as Why};
 ghost use Rattle.room_types.specs.declared.refusal_statuses.Refusal.TheVariants.{Memory};
@@ -14,14 +14,14 @@ ghost use Rattle.room_model.specs.Step.{IsAddressed, answer_to, room_after};
 ghost use Rattle.room_model.specs.RoomAgreements.{IsWellFormed};
 ghost use Rattle.room_tables_schema.specs.FileConnections.{HasRoomSchema, IsClean};
 ghost use Rattle.room_model.specs.Digests.{IsMiss};
-ghost use Rattle.room_model.specs.Rooms.{IsWant, who_at};
+ghost use Rattle.room_model.specs.Rooms.{IsUnavailable, who_at};
 ghost use Rattle.room_model.specs.declared.digests.Miss.TheVariants.{Another};
 ghost use Rattle.room_tables.specs.RoomsInTables.{Stands};
 ghost use Rattle.room_store_writes.specs.Transactions.{IsSettled, Leaves, LeavesOnErr};
 ghost use Rattle.room_store_cache.specs.Cache.{KnowsNothing};
 ghost use Rattle.room_store.specs.StoredRoom.{IsReady, IsRoom, ShowsRoom};
 ghost use Rattle.room_store.specs.DigestEvents.{IsHeadAfter};
-ghost use Rattle.room_store_writes.specs.Houses.{config_of};
+ghost use Rattle.room_store_writes.specs.Configurations.{config_of};
 
 use crate::acted_events::{act_on, lemma_numbered};
 use crate::store_faults::refusal_of;
@@ -106,7 +106,7 @@ impl<S: Alter> Store<S> {
         ensures stays_open { IsClean S.Store self.new.conn
             → OnOk result (IsTrue (state S.Store self.old.conn).is_open
             → IsTrue (state S.Store self.new.conn).is_open) }
-        ensures wants { IfErr result IsWant }
+        ensures unavailable { IfErr result IsUnavailable }
         // After a failure only terminals are known of the room.
         ensures failed { OnErr result (KnowsNothing self.new.cache) }
         ensures survives { Survives (state S.Store self.old.conn) (state S.Store self.new.conn)
@@ -143,7 +143,7 @@ impl<S: Alter> Store<S> {
     ) -> Result<Vec<u8>, Refusal>
         requires ready { IsReady S.Store self.old }
         requires callable { F.IsAlwaysCallable render }
-        requires memory { (answer : Result Told Why) (r : _)
+        requires memory { (answer : Result Answered Why) (r : _)
             → FnOnceReturnsAt F.FnOnce render answer r → IfErr r (λ e. e ≡ Memory) }
         ensures ready { IsReady S.Store self.new }
         ensures plan { self.new.plan ≡ self.old.plan }
@@ -167,7 +167,7 @@ impl<S: Alter> Store<S> {
         ensures settled { IsClean S.Store self.new.conn
             → OnOk result (IsSettled (state S.Store self.new.conn)) }
         ensures err { LeavesOnErr S.Store self.old.conn self.new.conn result }
-        ensures wants { IfErr result IsWant }
+        ensures unavailable { IfErr result IsUnavailable }
         // What a stop leaves is what it left before, or the room after the event; after an Ok the
         // room as it is now and nothing else.
         ensures survives { Survives (state S.Store self.old.conn) (state S.Store self.new.conn)
@@ -175,7 +175,7 @@ impl<S: Alter> Store<S> {
             → (terminals : List Known) (room : Room) → IsRoom S.Store self.old terminals room
             → IsAddressed event.now room
             → Stands db (config_of self.old.plan terminals) (room_after event.now room)) }
-        ensures alone { IsClean S.Store self.new.conn
+        ensures only_left { IsClean S.Store self.new.conn
             → OnOk result ((db : Trees) → (state S.Store self.new.conn).may_leave db
             → db ≡ (state S.Store self.new.conn).now.trees) }
     {
@@ -210,7 +210,7 @@ impl<S: Alter> Store<S> {
     ) -> Result<Vec<u8>, Miss>
         requires ready { IsReady S.Store self.old }
         requires callable { F.IsAlwaysCallable render }
-        requires memory { (answer : Result Told Why) (r : _)
+        requires memory { (answer : Result Answered Why) (r : _)
             → FnOnceReturnsAt F.FnOnce render answer r → IfErr r (λ e. e ≡ Memory) }
         ensures ready { IsReady S.Store self.new }
         ensures plan { self.new.plan ≡ self.old.plan }
@@ -234,7 +234,7 @@ impl<S: Alter> Store<S> {
             → MatchResult result (λ _. IsSettled (state S.Store self.new.conn))
             (λ miss. miss ≡ Another → IsSettled (state S.Store self.new.conn)) }
         ensures err { LeavesOnErr S.Store self.old.conn self.new.conn result }
-        ensures wants { IfErr result IsMiss }
+        ensures unavailable { IfErr result IsMiss }
         // What a stop leaves is what it left before, or the room after the event.
         ensures survives { Survives (state S.Store self.old.conn) (state S.Store self.new.conn)
             (λ db. IsTrue (state S.Store self.old.conn).is_open
@@ -243,7 +243,7 @@ impl<S: Alter> Store<S> {
             → Stands db (config_of self.old.plan terminals) (room_after event.now room)) }
     {
         if !self.is_sound {
-            return Err(Miss::Want(Refusal::Storage));
+            return Err(Miss::Unavailable(Refusal::Storage));
         }
         lemma_numbered(&event.ask);
         match self.commit_towards(alloc, event, head, render) {
@@ -257,14 +257,14 @@ impl<S: Alter> Store<S> {
 
     // What is reported for a miss once the file was tested: `Storage` where it is shut.
     fn after_test(&self, miss: Miss) -> Miss
-        ensures told { IsMiss miss → IsMiss result }
+        ensures missed { IsMiss miss → IsMiss result }
         ensures same { result ≡ Another → miss ≡ Another }
         ensures sound { result ≡ Another → IsTrue self.now.is_sound }
     {
         if self.is_sound {
             miss
         } else {
-            Miss::Want(Refusal::Storage)
+            Miss::Unavailable(Refusal::Storage)
         }
     }
 

@@ -2,7 +2,7 @@
 ghost use Rattle.std.specs.Prelude.{◌≡◌, List, [], ◌∷◌, Ok, IsTrue, IfOk, IfErr, OnOk};
 ghost use Rattle.room_types.specs.declared.fleet.Terminal.{Terminal};
 ghost use Rattle.room_model.specs.Room.{Room};
-ghost use Rattle.room_model.specs.Rooms.{IsWant};
+ghost use Rattle.room_model.specs.Rooms.{IsUnavailable};
 ghost use Rattle.room_store_file.specs.DigestTexts.{digest_of};
 ghost use Rattle.room_store.specs.StoredRoom.{IsKept, IsReady, IsRoom, LeavesOneOf};
 ghost use Rattle.room_tables_schema.specs.FileConnections.{IsClean};
@@ -56,7 +56,7 @@ pub fn digest_of_room<S: Alter>(store: &mut Store<S>, version: Version) -> Resul
     ensures left { IsClean S.Store store.new.conn → IsKept S.Store store.old
         → (terminals : List Terminal) (room : Room) → IsRoom S.Store store.old terminals room
         → LeavesOneOf S.Store store.new terminals (room ∷ []) }
-    ensures wants { IfErr result IsWant }
+    ensures unavailable { IfErr result IsUnavailable }
 {
     if !store.is_sound {
         return Err(Refusal::Storage);
@@ -64,14 +64,14 @@ pub fn digest_of_room<S: Alter>(store: &mut Store<S>, version: Version) -> Resul
     let digest = digest_in(&mut store.conn, version);
     // The transaction that it was read in is undone, and that may have shut the connection.
     store.test_file();
-    told(digest, store.is_sound)
+    sound_digest(digest, store.is_sound)
 }
 
 // The digest that was read of a room whose file was then found sound.
-fn told(digest: Result<[u8; 32], Fault>, is_sound: bool) -> Result<[u8; 32], Refusal>
+fn sound_digest(digest: Result<[u8; 32], Fault>, is_sound: bool) -> Result<[u8; 32], Refusal>
     ensures read { IfOk result (λ x. digest ≡ Ok x) }
     ensures sound { OnOk result (IsTrue is_sound) }
-    ensures wants { IfErr result IsWant }
+    ensures unavailable { IfErr result IsUnavailable }
 {
     match digest {
         Ok(digest) => {

@@ -8,7 +8,7 @@ ghost use Rattle.room_tables_schema.specs.Schema.{room_schema};
 ghost use Rattle.room_tables_schema.specs.Versions.{HasFirstTables};
 ghost use Rattle.room_tables.specs.RoomsInTables.{StandsInFirst};
 ghost use Rattle.room_store.specs.StoredRoom.{IsKept, IsReady, IsRoom};
-ghost use Rattle.room_store_writes.specs.Houses.{config_of};
+ghost use Rattle.room_store_writes.specs.Configurations.{config_of};
 ghost use Rattle.room_store_writes.specs.Transactions.{Leaves};
 ghost use Rattle.room_store_file.specs.OpenedFile.{HoldsFirstRoom, IsNewRoom, IsOldRoom, MayBeMoved};
 ghost use Rattle.room_store_check_tables.specs.HeldRooms.{WritesNothing};

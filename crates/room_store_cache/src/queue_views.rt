@@ -27,7 +27,7 @@ pub struct QueueView {
     pub exceptions: Rows<Report>,
 }
 
-/// The boards of some divisions that are known.
+/// What is known of what waits, of some divisions.
 pub type QueueViews = Entries<QueueView>;
 
 impl Entries<QueueView> {

@@ -11,9 +11,9 @@ use Rattle.room_types.specs.KeyedRows.{IsKeyed, row_at}
 use Rattle.room_types.proofs.EachRow.{at_each_key, from_each_key}
 
 -- what holds of a row that is there
-pub told : {X Q : Type 0} (o : Option X) → IfSome o (λ x. Q) → is_some o ≡ true → Q
-told None h there = absurd (false≢true there)
-told (Some x) h there = h
+pub holds_there : {X Q : Type 0} (o : Option X) → IfSome o (λ x. Q) → is_some o ≡ true → Q
+holds_there None h there = absurd (false≢true there)
+holds_there (Some x) h there = h
 
 pub there_if : {X : Type 0} (o : Option X) (b : Bool) → is_some o ≡ b → IfSome o (λ x. b ≡ true)
 there_if None b e = tt
@@ -39,9 +39,9 @@ module _ {V X : Type 0} (A : Option V → Option X → Type 0) where
 
   pub has_vehicle : ((x : X) → A None (Some x) → ⊥) → (v : Option V) (x : Option X) → A v x
       → IfSome x (λ x. is_some v ≡ true)
-  has_vehicle alone v None h = tt
-  has_vehicle alone None (Some x) h = absurd (alone x h)
-  has_vehicle alone (Some v) (Some x) h = refl
+  has_vehicle only_one v None h = tt
+  has_vehicle only_one None (Some x) h = absurd (only_one x h)
+  has_vehicle only_one (Some v) (Some x) h = refl
 
 -- a test of all rows decides what holds of the row at each key
 pub each : {R K : Type 0} (cmp : K → K → Ordering) (key : R → K) (total : IsTotalOrder cmp)

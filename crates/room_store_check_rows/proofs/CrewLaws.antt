@@ -64,10 +64,10 @@ crew_first c (Crew k) xs =
 crew_first c (Desk d) xs = refl
 crew_first c (Position p) xs = refl
 
-pub crew_told : (c : Callsign) (ts : List Terminal)
+pub crew_shown : (c : Callsign) (ts : List Terminal)
     → list_any (same_callsign c) (crews_of ts) ≡ has_crew c ts
-crew_told c [] = refl
-crew_told c (t ∷ ts) = crew_first c t.who (crews_of ts) ∙ ap (λ b. is_crew c t.who || b) (crew_told c ts)
+crew_shown c [] = refl
+crew_shown c (t ∷ ts) = crew_first c t.who (crews_of ts) ∙ ap (λ b. is_crew c t.who || b) (crew_shown c ts)
 
 -- ---- no vehicle has two
 abbrev pub AreApart : List Terminal → Type 0
@@ -168,11 +168,11 @@ pub apart_from_distinct : (ts : List Terminal) → IsDistinct same_callsign (cre
 apart_from_distinct [] h = tt
 apart_from_distinct (t ∷ ts) h =
     let parts = distinct_first t.who (crews_of ts) h in
-    (λ c e. sym (crew_told c ts) ∙ parts.0 c e, apart_from_distinct ts parts.1)
+    (λ c e. sym (crew_shown c ts) ∙ parts.0 c e, apart_from_distinct ts parts.1)
 
 pub distinct_from_apart : (ts : List Terminal) → AreApart ts
     → IsDistinct same_callsign (crews_of ts)
 unfolding IsDistinct
 distinct_from_apart [] h = tt
 distinct_from_apart (t ∷ ts) h =
-    first_distinct t.who (crews_of ts) (λ c e. crew_told c ts ∙ h.0 c e) (distinct_from_apart ts h.1)
+    first_distinct t.who (crews_of ts) (λ c e. crew_shown c ts ∙ h.0 c e) (distinct_from_apart ts h.1)

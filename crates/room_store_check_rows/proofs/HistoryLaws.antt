@@ -25,15 +25,15 @@ use Rattle.room_model.specs.RoomSlices.{room_of}
 use Rattle.room_model.specs.RoomAgreements.{IsWellFormed}
 use Rattle.room_store_check_rows.specs.FirstFaults.{call_disagreement, first_disagreement, first_of}
 use Rattle.room_store_check_rows.specs.FirstFaults.{incident_disagreement, opening_fault, report_disagreement}
-use Rattle.room_store_check_rows.specs.FirstFaults.{standing_disagreement, told_fault, turn_disagreement}
+use Rattle.room_store_check_rows.specs.FirstFaults.{standing_disagreement, turn_disagreement, uncalled_fault}
 use Rattle.room_store_check_rows.specs.FirstFaults.{vehicle_disagreement}
 use Rattle.room_store_check_rows.specs.RowTests.{has_last_report, has_open_turn, is_open}
 use Rattle.room_store_check_rows.specs.declared.disagreements.Disagreement.{Disagreement}
-use Rattle.room_store_check_rows.specs.HistoryChecks.{Tell, has_last_number, histories_fit, is_last, kept}
+use Rattle.room_store_check_rows.specs.HistoryChecks.{AreOpenings, has_last_number, histories_fit, is_last, kept}
 use Rattle.room_store_check_rows.specs.HistoryChecks.{kept_disagreement}
-use Rattle.room_store_check_rows.proofs.FaultLaws.{first_alike, none_told}
-use Rattle.room_store_check_rows.proofs.OpeningLaws.{untold_unopened}
-use Rattle.room_store_check_rows.proofs.RowFaults.{search_tells}
+use Rattle.room_store_check_rows.proofs.FaultLaws.{first_alike, none_detected}
+use Rattle.room_store_check_rows.proofs.OpeningLaws.{uncalled_unopened}
+use Rattle.room_store_check_rows.proofs.RowFaults.{search_detects}
 
 -- ---- what is kept of the rows at a vehicle's last numbers
 open_kept : (o : Option Turn) → is_open (keep (λ t. is_none t.ended) o) ≡ is_open o
@@ -114,8 +114,8 @@ module _ (layout : Layout) (s : DivisionRows) (o : IsInOrder (room_of layout.are
       && (is_none (first_of (report_disagreement plan s) s.reports)
       && is_none (first_of (call_disagreement s) s.calls))
 
-  histories_told : histories_fit plan s ≡ histories
-  histories_told =
+  histories_shown : histories_fit plan s ≡ histories
+  histories_shown =
       rw (
         all_none (turn_disagreement plan s) s.turns,
         all_none (report_disagreement plan s) s.reports,
@@ -125,25 +125,27 @@ module _ (layout : Layout) (s : DivisionRows) (o : IsInOrder (room_of layout.are
   abbrev rest : Option Disagreement → Option Disagreement → Option Disagreement
   rest standing opening = option_or (option_or standing (first_of (incident_disagreement s) s.incidents)) opening
 
-  verdict_told : (told : BTreeSet (ℕ × ℕ × ℕ)) → Tell s.calls told
-      → (histories_fit plan s && is_none (kept_disagreement plan (kept s) told))
+  verdict_shown : (openings : BTreeSet (ℕ × ℕ × ℕ)) → AreOpenings s.calls openings
+      → (histories_fit plan s && is_none (kept_disagreement plan (kept s) openings))
       ≡ is_none (first_disagreement plan s)
-  verdict_told told tell =
-      ap (λ b. b && is_none (kept_disagreement plan (kept s) told)) histories_told
-      ∙ ap (λ a. histories && is_none (rest a (first_of (told_fault told) s.incidents))) (standing_kept plan s o)
-      ∙ ap (λ a. histories && is_none (rest (standing_disagreement plan s) a)) (untold_unopened s told tell)
+  verdict_shown openings are_openings =
+      ap (λ b. b && is_none (kept_disagreement plan (kept s) openings)) histories_shown
+      ∙ ap (λ a. histories && is_none (rest a (first_of (uncalled_fault openings) s.incidents)))
+      (standing_kept plan s o)
+      ∙ ap (λ a. histories && is_none (rest (standing_disagreement plan s) a))
+      (uncalled_unopened s openings are_openings)
       ∙ in_turn (standing_disagreement plan s) _ _ _ _ (first_of (opening_fault s) s.incidents)
 
   -- histories that fit, and a rest in which nothing is wrong, are a well-formed room
-  pub room_decides : (rows : DivisionRows) (told : BTreeSet (ℕ × ℕ × ℕ)) (fits verdict : Bool)
-      → rows ≡ kept s → Tell s.calls told → fits ≡ histories_fit plan s
-      → verdict ≡ (fits && is_none (kept_disagreement plan rows told))
+  pub room_decides : (rows : DivisionRows) (openings : BTreeSet (ℕ × ℕ × ℕ)) (fits verdict : Bool)
+      → rows ≡ kept s → AreOpenings s.calls openings → fits ≡ histories_fit plan s
+      → verdict ≡ (fits && is_none (kept_disagreement plan rows openings))
       → Decides verdict (IsWellFormed (room_of plan s))
-  room_decides rows told fits verdict same tell fit is =
+  room_decides rows openings fits verdict same are_openings fit is =
       let all : verdict ≡ is_none (first_disagreement plan s) =
       is
-      ∙ ap (λ b. b && is_none (kept_disagreement plan rows told)) fit
-      ∙ ap (λ x. histories_fit plan s && is_none (kept_disagreement plan x told)) same
-      ∙ verdict_told told tell in
+      ∙ ap (λ b. b && is_none (kept_disagreement plan rows openings)) fit
+      ∙ ap (λ x. histories_fit plan s && is_none (kept_disagreement plan x openings)) same
+      ∙ verdict_shown openings are_openings in
       subst (λ b. Decides b (IsWellFormed (room_of plan s))) (sym all)
-      (none_told (room_of plan s) (first_disagreement plan s) _ (some_or_none _) (search_tells layout s o))
+      (none_detected (room_of plan s) (first_disagreement plan s) _ (some_or_none _) (search_detects layout s o))

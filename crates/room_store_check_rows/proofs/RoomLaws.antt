@@ -27,7 +27,7 @@ use Rattle.room_model.specs.RoomAgreements.{NumberAgrees, OfferAgrees, OpenAgree
 use Rattle.room_model.specs.RoomAgreements.{SameIncident, TurnAgrees, TurnIsActive}
 use Rattle.room_model.proofs.Tests.{both_true, or_right}
 use Rattle.room_store_check_rows.specs.RowTests.{is_open, is_opened, report_at, rows_fit}
-use Rattle.room_store_check_rows.proofs.Agreements.{has_vehicle, joined, lift, lower, there_if, told}
+use Rattle.room_store_check_rows.proofs.Agreements.{has_vehicle, holds_there, joined, lift, lower, there_if}
 use Rattle.room_store_check_rows.proofs.AtEachKey.{Fits, fits_decides}
 use Rattle.room_store_check_rows.proofs.RowLaws.{ReportFits, TurnFits, VehicleFits}
 
@@ -89,16 +89,16 @@ module _ (layout : Layout) (s : DivisionRows) where
       ≡ true = subst (λ m. is_open (turn_at c m s) ≡ true) (sym last) (h.turn busy).1 in
       false≢true (rw g at there))
 
-  division_told : Fits plan s → (d : ℕ) → is_some (division_at d s) ≡ has_division plan d
-  division_told f d = same_from_decides _ _ (
-    told (division_at d s) (f.divisions d),
+  division_shown : Fits plan s → (d : ℕ) → is_some (division_at d s) ≡ has_division plan d
+  division_shown f d = same_from_decides _ _ (
+    holds_there (division_at d s) (f.divisions d),
     λ h. (and_parts _ _ (covered (λ n. is_division n && is_some (division_at n s)) plan d f.have_rows h)).1,
   )
       (itself _)
 
   planned : Fits plan s → AreInPlan r
   planned f = record {
-    divisions = division_told f;
+    divisions = division_shown f;
     homes = λ c. IfSome_then _ (f.vehicles c) (λ v (h : VehicleFits plan s c v). h.home);
     vehicles = λ c. IfSome_then _ (f.vehicles c) (λ v (h : VehicleFits plan s c v). h.holder);
     turns = λ c n. IfSome_then _ (f.turns (c, n)) (λ t (h : TurnFits plan s (c, n) t). h.planned);

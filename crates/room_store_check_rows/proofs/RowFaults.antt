@@ -41,7 +41,7 @@ use Rattle.room_store_check_rows.specs.RowTests.{is_as_assigned, is_given, is_in
 use Rattle.room_store_check_rows.specs.RowTests.{is_opened, is_over, loan_at, loan_fits, offer_at, offer_fits, open_fits}
 use Rattle.room_store_check_rows.specs.RowTests.{report_fits, rows_fit, turn_fits, vehicle_fits}
 use Rattle.room_store_check_rows.specs.Disagreements.{HasRow, IsCallFault, IsIncidentFault, IsOddly, IsOfNone, IsOpen}
-use Rattle.room_store_check_rows.specs.Disagreements.{IsReportFault, IsTurnFault, IsVehicleFault, IsWrong, Tells}
+use Rattle.room_store_check_rows.specs.Disagreements.{Detects, IsReportFault, IsTurnFault, IsVehicleFault, IsWrong}
 use Rattle.room_store_check_rows.specs.Disagreements.{WasGiven}
 use Rattle.room_store_check_rows.specs.declared.disagreements.CallFault.TheVariants as call
 use Rattle.room_store_check_rows.specs.declared.disagreements.Disagreement.TheVariants as wrong
@@ -54,7 +54,7 @@ use Rattle.room_store_check_rows.specs.declared.disagreements.VehicleFault.TheVa
 use Rattle.room_store_check_rows.specs.declared.disagreements.VehicleFault.{VehicleFault}
 use Rattle.room_store_check_rows.proofs.AtEachKey.{opened_decides}
 use Rattle.room_store_check_rows.proofs.FaultLaws.{Finds, find_first, find_like, find_more, find_or, find_unless}
-use Rattle.room_store_check_rows.proofs.FaultLaws.{not_so, regrouped, tells}
+use Rattle.room_store_check_rows.proofs.FaultLaws.{detects, not_so, regrouped}
 use Rattle.room_store_check_rows.proofs.RoomLaws.{in_range, well_formed_decides}
 use Rattle.room_store_check_rows.proofs.RowLaws.{as_assigned_decides, assignment_decides, at_most, call_decides}
 use Rattle.room_store_check_rows.proofs.RowLaws.{incident_decides, loan_decides, none_sent, numbered_decides}
@@ -110,14 +110,14 @@ module _ (layout : Layout) (s : DivisionRows) where
   assignment_found v None e = find_unless _ _ _ (λ fails. (e, not_so _ (assignment_decides v None) fails))
   assignment_found v (Some a) e = find_unless _ _ _ (λ fails. (a, e, not_so _ (assignment_decides v (Some a)) fails))
 
-  open_tells : (t : Option Turn) → Decides (is_open t) (IsOpen t)
-  open_tells None = (λ e. false≢true e, λ h. absurd h)
-  open_tells (Some t) = unended t.ended
+  turn_decides : (t : Option Turn) → Decides (is_open t) (IsOpen t)
+  turn_decides None = (λ e. false≢true e, λ h. absurd h)
+  turn_decides (Some t) = unended t.ended
 
   no_turn : (v : Vehicle) → has_open_turn s v ≡ false → IsVehicleFault r v vehicle.NoTurn
   no_turn v fails =
       let parts = or_parts (not (is_busy v.status)) _ fails in
-      (twice_not _ parts.0, not_so _ (Decides-and _ _ (at_most _ _) (open_tells _)) parts.1)
+      (twice_not _ parts.0, not_so _ (Decides-and _ _ (at_most _ _) (turn_decides _)) parts.1)
 
   vehicle_found : (v : Vehicle) → Finds (vehicle_fits plan s v) (IsVehicleFault r v)
       (vehicle_fault plan s v)
@@ -156,7 +156,7 @@ module _ (layout : Layout) (s : DivisionRows) where
 
   order_found : (t : Turn) (v : Option Vehicle) → vehicle_at t.callsign s ≡ v
       → Finds (is_in_turn t v) (IsTurnFault r t) (order_fault t v)
-  order_found t None none = record { told = (refl, λ h. rw none at h) }
+  order_found t None none = record { reported = (refl, λ h. rw none at h) }
   order_found t (Some v) there =
       find_like _ (is_in_turn t (Some v))
       (regrouped (nat_le 1 t.order) (nat_le t.order v.last_order) (open_fits v t t.ended))
@@ -185,15 +185,15 @@ module _ (layout : Layout) (s : DivisionRows) where
   -- ---- a call
   call_found : (c : Call) (i : Option Incident) → incident_at c.division c.incident s ≡ i
       → Finds (is_of c i) (IsCallFault r c) (call_fault c i)
-  call_found c None none = record { told = (refl, none) }
+  call_found c None none = record { reported = (refl, none) }
   call_found c (Some i) there = find_or
       (find_unless (IsCallFault r c) (not (is_merged i.state)) call.Merged (λ fails. (i, there, twice_not _ fails)))
       (find_unless (IsCallFault r c) (nat_le i.opened c.at) call.Early (λ fails. (i, there, at_least _ _ fails)))
 
   -- ---- all tables
-  alone : (P : Disagreement → Type 0) (c : Callsign) (what : Disagreement)
+  only_one : (P : Disagreement → Type 0) (c : Callsign) (what : Disagreement)
       → (IsOfNone r c → P what) → Finds (has_vehicle s c) P (unless (has_vehicle s c) what)
-  alone P c what holds = find_unless P _ _ (λ fails. holds (absent _ fails))
+  only_one P c what holds = find_unless P _ _ (λ fails. holds (absent _ fails))
 
   no_row : (a : Area) → Among a plan → has_row s a ≡ false → IsWrong r (wrong.NoDivision a.division)
   no_row a there fails =
@@ -213,11 +213,11 @@ module _ (layout : Layout) (s : DivisionRows) where
       find_more (IsVehicleFault r v) _ _ _ _
       (λ fault holds. record { row = v; there = there; named = refl; holds = (refl, holds) }) (vehicle_found v))))
       (find_first (IsWrong r) (λ l. has_vehicle s l.callsign) _ s.loans
-      (λ l there. alone _ l.callsign _ (λ none. record { row = l; there = there; named = refl; holds = none }))))
+      (λ l there. only_one _ l.callsign _ (λ none. record { row = l; there = there; named = refl; holds = none }))))
       (find_first (IsWrong r) (λ o. has_vehicle s o.callsign) _ s.offers
-      (λ o there. alone _ o.callsign _ (λ none. record { row = o; there = there; named = refl; holds = none }))))
+      (λ o there. only_one _ o.callsign _ (λ none. record { row = o; there = there; named = refl; holds = none }))))
       (find_first (IsWrong r) (λ a. has_vehicle s a.callsign) _ s.assignments
-      (λ a there. alone _ a.callsign _ (λ none. record { row = a; there = there; named = refl; holds = none }))))
+      (λ a there. only_one _ a.callsign _ (λ none. record { row = a; there = there; named = refl; holds = none }))))
       (find_first (IsWrong r) (turn_fits plan s) _ s.turns (λ t there.
       find_more (IsTurnFault r t) _ _ _ _
       (λ fault holds. record { row = t; there = there; named = refl; holds = holds }) (turn_found t))))
@@ -242,5 +242,5 @@ module _ (layout : Layout) (s : DivisionRows) where
       (λ fails. record { row = i; there = there; named = refl; holds = not_so _ (opened_decides plan s o i) fails }))
 
   -- what the search finds of rows in order is reported of their room
-  pub search_tells : IsInOrder r → Tells r (first_disagreement plan s)
-  search_tells o = tells r _ _ (well_formed_decides layout s o) (find_or rows_found (opening_found o))
+  pub search_detects : IsInOrder r → Detects r (first_disagreement plan s)
+  search_detects o = detects r _ _ (well_formed_decides layout s o) (find_or rows_found (opening_found o))

@@ -31,22 +31,22 @@ use Rattle.room_store_check_rows.specs.TerminalCrews.{crew_again, crew_of, crews
 use Rattle.room_store_check_rows.specs.TerminalCrews.{second_crew, subject_fault, terminals_fault, two_crews, uncrewed}
 use Rattle.room_store_check_rows.specs.FirstFaults.{first_of}
 use Rattle.room_store_check_rows.specs.RowTests.{has_vehicle}
-use Rattle.room_store_check_rows.specs.Misfits.{HasTerminal, HasTwoCrews, IsMisfit, TellsOf}
+use Rattle.room_store_check_rows.specs.Misfits.{DetectsOf, HasTerminal, HasTwoCrews, IsMisfit}
 use Rattle.room_store_check_rows.specs.declared.disagreements.TerminalFault.TheVariants as wrong
 use Rattle.room_store_check_rows.specs.declared.disagreements.TerminalFault.{TerminalFault}
-use Rattle.room_store_check_rows.proofs.CrewLaws.{AreApart, crew_told, has_crew, its_crew, who_is}
-use Rattle.room_store_check_rows.proofs.FaultLaws.{Finds, Told, find_first, find_like, find_or, find_unless, not_so}
+use Rattle.room_store_check_rows.proofs.CrewLaws.{AreApart, crew_shown, has_crew, its_crew, who_is}
+use Rattle.room_store_check_rows.proofs.FaultLaws.{Finds, Reported, find_first, find_like, find_or, find_unless, not_so}
 use Rattle.room_store_check_rows.proofs.FaultLaws.{regrouped}
 use Rattle.room_store_check_rows.proofs.RowFaults.{absent}
 use Rattle.room_store_check_rows.proofs.TerminalLaws.{apart_decides, terminals_decide}
 
 -- ---- a crew's terminal
-pub none_told : (r : Room) (ts : List Terminal) (o : Option TerminalFault) (none : Bool)
-    → is_some o ≡ not none → TellsOf r ts o → Decides none (AreTerminals r ts)
-none_told r ts None true e h = (λ q. h, λ w. refl)
-none_told r ts None false e h = absurd (false≢true e)
-none_told r ts (Some x) true e h = absurd (false≢true (sym e))
-none_told r ts (Some x) false e h = (λ q. absurd (false≢true q), λ w. absurd (h.1 w))
+pub none_detected : (r : Room) (ts : List Terminal) (o : Option TerminalFault) (none : Bool)
+    → is_some o ≡ not none → DetectsOf r ts o → Decides none (AreTerminals r ts)
+none_detected r ts None true e h = (λ q. h, λ w. refl)
+none_detected r ts None false e h = absurd (false≢true e)
+none_detected r ts (Some x) true e h = absurd (false≢true (sym e))
+none_detected r ts (Some x) false e h = (λ q. absurd (false≢true q), λ w. absurd (h.1 w))
 
 behind : (w : Who) (t : Terminal) (ts : List Terminal) → HasTerminal w ts → HasTerminal w (t ∷ ts)
 behind w t ts h = record { terminal = h.terminal; there = inr h.there; is = h.is }
@@ -93,12 +93,12 @@ later_twice t ts (wrong.Desk d) h = h
 searched_later : (t : Terminal) (ts : List Terminal)
     → ((c : Callsign) → is_crew c t.who ≡ true → has_crew c ts ≡ false)
     → (o : Option TerminalFault) → Searched ts o → Searched (t ∷ ts) o
-searched_later t ts alone None h = (alone, h)
-searched_later t ts alone (Some x) h = later_twice t ts x h
+searched_later t ts only_one None h = (only_one, h)
+searched_later t ts only_one (Some x) h = later_twice t ts x h
 
-alone : (c : Callsign) (t : Terminal) (ts : List Terminal) → t.who ≡ Crew c → has_crew c ts ≡ false
+only_one : (c : Callsign) (t : Terminal) (ts : List Terminal) → t.who ≡ Crew c → has_crew c ts ≡ false
     → (k : Callsign) → is_crew k t.who ≡ true → has_crew k ts ≡ false
-alone c t ts is none k e =
+only_one c t ts is none k e =
     let its = who_is k t.who e in
     let same : c ≡ k = cc in
     subst (λ a. has_crew a ts ≡ false) same none
@@ -109,7 +109,7 @@ first_searched t ts (Crew c) is o h =
     (elim (has_crew c ts) as (λ (b : Bool).
     has_crew c ts ≡ b → Searched (t ∷ ts) (option_or (cond (not b) None (Some (wrong.TwoCrews c))) o)) [
       | true ↦ λ q. inl (is, crew_there c ts q)
-      | false ↦ λ q. searched_later t ts (alone c t ts is q) o h
+      | false ↦ λ q. searched_later t ts (only_one c t ts is q) o h
     ]) refl
 first_searched t ts (Desk d) is o h = searched_later t ts (λ k e. absurd (false≢true (ap (is_crew k) (sym is) ∙ e))) o h
 first_searched t ts (Position p) is o h =
@@ -136,13 +136,13 @@ there_at (y ∷ ys) x (inr later) =
     ])
 
 pub unordered : (r : Room) (ts : List Terminal) → ¬ IsKeyed token_cmp terminal_key ts
-    → TellsOf r ts (Some wrong.Token)
+    → DetectsOf r ts (Some wrong.Token)
 unordered r ts apart = (apart, λ a. apart a.keyed)
 
-tells : (r : Room) (ts : List Terminal) (fits : Bool) (o : Option TerminalFault)
-    → Decides fits (AreTerminals r ts) → Finds fits (IsMisfit r ts) o → TellsOf r ts o
-tells r ts fits None d h = d.0 h.told
-tells r ts fits (Some x) d h = (h.told.1, not_so fits d h.told.0)
+detects : (r : Room) (ts : List Terminal) (fits : Bool) (o : Option TerminalFault)
+    → Decides fits (AreTerminals r ts) → Finds fits (IsMisfit r ts) o → DetectsOf r ts o
+detects r ts fits None d h = d.0 h.reported
+detects r ts fits (Some x) d h = (h.reported.1, not_so fits d h.reported.0)
 
 module _ (plan : List Area) (s : DivisionRows) (ts : List Terminal) (crews : BTreeSet Callsign)
     (in_order : IsKeyed token_cmp terminal_key ts)
@@ -161,19 +161,19 @@ module _ (plan : List Area) (s : DivisionRows) (ts : List Terminal) (crews : BTr
   twice_is (wrong.Crew c) h = absurd h
   twice_is (wrong.Desk d) h = absurd h
 
-  fewer : as_many ≡ false → (o : Option TerminalFault) → Searched ts o → Told false Misfit o
+  fewer : as_many ≡ false → (o : Option TerminalFault) → Searched ts o → Reported false Misfit o
   fewer q None apart =
       absurd (false≢true (sym q ∙ (apart_decides plan s ts crews in_order vehicles of_terminals).1 apart))
   fewer q (Some x) h = (refl, twice_is x h)
 
   two_found : Finds as_many Misfit (two_crews ts crews)
   two_found = (elim as_many as (λ (b : Bool). as_many ≡ b → Finds b Misfit (cond b None (second_crew ts))) [
-    | true ↦ λ q. record { told = refl }
-    | false ↦ λ q. record { told = fewer q (second_crew ts) (searched ts) }
+    | true ↦ λ q. record { reported = refl }
+    | false ↦ λ q. record { reported = fewer q (second_crew ts) (searched ts) }
   ]) refl
 
   crewless : (c : Callsign) → contains callsign_cmp crews c ≡ false → ¬ HasTerminal (Crew c) ts
-  crewless c fails = no_crew c ts (sym (crew_told c ts) ∙ sym (of_terminals.0 c) ∙ fails)
+  crewless c fails = no_crew c ts (sym (crew_shown c ts) ∙ sym (of_terminals.0 c) ∙ fails)
 
   subject_found : (t : Terminal) → Among t ts → (w : Who) → t.who ≡ w
       → Finds (has_subject plan s w) Misfit (subject_fault plan s w)
@@ -181,11 +181,11 @@ module _ (plan : List Area) (s : DivisionRows) (ts : List Terminal) (crews : BTr
       find_unless Misfit _ _ (λ fails. (record { terminal = t; there = there; is = is }, absent _ fails))
   subject_found t there (Desk d) is =
       find_unless Misfit _ _ (λ fails. (record { terminal = t; there = there; is = is }, fails))
-  subject_found t there (Position p) is = record { told = refl }
+  subject_found t there (Position p) is = record { reported = refl }
 
   -- what the search finds of terminals in order is reported of them and their room
-  pub terminals_tell : TellsOf (room_of plan s) ts (terminals_fault plan s ts crews)
-  terminals_tell = tells (room_of plan s) ts _ _ (terminals_decide plan s ts crews in_order vehicles of_terminals)
+  pub terminals_detected : DetectsOf (room_of plan s) ts (terminals_fault plan s ts crews)
+  terminals_detected = detects (room_of plan s) ts _ _ (terminals_decide plan s ts crews in_order vehicles of_terminals)
       (find_like _ (crews_fit plan s ts crews) (simp regrouped)
       (find_or (find_or two_found
       (find_first Misfit (λ v. contains callsign_cmp crews v.callsign) _ s.vehicles

@@ -23,9 +23,9 @@ use Rattle.room_types.proofs.SentLaws.{itself}
 use Rattle.room_model.specs.FleetRows.{AreTerminals, terminal_at, terminal_key, token_cmp}
 use Rattle.room_model.specs.RoomSlices.{room_of}
 use Rattle.room_store_check_rows.specs.TerminalCrews.{crews_fit, crews_of, has_subject}
-use Rattle.room_store_check_rows.proofs.Agreements.{each, told}
+use Rattle.room_store_check_rows.proofs.Agreements.{each, holds_there}
 use Rattle.room_store_check_rows.proofs.CrewLaws.{AreApart, apart_from_distinct, apart_from_one, crew_found, crew_there}
-use Rattle.room_store_check_rows.proofs.CrewLaws.{crew_told, distinct_from_apart, one_crew}
+use Rattle.room_store_check_rows.proofs.CrewLaws.{crew_shown, distinct_from_apart, one_crew}
 
 module _ (plan : List Area) (s : DivisionRows) (ts : List Terminal) (crews : BTreeSet Callsign)
     (in_order : IsKeyed token_cmp terminal_key ts)
@@ -62,7 +62,7 @@ module _ (plan : List Area) (s : DivisionRows) (ts : List Terminal) (crews : BTr
     has_crew =
         λ c there.
         crew_found c ts in_order
-        (sym (crew_told c ts) ∙ sym (of_terminals.0 c) ∙ told (vehicle_at c s) (f.crewed c) there);
+        (sym (crew_shown c ts) ∙ sym (of_terminals.0 c) ∙ holds_there (vehicle_at c s) (f.crewed c) there);
     one_crew = λ j k c. one_crew c ts f.apart j k;
     crews = λ k c e. rw e at (f.subjects k);
     desks = λ k d e. rw e at (f.subjects k);
@@ -85,7 +85,7 @@ module _ (plan : List Area) (s : DivisionRows) (ts : List Terminal) (crews : BTr
   crewed_at a c None e = tt
   crewed_at a c (Some v) e =
       let found = a.has_crew c (ap is_some e) in
-      of_terminals.0 c ∙ crew_told c ts ∙ crew_there c ts found.0 found.1
+      of_terminals.0 c ∙ crew_shown c ts ∙ crew_there c ts found.0 found.1
 
   fit : AreTerminals (room_of plan s) ts → Fits
   fit a = record {

@@ -38,7 +38,7 @@ pub record HasRow {R K : Type 0} (key : R → K) (rows : List R) (k : K)
   pub named : key row ≡ k
   pub holds : Holds row
 
--- there is no such row, and what has to agree with it wants one
+-- there is no such row, and what has to agree with it needs one
 abbrev pub IsMissing : {X : Type 0} → (Option X → Type 0) → Option X → Type 0
 IsMissing Agrees o = (o ≡ None) × ¬ Agrees None
 
@@ -137,6 +137,6 @@ IsWrong r (wrong.Incident d n fault) =
     HasRow incident_key r.incidents (d, n) (λ i. IsIncidentFault r i fault)
 
 -- Nothing is reported of a well-formed room, and of another what holds of it.
-abbrev pub Tells : Room → Option Disagreement → Type 0
-Tells r None = IsWellFormed r
-Tells r (Some told) = IsWrong r told × ¬ IsWellFormed r
+abbrev pub Detects : Room → Option Disagreement → Type 0
+Detects r None = IsWellFormed r
+Detects r (Some found) = IsWrong r found × ¬ IsWellFormed r

@@ -30,7 +30,7 @@ use Rattle.room_store_check_rows.specs.declared.disagreements.VehicleFault.TheVa
 use Rattle.room_store_check_rows.specs.declared.disagreements.VehicleFault.{VehicleFault}
 use Rattle.room_store_check_rows.specs.RowTests.{assignment_fits, has_last_report, has_open_turn, has_post, has_row}
 use Rattle.room_store_check_rows.specs.RowTests.{has_vehicle, is_as_assigned, is_given, is_numbered, is_opened, is_over}
-use Rattle.room_store_check_rows.specs.RowTests.{loan_at, loan_fits, offer_at, offer_fits, open_fits, told_cmp}
+use Rattle.room_store_check_rows.specs.RowTests.{loan_at, loan_fits, offer_at, offer_fits, open_fits, opening_cmp}
 
 -- the fault, unless the row fits
 abbrev pub unless : {X : Type 0} → Bool → X → Option X
@@ -139,9 +139,9 @@ abbrev pub opening_fault : DivisionRows → Incident → Option Disagreement
 opening_fault s i = unless (is_opened s i) (wrong.Incident i.division i.number incident.NoCall)
 
 -- the same by what the calls give
-abbrev pub told_fault : BTreeSet (ℕ × ℕ × ℕ) → Incident → Option Disagreement
-told_fault told i = unless (is_merged i.state
-    || contains told_cmp told (i.division, i.number, i.opened))
+abbrev pub uncalled_fault : BTreeSet (ℕ × ℕ × ℕ) → Incident → Option Disagreement
+uncalled_fault openings i = unless (is_merged i.state
+    || contains opening_cmp openings (i.division, i.number, i.opened))
     (wrong.Incident i.division i.number incident.NoCall)
 
 -- ---- all tables, one after another

@@ -12,9 +12,9 @@ use Rattle.room_types.specs.declared.tables.Call.{Call}
 use Rattle.room_types.specs.declared.tables.Report.{Report}
 use Rattle.room_types.specs.declared.tables.Vehicle.{Vehicle}
 use Rattle.room_store_check_rows.specs.FirstFaults.{call_disagreement, first_of, incident_disagreement}
-use Rattle.room_store_check_rows.specs.FirstFaults.{report_disagreement, standing_disagreement, told_fault}
+use Rattle.room_store_check_rows.specs.FirstFaults.{report_disagreement, standing_disagreement, uncalled_fault}
 use Rattle.room_store_check_rows.specs.FirstFaults.{turn_disagreement}
-use Rattle.room_store_check_rows.specs.RowTests.{told_cmp, told_of}
+use Rattle.room_store_check_rows.specs.RowTests.{opening_cmp, opening_of}
 use Rattle.room_store_check_rows.specs.declared.disagreements.Disagreement.{Disagreement}
 
 abbrev pub has_last_number : Report → Option Vehicle → Bool
@@ -43,13 +43,13 @@ histories_fit plan s =
     && list_all (λ c. is_none (call_disagreement (kept s) c)) s.calls)
 
 -- the set has just what these calls give
-abbrev pub Tell : List Call → BTreeSet (ℕ × ℕ × ℕ) → Type 0
-Tell calls told = (x : ℕ × ℕ × ℕ)
-    → contains told_cmp told x ≡ list_any (λ c. is_eq (told_cmp x (told_of c))) calls
+abbrev pub AreOpenings : List Call → BTreeSet (ℕ × ℕ × ℕ) → Type 0
+AreOpenings calls openings = (x : ℕ × ℕ × ℕ)
+    → contains opening_cmp openings x ≡ list_any (λ c. is_eq (opening_cmp x (opening_of c))) calls
 
 -- what is wrong first with the rows that are kept, but for the turns, reports and calls of them
 abbrev pub kept_disagreement : List Area → DivisionRows → BTreeSet (ℕ × ℕ × ℕ) → Option Disagreement
-kept_disagreement plan s told = option_or (option_or
+kept_disagreement plan s openings = option_or (option_or
     (standing_disagreement plan s)
     (first_of (incident_disagreement s) s.incidents))
-    (first_of (told_fault told) s.incidents)
+    (first_of (uncalled_fault openings) s.incidents)

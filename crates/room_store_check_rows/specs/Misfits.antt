@@ -34,6 +34,6 @@ IsMisfit r ts (wrong.Crew c) = HasTerminal (Crew c) ts × IsOfNone r c
 IsMisfit r ts (wrong.Desk d) = HasTerminal (Desk d) ts × (has_division r.plan d ≡ false)
 
 -- Nothing is reported of terminals that fit the room, and of others what holds of them.
-abbrev pub TellsOf : Room → List Terminal → Option TerminalFault → Type 0
-TellsOf r ts None = AreTerminals r ts
-TellsOf r ts (Some told) = IsMisfit r ts told × ¬ AreTerminals r ts
+abbrev pub DetectsOf : Room → List Terminal → Option TerminalFault → Type 0
+DetectsOf r ts None = AreTerminals r ts
+DetectsOf r ts (Some found) = IsMisfit r ts found × ¬ AreTerminals r ts

@@ -144,12 +144,13 @@ abbrev pub opens : Incident → Call → Bool
 opens i c = i.division == c.division && (i.number == c.incident && i.opened == c.at)
 
 -- what a call gives: its incident, and a moment
-abbrev pub told_of : Call → ℕ × ℕ × ℕ
-told_of c = (c.division, c.incident, c.at)
+abbrev pub opening_of : Call → ℕ × ℕ × ℕ
+opening_of c = (c.division, c.incident, c.at)
 
 -- by division, incident and moment
-abbrev pub told_cmp : ℕ × ℕ × ℕ → ℕ × ℕ × ℕ → Ordering
-told_cmp x y = ordering_then (ordering_then (nat_cmp x.0 y.0) (nat_cmp x.1 y.1)) (nat_cmp x.2 y.2)
+abbrev pub opening_cmp : ℕ × ℕ × ℕ → ℕ × ℕ × ℕ → Ordering
+opening_cmp x y =
+    ordering_then (ordering_then (nat_cmp x.0 y.0) (nat_cmp x.1 y.1)) (nat_cmp x.2 y.2)
 
 abbrev pub is_opened : DivisionRows → Incident → Bool
 is_opened s i = is_merged i.state || list_any (opens i) s.calls

@@ -135,33 +135,33 @@ impl fmt::Display for Disagreement {
             }
             Disagreement::Point(division, number) => {
                 let fault = "is in no division of the plan";
-                tell_of_division(f, "point", number.get(), division, fault)
+                write_of_division(f, "point", number.get(), division, fault)
             }
             Disagreement::Vehicle(callsign, status, fault) => {
                 let (name, number, what) = (callsign.as_str(), status.number(), fault.text());
                 write!(f, "vehicle {name} is at status {number} and {what}")
             }
-            Disagreement::Loan(callsign) => tell_of_none(f, "a loan", callsign),
-            Disagreement::Offer(callsign) => tell_of_none(f, "an offer", callsign),
-            Disagreement::Assignment(callsign) => tell_of_none(f, "an assignment", callsign),
+            Disagreement::Loan(callsign) => write_of_none(f, "a loan", callsign),
+            Disagreement::Offer(callsign) => write_of_none(f, "an offer", callsign),
+            Disagreement::Assignment(callsign) => write_of_none(f, "an assignment", callsign),
             Disagreement::Turn(callsign, order, fault) => {
-                tell_of_vehicle(f, "turn", order, callsign, fault.text())
+                write_of_vehicle(f, "turn", order, callsign, fault.text())
             }
             Disagreement::Report(callsign, number, fault) => {
-                tell_of_vehicle(f, "report", number, callsign, fault.text())
+                write_of_vehicle(f, "report", number, callsign, fault.text())
             }
             Disagreement::Call(position, serial, fault) => {
                 let (position, number, what) = (position.get(), serial.get(), fault.text());
                 write!(f, "call {number} of position {position} is of {what}")
             }
             Disagreement::Incident(division, number, fault) => {
-                tell_of_division(f, "incident", number.get(), division, fault.text())
+                write_of_division(f, "incident", number.get(), division, fault.text())
             }
         }
     }
 }
 
-fn tell_of_division<W: fmt::Write>(
+fn write_of_division<W: fmt::Write>(
     f: &mut fmt::Formatter<W>,
     what: &str,
     number: u32,
@@ -172,7 +172,7 @@ fn tell_of_division<W: fmt::Write>(
     write!(f, "{what} {number} of division {division} {fault}")
 }
 
-fn tell_of_vehicle<W: fmt::Write>(
+fn write_of_vehicle<W: fmt::Write>(
     f: &mut fmt::Formatter<W>,
     what: &str,
     number: Number,
@@ -183,7 +183,7 @@ fn tell_of_vehicle<W: fmt::Write>(
     write!(f, "{what} {number} of vehicle {name} {fault}")
 }
 
-fn tell_of_none<W: fmt::Write>(
+fn write_of_none<W: fmt::Write>(
     f: &mut fmt::Formatter<W>,
     what: &str,
     callsign: Callsign,
@@ -200,16 +200,16 @@ impl VehicleFault {
             VehicleFault::Loan => "has a loan that is not from its home to its holder",
             VehicleFault::NoOffer => "has no offer",
             VehicleFault::Offer => {
-                "has an offer, which wants status 7, its home as lender, and another division"
+                "has an offer, which needs status 7, its home as lender, and another division"
             }
             VehicleFault::NoAssignment => "has no assignment",
             VehicleFault::Assignment => {
-                "has an assignment, which wants status 2 to 5, its holder and its last order"
+                "has an assignment, which needs status 2 to 5, its holder and its last order"
             }
             VehicleFault::NoTurn => "has no open turn of its last order",
             VehicleFault::NoReport => "has no report of its last number",
             VehicleFault::Post => {
-                "has a post, which wants status 1 or 6 and a point of its holder"
+                "has a post, which needs status 1 or 6 and a point of its holder"
             }
         }
     }
@@ -221,7 +221,7 @@ impl TurnFault {
             TurnFault::Division => "is of no division of the plan",
             TurnFault::Order => "is of an order that no vehicle was given",
             TurnFault::Open => {
-                "is open, which wants its vehicle at status 2 to 5 on that order for that division"
+                "is open, which needs its vehicle at status 2 to 5 on that order for that division"
             }
             TurnFault::Ended => "is ended, and its vehicle is at status 2 to 5 on that order",
             TurnFault::Incident => "is for another incident than the vehicle's assignment",

@@ -5,13 +5,13 @@ ghost use Rattle.room_model.specs.Room.{IsInOrder};
 ghost use Rattle.room_model.specs.RoomSlices.{room_of};
 ghost use Rattle.room_model.specs.RoomAgreements.{IsWellFormed};
 ghost use Rattle.room_types.specs.declared.slices.DivisionRows.{DivisionRows};
-ghost use Rattle.room_types.specs.declared.tables.Call.{Call as Told};
-ghost use Rattle.room_store_check_rows.specs.RowTests.{told_cmp};
-ghost use Rattle.room_store_check_rows.specs.HistoryChecks.{Tell, has_last_number, histories_fit, is_last, kept, kept_disagreement};
+ghost use Rattle.room_types.specs.declared.tables.Call.{Call as CallRow};
+ghost use Rattle.room_store_check_rows.specs.RowTests.{opening_cmp};
+ghost use Rattle.room_store_check_rows.specs.HistoryChecks.{AreOpenings, has_last_number, histories_fit, is_last, kept, kept_disagreement};
 
 use crate::disagreements::Disagreement;
 use crate::first_disagreement::{Judged, first_of};
-use crate::opening_calls::first_untold;
+use crate::opening_calls::first_uncalled;
 use crate::room_checks::{RoomRows, standing_disagreement};
 use room_place::plans::{DivisionNumber, Plan};
 use room_types::numbers::{Moment, Number};
@@ -25,40 +25,40 @@ use std::marker::Model;
 /// the set of the divisions, numbers and moments that they give.
 #[derive(Drop)]
 pub struct Openings {
-    told: BTreeSet<(DivisionNumber, Number, Moment)>,
+    called: BTreeSet<(DivisionNumber, Number, Moment)>,
 }
 
 impl Model for Openings {
     ghost Value = { BTreeSet (ℕ × ℕ × ℕ) };
 
-    ghost view = { λ openings. openings.told };
+    ghost view = { λ openings. openings.called };
 }
 
 impl Openings {
     /// None yet.
     pub fn new(alloc: Global) -> Openings
-        ensures { Tell [] result }
+        ensures { AreOpenings [] result }
     {
         Openings {
-            told: BTreeSet::new(alloc),
+            called: BTreeSet::new(alloc),
         }
     }
 
     /// Adds what a call gives.
     pub fn add(&mut self, call: &Call) -> Result<(), AllocError>
-        ensures { OnOk result ((calls : List Told) → Tell calls self.old
-            → Tell (calls ++ call.now ∷ []) self.new) }
+        ensures { OnOk result ((calls : List CallRow) → AreOpenings calls self.old
+            → AreOpenings (calls ++ call.now ∷ []) self.new) }
     {
-        self.told.insert((call.division, call.incident, call.at))?;
+        self.called.insert((call.division, call.incident, call.at))?;
         Ok(())
     }
 
     // Whether the incident's opening is given.
     pub(crate) fn has(&self, incident: &Incident) -> bool
         ensures { let i = incident.now in result ≡
-            contains told_cmp self.now (i.division, i.number, i.opened) }
+            contains opening_cmp self.now (i.division, i.number, i.opened) }
     {
-        self.told
+        self.called
             .contains(&(incident.division, incident.number, incident.opened))
     }
 }
@@ -95,7 +95,7 @@ pub fn is_room_well_formed(
     do_histories_fit: bool,
 ) -> bool
     ensures { (s : DivisionRows) → IsInOrder (room_of plan.now.areas s) → rows.now ≡ kept s
-        → Tell s.calls openings.now → do_histories_fit ≡ histories_fit plan.now.areas s
+        → AreOpenings s.calls openings.now → do_histories_fit ≡ histories_fit plan.now.areas s
         → (IsTrue result ↔ IsWellFormed (room_of plan.now.areas s)) }
 {
     do_histories_fit && kept_disagreement(plan, rows, openings).is_none()
@@ -108,5 +108,5 @@ fn kept_disagreement(plan: &Plan, rows: &RoomRows, openings: &Openings) -> Optio
     let incidents = rows.incidents.as_slice();
     standing_disagreement(plan, rows)
         .or(first_of(plan, rows, incidents))
-        .or(first_untold(openings, incidents))
+        .or(first_uncalled(openings, incidents))
 }

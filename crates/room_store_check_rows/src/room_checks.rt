@@ -5,7 +5,7 @@ ghost use Rattle.room_model.specs.Room.{IsInOrder};
 ghost use Rattle.room_model.specs.RoomSlices.{room_of};
 ghost use Rattle.room_model.specs.RoomAgreements.{IsWellFormed};
 ghost use Rattle.room_store_check_rows.specs.FirstFaults.{first_disagreement, rows_disagreement, standing_disagreement};
-ghost use Rattle.room_store_check_rows.specs.Disagreements.{Tells};
+ghost use Rattle.room_store_check_rows.specs.Disagreements.{Detects};
 
 use crate::disagreements::Disagreement;
 use crate::first_disagreement::first_of;
@@ -37,7 +37,7 @@ pub fn disagreement(
     plan: &Plan,
     rows: &RoomRows,
 ) -> Result<Option<Disagreement>, Refusal>
-    ensures told { IfOk result (Tells (room_of plan.now.areas rows.now)) }
+    ensures detected { IfOk result (Detects (room_of plan.now.areas rows.now)) }
     ensures first { IfOk result (λ found. found ≡ first_disagreement plan.now.areas rows.now) }
     ensures memory { IfErr result (λ refusal. refusal ≡ Memory) }
 {

@@ -10,7 +10,7 @@ ghost use Rattle.room_model.specs.FleetRows.{AreTerminals, is_crew, terminal_key
 ghost use Rattle.room_model.specs.RoomSlices.{room_of};
 ghost use Rattle.room_store_check_rows.specs.TerminalCrews.{crew_again, crew_of, crews_of, second_crew, subject_fault, terminals_fault, two_crews, uncrewed};
 ghost use Rattle.room_store_check_rows.specs.FirstFaults.{first_of};
-ghost use Rattle.room_store_check_rows.specs.Misfits.{TellsOf};
+ghost use Rattle.room_store_check_rows.specs.Misfits.{DetectsOf};
 
 use crate::disagreements::TerminalFault;
 use crate::first_disagreement::unless;
@@ -49,7 +49,7 @@ pub fn terminals_fault(
     rows: &RoomRows,
     terminals: &[Terminal],
 ) -> Result<Option<TerminalFault>, Refusal>
-    ensures told { IfOk result (TellsOf (room_of plan.now.areas rows.now) terminals.now) }
+    ensures detected { IfOk result (DetectsOf (room_of plan.now.areas rows.now) terminals.now) }
     ensures memory { IfErr result (λ refusal. refusal ≡ Memory) }
 {
     let _in_order = rows.vehicles.as_slice();

@@ -24,7 +24,7 @@ use Rattle.room_tables_rows.proofs.OneRoom.{one_config, one_room}
 use Rattle.room_tables_rows.proofs.PlanLaws.{numbered-injective}
 use Rattle.room_tables_rows.proofs.RowLaws.{area_faithful}
 use Rattle.room_tables_schema.proofs.TypedTables.{stands_for_one}
-use Rattle.room_store_writes.specs.Houses.{config_of}
+use Rattle.room_store_writes.specs.Configurations.{config_of}
 
 -- what failed gave nothing
 pub none_found : {T E : Type 0} (r : Result T E) (P : T → Type 0) → IsErr r → IfOk r P
@@ -36,19 +36,19 @@ none_ok (Ok x) P is = absurd cc
 none_ok (Err e) P is = tt
 
 -- and a fault of the database says nothing of a room
-pub not_told : {T : Type 0} (r : Result T FileFault) (fault : Fault) (P : Type 0)
+pub not_reported : {T : Type 0} (r : Result T FileFault) (fault : Fault) (P : Type 0)
     → IsErrAnd r (λ why. why ≡ take_fault fault) → IfErr r (λ e. e ≡ NotARoom → P)
-not_told (Ok x) fault P is = tt
-not_told (Err e) faults.Memory P is = λ none. cc
-not_told (Err e) faults.Storage P is = λ none. cc
+not_reported (Ok x) fault P is = tt
+not_reported (Err e) faults.Memory P is = λ none. cc
+not_reported (Err e) faults.Storage P is = λ none. cc
 
 -- why the database failed is why storage is reported
-pub told_storage : {T : Type 0} (r : Result T FileFault) (fault : Fault) (P : Type 0)
+pub storage_reported : {T : Type 0} (r : Result T FileFault) (fault : Fault) (P : Type 0)
     → IsErrAnd r (λ why. why ≡ take_fault fault) → IfStorage P fault
     → IfErr r (λ e. e ≡ Storage → P)
-told_storage (Ok x) fault P is why = tt
-told_storage (Err e) faults.Memory P is why = λ storage. cc
-told_storage (Err e) faults.Storage P is why = λ storage. why
+storage_reported (Ok x) fault P is why = tt
+storage_reported (Err e) faults.Memory P is why = λ storage. cc
+storage_reported (Err e) faults.Storage P is why = λ storage. why
 
 pub stored : {P : Type 0} (fault : Fault) → IfStorage P fault → take_fault fault ≡ Storage → P
 stored faults.Memory why is = cc

@@ -11,7 +11,7 @@ use Rattle.sqlite_trees.specs.Tree.{Trees}
 use Rattle.sqlite_trees.specs.declared.store.Store.{Ghosts}
 use Rattle.sqlite_value.specs.Order.{Row}
 use Rattle.room_types.specs.declared.slices.DivisionRows.{DivisionRows}
-use Rattle.room_tables_schema.proofs.ReadLaws.{fails_inside, told_inside}
+use Rattle.room_tables_schema.proofs.ReadLaws.{ends_inside, fails_inside}
 use Rattle.room_tables_schema.specs.Outcomes.{ReadsInside}
 use Rattle.room_tables_schema.specs.TableTrees.{AreNumbered}
 use Rattle.room_tables_schema.specs.FileConnections.{HasRoomSchema, IsClean}
@@ -30,13 +30,13 @@ use Rattle.room_tables_rows.specs.ReportSql.{report_row}
 use Rattle.room_tables_rows.specs.TurnSql.{turn_row}
 use Rattle.room_tables_rows.specs.VehicleSql.{vehicle_row}
 use Rattle.room_tables.proofs.Inside.{inside_then}
-use Rattle.room_tables.proofs.Told.{if_storage}
+use Rattle.room_tables.proofs.ReadFailures.{if_storage}
 use Rattle.room_tables.specs.Failures.{FailsAtLast, IfStorage, WentWell}
 use Rattle.room_tables.specs.Rowids.{AreAllNumbered, FailsAtRowids}
 use Rattle.room_tables.specs.RoomsInTables.{StandsFor}
 use Rattle.room_store_writes.proofs.CommitLaws.{ok_then}
 use Rattle.room_store_check_tables.specs.HeldRooms.{HasRows, ReadsNext}
-use Rattle.room_store_check_tables.specs.ReadCauses.{FailsAtTable, FailsInTables, TellsTable, rowids_fail}
+use Rattle.room_store_check_tables.specs.ReadCauses.{ExplainsTable, FailsAtTable, FailsInTables, rowids_fail}
 
 -- ---- one read: it found rows, it failed, or one before it had failed
 
@@ -47,7 +47,7 @@ module _ {S T : Type 0} {g : Ghosts S} {a b : Held S} {before : Result (Unit {0}
       → (IsClean g b → Is (state g a).now.trees) → ReadsNext g a b before before Is Fails
   next_found is reads found =
       subst (λ r. ReadsNext g a b r r Is Fails) (sym is)
-      (record { found = found; reads = told_inside _ reads; why = λ clean. tt; stays = tt })
+      (record { found = found; reads = ends_inside _ reads; why = λ clean. tt; stays = tt })
 
   pub next_failed : {x : Unit {0}} {e : Fault} → before ≡ Ok x
       → ReadsInside {T = T} {E = Fault} g a b (Err e)
@@ -85,7 +85,7 @@ module _ {S T E : Type 0} {g : Ghosts S} {a b : Held S} {x : T}
     (reads : ReadsInside {T = T} {E = E} g a b (Ok x)) where
   well_then : (d : Held S) → WentWell g b d → WentWell g a d
   well_then d (inl none) =
-      inr (subst (λ h. ReadsInside {T = Unit {0}} {E = Fault} g a h (Ok tt)) (sym none) (told_inside (Ok tt) reads))
+      inr (subst (λ h. ReadsInside {T = Unit {0}} {E = Fault} g a h (Ok tt)) (sym none) (ends_inside (Ok tt) reads))
   well_then d (inr more) = inr (inside_then reads (Ok tt) more)
 
   pub fails_then : {c : Held S} → FailsInTables g b c → FailsInTables g a c
@@ -101,7 +101,7 @@ pub record ReadSoFar {S : Type 0} (g : Ghosts S) (first last : Held S)
     (done : Result (Unit {0}) Fault) (P : Type 0) : Type 0 where
   pub reads : ReadsInside g first last done
   pub found : IsClean g last → OnOk done P
-  pub why : TellsTable g first last done
+  pub why : ExplainsTable g first last done
 
 module _ {S : Type 0} {g : Ghosts S} {Is : Trees → Type 0} {Fails : State → State → Type 0} where
   pub first_read : {a b : Held S} {after : Result (Unit {0}) Fault}
@@ -138,8 +138,8 @@ module _ {S : Type 0} {g : Ghosts S} {Is : Trees → Type 0} {Fails : State → 
           (subst (ReadsInside g a b) (sym next.stays.1) so_far.reads);
       found = λ clean. subst (λ r. OnOk r (P × Is (state g a).now.trees)) (sym next.stays.1) tt;
       why =
-          subst (λ h. TellsTable g a h after) (sym next.stays.0)
-          (subst (TellsTable g a b) (sym next.stays.1) so_far.why);
+          subst (λ h. ExplainsTable g a h after) (sym next.stays.0)
+          (subst (ExplainsTable g a b) (sym next.stays.1) so_far.why);
     }
 
     pub and_read : {before after : Result (Unit {0}) Fault} → ReadSoFar g a b before P

@@ -27,15 +27,15 @@ use Rattle.room_tables_schema.specs.Schema.{room_schema}
 use Rattle.room_tables.specs.Rowids.{AreAllNumbered}
 use Rattle.room_tables.specs.RoomsInTables.{Stands}
 use Rattle.room_tables.specs.RowStreams.{AreAll}
-use Rattle.room_store_check_rows.specs.HistoryChecks.{Tell, histories_fit, kept}
+use Rattle.room_store_check_rows.specs.HistoryChecks.{AreOpenings, histories_fit, kept}
 use Rattle.room_store_writes.proofs.CommitLaws.{unchanged_survives}
-use Rattle.room_store_writes.specs.Houses.{config_of}
+use Rattle.room_store_writes.specs.Configurations.{config_of}
 use Rattle.room_store_writes.specs.Transactions.{Leaves, IsCommitted}
 use Rattle.room_store_check_tables.proofs.Findings.{held_is, stands_with}
 use Rattle.room_store_check_tables.specs.HeldRooms.{HasConfiguration, HasRows, HoldsRoom, IsPlanOf, WritesNothing}
 use Rattle.room_store_check_tables.specs.StreamedPlan.{AreAssignments, AreBeside, AreDivisions, AreIncidents, AreLoans}
 use Rattle.room_store_check_tables.specs.StreamedPlan.{AreOffers, ArePoints, AreRows, AreVehicles, HasJudged, IsFound}
-use Rattle.room_store_check_tables.specs.StreamedPlan.{IsHistory, TellsSound}
+use Rattle.room_store_check_tables.specs.StreamedPlan.{IsHistory, ShowsSound}
 use Rattle.room_store_check_tables.specs.ReadCauses.{FailsInTables, FailsToTake}
 use Rattle.room_store_check_tables.specs.declared.streamed_plan.JudgedRows.{JudgedRows}
 use Rattle.room_store_check_tables.specs.declared.streamed_plan.KeptHistory.{KeptHistory}
@@ -241,7 +241,7 @@ judged_with plan x history trees beside h =
             in_order = rows_in_order trees all plan are;
             kept_are =
                 kept_with plan x history trees beside.no_calls h;
-            told = h.told;
+            called = h.called;
             agree = h.agree;
           };
     }
@@ -258,15 +258,15 @@ module _ (plan : List Area) (x : DivisionRows) (terminals : List Terminal) where
       record { keyed = h.keyed; has_crew = h.has_crew; one_crew = h.one_crew; crews = h.crews; desks = h.desks }
 
 -- both tests say whether the room is well-formed and the terminals fit it
-pub sound_told : (plan : List Area) (terminals : List Terminal) (judged : JudgedRows)
+pub sound_shown : (plan : List Area) (terminals : List Terminal) (judged : JudgedRows)
     (formed fit : Bool)
     → ((x : DivisionRows) → IsInOrder (room_of plan x) → judged.rows ≡ kept x
-    → Tell x.calls judged.openings → judged.do_agree ≡ histories_fit plan x
+    → AreOpenings x.calls judged.openings → judged.do_agree ≡ histories_fit plan x
     → (IsTrue formed ↔ IsWellFormed (room_of plan x)))
     → (IsTrue fit ↔ AreTerminals (room_of plan judged.rows) terminals)
-    → TellsSound plan terminals judged (formed && fit)
-sound_told plan terminals judged formed fit well fits x h =
-    let one = well x h.in_order h.kept_are h.told h.agree in
+    → ShowsSound plan terminals judged (formed && fit)
+sound_shown plan terminals judged formed fit well fits x h =
+    let one = well x h.in_order h.kept_are h.called h.agree in
     let two = subst (λ rows. IsTrue fit ↔ AreTerminals (room_of plan rows) terminals) h.kept_are fits in (
       λ yes. let parts = and_parts formed fit yes in (one.0 parts.0, fit_all plan x terminals (two.0 parts.1)),
       λ sound. both_true formed fit (one.1 sound.0) (two.1 (fit_kept plan x terminals sound.1)),
@@ -288,13 +288,13 @@ module _ (old mid : State) (same : IsTrue mid.is_open → mid.now ≡ old.now) (
       let are = subst (λ (db : Database). AreRows db.trees rows) is found.judged_are.are in
       stands_with old.now.trees layout terminals rows (config all) (rows_held old.now.trees rows all are)
 
-  pub is_plan : TellsSound layout.areas terminals judged true → IsPlanOf old.now.trees layout
-  is_plan tells =
-      let sound = (tells rows found.judged_are.is_judged).0 refl in
+  pub is_plan : ShowsSound layout.areas terminals judged true → IsPlanOf old.now.trees layout
+  is_plan shows =
+      let sound = (shows rows found.judged_are.is_judged).0 refl in
       (terminals, room_of layout.areas rows, sound.0, sound.1, refl, stood_for)
 
-  pub is_no_room : TellsSound layout.areas terminals judged false → ¬ HoldsRoom old.now.trees
-  is_no_room tells holds =
+  pub is_no_room : ShowsSound layout.areas terminals judged false → ¬ HoldsRoom old.now.trees
+  is_no_room shows holds =
       let sound = held_is old.now.trees layout terminals (room_of layout.areas rows) stood_for holds in
-      let yes = (tells rows found.judged_are.is_judged).1 sound in
+      let yes = (shows rows found.judged_are.is_judged).1 sound in
       cc

@@ -33,7 +33,7 @@ use Rattle.room_tables_schema.specs.declared.database_faults.Fault.TheVariants a
 use Rattle.room_tables.specs.Failures.{IfStorage}
 use Rattle.room_tables.specs.Rowids.{AreAllNumbered}
 use Rattle.room_tables.specs.RoomsInTables.{Configuration, Stands, StandsFor, numbered}
-use Rattle.room_store_writes.specs.Houses.{config_of}
+use Rattle.room_store_writes.specs.Configurations.{config_of}
 use Rattle.room_store_writes.specs.Transactions.{Leaves}
 use Rattle.room_store_check_tables.specs.declared.file_faults.FileFault.{FileFault}
 use Rattle.room_store_check_tables.specs.declared.file_faults.FileFault.TheVariants.{Memory, Storage}

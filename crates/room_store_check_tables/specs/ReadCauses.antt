@@ -36,7 +36,7 @@ use Rattle.room_tables_rows.specs.declared.terminal_sql.TheConstants.{ALL_TERMIN
 use Rattle.room_tables_rows.specs.declared.turn_sql.TheConstants.{ALL_TURNS}
 use Rattle.room_tables_rows.specs.declared.vehicle_sql.TheConstants.{ALL_VEHICLES}
 use Rattle.room_tables_schema.specs.declared.database_faults.Fault.{Fault}
-use Rattle.room_tables.specs.Failures.{AreNoPlan, AreNoRows, AreNotJustOne, FailsAtLast, FailsToRead, TellsWhyAtLast}
+use Rattle.room_tables.specs.Failures.{AreNoPlan, AreNoRows, AreNotJustOne, ExplainsWhyAtLast, FailsAtLast, FailsToRead}
 use Rattle.room_tables.specs.Rowids.{FailsAtRowids}
 
 -- All rows of a table were asked for, and the query failed, not for lack of memory; or what it
@@ -81,8 +81,8 @@ abbrev pub FailsInTables : {S : Type 0} → Ghosts S → Held S → Held S → T
 FailsInTables g = FailsAtLast g FailsAtTable
 
 -- storage is reported where that is so
-abbrev pub TellsTable : {S T : Type 0} → Ghosts S → Held S → Held S → Result T Fault → Type 0
-TellsTable g old new result = TellsWhyAtLast g old new result FailsAtTable
+abbrev pub ExplainsTable : {S T : Type 0} → Ghosts S → Held S → Held S → Result T Fault → Type 0
+ExplainsTable g old new result = ExplainsWhyAtLast g old new result FailsAtTable
 
 -- where the connection was open, its disk has failed since
 abbrev pub DiskFails : State → State → Type 0

@@ -39,7 +39,7 @@ use Rattle.room_tables_schema.specs.Schema.{vehicles_table}
 use Rattle.room_tables.specs.Rowids.{AreAllNumbered}
 use Rattle.room_tables.specs.RowStreams.{AreAll}
 use Rattle.room_store_check_rows.specs.FirstFaults.{call_disagreement, report_disagreement, turn_disagreement}
-use Rattle.room_store_check_rows.specs.HistoryChecks.{Tell, histories_fit, is_last, kept}
+use Rattle.room_store_check_rows.specs.HistoryChecks.{AreOpenings, histories_fit, is_last, kept}
 use Rattle.room_store_check_tables.specs.declared.streamed_plan.JudgedRows.{JudgedRows}
 use Rattle.room_store_check_tables.specs.declared.streamed_plan.KeptHistory.{KeptHistory}
 
@@ -113,7 +113,7 @@ pub record IsHistory (trees : Trees) (plan : List Area) (x : DivisionRows)
   pub calls_are : AreCalls trees calls
   pub open_turns : history.turns ≡ filter (λ t. is_none t.ended) turns
   pub last_reports : history.reports ≡ filter (is_last x.vehicles) reports
-  pub told : Tell calls history.openings
+  pub called : AreOpenings calls history.openings
   pub agree : history.do_agree ≡ list_all (λ t. is_none (turn_disagreement plan x t)) turns
       && (list_all (λ r. is_none (report_disagreement plan x r)) reports
       && list_all (λ c. is_none (call_disagreement x c)) calls)
@@ -122,7 +122,7 @@ pub record IsHistory (trees : Trees) (plan : List Area) (x : DivisionRows)
 pub record IsJudged (plan : List Area) (x : DivisionRows) (judged : JudgedRows) : Type 0 where
   pub in_order : IsInOrder (room_of plan x)
   pub kept_are : judged.rows ≡ kept x
-  pub told : Tell x.calls judged.openings
+  pub called : AreOpenings x.calls judged.openings
   pub agree : judged.do_agree ≡ histories_fit plan x
 
 -- The tables have rows of which it is.
@@ -139,7 +139,7 @@ pub record IsFound (at : State) (plan : List Area) (judged : JudgedRows) : Type 
 
 -- It gets whether the rows, whichever were judged so, make a well-formed room that these
 -- terminals fit.
-abbrev pub TellsSound : List Area → List Terminal → JudgedRows → Bool → Type 0
-TellsSound plan terminals judged sound =
+abbrev pub ShowsSound : List Area → List Terminal → JudgedRows → Bool → Type 0
+ShowsSound plan terminals judged sound =
     (x : DivisionRows) → IsJudged plan x judged
     → (IsTrue sound ↔ (IsWellFormed (room_of plan x) × AreTerminals (room_of plan x) terminals))

@@ -4,11 +4,11 @@ ghost use Rattle.std.specs.List.{list_all};
 ghost use Rattle.sqlite.specs.Held.{state};
 ghost use Rattle.room_types.specs.KeyedRows.{IsKeyed};
 ghost use Rattle.room_types.specs.declared.slices.DivisionRows.{DivisionRows};
-ghost use Rattle.room_store_check_rows.specs.HistoryChecks.{Tell, is_last};
+ghost use Rattle.room_store_check_rows.specs.HistoryChecks.{AreOpenings, is_last};
 ghost use Rattle.room_tables_schema.specs.FileConnections.{HasRoomSchema, IsClean};
 ghost use Rattle.room_tables_schema.specs.declared.database_faults.Fault.TheVariants.{Memory};
 ghost use Rattle.room_tables_schema.specs.Outcomes.{ReadsOnly};
-ghost use Rattle.room_tables.specs.Failures.{AreNoRows, TellsWhy};
+ghost use Rattle.room_tables.specs.Failures.{AreNoRows, ExplainsWhy};
 ghost use Rattle.room_tables.specs.RowStreams.{AreAll};
 ghost use Rattle.room_store_check_tables.specs.JudgedHistories.{AreJudged};
 
@@ -65,10 +65,10 @@ impl History for Report {
 impl History for Call {
     type Kept = Openings;
 
-    ghost keeps = { λ _ calls told. Tell calls told };
+    ghost keeps = { λ _ calls openings. AreOpenings calls openings };
 
-    fn keep(self, _: &RoomRows, told: &mut Openings) -> Result<(), Fault> {
-        told.add(&self)?;
+    fn keep(self, _: &RoomRows, openings: &mut Openings) -> Result<(), Fault> {
+        openings.add(&self)?;
         Ok(())
     }
 }
@@ -128,7 +128,7 @@ pub(crate) fn judge<X: History, S: Alter>(
         (state S.Store conn.old).now.trees xs
         × (judged.1 ≡ list_all (λ x. is_none (X.disagreement plan.now.areas rows.now x)) xs)
         × (X.keeps rows.now [] kept → X.keeps rows.now xs judged.0)) }
-    ensures why { TellsWhy S.Store conn.old conn.new result X.texts.all []
+    ensures why { ExplainsWhy S.Store conn.old conn.new result X.texts.all []
         (AreNoRows X.is_row X.Key.cmp X.key_of X.cells) }
     ensures reads { ReadsOnly S.Store conn.old conn.new result }
 {

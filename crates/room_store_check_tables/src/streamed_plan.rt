@@ -7,8 +7,8 @@ ghost use Rattle.room_tables_schema.specs.Outcomes.{ReadsOnly};
 ghost use Rattle.room_tables.specs.Rowids.{AreAllNumbered};
 ghost use Rattle.room_tables.specs.RowStreams.{AreAll};
 ghost use Rattle.room_store_check_tables.specs.HeldRooms.{HasConfiguration, HoldsRoom, IsPlanOf, ReadsNext, WritesNothing};
-ghost use Rattle.room_store_check_tables.specs.StreamedPlan.{AreBeside, HasJudged, IsFound, IsHistory, TellsSound};
-ghost use Rattle.room_store_check_tables.specs.ReadCauses.{FailsAtRows, FailsInFile, FailsInTables, FailsToTake, TellsTable};
+ghost use Rattle.room_store_check_tables.specs.StreamedPlan.{AreBeside, HasJudged, IsFound, IsHistory, ShowsSound};
+ghost use Rattle.room_store_check_tables.specs.ReadCauses.{ExplainsTable, FailsAtRows, FailsInFile, FailsInTables, FailsToTake};
 ghost use Rattle.room_store_check_tables.specs.declared.file_faults.FileFault.TheVariants.{Memory, NotARoom, Storage};
 ghost use Rattle.room_store_writes.specs.Transactions.{IsCommitted};
 
@@ -34,7 +34,7 @@ use sqlite::{Alter, Connection};
 use std::alloc::Global;
 
 /// The plan of the room that a room's tables hold. Turns, reports and calls, which are the history
-/// of the room, are judged one at a time and let go. Nothing is written.
+/// of the room, are judged one at a time and dropped. Nothing is written.
 pub fn stream_plan<S: Alter>(alloc: Global, conn: &mut Connection<S>) -> Result<Plan, FileFault>
     requires schema { (state S.Store conn.old).now.schema ≡ room_schema }
     requires outside { conn.old.in_transaction ≡ false }
@@ -133,7 +133,7 @@ fn judge_rows<S: Alter>(
     requires room { HasRoomSchema S.Store conn.old }
     ensures judged { IsClean S.Store conn.new
         → IfOk result (HasJudged (state S.Store conn.old).now.trees plan.now.areas) }
-    ensures why { TellsTable S.Store conn.old conn.new result }
+    ensures why { ExplainsTable S.Store conn.old conn.new result }
     ensures reads { ReadsOnly S.Store conn.old conn.new result }
 {
     let mut rows = rows_beside(alloc, conn)?;
@@ -159,7 +159,7 @@ fn rows_beside<S: Alter>(alloc: Global, conn: &mut Connection<S>) -> Result<Divi
     requires room { HasRoomSchema S.Store conn.old }
     ensures beside { IsClean S.Store conn.new
         → IfOk result (AreBeside (state S.Store conn.old).now.trees) }
-    ensures why { TellsTable S.Store conn.old conn.new result }
+    ensures why { ExplainsTable S.Store conn.old conn.new result }
     ensures reads { ReadsOnly S.Store conn.old conn.new result }
 {
     let mut done = Ok(());
@@ -229,7 +229,7 @@ fn judge_history<S: Alter>(
     requires room { HasRoomSchema S.Store conn.old }
     ensures history { IsClean S.Store conn.new
         → IfOk result (IsHistory (state S.Store conn.old).now.trees plan.now.areas rows.now) }
-    ensures why { TellsTable S.Store conn.old conn.new result }
+    ensures why { ExplainsTable S.Store conn.old conn.new result }
     ensures reads { ReadsOnly S.Store conn.old conn.new result }
 {
     let (turns, do_turns) = judge::<Turn, S>(conn, plan, rows, Rows::new(alloc))?;
@@ -251,9 +251,9 @@ fn plan_of_judged(
     judged: JudgedRows,
 ) -> Result<Plan, FileFault>
     ensures sound { IfOk result (λ plan. (plan ≡ config.plan)
-        × TellsSound config.plan.areas config.terminals.items judged true) }
+        × ShowsSound config.plan.areas config.terminals.items judged true) }
     ensures no_room { IfErr result (λ e. e ≡ NotARoom
-        → TellsSound config.plan.areas config.terminals.items judged false) }
+        → ShowsSound config.plan.areas config.terminals.items judged false) }
     ensures cause { IfErr result (λ e. (e ≡ Memory) ⊎ (e ≡ NotARoom)) }
 {
     let test = is_sound(alloc, &config, &judged);
@@ -268,7 +268,7 @@ fn plan_of_judged(
 // Whether they do. What is kept of the history is enough.
 fn is_sound(alloc: Global, config: &Configuration, judged: &JudgedRows) -> Result<bool, FileFault>
     ensures test { IfOk result
-        (TellsSound config.now.plan.areas config.now.terminals.items judged.now) }
+        (ShowsSound config.now.plan.areas config.now.terminals.items judged.now) }
     ensures memory { IfErr result (λ e. e ≡ Memory) }
 {
     let (plan, rows) = (&config.plan, &judged.rows);

@@ -8,9 +8,9 @@ ghost use Rattle.room_place.specs.Plans.{is_plan};
 ghost use Rattle.room_model.specs.RoomSlices.{room_of};
 ghost use Rattle.room_tables.specs.Rowids.{AreAllNumbered};
 ghost use Rattle.room_tables.specs.RoomsInTables.{Stands, StandsFor};
-ghost use Rattle.room_store_writes.specs.Houses.{config_of};
+ghost use Rattle.room_store_writes.specs.Configurations.{config_of};
 ghost use Rattle.room_store_check_tables.specs.HeldRooms.{HasConfiguration, HasNoPlan, HasRows, MakesNoPlan, ReadsNext};
-ghost use Rattle.room_store_check_tables.specs.ReadCauses.{FailsAtRows, FailsInTables, TellsTable};
+ghost use Rattle.room_store_check_tables.specs.ReadCauses.{ExplainsTable, FailsAtRows, FailsInTables};
 ghost use Rattle.room_store_check_tables.specs.declared.file_faults.FileFault.TheVariants.{Memory, NotARoom, Storage};
 
 use crate::file_faults::FileFault;
@@ -122,7 +122,7 @@ fn read_rows<S: Alter>(alloc: Global, tx: &mut Transaction<'_, S>) -> Result<Div
     ensures found { IsClean S.Store tx.new.conn.now
         → IfOk result (λ x. AreAllNumbered (state S.Store tx.old.conn.now).now.trees
         → HasRows (state S.Store tx.old.conn.now).now.trees x) }
-    ensures why { TellsTable S.Store tx.old.conn.now tx.new.conn.now result }
+    ensures why { ExplainsTable S.Store tx.old.conn.now tx.new.conn.now result }
     ensures reads { ReadsInside S.Store tx.old.conn.now tx.new.conn.now result }
     ensures same_reference { tx.new.conn.ghost_name ≡ tx.old.conn.ghost_name }
 {

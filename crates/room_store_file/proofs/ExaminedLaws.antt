@@ -15,7 +15,7 @@ use Rattle.room_tables_schema.specs.Schema.{room_tables}
 use Rattle.room_tables_schema.specs.Versions.{HasTables}
 use Rattle.room_tables_schema.proofs.Standing.{holds_still}
 use Rattle.room_tables_schema.specs.TableTrees.{AreNumbered}
-use Rattle.room_store_writes.specs.Houses.{config_of}
+use Rattle.room_store_writes.specs.Configurations.{config_of}
 use Rattle.room_store_file.specs.ExaminedFile.{Explains, IsReportedFirst, Weighs, wrong_of}
 use Rattle.room_store_file.specs.OpenedFile.{HasNoPlanBy, IsOldRoom, StandsBy}
 use Rattle.room_store_check_tables.specs.HeldRooms.{HasNoPlan}
@@ -57,10 +57,10 @@ not_older now none (wrong.Terminals x) = none
 not_older now none wrong.Storage = none
 
 -- storage is reported where it was met
-pub told_storage : (e : FileFault) → wrong_of e ≡ wrong.Storage → e ≡ Storage
-told_storage NotARoom is = cc
-told_storage Memory is = cc
-told_storage Storage is = refl
+pub storage_reported : (e : FileFault) → wrong_of e ≡ wrong.Storage → e ≡ Storage
+storage_reported NotARoom is = cc
+storage_reported Memory is = cc
+storage_reported Storage is = refl
 
 -- tables that keep their rows number them as before
 still_numbered : (tables : List Table) (old new : Trees) → KeepsRows tables old new

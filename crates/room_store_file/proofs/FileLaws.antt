@@ -16,7 +16,7 @@ use Rattle.room_model.specs.RoomAgreements.{IsWellFormed}
 use Rattle.room_tables_schema.specs.Schema.{room_schema, room_tables, tables_schema}
 use Rattle.room_tables_rows.proofs.OneRoom.{one_config, one_room}
 use Rattle.room_tables.specs.RoomsInTables.{Configuration, Stands}
-use Rattle.room_store_writes.specs.Houses.{config_of}
+use Rattle.room_store_writes.specs.Configurations.{config_of}
 use Rattle.room_store_writes.specs.Transactions.{Leaves}
 use Rattle.room_store_file.specs.OpenedFile.{Becomes, KeepsAllRows, KeepsFile, MayBeIndexed, MayBeMoved, MayBecome}
 use Rattle.room_store_file.specs.OpenedFile.{Moves, Opens, Takes, schema_of}
@@ -57,8 +57,8 @@ all_rows before after same =
 rows_indexed : (before after : Database) → before.schema ≡ tables_schema
     → after.schema ≡ room_schema → KeepsRows room_tables before.trees after.trees
     → KeepsAllRows before after
-rows_indexed before after alone made rows =
-    let tables = ap (λ (s : Schema). s.tables) alone in
+rows_indexed before after only_tables made rows =
+    let tables = ap (λ (s : Schema). s.tables) only_tables in
     record {
       tables = ap (λ (s : Schema). s.tables) made ∙ sym tables;
       rows = subst (λ ts. KeepsRows ts before.trees after.trees) (sym tables) rows;
@@ -136,7 +136,7 @@ pub may_be_indexed : (tables : Tables) (before : Database) (trees : Trees)
     → MayBecome tables before.trees trees → MayBeIndexed before trees
 may_be_indexed Whole before trees has is none = absurd none
 may_be_indexed Unindexed before trees has is rows = record {
-  alone = has;
+  only_tables = has;
   rows = subst (λ ts. KeepsRows ts before.trees trees) (sym (ap (λ (s : Schema). s.tables) has)) rows;
 }
 may_be_indexed First before trees has is b = absurd (elim is [ inl e ↦ (let x = e in cc) | inr e ↦ (let x = e in cc) ])
@@ -171,7 +171,8 @@ module _ (old mid new : State) where
         subst (λ (db : Database). KeepsAllRows db new.committed) (left.committed_is (opens.was_open is_open))
         (opens.committed_rows is_open);
     untouched = λ other.
-        let two = opens.untouched (λ alone. other (subst (λ (db : Database). db.schema ≡ tables_schema) same alone)) in
+        let two = opens.untouched
+        (λ only_tables. other (subst (λ (db : Database). db.schema ≡ tables_schema) same only_tables)) in
         left_left left two;
   }
 

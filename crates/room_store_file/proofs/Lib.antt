@@ -7,7 +7,7 @@ pub mod Tables
 -- the texts that read the tables of a room
 pub mod WholeTables
 -- what bytes encode
-pub mod Told
+pub mod DecodableTexts
 -- rooms whose texts are the same
 pub mod Rooms
 -- what is read and written in a transaction

@@ -32,7 +32,7 @@ use Rattle.room_tables_rows.specs.TurnSql.{turn_row}
 use Rattle.room_tables_rows.specs.VehicleSql.{vehicle_row}
 use Rattle.room_tables_rows.specs.RoomsInTables.{Configuration, numbered}
 use Rattle.room_store_file.specs.DigestTexts.{digest_text, table_text, tables_in, tables_of}
-use Rattle.room_store_file.proofs.Told.{IsStored, each_told, table_told}
+use Rattle.room_store_file.proofs.DecodableTexts.{IsStored, each_decodable, table_decodable}
 
 -- ---- no row of a room holds a real number
 
@@ -222,13 +222,13 @@ module _ (version : Version) (zone elsewhere : List ℕ) (terminals others : Lis
     (e : digest_text version zone terminals room ≡ digest_text version elsewhere others another) where
   same_tables : tables_in version zone terminals room ≡ tables_in version elsewhere others another
   unfolding digest_text
-  same_tables = (each_told (AllByRecursion (AllByRecursion IsStored)) table_text table_told
+  same_tables = (each_decodable (AllByRecursion (AllByRecursion IsStored)) table_text table_decodable
       (tables_in version zone terminals room) (tables_in version elsewhere others another) [] []
       (tables_stored version zone terminals room) (tables_stored version elsewhere others another)
       (same_number version zone elsewhere terminals others room another) (ap (λ l. l ++ []) e)).0
 
-  pub text_tells : (terminals ≡ others) × (room ≡ another) × (version ≡ Second → zone ≡ elsewhere)
-  text_tells =
+  pub text_shows : (terminals ≡ others) × (room ≡ another) × (version ≡ Second → zone ≡ elsewhere)
+  text_shows =
       let rest = same_rest zone elsewhere terminals others room another version same_tables in (
         same_terminals zone elsewhere terminals others room another rest,
         same_room zone elsewhere terminals others room another rest,

@@ -12,7 +12,7 @@ use Rattle.sqlite_value.specs.Order.{Row}
 use Rattle.room_tables_schema.specs.FileConnections.{HasRoomSchema, IsClean}
 use Rattle.room_tables_schema.specs.Schema.{room_schema}
 use Rattle.room_tables_schema.specs.Outcomes.{ReadsInside}
-use Rattle.room_tables_schema.proofs.ReadLaws.{told_inside}
+use Rattle.room_tables_schema.proofs.ReadLaws.{ends_inside}
 use Rattle.room_tables_schema.proofs.Selections.{selected}
 use Rattle.room_tables.proofs.Inside.{inside_then}
 use Rattle.room_store_file.specs.RowHash.{Adds}
@@ -54,7 +54,7 @@ module _ {S : Type 0} {g : Ghosts S} {a b : Held S} {reads : ℕ} where
   pub read_through : {T E : Type 0} {x : T} → 0 < reads → SoFar g a reads b
       → ReadsInside {T = T} {E = E} g a b (Ok x)
   read_through some (inl none) = absurd (omega arith)
-  read_through some (inr it) = told_inside (Ok _) it
+  read_through some (inr it) = ends_inside (Ok _) it
 
 module _ {S : Type 0} {g : Ghosts S} {a b c : Held S} {reads : ℕ} {T E : Type 0} where
   -- the next read succeeds or fails
@@ -64,7 +64,7 @@ module _ {S : Type 0} {g : Ghosts S} {a b c : Held S} {reads : ℕ} {T E : Type 
 
   pub one_more : {x : T} → SoFar g a reads b → ReadsInside {T = T} {E = E} g b c (Ok x)
       → SoFar g a (reads + 1) c
-  one_more before next = inr (told_inside (Ok tt) (read_on before (Ok _) next))
+  one_more before next = inr (ends_inside (Ok tt) (read_on before (Ok _) next))
 
 -- ---- what was added
 

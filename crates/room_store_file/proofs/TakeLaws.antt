@@ -22,7 +22,7 @@ use Rattle.room_tables_schema.specs.Versions.{BeginsAsRoom, HasFirstTables, HasT
 use Rattle.room_tables_schema.specs.declared.database_faults.Fault.{Fault}
 use Rattle.room_tables_schema.specs.declared.database_faults.Fault.TheVariants as faults
 use Rattle.room_tables_rows.proofs.Moves.{moved_from, moves}
-use Rattle.room_tables_rows.proofs.Version.{tells_held}
+use Rattle.room_tables_rows.proofs.Version.{held_shown}
 use Rattle.room_tables.specs.Failures.{IfStorage}
 use Rattle.room_tables.specs.RoomsInTables.{Configuration, Stands}
 use Rattle.room_tables.specs.Writes.{Renews}
@@ -254,7 +254,7 @@ pub first_is_old : (now : Database) → HasFirstTables now.schema → HoldsFirst
 first_is_old now has h =
     let begins : BeginsAsRoom now.schema = elim has
     [ inl is ↦ subst BeginsAsRoom (sym is) (refl, refl) | inr is ↦ subst BeginsAsRoom (sym is) (refl, refl) ] in
-    (begins, tells_held 1 h.layout.zone now.trees h.stands.meta)
+    (begins, held_shown 1 h.layout.zone now.trees h.stands.meta)
 
 pub holds_new : (tables : Tables) (trees : Trees) → (tables ≡ Whole) ⊎ (tables ≡ Unindexed)
     → HoldsRoom trees → HoldsBy tables trees
@@ -271,20 +271,20 @@ pub holds_first : (tables : Tables) (trees : Trees) → (tables ≡ First) ⊎ (
 holds_first tables trees (inl is) h = rw is h
 holds_first tables trees (inr is) h = rw is h
 
-pub told_open : (fault : FileFault) → open_fault fault ≡ opened.NotARoom → fault ≡ NotARoom
-told_open NotARoom is = refl
-told_open Memory is = cc
-told_open Storage is = cc
+pub open_reported : (fault : FileFault) → open_fault fault ≡ opened.NotARoom → fault ≡ NotARoom
+open_reported NotARoom is = refl
+open_reported Memory is = cc
+open_reported Storage is = cc
 
-pub told_storage : (fault : FileFault) → open_fault fault ≡ opened.Storage → fault ≡ Storage
-told_storage NotARoom is = cc
-told_storage Memory is = cc
-told_storage Storage is = refl
+pub storage_reported : (fault : FileFault) → open_fault fault ≡ opened.Storage → fault ≡ Storage
+storage_reported NotARoom is = cc
+storage_reported Memory is = cc
+storage_reported Storage is = refl
 
-pub told_moved : (fault : FileFault) → migrate_fault fault ≡ migrated.NotARoom → fault ≡ NotARoom
-told_moved NotARoom is = refl
-told_moved Memory is = cc
-told_moved Storage is = cc
+pub moved_reported : (fault : FileFault) → migrate_fault fault ≡ migrated.NotARoom → fault ≡ NotARoom
+moved_reported NotARoom is = refl
+moved_reported Memory is = cc
+moved_reported Storage is = cc
 
 -- what recorded the version may be followed by more
 pub renewed_on : {S T E : Type 0} (g : Ghosts S) (a b : Held S) (r : Result T E)

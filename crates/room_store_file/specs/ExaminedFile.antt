@@ -21,7 +21,7 @@ use Rattle.room_store_check_rows.specs.declared.disagreements.TerminalFault.{Ter
 use Rattle.room_store_check_rows.specs.declared.summaries.Summary.{Summary}
 use Rattle.room_tables_schema.specs.Versions.{HasTables}
 use Rattle.room_tables.specs.RoomsInTables.{Stands}
-use Rattle.room_store_writes.specs.Houses.{config_of}
+use Rattle.room_store_writes.specs.Configurations.{config_of}
 use Rattle.room_store_file.specs.OpeningCauses.{FailsInside}
 use Rattle.room_store_file.specs.OpenedFile.{HidesVersion, IsOldRoom}
 use Rattle.room_store_file.specs.declared.room_in_tables.Tables.{Tables}

@@ -53,8 +53,8 @@ pub record HidesVersion (old new : State) : Type 0 where
   pub fails : FailsToRead ALL_META.now [] old new (λ _. ⊥)
 
 -- The file is no room of this version, or the database failed as it was asked for it.
-abbrev pub TellsNoVersion : State → State → Type 0
-TellsNoVersion old new = ¬ IsNewRoom old.now ⊎ HidesVersion old new
+abbrev pub ShowsNoVersion : State → State → Type 0
+ShowsNoVersion old new = ¬ IsNewRoom old.now ⊎ HidesVersion old new
 
 -- A transaction was not committed, for this fault of the database.
 abbrev pub IsUncommitted : State → State → FileFault → Type 0
@@ -69,7 +69,7 @@ pub record KeepsAllRows (before after : Database) : Type 0 where
 -- A stop may leave such tables while the indexes are made of a file that has only a room's tables:
 -- they have all the rows that they had.
 pub record MayBeIndexed (before : Database) (trees : Trees) : Type 0 where
-  pub alone : before.schema ≡ tables_schema
+  pub only_tables : before.schema ≡ tables_schema
   pub rows : KeepsRows before.schema.tables before.trees trees
 
 -- Tables of the first version became those of a room: the rows of all but `meta` stayed, and they

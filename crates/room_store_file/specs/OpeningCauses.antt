@@ -8,7 +8,7 @@ use Rattle.room_tables_schema.specs.Outcomes.{CommitsNothing}
 use Rattle.room_store_check_tables.specs.HeldRooms.{WritesNothing}
 use Rattle.room_store_check_tables.specs.ReadCauses.{FailsInTables, FailsToTake}
 use Rattle.room_store_check_tables.specs.declared.file_faults.FileFault.TheVariants.{Storage}
-use Rattle.room_store_file.specs.OpenedFile.{Becomes, FailsToMake, IsUncommitted, TellsNoVersion, schema_of}
+use Rattle.room_store_file.specs.OpenedFile.{Becomes, FailsToMake, IsUncommitted, ShowsNoVersion, schema_of}
 use Rattle.room_store_file.specs.declared.room_in_tables.Tables.{Tables}
 use Rattle.room_store_file.specs.declared.room_in_tables.Tables.TheVariants.{First, FirstUnindexed, Unindexed, Whole}
 
@@ -42,7 +42,7 @@ module _ {S : Type 0} (g : Ghosts S) (tables : Tables) (old new : Held S) where
   pub record FailsWhole : Type 0 where
     pub mid : Held S
     pub nothing : WritesNothing (state g old) (state g mid)
-    pub fails : FailsToTake g old mid ⊎ TellsNoVersion (state g mid) (state g new)
+    pub fails : FailsToTake g old mid ⊎ ShowsNoVersion (state g mid) (state g new)
 
 -- why tables were not taken: by what they lacked
 abbrev pub FailsBy : {S : Type 0} → Ghosts S → Tables → Held S → Held S → Type 0

@@ -10,7 +10,7 @@ ghost use Rattle.room_tables_schema.specs.DatabaseFaults.{fault_of};
 ghost use Rattle.room_tables_schema.specs.Outcomes.{CommitsNothing};
 ghost use Rattle.room_store_writes.specs.Transactions.{Commits, MakesAll, LeavesOnErr, StandsSettled};
 ghost use Rattle.room_store_file.specs.DigestChanges.{Misses, Reaches};
-ghost use Rattle.room_store_file.specs.declared.digest_changes.Undone.TheVariants.{Another, Want};
+ghost use Rattle.room_store_file.specs.declared.digest_changes.Undone.TheVariants.{Another, Unavailable};
 
 use crate::room_digest::digest_inside;
 use room_model::digests::Head;
@@ -25,22 +25,22 @@ pub enum Undone {
     /// The room comes to another digest by them.
     Another,
     /// Memory was refused, or storage failed.
-    Want(Fault),
+    Unavailable(Fault),
 }
 
 impl From<Fault> for Undone {
-    ghost from_gives = { λ fault undone. undone ≡ Want fault };
+    ghost from_gives = { λ fault undone. undone ≡ Unavailable fault };
 
     fn from(fault: Fault) -> Undone {
-        Undone::Want(fault)
+        Undone::Unavailable(fault)
     }
 }
 
 impl From<Error> for Undone {
-    ghost from_gives = { λ error undone. undone ≡ Want (fault_of error) };
+    ghost from_gives = { λ error undone. undone ≡ Unavailable (fault_of error) };
 
     fn from(error: Error) -> Undone {
-        Undone::Want(Fault::from(error))
+        Undone::Unavailable(Fault::from(error))
     }
 }
 

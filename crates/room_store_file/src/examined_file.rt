@@ -40,7 +40,7 @@ pub enum Wrong {
     Terminals(TerminalFault),
     /// Memory was refused; the same call may succeed later.
     Memory,
-    /// The database failed for another cause, or a row is none of its table.
+    /// The database failed for another cause, or a row is not of its table.
     Storage,
 }
 
@@ -56,7 +56,7 @@ impl fmt::Display for Wrong {
             Wrong::Terminals(fault) => write!(f, "{fault}"),
             Wrong::Memory => f.write_str("memory was refused"),
             Wrong::Storage => {
-                f.write_str("a row is none of its table, or the file can't be read")
+                f.write_str("a row is not of its table, or the file can't be read")
             }
         }
     }

@@ -8,7 +8,7 @@ ghost use Rattle.room_types.specs.declared.fleet.Terminal.{Terminal};
 ghost use Rattle.room_store_file.specs.DigestTexts.{digest_text};
 
 /// No two rooms are hashed as the same bytes by one version, and by the second no two zones.
-pub fn a_text_tells_one_room()
+pub fn a_text_shows_one_room()
     ensures { (version : Version) (zone elsewhere : List ℕ) (terminals others : List Terminal)
         (room another : Room)
         → digest_text version zone terminals room ≡ digest_text version elsewhere others another

@@ -20,7 +20,7 @@ use room_store_check_tables::file_faults::FileFault;
 use room_tables::connection_lemmas::lemma_committed;
 use room_tables_rows::meta_sql::{FIRST_VERSION, VERSION};
 use room_tables_schema::database_faults::Fault;
-use room_tables_schema::schema_tests::{has_first_tables_alone, is_first};
+use room_tables_schema::schema_tests::{has_only_first_tables, is_first};
 use sqlite::{Alter, Connection};
 use sqlite_schema::schema::Schema;
 use std::alloc::Global;
@@ -39,7 +39,7 @@ pub enum MigrateFault {
     /// Memory was refused; the same call may succeed later.
     #[error("out of memory")]
     Memory,
-    /// The database failed for another cause, or a row is none of its table.
+    /// The database failed for another cause, or a row is not of its table.
     #[error("the database failed")]
     Storage,
 }
@@ -141,7 +141,7 @@ fn first_tables_of(schema: &Schema) -> Option<Tables>
 {
     if is_first(schema) {
         Some(Tables::First)
-    } else if has_first_tables_alone(schema) {
+    } else if has_only_first_tables(schema) {
         Some(Tables::FirstUnindexed)
     } else {
         None

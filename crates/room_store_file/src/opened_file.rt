@@ -24,7 +24,7 @@ use room_tables::connection_lemmas::lemma_committed;
 use room_tables::meta_table::is_of_version;
 use room_tables_rows::meta_sql::FIRST_VERSION;
 use room_tables_schema::database_faults::Fault;
-use room_tables_schema::schema_tests::{begins_as_room, has_tables_alone, is_room};
+use room_tables_schema::schema_tests::{begins_as_room, has_only_tables, is_room};
 use sqlite::{Alter, Connection};
 use sqlite_schema::schema::Schema;
 use std::alloc::Global;
@@ -42,7 +42,7 @@ pub enum OpenFault {
     /// Memory was refused; the same call may succeed later.
     #[error("out of memory")]
     Memory,
-    /// The database failed for another cause, or a row is none of its table.
+    /// The database failed for another cause, or a row is not of its table.
     #[error("the database failed")]
     Storage,
 }
@@ -116,7 +116,7 @@ pub fn open_in<S: Alter>(alloc: Global, conn: &mut Connection<S>) -> Result<Plan
 /// Whether the file holds a room of a version, whatever its other tables are.
 pub fn is_room_of<S: Alter>(conn: &mut Connection<S>, version: u32) -> Result<bool, Fault>
     requires outside { conn.old.in_transaction ≡ false }
-    ensures told { IsClean S.Store conn.new
+    ensures test { IsClean S.Store conn.new
         → IfOk result (λ yes. IsTrue yes ↔ IsRoomOf version (state S.Store conn.old).now) }
     ensures ok { IsClean S.Store conn.new
         → OnOk result ((state S.Store conn.new).now ≡ (state S.Store conn.old).now) }
@@ -174,7 +174,7 @@ pub fn room_tables_of(schema: &Schema) -> Option<Tables>
 {
     if is_room(schema) {
         Some(Tables::Whole)
-    } else if has_tables_alone(schema) {
+    } else if has_only_tables(schema) {
         Some(Tables::Unindexed)
     } else {
         None

@@ -9,10 +9,10 @@ ghost use Rattle.room_model.specs.RoomSlices.{room_of};
 ghost use Rattle.room_tables_schema.specs.FileConnections.{MayWrite, IsClean, StandsInTransaction};
 ghost use Rattle.room_tables_schema.specs.Schema.{first_schema, first_tables_schema};
 ghost use Rattle.room_tables.specs.RoomsInTables.{Stands};
-ghost use Rattle.room_store_writes.specs.Houses.{config_of};
+ghost use Rattle.room_store_writes.specs.Configurations.{config_of};
 ghost use Rattle.room_store_writes.specs.Transactions.{IsCommitted, LeavesOnErr};
 ghost use Rattle.room_store_file.specs.OpeningCauses.{FailsAtEnd, FailsBy, FailsInside, FailsToReadAs};
-ghost use Rattle.room_store_file.specs.OpenedFile.{Becomes, FailsToMake, HasNoPlanBy, HoldsBy, IsMoved, IsUncommitted, MayBecome, StandsBy, Takes, TellsNoVersion, schema_of};
+ghost use Rattle.room_store_file.specs.OpenedFile.{Becomes, FailsToMake, HasNoPlanBy, HoldsBy, IsMoved, IsUncommitted, MayBecome, ShowsNoVersion, StandsBy, Takes, schema_of};
 ghost use Rattle.room_store_check_tables.specs.HeldRooms.{IsPlanOf, WritesNothing};
 ghost use Rattle.room_store_check_tables.specs.declared.file_faults.FileFault.TheVariants.{NotARoom, Storage};
 
@@ -22,7 +22,7 @@ use room_store_check_tables::file_faults::FileFault;
 use room_store_check_tables::soundness::sound_plan;
 use room_store_check_tables::streamed_plan::stream_plan;
 use room_store_check_tables::whole_file::{ReadFile, read_whole};
-use room_tables::meta_table::tell_version;
+use room_tables::meta_table::update_version;
 use room_tables_rows::meta_sql::VERSION;
 use room_tables_schema::database_faults::Fault;
 use room_tables_schema::table_creation::{make_indexes, make_last};
@@ -113,7 +113,7 @@ fn if_open<S: Alter>(
         → OnOk result (IsTrue (state S.Store conn.new).is_open) }
     ensures storage { IsClean S.Store conn.new
         → IfErr result (λ e. e ≡ Storage → (found ≡ Err Storage)
-        ⊎ TellsNoVersion (state S.Store conn.old) (state S.Store conn.new)) }
+        ⊎ ShowsNoVersion (state S.Store conn.old) (state S.Store conn.new)) }
     ensures nothing { WritesNothing (state S.Store conn.old) (state S.Store conn.new) }
     ensures ended { conn.new.in_transaction ≡ false }
 {
@@ -296,5 +296,5 @@ fn renew<S: Alter>(
     ensures same_reference { tx.new.conn.ghost_name ≡ tx.old.conn.ghost_name }
 {
     make_last(tx, is_indexed)?;
-    tell_version(alloc, tx)
+    update_version(alloc, tx)
 }

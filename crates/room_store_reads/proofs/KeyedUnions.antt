@@ -76,10 +76,10 @@ module _ {R K : Type 0} (cmp : K → K → Ordering) (key : R → K) (total : Is
     union_is (x ∷ table) h = one_more (first x) (second x) x table h.0 (union_is table h.1)
 
   -- the row of a key that passes a test is the one that has it, where that passes
-  pub found_alone : (p : R → Bool) (table : List R) (k : K) (found : Option R)
+  pub only_found : (p : R → Bool) (table : List R) (k : K) (found : Option R)
       → IsKeyed cmp key table → found ≡ row_at cmp key table k
       → listed (keep p found) ≡ filter (λ x. p x && is_eq (cmp k (key x))) table
-  found_alone p table k found h e =
+  only_found p table k found h e =
       ap listed (ap (keep p) e ∙ sym (row_filter cmp key total p table k h))
       ∙ sym (at_key (filter p table) k (keyed_filter cmp key total p table h))
       ∙ sym (filter_and p (λ x. is_eq (cmp k (key x))) table)

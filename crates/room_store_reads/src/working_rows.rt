@@ -40,8 +40,8 @@ use sqlite::{Alter, Connection};
 use std::alloc::Global;
 
 /// The rows of a division that a request at a moment reads, as a slice: what its desk asks, or a
-/// call that is placed in it. What is known is handed over, and the next request knows what this
-/// one read of incidents. Rows that don't agree are no room's: that is `Storage`.
+/// call that is placed in it. What is known is taken from memory, and the next request knows what
+/// this one read of incidents. Rows that don't agree are no room's: that is `Storage`.
 pub fn load_working<S: Alter>(
     alloc: Global,
     conn: &mut Connection<S>,

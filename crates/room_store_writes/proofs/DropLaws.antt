@@ -24,7 +24,7 @@ use Rattle.room_types.specs.declared.fleet.Terminal.{Terminal}
 use Rattle.room_model.specs.FleetRows.{is_crew}
 use Rattle.room_tables_schema.specs.Schema.{room_schema, terminals_table}
 use Rattle.room_tables_rows.proofs.Kept.{with_terminals}
-use Rattle.room_tables_rows.proofs.TerminalsTable.{terminals_alone}
+use Rattle.room_tables_rows.proofs.TerminalsTable.{terminals_apart}
 use Rattle.room_tables_rows.specs.RoomsInTables.{places}
 use Rattle.room_tables_rows.specs.Tables.{DeletesChosen}
 use Rattle.room_tables_rows.specs.TerminalSql.{crew_of, number_of, role_of, terminal_row}
@@ -49,14 +49,14 @@ pub drops : (text : List ℕ) (params : Row) (chosen : Terminal → Bool)
     → Changes old new (λ config. record config { terminals = filter (λ t. not (chosen t)) config.terminals })
     (λ room. room)
 drops text params chosen means old new count has inside ran =
-    let it = deleted room_schema text 2 terminals_table terminals_alone means.terms means.deletes old new params count
+    let it = deleted room_schema text 2 terminals_table terminals_apart means.terms means.deletes old new params count
     has ran in
     record {
       inside = inside;
       schema = it.0.schema_is ∙ has;
       stands = λ config room h.
           let now = it.1 (places terminals_table) terminals_table.primary (map terminal_row config.terminals)
-          means.chooses.test h.terminals means.chooses.tells in
+          means.chooses.test h.terminals means.chooses.agrees in
           with_terminals old.now new.now config room h it.0 _
           (subst (Holds (places terminals_table) terminals_table.primary (new.now.trees 2))
           (kept_rows means.chooses.test chosen means.chooses.same config.terminals) now);
@@ -75,7 +75,7 @@ by_numbers role n chosen same = record {
   deletes = drop_numbered_means;
   chooses = record {
     test = λ r. equal Binary (column r 1) (number role) && equal Binary (column r 2) (number n);
-    tells = λ r. and_then refl (and_last refl);
+    agrees = λ r. and_then refl (and_last refl);
     same = λ x. and_then (equal-numbers (role_of x.who) role) (equal-numbers (number_of x.who) n) ∙ same x;
   };
 }
@@ -119,7 +119,7 @@ drops_crew c = record {
   deletes = drop_crews_means;
   chooses = record {
     test = λ r. equal Binary (column r 3) (Text c);
-    tells = λ r. and_last refl;
+    agrees = λ r. and_last refl;
     same = λ x. crew_by_callsign c x.who;
   };
 }

@@ -1,7 +1,7 @@
 -- what a transaction makes of the tables
 pub mod Transactions
 -- what they keep beside the room
-pub mod Houses
+pub mod Configurations
 -- a room that begins
 pub mod NewRoom
 -- what the enrolment of a fleet row makes of them

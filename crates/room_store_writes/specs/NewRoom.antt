@@ -17,7 +17,7 @@ use Rattle.room_tables_schema.specs.declared.database_faults.Fault.{Fault}
 use Rattle.room_tables_schema.specs.declared.database_faults.Fault.TheVariants as fault
 use Rattle.room_tables.specs.RoomsInTables.{Stands, empty_room}
 use Rattle.room_store_writes.specs.Transactions.{IsSettled}
-use Rattle.room_store_writes.specs.Houses.{config_of}
+use Rattle.room_store_writes.specs.Configurations.{config_of}
 
 -- the numbers that a division may have
 abbrev pub division_numbers : List ℕ

@@ -18,9 +18,9 @@ use Rattle.room_store_writes.specs.declared.change_faults.ChangeFault.TheVariant
 use Rattle.room_store_writes.specs.declared.change_faults.ChangeFault.TheVariants.{TokenTaken}
 
 -- how a failing machine is reported
-abbrev pub want_of : Fault → ChangeFault
-want_of fault.Memory = Memory
-want_of fault.Storage = Storage
+abbrev pub change_fault_of : Fault → ChangeFault
+change_fault_of fault.Memory = Memory
+change_fault_of fault.Storage = Storage
 
 -- how it is reported that who may have no terminal
 abbrev pub nobody : Who → ChangeFault

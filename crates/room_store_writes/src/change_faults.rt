@@ -1,7 +1,7 @@
 //! Whether one's terminals may be changed so.
 ghost use Rattle.std.specs.Prelude.{◌≡◌};
 ghost use Rattle.room_tables_schema.specs.DatabaseFaults.{fault_of};
-ghost use Rattle.room_store_writes.specs.TerminalChanges.{fault_in, fault_to_give, fault_to_take, nobody, want_of};
+ghost use Rattle.room_store_writes.specs.TerminalChanges.{change_fault_of, fault_in, fault_to_give, fault_to_take, nobody};
 
 use crate::terminal_holders::{has_terminal, has_token, may_have};
 use room_place::plans::Plan;
@@ -39,7 +39,7 @@ pub enum ChangeFault {
 }
 
 impl From<Fault> for ChangeFault {
-    ghost from_gives = { λ fault why. why ≡ want_of fault };
+    ghost from_gives = { λ fault why. why ≡ change_fault_of fault };
 
     fn from(fault: Fault) -> ChangeFault {
         match fault {
@@ -50,7 +50,7 @@ impl From<Fault> for ChangeFault {
 }
 
 impl From<Error> for ChangeFault {
-    ghost from_gives = { λ error why. why ≡ want_of (fault_of error) };
+    ghost from_gives = { λ error why. why ≡ change_fault_of (fault_of error) };
 
     fn from(error: Error) -> ChangeFault {
         ChangeFault::from(Fault::from(error))

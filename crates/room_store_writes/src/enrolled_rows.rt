@@ -4,7 +4,7 @@ ghost use Rattle.sqlite.specs.Held.{state};
 ghost use Rattle.sqlite.specs.State.{Survives};
 ghost use Rattle.room_tables_schema.specs.FileConnections.{HasRoomSchema, MayWrite, IsClean};
 ghost use Rattle.room_tables_schema.specs.Outcomes.{CommitsNothing};
-ghost use Rattle.room_types.specs.declared.fleet.RowFate.TheVariants as told;
+ghost use Rattle.room_types.specs.declared.fleet.RowFate.TheVariants as row_fate;
 ghost use Rattle.room_model.specs.FleetRows.{new_terminal, new_vehicle, room_by};
 ghost use Rattle.room_model.specs.Room.{Room};
 ghost use Rattle.room_tables.specs.RoomsInTables.{Configuration, Stands};
@@ -51,13 +51,13 @@ fn write_row<S: Alter>(conn: &mut Connection<S>, row: &FleetRow) -> Result<(), F
     requires settled { StandsSettled S.Store conn.old }
     ensures ok { IsClean S.Store conn.new
         → OnOk result (Enrols (state S.Store conn.old) (state S.Store conn.new) row.now
-        (Stands (state S.Store conn.old).now.trees) (λ _ _. told.Added)) }
+        (Stands (state S.Store conn.old).now.trees) (λ _ _. row_fate.Added)) }
     ensures err { LeavesOnErr S.Store conn.old conn.new result }
     ensures ended { conn.new.in_transaction ≡ false }
     ensures survives { Survives (state S.Store conn.old) (state S.Store conn.new) (λ db.
         (config : Configuration) (room : Room)
         → Stands (state S.Store conn.old).now.trees config room
-        → StandsAfter told.Added row.now config room db) }
+        → StandsAfter row_fate.Added row.now config room db) }
 {
     let mut tx = conn.transaction();
     let done = put_row(&mut tx, row);
@@ -70,7 +70,7 @@ fn put_row<S: Alter>(tx: &mut Transaction<'_, S>, row: &FleetRow) -> Result<(), 
     ensures same_reference { tx.new.conn.ghost_name ≡ tx.old.conn.ghost_name }
     ensures ok { IsClean S.Store tx.new.conn.now
         → OnOk result (Changes (state S.Store tx.old.conn.now) (state S.Store tx.new.conn.now)
-        (config_by told.Added row.now) (room_by told.Added row.now)) }
+        (config_by row_fate.Added row.now) (room_by row_fate.Added row.now)) }
     ensures commits { CommitsNothing S.Store tx.old.conn.now tx.new.conn.now }
 {
     put(tx, &new_vehicle(row))?;

@@ -14,7 +14,7 @@ pub mod RowidLemmas
 -- what was shown and is not read
 pub mod Unread
 -- lack of memory, a query whose rows are none of what is read, and the last of some reads
-pub mod Told
+pub mod ReadFailures
 -- a table whose rows are read one at a time
 pub mod Streams
 -- the greatest serial of calls

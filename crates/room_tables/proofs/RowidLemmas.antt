@@ -23,7 +23,7 @@ use Rattle.room_tables_schema.specs.Statements.{table_query}
 use Rattle.sqlite.specs.Values.{or_null}
 use Rattle.room_tables_schema.specs.TableTrees.{AreNumbered, RowidsRise}
 use Rattle.room_tables_schema.specs.Schema.{room_schema, room_tables}
-use Rattle.room_tables.specs.Rowids.{SelectsRowids, SelectEach, AreAllNumbered, TellsRise, integer_in, last_rowid}
+use Rattle.room_tables.specs.Rowids.{SelectsRowids, SelectEach, AreAllNumbered, ShowsRise, integer_in, last_rowid}
 use Rattle.room_tables.specs.declared.rowids.TheConstants.{ROWIDS}
 
 -- ---- from row to row
@@ -104,9 +104,9 @@ rise_less v (x ∷ rows) r h = let rest = rise_less (rowid x) rows r h.2 in ((h.
 
 module _ (shown : List Row) (r : Row) where
   -- a rowid that is not at most the last goes on rising
-  pub goes_on : (rise : Bool) (last : Option ℤ) → TellsRise shown rise last
+  pub goes_on : (rise : Bool) (last : Option ℤ) → ShowsRise shown rise last
       → is_at_most (integer_in (rowid r)) last ≡ false
-      → TellsRise (shown ++ r ∷ []) rise (integer_in (rowid r))
+      → ShowsRise (shown ++ r ∷ []) rise (integer_in (rowid r))
   goes_on true last h up =
       let is = above last (rowid r) up in
       let before = (rise_from_Null shown).1 h.0 in
@@ -116,7 +116,7 @@ module _ (shown : List Row) (r : Row) where
       λ all. h ((rise_from_Null shown).0 (rise_less Null shown r ((rise_from_Null (shown ++ r ∷ [])).1 all)).0)
 
   -- and one that is ends it
-  pub ends : (rise : Bool) (last : Option ℤ) → TellsRise shown rise last
+  pub ends : (rise : Bool) (last : Option ℤ) → ShowsRise shown rise last
       → is_at_most (integer_in (rowid r)) last ≡ true → RowidsRise (shown ++ r ∷ []) → ⊥
   ends true last h down all =
       let rest = rise_less Null shown r ((rise_from_Null (shown ++ r ∷ [])).1 all) in
@@ -125,10 +125,10 @@ module _ (shown : List Row) (r : Row) where
       h ((rise_from_Null shown).0 (rise_less Null shown r ((rise_from_Null (shown ++ r ∷ [])).1 all)).0)
 
 -- whether all rise
-pub tells : (shown : List Row) (rise : Bool) (last : Option ℤ) → TellsRise shown rise last
+pub rise_is : (shown : List Row) (rise : Bool) (last : Option ℤ) → ShowsRise shown rise last
     → IsTrue rise ↔ RowidsRise shown
-tells shown true last h = (λ yes. h.0, λ all. refl)
-tells shown false last h = (λ yes. absurd (true≢false (sym yes)), λ all. absurd (h all))
+rise_is shown true last h = (λ yes. h.0, λ all. refl)
+rise_is shown false last h = (λ yes. absurd (true≢false (sym yes)), λ all. absurd (h all))
 
 -- ---- from table to table
 
@@ -195,14 +195,14 @@ next_selects trees text texts ([], selects, answer) = absurd selects
 next_selects trees text texts (table ∷ tables, selects, answer) = (table.tree, selects.0)
 
 module _ (trees : Trees) (text : List ℕ) (texts : List (List ℕ)) (is_so : Bool)
-    (tells : (tree : ℕ) → SelectsRowids text tree → IsTrue is_so ↔ AreNumbered (trees tree)) where
+    (rise_is : (tree : ℕ) → SelectsRowids text tree → IsTrue is_so ↔ AreNumbered (trees tree)) where
   -- a table that is numbered leaves the answer to the tables after it
   pub less_left : Left trees (text ∷ texts) → IsTrue is_so → Left trees texts
   less_left ([], selects, answer) numbered = absurd selects
   less_left (table ∷ tables, selects, answer) numbered =
-      (tables, selects.1, (λ h. answer.0 ((tells table.tree selects.0).0 numbered, h), λ h. (answer.1 h).1))
+      (tables, selects.1, (λ h. answer.0 ((rise_is table.tree selects.0).0 numbered, h), λ h. (answer.1 h).1))
 
   -- and any other table answers it
   pub one_numbered : Left trees (text ∷ texts) → AreAllNumbered trees → IsTrue is_so
   one_numbered ([], selects, answer) h = absurd selects
-  one_numbered (table ∷ tables, selects, answer) h = (tells table.tree selects.0).1 (answer.1 h).0
+  one_numbered (table ∷ tables, selects, answer) h = (rise_is table.tree selects.0).1 (answer.1 h).0

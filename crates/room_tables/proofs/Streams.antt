@@ -87,8 +87,8 @@ module _ {X K T : Type 0} (is_row : Row → Bool) (order : K → K → Ordering)
       → AreRead is_row order key row takes first shown result
       → ((fault : Fault) → IfStorage (AreNoRows is_row order key row shown) fault → P fault)
       → IfErr result P
-  fault_of_all first shown P (Ok now) h tells = tt
-  fault_of_all first shown P (Err fault) h tells = tells fault h
+  fault_of_all first shown P (Ok now) h states = tt
+  fault_of_all first shown P (Err fault) h states = states fault h
 
 module _ {X K : Type 0} (is_row : Row → Bool) (order : K → K → Ordering) (key : X → K)
     (row : X → Row) where

@@ -52,9 +52,9 @@ module _ {X K : Type 0} (order : K → K → Ordering) (key : X → K) where
   -- a row is next in order only where its key is above the last
   pub next_or_not : (xs : List X) (x z : X) (i : ℕ) (b : Bool) → b ≡ is_lt (order (key z) (key x))
       → Some z ≡ slice_get xs i → IsTrue b ⊎ ¬ (IsKeyed order key (xs ++ x ∷ []))
-  next_or_not xs x z i true told e = inl refl
-  next_or_not xs x z i false told e =
-      inr (λ keyed. true≢false (sym (told ∙ ap is_lt (below_next xs x z i keyed (sym e)))))
+  next_or_not xs x z i true stated e = inl refl
+  next_or_not xs x z i false stated e =
+      inr (λ keyed. true≢false (sym (stated ∙ ap is_lt (below_next xs x z i keyed (sym e)))))
 
   -- of rows in order each is below the next
   pub adjacent_less : (xs : List X) (i : ℕ) (a b : X) → suc i < length xs → a ≡ get_or xs i a

@@ -32,9 +32,9 @@ module _ (text : List ℕ) (params : Row) (old new : State) where
   FailsToWrite = (e : Error) × ExecutesInside 0 text params old new (Err e) × (fault_of e ≡ Storage)
 
 -- why a read failed: storage is reported for one of these causes
-abbrev pub TellsWhy : {S T : Type 0} → Ghosts S → Held S → Held S → Result T Fault → List ℕ → Row
+abbrev pub ExplainsWhy : {S T : Type 0} → Ghosts S → Held S → Held S → Result T Fault → List ℕ → Row
     → (List Row → Type 0) → Type 0
-TellsWhy g old new result text params AreNone =
+ExplainsWhy g old new result text params AreNone =
     IsClean g new → IfErr result
     (IfStorage (FailsToRead text params (state g old) (state g new) AreNone))
 
@@ -50,15 +50,15 @@ pub record FailsAtLast {S : Type 0} (g : Ghosts S) (Fails : State → State → 
   pub fails : Fails (state g before) (state g new)
 
 -- why the last of them failed: storage is reported for this cause
-abbrev pub TellsWhyAtLast : {S T : Type 0} → Ghosts S → Held S → Held S → Result T Fault
+abbrev pub ExplainsWhyAtLast : {S T : Type 0} → Ghosts S → Held S → Held S → Result T Fault
     → (State → State → Type 0) → Type 0
-TellsWhyAtLast g old new result Fails =
+ExplainsWhyAtLast g old new result Fails =
     IsClean g new → IfErr result (IfStorage (FailsAtLast g Fails old new))
 
 -- why a write failed: storage is reported for this cause
-abbrev pub TellsWhyUnwritten : {S T : Type 0} → Ghosts S → Held S → Held S → Result T Fault
+abbrev pub ExplainsWhyUnwritten : {S T : Type 0} → Ghosts S → Held S → Held S → Result T Fault
     → List ℕ → Row → Type 0
-TellsWhyUnwritten g old new result text params =
+ExplainsWhyUnwritten g old new result text params =
     IsClean g new → IfErr result
     (IfStorage (FailsToWrite text params (state g old) (state g new)))
 

@@ -25,9 +25,9 @@ last_rowid v (r ∷ rows) = last_rowid (rowid r) rows
 
 -- what is said of the rowids that were shown so far: they rise, and this was the last; or they
 -- don't
-abbrev pub TellsRise : List Row → Bool → Option ℤ → Type 0
-TellsRise shown true last = RowidsRise shown × (or_null Int last ≡ last_rowid Null shown)
-TellsRise shown false last = ¬ (RowidsRise shown)
+abbrev pub ShowsRise : List Row → Bool → Option ℤ → Type 0
+ShowsRise shown true last = RowidsRise shown × (or_null Int last ≡ last_rowid Null shown)
+ShowsRise shown false last = ¬ (RowidsRise shown)
 
 -- the text selects the rowids of a tree, in their order
 abbrev pub SelectsRowids : List ℕ → ℕ → Type 0

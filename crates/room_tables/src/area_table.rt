@@ -10,7 +10,7 @@ ghost use Rattle.room_tables_schema.specs.FileConnections.{HasRoomSchema, MayWri
 ghost use Rattle.room_tables_rows.specs.RoomsInTables.{StandsFor, numbered};
 ghost use Rattle.room_tables_rows.specs.Writes.{AppendsArea};
 ghost use Rattle.room_tables_rows.specs.declared.area_sql.TheConstants.{ALL_AREAS, PUT_AREA};
-ghost use Rattle.room_tables.specs.Failures.{AreNoPlan, IfStorage, TellsWhy, TellsWhyUnwritten};
+ghost use Rattle.room_tables.specs.Failures.{AreNoPlan, ExplainsWhy, ExplainsWhyUnwritten, IfStorage};
 ghost use Rattle.room_tables.specs.FoundRows.{Finds};
 
 use crate::change_statements::run;
@@ -33,7 +33,7 @@ pub fn all_areas<S: Alter>(alloc: Global, tx: &mut Transaction<'_, S>) -> Result
         → StandsFor (state S.Store tx.old.conn.now).now.trees areas_table area_row
         (numbered 1 areas.items)) }
     ensures reads { ReadsInside S.Store tx.old.conn.now tx.new.conn.now result }
-    ensures why { TellsWhy S.Store tx.old.conn.now tx.new.conn.now result ALL_AREAS.now []
+    ensures why { ExplainsWhy S.Store tx.old.conn.now tx.new.conn.now result ALL_AREAS.now []
         (AreNoPlan) }
     ensures same_reference { tx.new.conn.ghost_name ≡ tx.old.conn.ghost_name }
 {
@@ -66,7 +66,7 @@ pub fn put_area<S: Alter>(tx: &mut Transaction<'_, S>, at: u32, area: &Area) -> 
         → OnOk result (AppendsArea (state S.Store tx.old.conn.now)
         (state S.Store tx.new.conn.now) at area.now) }
     ensures writes { WritesInside S.Store tx.old.conn.now tx.new.conn.now result }
-    ensures why { TellsWhyUnwritten S.Store tx.old.conn.now tx.new.conn.now result PUT_AREA.now
+    ensures why { ExplainsWhyUnwritten S.Store tx.old.conn.now tx.new.conn.now result PUT_AREA.now
         (area_row (at, area.now)) }
     ensures same_reference { tx.new.conn.ghost_name ≡ tx.old.conn.ghost_name }
 {

@@ -11,7 +11,7 @@ ghost use Rattle.room_tables_schema.specs.Schema.{calls_table};
 ghost use Rattle.room_tables_schema.specs.FileConnections.{HasRoomSchema};
 ghost use Rattle.room_tables_rows.specs.declared.call_sql.TheConstants.{ALL_CALLS, CALLS_BY, CALLS_OF, CALL_AT, PUT_CALL};
 ghost use Rattle.room_tables_rows.proofs.CallsTable.{calls_are};
-ghost use Rattle.room_tables.specs.Failures.{AreNoRows, TellsWhy};
+ghost use Rattle.room_tables.specs.Failures.{AreNoRows, ExplainsWhy};
 ghost use Rattle.room_tables.specs.FoundRows.{Finds};
 
 use crate::loaded_rows::load;
@@ -58,7 +58,7 @@ pub fn calls_of<S: Alter>(
     ensures rows { Finds S.Store conn.old conn.new result (λ room rows.
         rows ≡ filter (λ c. c.incident == incident && c.division == division) room.calls) }
     ensures reads { ReadsOnly S.Store conn.old conn.new result }
-    ensures why { TellsWhy S.Store conn.old conn.new result CALLS_OF.now (number incident
+    ensures why { ExplainsWhy S.Store conn.old conn.new result CALLS_OF.now (number incident
         ∷ number division ∷ []) (AreNoRows is_call_row pair_cmp call_key call_row) }
 {
     load(alloc, conn, CALLS_OF, &[incident.store(), division.store()])
@@ -73,7 +73,7 @@ pub fn last_serial<S: Alter>(
     ensures serial { Finds S.Store conn.old conn.new result (λ room serial.
         serial ≡ last_serial position room) }
     ensures reads { ReadsOnly S.Store conn.old conn.new result }
-    ensures why { TellsWhy S.Store conn.old conn.new result CALLS_BY.now (number position
+    ensures why { ExplainsWhy S.Store conn.old conn.new result CALLS_BY.now (number position
         ∷ []) (AreNoRows is_call_row pair_cmp call_key call_row) }
 {
     let none = LastSerial {

@@ -3,7 +3,7 @@
 ghost use Rattle.std.specs.Prelude.{◌≡◌, OnOk};
 ghost use Rattle.sqlite.specs.Held.{state};
 ghost use Rattle.sqlite.specs.Values.{bound};
-ghost use Rattle.room_tables.specs.Failures.{TellsWhyUnwritten};
+ghost use Rattle.room_tables.specs.Failures.{ExplainsWhyUnwritten};
 ghost use Rattle.room_tables.specs.ChangeStatements.{Ran};
 ghost use Rattle.room_tables_schema.specs.FileConnections.{MayWrite, IsClean};
 ghost use Rattle.room_tables_schema.specs.Outcomes.{WritesInside};
@@ -24,7 +24,7 @@ pub(crate) fn run<S: Alter>(
         → OnOk result (Ran text.now (bound params.now) (state S.Store tx.old.conn.now)
         (state S.Store tx.new.conn.now)) }
     ensures writes { WritesInside S.Store tx.old.conn.now tx.new.conn.now result }
-    ensures why { TellsWhyUnwritten S.Store tx.old.conn.now tx.new.conn.now result text.now
+    ensures why { ExplainsWhyUnwritten S.Store tx.old.conn.now tx.new.conn.now result text.now
         (bound params.now) }
     ensures same_reference { tx.new.conn.ghost_name ≡ tx.old.conn.ghost_name }
 {

@@ -14,7 +14,7 @@ ghost use Rattle.room_tables_schema.specs.Schema.{incidents_table};
 ghost use Rattle.room_tables_schema.specs.FileConnections.{HasRoomSchema};
 ghost use Rattle.room_tables_rows.specs.declared.incident_sql.TheConstants.{ACTIVE_INCIDENTS, ALL_INCIDENTS, INCIDENTS_OPENED, INCIDENTS_SINCE, INCIDENT_AT, PUT_INCIDENT};
 ghost use Rattle.room_tables_rows.proofs.IncidentsTable.{incidents_are};
-ghost use Rattle.room_tables.specs.Failures.{AreNoRows, TellsWhy};
+ghost use Rattle.room_tables.specs.Failures.{AreNoRows, ExplainsWhy};
 ghost use Rattle.room_tables.specs.FoundRows.{Finds};
 
 use crate::loaded_rows::load;
@@ -65,7 +65,7 @@ pub fn active_incidents<S: Alter>(
     ensures rows { Finds S.Store conn.old conn.new result (λ room rows.
         rows ≡ filter (λ i. is_active i.state && i.division == division) room.incidents) }
     ensures reads { ReadsOnly S.Store conn.old conn.new result }
-    ensures why { TellsWhy S.Store conn.old conn.new result ACTIVE_INCIDENTS.now
+    ensures why { ExplainsWhy S.Store conn.old conn.new result ACTIVE_INCIDENTS.now
         (number (state_number Active) ∷ number division
         ∷ []) (AreNoRows is_incident_row pair_cmp incident_key incident_row) }
 {
@@ -92,7 +92,7 @@ pub fn incidents_opened<S: Alter>(
         rows ≡ filter (λ i. int_le from (pos i.opened) &&
         (int_lt (pos i.opened) to && i.division == division)) room.incidents) }
     ensures reads { ReadsOnly S.Store conn.old conn.new result }
-    ensures why { TellsWhy S.Store conn.old conn.new result INCIDENTS_OPENED.now (Int from
+    ensures why { ExplainsWhy S.Store conn.old conn.new result INCIDENTS_OPENED.now (Int from
         ∷ Int to ∷ number division
         ∷ []) (AreNoRows is_incident_row pair_cmp incident_key incident_row) }
 {
@@ -114,7 +114,7 @@ pub fn incidents_since<S: Alter>(
     ensures rows { Finds S.Store conn.old conn.new result (λ room rows.
         rows ≡ filter (λ i. int_le from (pos i.opened)) room.incidents) }
     ensures reads { ReadsOnly S.Store conn.old conn.new result }
-    ensures why { TellsWhy S.Store conn.old conn.new result INCIDENTS_SINCE.now (Int from
+    ensures why { ExplainsWhy S.Store conn.old conn.new result INCIDENTS_SINCE.now (Int from
         ∷ []) (AreNoRows is_incident_row pair_cmp incident_key incident_row) }
 {
     load(alloc, conn, INCIDENTS_SINCE, &[second(from)])

@@ -9,7 +9,7 @@ ghost use Rattle.sqlite.specs.Values.{bound};
 ghost use Rattle.room_tables_schema.specs.Outcomes.{ReadsOnly};
 ghost use Rattle.room_types.specs.KeyedRows.{IsKeyed};
 ghost use Rattle.room_tables_rows.specs.OptionalRows.{listed};
-ghost use Rattle.room_tables.specs.Failures.{AreMoreThanOne, AreNoRows, IfStorage, TellsWhy};
+ghost use Rattle.room_tables.specs.Failures.{AreMoreThanOne, AreNoRows, ExplainsWhy, IfStorage};
 ghost use Rattle.room_tables_schema.specs.FileConnections.{IsClean};
 
 use crate::room_table::Table;
@@ -38,7 +38,7 @@ pub(crate) fn load<X: Table, S: Alter>(
         (state S.Store conn.new) (map X.cells rows)) }
     ensures keyed { IfOk result (IsKeyed X.Key.cmp X.key_of) }
     ensures reads { ReadsOnly S.Store conn.old conn.new result }
-    ensures why { TellsWhy S.Store conn.old conn.new result text.now (bound params.now)
+    ensures why { ExplainsWhy S.Store conn.old conn.new result text.now (bound params.now)
         (AreNoRows X.is_row X.Key.cmp X.key_of X.cells) }
 {
     let shown = select(conn, text, params)?;
@@ -57,7 +57,7 @@ pub(crate) fn find<X: Stored, S: Alter>(
         → IfOk result (λ row. Shown text.now (bound params.now) (state S.Store conn.old)
         (state S.Store conn.new) (map X.cells (listed row))) }
     ensures reads { ReadsOnly S.Store conn.old conn.new result }
-    ensures why { TellsWhy S.Store conn.old conn.new result text.now (bound params.now)
+    ensures why { ExplainsWhy S.Store conn.old conn.new result text.now (bound params.now)
         (AreMoreThanOne X.is_row) }
 {
     let shown = select(conn, text, params)?;

@@ -9,14 +9,14 @@ ghost use Rattle.room_tables_schema.specs.Schema.{meta_table};
 ghost use Rattle.room_tables_schema.specs.Versions.{BeginsAsRoom};
 ghost use Rattle.room_tables_schema.specs.FileConnections.{HasRoomSchema, MayWrite, IsClean};
 ghost use Rattle.room_tables_rows.specs.RoomsInTables.{Stands, StandsFor, empty_room};
-ghost use Rattle.room_tables_rows.specs.MetaVersions.{IsOfVersion, OneTells};
+ghost use Rattle.room_tables_rows.specs.MetaVersions.{IsOfVersion, OneShows};
 ghost use Rattle.room_tables_rows.specs.Writes.{Changes, Renews};
 ghost use Rattle.room_tables_rows.specs.declared.meta_sql.TheConstants.{ALL_META, PUT_META};
-ghost use Rattle.room_tables.specs.Failures.{AreNotJustOne, IfStorage, TellsWhy, TellsWhyUnwritten};
+ghost use Rattle.room_tables.specs.Failures.{AreNotJustOne, ExplainsWhy, ExplainsWhyUnwritten, IfStorage};
 
 use crate::change_statements::run;
 use room_tables_rows::meta_sql::{
-    ALL_META, FIRST_VERSION, PUT_META, meta_columns, tells_version, zone_of,
+    ALL_META, FIRST_VERSION, PUT_META, has_version, meta_columns, zone_of,
 };
 use room_tables_schema::database_faults::Fault;
 use room_tables_schema::queries::{select, select_inside};
@@ -35,7 +35,7 @@ pub fn zone<S: Alter>(
         → IfOk result (λ zone. StandsFor (state S.Store tx.old.conn.now).now.trees meta_table
         (version_row version) (string_bytes zone ∷ [])) }
     ensures reads { ReadsInside S.Store tx.old.conn.now tx.new.conn.now result }
-    ensures why { TellsWhy S.Store tx.old.conn.now tx.new.conn.now result ALL_META.now []
+    ensures why { ExplainsWhy S.Store tx.old.conn.now tx.new.conn.now result ALL_META.now []
         (AreNotJustOne (is_meta_row version)) }
     ensures same_reference { tx.new.conn.ghost_name ≡ tx.old.conn.ghost_name }
 {
@@ -50,19 +50,19 @@ pub fn is_of_version<S: Alter>(conn: &mut Connection<S>, version: u32) -> Result
     ensures version { IsClean S.Store conn.new
         → IfOk result (λ yes. IsTrue yes ↔ IsOfVersion version (state S.Store conn.old).now.trees) }
     ensures reads { ReadsOnly S.Store conn.old conn.new result }
-    ensures why { TellsWhy S.Store conn.old conn.new result ALL_META.now [] (λ _. ⊥) }
+    ensures why { ExplainsWhy S.Store conn.old conn.new result ALL_META.now [] (λ _. ⊥) }
 {
     let shown = select(conn, ALL_META, &[])?;
-    Ok(one_tells(shown.as_slice(), version))
+    Ok(one_shows(shown.as_slice(), version))
 }
 
 // Whether there is one row, and it gives this version.
-fn one_tells(shown: &[Row], version: u32) -> bool
-    ensures { IsTrue result ↔ OneTells version shown.now }
+fn one_shows(shown: &[Row], version: u32) -> bool
+    ensures { IsTrue result ↔ OneShows version shown.now }
 {
     match shown {
         [] => false,
-        [row] => tells_version(row, version),
+        [row] => has_version(row, version),
         [_, _, ..] => false,
     }
 }
@@ -97,7 +97,7 @@ pub fn put_meta<S: Alter>(tx: &mut Transaction<'_, S>, zone: &str) -> Result<(),
         (version_row 1) (zone.now ∷ [])
         → Renews (state S.Store tx.old.conn.now) (state S.Store tx.new.conn.now)) }
     ensures writes { WritesInside S.Store tx.old.conn.now tx.new.conn.now result }
-    ensures why { TellsWhyUnwritten S.Store tx.old.conn.now tx.new.conn.now result PUT_META.now
+    ensures why { ExplainsWhyUnwritten S.Store tx.old.conn.now tx.new.conn.now result PUT_META.now
         (meta_row zone.now) }
     ensures same_reference { tx.new.conn.ghost_name ≡ tx.old.conn.ghost_name }
 {
@@ -105,7 +105,7 @@ pub fn put_meta<S: Alter>(tx: &mut Transaction<'_, S>, zone: &str) -> Result<(),
 }
 
 /// Records this version where the tables give the first, with the zone that they gave.
-pub fn tell_version<S: Alter>(alloc: Global, tx: &mut Transaction<'_, S>) -> Result<(), Fault>
+pub fn update_version<S: Alter>(alloc: Global, tx: &mut Transaction<'_, S>) -> Result<(), Fault>
     requires inside { MayWrite S.Store tx.old.conn.now }
     ensures ok { IsClean S.Store tx.new.conn.now
         → OnOk result (Renews (state S.Store tx.old.conn.now) (state S.Store tx.new.conn.now)) }

@@ -12,7 +12,7 @@ ghost use Rattle.room_tables_schema.specs.Schema.{reports_table};
 ghost use Rattle.room_tables_schema.specs.FileConnections.{HasRoomSchema};
 ghost use Rattle.room_tables_rows.specs.declared.report_sql.TheConstants.{ALL_REPORTS, PUT_REPORT, REPORT_AT, UNCLEARED_REPORTS};
 ghost use Rattle.room_tables_rows.proofs.ReportsTable.{reports_are};
-ghost use Rattle.room_tables.specs.Failures.{AreNoRows, TellsWhy};
+ghost use Rattle.room_tables.specs.Failures.{AreNoRows, ExplainsWhy};
 ghost use Rattle.room_tables.specs.FoundRows.{Finds};
 
 use crate::loaded_rows::load;
@@ -59,7 +59,7 @@ pub fn uncleared_reports<S: Alter>(
         rows ≡ filter (λ r. outcome_number r.outcome == outcome_number outcome &&
         (not r.cleared && r.division == division)) room.reports) }
     ensures reads { ReadsOnly S.Store conn.old conn.new result }
-    ensures why { TellsWhy S.Store conn.old conn.new result UNCLEARED_REPORTS.now
+    ensures why { ExplainsWhy S.Store conn.old conn.new result UNCLEARED_REPORTS.now
         (outcome_code outcome ∷ truth false ∷ number division
         ∷ []) (AreNoRows is_report_row numbered_cmp report_key report_row) }
 {

@@ -3,7 +3,7 @@
 ghost use Rattle.std.specs.Prelude.{◌≡◌, OnOk};
 ghost use Rattle.sqlite.specs.Held.{state};
 ghost use Rattle.sqlite.specs.Values.{bound};
-ghost use Rattle.room_tables.specs.Failures.{TellsWhyUnwritten};
+ghost use Rattle.room_tables.specs.Failures.{ExplainsWhyUnwritten};
 ghost use Rattle.room_tables.specs.ChangeStatements.{AreInsertions, AreStatements, IsWritePlan};
 ghost use Rattle.room_tables_schema.specs.FileConnections.{MayWrite, IsClean};
 ghost use Rattle.room_tables_schema.specs.Outcomes.{CommitsNothing, WritesInside};
@@ -44,7 +44,7 @@ pub fn put<X: Table, S: Alter>(tx: &mut Transaction<'_, S>, row: &X) -> Result<(
         → OnOk result (Makes (state S.Store tx.old.conn.now) (state S.Store tx.new.conn.now)
         (X.put row.now)) }
     ensures writes { WritesInside S.Store tx.old.conn.now tx.new.conn.now result }
-    ensures why { TellsWhyUnwritten S.Store tx.old.conn.now tx.new.conn.now result X.texts.put
+    ensures why { ExplainsWhyUnwritten S.Store tx.old.conn.now tx.new.conn.now result X.texts.put
         (X.cells row.now) }
     ensures same_reference { tx.new.conn.ghost_name ≡ tx.old.conn.ghost_name }
 {

@@ -10,7 +10,7 @@ ghost use Rattle.room_types.specs.KeyedRows.{IsKeyed, put_row};
 ghost use Rattle.room_tables_schema.specs.FileConnections.{HasRoomSchema, IsClean};
 ghost use Rattle.room_tables_schema.specs.declared.database_faults.Fault.TheVariants.{Memory};
 ghost use Rattle.room_tables_schema.specs.Outcomes.{ReadsOnly};
-ghost use Rattle.room_tables.specs.Failures.{AreNoRows, TellsWhy};
+ghost use Rattle.room_tables.specs.Failures.{AreNoRows, ExplainsWhy};
 ghost use Rattle.room_tables.specs.RowStreams.{AreAll, AreRead, AreShown, AreTaken, last_of};
 
 use crate::room_table::Table;
@@ -65,7 +65,7 @@ pub fn each_row<T: TypedRowSink, S: Alter>(conn: &mut Connection<S>, taker: T) -
         T.Row.cells T.Row.rows T.Row.table (state S.Store conn.old).now.trees rows
         × T.takes taker rows taken) }
     ensures reads { ReadsOnly S.Store conn.old conn.new result }
-    ensures why { TellsWhy S.Store conn.old conn.new result T.Row.texts.all []
+    ensures why { ExplainsWhy S.Store conn.old conn.new result T.Row.texts.all []
         (AreNoRows T.Row.is_row T.Row.Key.cmp T.Row.key_of T.Row.cells) }
 {
     each_shown(conn, T::Row::statements().all, &[], taker)
@@ -85,7 +85,7 @@ pub(crate) fn each_shown<T: TypedRowSink, S: Alter>(
         T.Row.cells text.now (bound params.now) (state S.Store conn.old) (state S.Store conn.new)
         rows × T.takes taker rows taken) }
     ensures reads { ReadsOnly S.Store conn.old conn.new result }
-    ensures why { TellsWhy S.Store conn.old conn.new result text.now (bound params.now)
+    ensures why { ExplainsWhy S.Store conn.old conn.new result text.now (bound params.now)
         (AreNoRows T.Row.is_row T.Row.Key.cmp T.Row.key_of T.Row.cells) }
 {
     let mut reader = Reader::new(taker);

@@ -9,9 +9,9 @@ ghost use Rattle.room_tables_schema.specs.TableTrees.{AreNumbered, RowidsRise};
 ghost use Rattle.room_tables_schema.specs.Outcomes.{ReadsInside, ReadsOnly};
 ghost use Rattle.room_tables_schema.specs.Schema.{room_tables};
 ghost use Rattle.room_tables_schema.specs.FileConnections.{HasRoomSchema, IsClean};
-ghost use Rattle.room_tables.specs.Failures.{TellsWhy, TellsWhyAtLast};
+ghost use Rattle.room_tables.specs.Failures.{ExplainsWhy, ExplainsWhyAtLast};
 ghost use Rattle.room_tables.specs.Rowids.{AreAllNumbered, FailsAtRowids, SelectEach};
-ghost use Rattle.room_tables.specs.Rowids.{SelectsRowids, TellsRise, integer_in};
+ghost use Rattle.room_tables.specs.Rowids.{SelectsRowids, ShowsRise, integer_in};
 
 use room_tables_schema::database_faults::Fault;
 use room_tables_schema::queries::select_inside;
@@ -43,7 +43,7 @@ pub fn are_numbered<S: Alter>(tx: &mut Transaction<'_, S>) -> Result<bool, Fault
         → IfOk result (λ yes. IsTrue yes
         ↔ AreAllNumbered (state S.Store tx.old.conn.now).now.trees) }
     ensures reads { ReadsInside S.Store tx.old.conn.now tx.new.conn.now result }
-    ensures why { TellsWhyAtLast S.Store tx.old.conn.now tx.new.conn.now result FailsAtRowids }
+    ensures why { ExplainsWhyAtLast S.Store tx.old.conn.now tx.new.conn.now result FailsAtRowids }
     ensures same_reference { tx.new.conn.ghost_name ≡ tx.old.conn.ghost_name }
 {
     are_all_numbered(tx, &ROWIDS)
@@ -55,7 +55,7 @@ pub fn are_numbered_streamed<S: Alter>(conn: &mut Connection<S>) -> Result<bool,
     ensures numbered { IsClean S.Store conn.new
         → IfOk result (λ yes. IsTrue yes ↔ AreAllNumbered (state S.Store conn.old).now.trees) }
     ensures reads { ReadsOnly S.Store conn.old conn.new result }
-    ensures why { TellsWhyAtLast S.Store conn.old conn.new result FailsAtRowids }
+    ensures why { ExplainsWhyAtLast S.Store conn.old conn.new result FailsAtRowids }
 {
     are_all_numbered_streamed(conn, &ROWIDS)
 }
@@ -70,7 +70,7 @@ fn are_all_numbered_streamed<S: Alter>(
     ensures numbered { IsClean S.Store conn.new
         → IfOk result (λ yes. IsTrue yes ↔ AreAllNumbered (state S.Store conn.old).now.trees) }
     ensures reads { ReadsOnly S.Store conn.old conn.new result }
-    ensures why { TellsWhyAtLast S.Store conn.old conn.new result FailsAtRowids }
+    ensures why { ExplainsWhyAtLast S.Store conn.old conn.new result FailsAtRowids }
 {
     for text in texts {
         if !is_numbered_streamed(conn, text)? {
@@ -89,7 +89,7 @@ fn is_numbered_streamed<S: Alter>(conn: &mut Connection<S>, text: &str) -> Resul
         → IfOk result (λ yes. (tree : ℕ) → SelectsRowids text.now tree
         → (IsTrue yes ↔ AreNumbered ((state S.Store conn.old).now.trees tree))) }
     ensures reads { ReadsOnly S.Store conn.old conn.new result }
-    ensures why { TellsWhy S.Store conn.old conn.new result text.now [] (λ _. ⊥) }
+    ensures why { ExplainsWhy S.Store conn.old conn.new result text.now [] (λ _. ⊥) }
 {
     let mut rowids = Rowids::new();
     stream(conn, text, &[], &mut rowids)?;
@@ -104,7 +104,7 @@ fn are_all_numbered<S: Alter>(tx: &mut Transaction<'_, S>, texts: &[&str]) -> Re
         → IfOk result (λ yes. IsTrue yes
         ↔ AreAllNumbered (state S.Store tx.old.conn.now).now.trees) }
     ensures reads { ReadsInside S.Store tx.old.conn.now tx.new.conn.now result }
-    ensures why { TellsWhyAtLast S.Store tx.old.conn.now tx.new.conn.now result FailsAtRowids }
+    ensures why { ExplainsWhyAtLast S.Store tx.old.conn.now tx.new.conn.now result FailsAtRowids }
     ensures same_reference { tx.new.conn.ghost_name ≡ tx.old.conn.ghost_name }
 {
     for text in texts {
@@ -124,7 +124,7 @@ fn is_numbered<S: Alter>(tx: &mut Transaction<'_, S>, text: &str) -> Result<bool
         → IfOk result (λ yes. (tree : ℕ) → SelectsRowids text.now tree
         → (IsTrue yes ↔ AreNumbered ((state S.Store tx.old.conn.now).now.trees tree))) }
     ensures reads { ReadsInside S.Store tx.old.conn.now tx.new.conn.now result }
-    ensures why { TellsWhy S.Store tx.old.conn.now tx.new.conn.now result text.now [] (λ _. ⊥) }
+    ensures why { ExplainsWhy S.Store tx.old.conn.now tx.new.conn.now result text.now [] (λ _. ⊥) }
     ensures same_reference { tx.new.conn.ghost_name ≡ tx.old.conn.ghost_name }
 {
     let shown = select_inside(tx, text, &[])?;
@@ -165,7 +165,7 @@ impl Rowids {
 
 impl RowSink for Rowids {
     ghost takes = { λ first shown now. first.rise ≡ true → first.last ≡ None
-        → TellsRise shown now.rise now.last };
+        → ShowsRise shown now.rise now.last };
 
     fn take(&mut self, row: &Row) {
         let id = rowid_of(row);

@@ -7,7 +7,7 @@ ghost use Rattle.room_tables_schema.specs.TableTrees.{AreNumbered};
 ghost use Rattle.room_tables_schema.specs.Outcomes.{ReadsInside, ReadsOnly};
 ghost use Rattle.room_types.specs.KeyedRows.{row_at};
 ghost use Rattle.room_tables_rows.specs.RoomsInTables.{StandsFor};
-ghost use Rattle.room_tables.specs.Failures.{AreMoreThanOne, AreNoRows, TellsWhy};
+ghost use Rattle.room_tables.specs.Failures.{AreMoreThanOne, AreNoRows, ExplainsWhy};
 ghost use Rattle.room_tables.specs.FoundRows.{Finds};
 
 use crate::loaded_rows::{find, rows_of};
@@ -30,7 +30,7 @@ pub fn all_rows<X: Table, S: Alter>(
         → IfOk result (λ rows. AreNumbered ((state S.Store tx.old.conn.now).now.trees X.table.tree)
         → StandsFor (state S.Store tx.old.conn.now).now.trees X.table X.cells rows) }
     ensures reads { ReadsInside S.Store tx.old.conn.now tx.new.conn.now result }
-    ensures why { TellsWhy S.Store tx.old.conn.now tx.new.conn.now result X.texts.all []
+    ensures why { ExplainsWhy S.Store tx.old.conn.now tx.new.conn.now result X.texts.all []
         (AreNoRows X.is_row X.Key.cmp X.key_of X.cells) }
     ensures same_reference { tx.new.conn.ghost_name ≡ tx.old.conn.ghost_name }
 {
@@ -47,7 +47,7 @@ pub fn row_at<X: Table, S: Alter>(
     ensures row { Finds S.Store conn.old conn.new result (λ room row.
         row ≡ row_at X.Key.cmp X.key_of (X.rows room) key.now) }
     ensures reads { ReadsOnly S.Store conn.old conn.new result }
-    ensures why { TellsWhy S.Store conn.old conn.new result X.texts.at (X.key_cells key.now)
+    ensures why { ExplainsWhy S.Store conn.old conn.new result X.texts.at (X.key_cells key.now)
         (AreMoreThanOne X.is_row) }
 {
     find(conn, X::statements().at, X::key_columns(key).as_slice())

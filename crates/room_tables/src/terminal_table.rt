@@ -13,7 +13,7 @@ ghost use Rattle.room_tables_schema.specs.FileConnections.{HasRoomSchema, MayWri
 ghost use Rattle.room_tables_rows.specs.RoomsInTables.{StandsFor};
 ghost use Rattle.room_tables_rows.specs.Writes.{Changes};
 ghost use Rattle.room_tables_rows.specs.declared.terminal_sql.TheConstants.{ALL_TERMINALS, PUT_TERMINAL, TERMINAL_AT};
-ghost use Rattle.room_tables.specs.Failures.{AreMoreThanOne, AreNoRows, IfStorage, TellsWhy, TellsWhyUnwritten};
+ghost use Rattle.room_tables.specs.Failures.{AreMoreThanOne, AreNoRows, ExplainsWhy, ExplainsWhyUnwritten, IfStorage};
 ghost use Rattle.room_tables.specs.FoundRows.{FindsInConfiguration};
 
 use crate::change_statements::run;
@@ -42,7 +42,7 @@ pub fn all_terminals<S: Alter>(
         (state S.Store tx.old.conn.now).now.trees terminals_table terminal_row terminals.items) }
     ensures keyed { IfOk result (λ terminals. IsKeyed token_cmp terminal_key terminals.items) }
     ensures reads { ReadsInside S.Store tx.old.conn.now tx.new.conn.now result }
-    ensures why { TellsWhy S.Store tx.old.conn.now tx.new.conn.now result ALL_TERMINALS.now []
+    ensures why { ExplainsWhy S.Store tx.old.conn.now tx.new.conn.now result ALL_TERMINALS.now []
         (AreNoRows is_terminal_row token_cmp terminal_key terminal_row) }
     ensures same_reference { tx.new.conn.ghost_name ≡ tx.old.conn.ghost_name }
 {
@@ -92,7 +92,7 @@ pub fn terminal_at<S: Alter>(
     ensures row { FindsInConfiguration S.Store conn.old conn.new result (λ config row.
         row ≡ found_terminal token.now config.terminals) }
     ensures reads { ReadsOnly S.Store conn.old conn.new result }
-    ensures why { TellsWhy S.Store conn.old conn.new result TERMINAL_AT.now (Text token.now
+    ensures why { ExplainsWhy S.Store conn.old conn.new result TERMINAL_AT.now (Text token.now
         ∷ []) (AreMoreThanOne is_terminal_row) }
 {
     find(conn, TERMINAL_AT, &[token.store()])
@@ -108,7 +108,8 @@ pub fn put_terminal<S: Alter>(tx: &mut Transaction<'_, S>, terminal: &Terminal) 
               terminal.now;
         }) (λ room. room)) }
     ensures writes { WritesInside S.Store tx.old.conn.now tx.new.conn.now result }
-    ensures why { TellsWhyUnwritten S.Store tx.old.conn.now tx.new.conn.now result PUT_TERMINAL.now
+    ensures why { ExplainsWhyUnwritten S.Store tx.old.conn.now tx.new.conn.now result
+        PUT_TERMINAL.now
         (terminal_row terminal.now) }
     ensures same_reference { tx.new.conn.ghost_name ≡ tx.old.conn.ghost_name }
 {

@@ -10,7 +10,7 @@ ghost use Rattle.room_tables_schema.specs.Schema.{turns_table};
 ghost use Rattle.room_tables_schema.specs.FileConnections.{HasRoomSchema};
 ghost use Rattle.room_tables_rows.specs.declared.turn_sql.TheConstants.{ALL_TURNS, PUT_TURN, TURNS_OF, TURN_AT};
 ghost use Rattle.room_tables_rows.proofs.TurnsTable.{turns_are};
-ghost use Rattle.room_tables.specs.Failures.{AreNoRows, TellsWhy};
+ghost use Rattle.room_tables.specs.Failures.{AreNoRows, ExplainsWhy};
 ghost use Rattle.room_tables.specs.FoundRows.{Finds};
 
 use crate::loaded_rows::load;
@@ -56,7 +56,7 @@ pub fn turns_of<S: Alter>(
     ensures rows { Finds S.Store conn.old conn.new result (λ room rows.
         rows ≡ filter (λ t. t.incident == incident && t.division == division) room.turns) }
     ensures reads { ReadsOnly S.Store conn.old conn.new result }
-    ensures why { TellsWhy S.Store conn.old conn.new result TURNS_OF.now (number incident
+    ensures why { ExplainsWhy S.Store conn.old conn.new result TURNS_OF.now (number incident
         ∷ number division ∷ []) (AreNoRows is_turn_row numbered_cmp turn_key turn_row) }
 {
     load(alloc, conn, TURNS_OF, &[incident.store(), division.store()])

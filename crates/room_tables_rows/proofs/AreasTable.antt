@@ -11,7 +11,7 @@ use Rattle.room_tables_schema.proofs.ColumnValues.{cast-Int, cast-Null}
 use Rattle.room_tables_schema.proofs.Comparisons.{conflict_of_one}
 use Rattle.room_tables_schema.proofs.StoredRows.{stores_rowid}
 use Rattle.room_tables_schema.specs.Schema.{areas_table, room_schema}
-use Rattle.room_tables_schema.specs.Statements.{Selects, StandsAlone, Stores, Upserts, rowid_update, rowid_values}
+use Rattle.room_tables_schema.specs.Statements.{Selects, StandsApart, Stores, Upserts, rowid_update, rowid_values}
 use Rattle.room_tables_schema.specs.TypedRows.{number}
 use Rattle.sqlite.specs.Listing.{understood}
 use Rattle.sqlite_tied.specs.Compute.{everything}
@@ -22,8 +22,8 @@ use Rattle.std.specs.Ordering.{nat_cmp}
 abbrev all_of : Configuration → Room → List (ℕ × Area)
 all_of config room = (numbered 1 room.plan)
 
-pub areas_alone : StandsAlone room_schema 1 areas_table
-areas_alone = record { is_there = refl; unreferenced = λ olds news. refl; uncounted = refl }
+pub areas_apart : StandsApart room_schema 1 areas_table
+areas_apart = record { is_there = refl; unreferenced = λ olds news. refl; uncounted = refl }
 
 abbrev pub areas_held : IsHeld nat_cmp area_key area_row areas_table all_of
 areas_held = record {
@@ -31,7 +31,7 @@ areas_held = record {
   others = (2 ∷ 3 ∷ 4 ∷ 5 ∷ 6 ∷ []);
   places_are = refl;
   at = 1;
-  alone = areas_alone;
+  apart = areas_apart;
   held = λ trees config room h. h.areas;
 }
 

@@ -12,7 +12,7 @@ use Rattle.room_tables_schema.proofs.ColumnValues.{cast-Int}
 use Rattle.room_tables_schema.proofs.Comparisons.{and_last, conflict_of_one, tie-texts}
 use Rattle.room_tables_schema.proofs.StoredRows.{stores_row}
 use Rattle.room_tables_schema.specs.Schema.{assignments_table, room_schema}
-use Rattle.room_tables_schema.specs.Statements.{Deletes, Inserts, Selects, StandsAlone, Stores, Upserts, equals}
+use Rattle.room_tables_schema.specs.Statements.{Deletes, Inserts, Selects, StandsApart, Stores, Upserts, equals}
 use Rattle.room_tables_schema.specs.Statements.{row_update, row_values}
 use Rattle.room_types.specs.Keys.{assignment_key, callsign_cmp}
 use Rattle.room_types.specs.Texts.{Callsign}
@@ -30,8 +30,8 @@ use Rattle.std.specs.Ordering.{is_eq}
 abbrev all_of : Configuration → Room → List Assignment
 all_of config room = room.assignments
 
-pub assignments_alone : StandsAlone room_schema 8 assignments_table
-assignments_alone = record { is_there = refl; unreferenced = λ olds news. refl; uncounted = refl }
+pub assignments_apart : StandsApart room_schema 8 assignments_table
+assignments_apart = record { is_there = refl; unreferenced = λ olds news. refl; uncounted = refl }
 
 abbrev pub assignments_held : IsHeld callsign_cmp assignment_key assignment_row assignments_table all_of
 assignments_held = record {
@@ -39,7 +39,7 @@ assignments_held = record {
   others = (2 ∷ 3 ∷ 4 ∷ 5 ∷ 6 ∷ 7 ∷ []);
   places_are = refl;
   at = 8;
-  alone = assignments_alone;
+  apart = assignments_apart;
   held = λ trees config room h. h.assignments;
 }
 
@@ -60,7 +60,7 @@ assignment_at_chooses k = record {
   selects = assignment_at_means;
   chooses = record {
     test = λ r. equal Binary (column r 0) (Text k);
-    tells = λ r. and_last refl;
+    agrees = λ r. and_last refl;
     same = λ x. tie-texts x.callsign k;
   };
 }
@@ -121,14 +121,14 @@ pub assignments_dropped : IsDropped callsign_cmp assignment_key assignment_row t
     (λ room. room.assignments) DropAssignment DROP_ASSIGNMENT.now
 assignments_dropped = record {
   at = 8;
-  alone = assignments_alone;
+  apart = assignments_apart;
   deletes =
       λ k. record {
         terms = equals 1 0 ∷ [];
         deletes = drop_assignment_means;
         chooses = record {
           test = λ r. equal Binary (column r 0) (Text k);
-          tells = λ r. and_last refl;
+          agrees = λ r. and_last refl;
           same = λ x. tie-texts x.callsign k;
         };
       };

@@ -14,7 +14,7 @@ use Rattle.room_tables_schema.proofs.Comparisons.{and_last, and_then, conflict_o
 use Rattle.room_tables_schema.proofs.Comparisons.{tie-numbers}
 use Rattle.room_tables_schema.proofs.StoredRows.{stores_row}
 use Rattle.room_tables_schema.specs.Schema.{calls_table, room_schema}
-use Rattle.room_tables_schema.specs.Statements.{Inserts, Selects, StandsAlone, Stores, Upserts, equals, row_update}
+use Rattle.room_tables_schema.specs.Statements.{Inserts, Selects, StandsApart, Stores, Upserts, equals, row_update}
 use Rattle.room_tables_schema.specs.Statements.{row_values}
 use Rattle.room_tables_schema.specs.TypedRows.{number}
 use Rattle.room_types.specs.Keys.{call_key, pair_cmp}
@@ -31,8 +31,8 @@ use Rattle.std.specs.Ordering.{is_eq, nat_cmp}
 abbrev all_of : Configuration → Room → List Call
 all_of config room = room.calls
 
-pub calls_alone : StandsAlone room_schema 5 calls_table
-calls_alone = record { is_there = refl; unreferenced = λ olds news. refl; uncounted = refl }
+pub calls_apart : StandsApart room_schema 5 calls_table
+calls_apart = record { is_there = refl; unreferenced = λ olds news. refl; uncounted = refl }
 
 abbrev pub calls_held : IsHeld pair_cmp call_key call_row calls_table all_of
 calls_held = record {
@@ -40,7 +40,7 @@ calls_held = record {
   others = (3 ∷ 4 ∷ 5 ∷ 6 ∷ 7 ∷ 8 ∷ 9 ∷ 10 ∷ 11 ∷ 12 ∷ 13 ∷ 14 ∷ []);
   places_are = refl;
   at = 5;
-  alone = calls_alone;
+  apart = calls_apart;
   held = λ trees config room h. h.calls;
 }
 
@@ -62,7 +62,7 @@ call_at_chooses j k = record {
   selects = call_at_means;
   chooses = record {
     test = λ r. equal Binary (column r 0) (number j) && equal Binary (column r 1) (number k);
-    tells = λ r. and_then refl (and_last refl);
+    agrees = λ r. and_then refl (and_last refl);
     same =
         λ x.
         and_then (tie-numbers x.position j) (tie-numbers x.serial k)
@@ -83,7 +83,7 @@ calls_of_chooses d n = record {
   selects = calls_of_means;
   chooses = record {
     test = λ r. equal Binary (column r 3) (number n) && equal Binary (column r 2) (number d);
-    tells = λ r. and_then refl (and_last refl);
+    agrees = λ r. and_then refl (and_last refl);
     same = λ x. and_then (equal-numbers x.incident n) (equal-numbers x.division d);
   };
 }
@@ -106,7 +106,7 @@ calls_by_chooses p = record {
   selects = calls_by_means;
   chooses = record {
     test = λ r. equal Binary (column r 0) (number p);
-    tells = λ r. and_last refl;
+    agrees = λ r. and_last refl;
     same = λ x. equal-numbers x.position p;
   };
 }

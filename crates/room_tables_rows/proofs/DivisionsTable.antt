@@ -11,7 +11,7 @@ use Rattle.room_tables_schema.proofs.ColumnValues.{cast-Int, cast-Null}
 use Rattle.room_tables_schema.proofs.Comparisons.{and_last, conflict_of_one, tie-numbers}
 use Rattle.room_tables_schema.proofs.StoredRows.{stores_rowid}
 use Rattle.room_tables_schema.specs.Schema.{divisions_table, room_schema}
-use Rattle.room_tables_schema.specs.Statements.{Selects, StandsAlone, Stores, Upserts, equals, rowid_update}
+use Rattle.room_tables_schema.specs.Statements.{Selects, StandsApart, Stores, Upserts, equals, rowid_update}
 use Rattle.room_tables_schema.specs.Statements.{rowid_values}
 use Rattle.room_tables_schema.specs.TypedRows.{number}
 use Rattle.room_types.specs.Keys.{division_key}
@@ -28,8 +28,8 @@ use Rattle.std.specs.Ordering.{is_eq, nat_cmp}
 abbrev all_of : Configuration → Room → List Division
 all_of config room = room.divisions
 
-pub divisions_alone : StandsAlone room_schema 3 divisions_table
-divisions_alone = record { is_there = refl; unreferenced = λ olds news. refl; uncounted = refl }
+pub divisions_apart : StandsApart room_schema 3 divisions_table
+divisions_apart = record { is_there = refl; unreferenced = λ olds news. refl; uncounted = refl }
 
 abbrev pub divisions_held : IsHeld nat_cmp division_key division_row divisions_table all_of
 divisions_held = record {
@@ -37,7 +37,7 @@ divisions_held = record {
   others = (2 ∷ []);
   places_are = refl;
   at = 3;
-  alone = divisions_alone;
+  apart = divisions_apart;
   held = λ trees config room h. h.divisions;
 }
 
@@ -57,7 +57,7 @@ division_at_chooses k = record {
   selects = division_at_means;
   chooses = record {
     test = λ r. equal Binary (column r 0) (number k);
-    tells = λ r. and_last refl;
+    agrees = λ r. and_last refl;
     same = λ x. tie-numbers x.number k;
   };
 }

@@ -16,7 +16,7 @@ use Rattle.room_tables_schema.proofs.Comparisons.{and_last, and_then, compare_by
 use Rattle.room_tables_schema.proofs.Comparisons.{equal-numbers, is_eq-then, tie-numbers, tie_of_two}
 use Rattle.room_tables_schema.proofs.StoredRows.{covers_row, stores_row}
 use Rattle.room_tables_schema.specs.Schema.{incidents_table, room_schema}
-use Rattle.room_tables_schema.specs.Statements.{Covers, Inserts, Overwrites, Selects, StandsAlone, Stores, Upserts}
+use Rattle.room_tables_schema.specs.Statements.{Covers, Inserts, Overwrites, Selects, StandsApart, Stores, Upserts}
 use Rattle.room_tables_schema.specs.Statements.{at_least, below, equals, equals_by_value, row_update, row_values}
 use Rattle.room_tables_schema.specs.TypedRows.{number}
 use Rattle.room_types.specs.Codes.{is_active, state_number}
@@ -38,8 +38,8 @@ use Rattle.std.specs.Prelude.{int_le, int_lt}
 abbrev all_of : Configuration → Room → List Incident
 all_of config room = room.incidents
 
-pub incidents_alone : StandsAlone room_schema 4 incidents_table
-incidents_alone = record { is_there = refl; unreferenced = λ olds news. refl; uncounted = refl }
+pub incidents_apart : StandsApart room_schema 4 incidents_table
+incidents_apart = record { is_there = refl; unreferenced = λ olds news. refl; uncounted = refl }
 
 abbrev pub incidents_held : IsHeld pair_cmp incident_key incident_row incidents_table all_of
 incidents_held = record {
@@ -47,7 +47,7 @@ incidents_held = record {
   others = (3 ∷ 4 ∷ 5 ∷ 6 ∷ 7 ∷ 8 ∷ 9 ∷ 10 ∷ 11 ∷ 12 ∷ []);
   places_are = refl;
   at = 4;
-  alone = incidents_alone;
+  apart = incidents_apart;
   held = λ trees config room h. h.incidents;
 }
 
@@ -69,7 +69,7 @@ incident_at_chooses j k = record {
   selects = incident_at_means;
   chooses = record {
     test = λ r. equal Binary (column r 0) (number j) && equal Binary (column r 1) (number k);
-    tells = λ r. and_then refl (and_last refl);
+    agrees = λ r. and_then refl (and_last refl);
     same =
         λ x.
         and_then (tie-numbers x.division j) (tie-numbers x.number k)
@@ -90,7 +90,7 @@ active_incidents_chooses d = record {
   selects = active_incidents_means;
   chooses = record {
     test = λ r. equal Binary (column r 10) (number (state_number Active)) && equal Binary (column r 0) (number d);
-    tells = λ r. and_then refl (and_last refl);
+    agrees = λ r. and_then refl (and_last refl);
     same = λ x. and_then (equal-active x.state) (equal-numbers x.division d);
   };
 }
@@ -119,7 +119,7 @@ incidents_opened_chooses from to d = record {
         λ r.
         compare_by Ge (column r 8) (Int from)
         && (compare_by Lt (column r 8) (Int to) && equal Binary (column r 0) (number d));
-    tells = λ r. and_then refl (and_then refl (and_last (equal-by_value (column r 1) (number d))));
+    agrees = λ r. and_then refl (and_then refl (and_last (equal-by_value (column r 1) (number d))));
     same =
         λ x.
         and_then (at_least-integers (pos x.opened) from)
@@ -148,7 +148,7 @@ incidents_since_chooses from = record {
   selects = incidents_since_means;
   chooses = record {
     test = λ r. compare_by Ge (column r 8) (Int from);
-    tells = λ r. and_last refl;
+    agrees = λ r. and_last refl;
     same = λ x. at_least-integers (pos x.opened) from;
   };
 }
@@ -248,7 +248,7 @@ incident_covers x =
 pub incidents_overwritten : IsOverwritten incidents_table incident_row (λ room. room.incidents) OVERWRITE_INCIDENT.now
 incidents_overwritten = record {
   at = 4;
-  alone = incidents_alone;
+  apart = incidents_apart;
   columns = 12;
   overwrites = overwrite_incident_means;
   covers = incident_covers;

@@ -61,7 +61,7 @@ module _ {X K : Type 0} {order : K → K → Ordering} {key : X → K} {row : X 
       selection_is_chosen order key row room_schema text old new table.tree table.primary is.others means.terms params
       means.chooses.test chosen _ found (rows config room) (selects_there means.terms means.selects) is.faithful
       (λ r.
-      subst (λ p. passes means.terms params r ≡ means.chooses.test (cells p r)) is.places_are (means.chooses.tells r))
+      subst (λ p. passes means.terms params r ≡ means.chooses.test (cells p r)) is.places_are (means.chooses.agrees r))
       means.chooses.same has shown refl
       (held_there old.now.trees (rows config room) (is.held old.now.trees config room h))
 

@@ -11,7 +11,7 @@ use Rattle.room_tables_schema.proofs.ColumnValues.{cast-Int}
 use Rattle.room_tables_schema.proofs.Comparisons.{and_last, conflict_of_one, tie-texts}
 use Rattle.room_tables_schema.proofs.StoredRows.{stores_row}
 use Rattle.room_tables_schema.specs.Schema.{loans_table, room_schema}
-use Rattle.room_tables_schema.specs.Statements.{Deletes, Selects, StandsAlone, Stores, Upserts, equals, row_update}
+use Rattle.room_tables_schema.specs.Statements.{Deletes, Selects, StandsApart, Stores, Upserts, equals, row_update}
 use Rattle.room_tables_schema.specs.Statements.{row_values}
 use Rattle.room_types.specs.Keys.{callsign_cmp, loan_key}
 use Rattle.room_types.specs.Texts.{Callsign}
@@ -29,8 +29,8 @@ use Rattle.std.specs.Ordering.{is_eq}
 abbrev all_of : Configuration → Room → List Loan
 all_of config room = room.loans
 
-pub loans_alone : StandsAlone room_schema 10 loans_table
-loans_alone = record { is_there = refl; unreferenced = λ olds news. refl; uncounted = refl }
+pub loans_apart : StandsApart room_schema 10 loans_table
+loans_apart = record { is_there = refl; unreferenced = λ olds news. refl; uncounted = refl }
 
 abbrev pub loans_held : IsHeld callsign_cmp loan_key loan_row loans_table all_of
 loans_held = record {
@@ -38,7 +38,7 @@ loans_held = record {
   others = (2 ∷ 3 ∷ 4 ∷ 5 ∷ 6 ∷ []);
   places_are = refl;
   at = 10;
-  alone = loans_alone;
+  apart = loans_apart;
   held = λ trees config room h. h.loans;
 }
 
@@ -57,7 +57,7 @@ loan_at_chooses k = record {
   selects = loan_at_means;
   chooses = record {
     test = λ r. equal Binary (column r 0) (Text k);
-    tells = λ r. and_last refl;
+    agrees = λ r. and_last refl;
     same = λ x. tie-texts x.callsign k;
   };
 }
@@ -95,14 +95,14 @@ pub loans_dropped : IsDropped callsign_cmp loan_key loan_row text_cells loans_ta
     DROP_LOAN.now
 loans_dropped = record {
   at = 10;
-  alone = loans_alone;
+  apart = loans_apart;
   deletes =
       λ k. record {
         terms = equals 1 0 ∷ [];
         deletes = drop_loan_means;
         chooses = record {
           test = λ r. equal Binary (column r 0) (Text k);
-          tells = λ r. and_last refl;
+          agrees = λ r. and_last refl;
           same = λ x. tie-texts x.callsign k;
         };
       };

@@ -10,7 +10,7 @@ use Rattle.room_tables_schema.proofs.ColumnValues.{cast-Int, cast-Null}
 use Rattle.room_tables_schema.proofs.Comparisons.{conflict_of_one}
 use Rattle.room_tables_schema.proofs.StoredRows.{stores_rowid}
 use Rattle.room_tables_schema.specs.Schema.{meta_table, room_schema}
-use Rattle.room_tables_schema.specs.Statements.{Selects, StandsAlone, Stores, Upserts, rowid_update, rowid_values}
+use Rattle.room_tables_schema.specs.Statements.{Selects, StandsApart, Stores, Upserts, rowid_update, rowid_values}
 use Rattle.room_tables_schema.specs.TypedRows.{number}
 use Rattle.sqlite.specs.Listing.{understood}
 use Rattle.sqlite_tied.specs.Compute.{everything}
@@ -21,8 +21,8 @@ use Rattle.std.specs.Ordering.{nat_cmp}
 abbrev all_of : Configuration → Room → List (List ℕ)
 all_of config room = (config.zone ∷ [])
 
-pub meta_alone : StandsAlone room_schema 0 meta_table
-meta_alone = record { is_there = refl; unreferenced = λ olds news. refl; uncounted = refl }
+pub meta_apart : StandsApart room_schema 0 meta_table
+meta_apart = record { is_there = refl; unreferenced = λ olds news. refl; uncounted = refl }
 
 abbrev pub meta_held : IsHeld nat_cmp meta_key meta_row meta_table all_of
 meta_held = record {
@@ -30,7 +30,7 @@ meta_held = record {
   others = (2 ∷ 3 ∷ []);
   places_are = refl;
   at = 0;
-  alone = meta_alone;
+  apart = meta_apart;
   held = λ trees config room h. h.meta;
 }
 

@@ -34,10 +34,10 @@ module _ (old : Trees) (mid new : State) (adds : AddsLast old mid.now.trees)
       let only = renews.only.tables in
       let rows = adds.rows in
       let was = holds_still _ _ _ _ _ rows.0 h.meta in
-      let told = subst (λ zone. StandsFor new.now.trees meta_table meta_row (zone ∷ []))
+      let stood = subst (λ zone. StandsFor new.now.trees meta_table meta_row (zone ∷ []))
       (one_zone 1 mid.now.trees renews.zone config.zone renews.was was) renews.is in
       record {
-        meta = told;
+        meta = stood;
         areas = holds_still _ _ _ _ _ (only.1.0 (eqb-false _ _ refl) ∙ rows.1.0) h.areas;
         terminals = holds_still _ _ _ _ _ (only.1.1.0 (eqb-false _ _ refl) ∙ rows.1.1.0) h.terminals;
         divisions = holds_still _ _ _ _ _ (only.1.1.1.0 (eqb-false _ _ refl) ∙ rows.1.1.1.0) h.divisions;
@@ -63,10 +63,10 @@ module _ (old : Trees) (mid new : State) (adds : AddsLast old mid.now.trees)
       let only = renews.only.tables in
       let rows = adds.rows in
       let was = holds_still _ _ _ _ _ (sym rows.0) renews.was in
-      let told = subst (λ zone. StandsFor old meta_table (version_row 1) (zone ∷ []))
+      let stood = subst (λ zone. StandsFor old meta_table (version_row 1) (zone ∷ []))
       (one_zone 2 new.now.trees renews.zone config.zone renews.is h.meta) was in
       record {
-        meta = told;
+        meta = stood;
         areas = holds_still _ _ _ _ _ (sym (only.1.0 (eqb-false _ _ refl) ∙ rows.1.0)) h.areas;
         terminals = holds_still _ _ _ _ _ (sym (only.1.1.0 (eqb-false _ _ refl) ∙ rows.1.1.0)) h.terminals;
         divisions = holds_still _ _ _ _ _ (sym (only.1.1.1.0 (eqb-false _ _ refl) ∙ rows.1.1.1.0)) h.divisions;

@@ -11,7 +11,7 @@ use Rattle.room_tables_schema.proofs.ColumnValues.{cast-Int}
 use Rattle.room_tables_schema.proofs.Comparisons.{and_last, conflict_of_one, tie-texts}
 use Rattle.room_tables_schema.proofs.StoredRows.{stores_row}
 use Rattle.room_tables_schema.specs.Schema.{offers_table, room_schema}
-use Rattle.room_tables_schema.specs.Statements.{Deletes, Selects, StandsAlone, Stores, Upserts, equals, row_update}
+use Rattle.room_tables_schema.specs.Statements.{Deletes, Selects, StandsApart, Stores, Upserts, equals, row_update}
 use Rattle.room_tables_schema.specs.Statements.{row_values}
 use Rattle.room_types.specs.Keys.{callsign_cmp, offer_key}
 use Rattle.room_types.specs.Texts.{Callsign}
@@ -29,8 +29,8 @@ use Rattle.std.specs.Ordering.{is_eq}
 abbrev all_of : Configuration → Room → List Offer
 all_of config room = room.offers
 
-pub offers_alone : StandsAlone room_schema 12 offers_table
-offers_alone = record { is_there = refl; unreferenced = λ olds news. refl; uncounted = refl }
+pub offers_apart : StandsApart room_schema 12 offers_table
+offers_apart = record { is_there = refl; unreferenced = λ olds news. refl; uncounted = refl }
 
 abbrev pub offers_held : IsHeld callsign_cmp offer_key offer_row offers_table all_of
 offers_held = record {
@@ -38,7 +38,7 @@ offers_held = record {
   others = (2 ∷ 3 ∷ 4 ∷ 5 ∷ []);
   places_are = refl;
   at = 12;
-  alone = offers_alone;
+  apart = offers_apart;
   held = λ trees config room h. h.offers;
 }
 
@@ -57,7 +57,7 @@ offer_at_chooses k = record {
   selects = offer_at_means;
   chooses = record {
     test = λ r. equal Binary (column r 0) (Text k);
-    tells = λ r. and_last refl;
+    agrees = λ r. and_last refl;
     same = λ x. tie-texts x.callsign k;
   };
 }
@@ -100,14 +100,14 @@ pub offers_dropped : IsDropped callsign_cmp offer_key offer_row text_cells offer
     DROP_OFFER.now
 offers_dropped = record {
   at = 12;
-  alone = offers_alone;
+  apart = offers_apart;
   deletes =
       λ k. record {
         terms = equals 1 0 ∷ [];
         deletes = drop_offer_means;
         chooses = record {
           test = λ r. equal Binary (column r 0) (Text k);
-          tells = λ r. and_last refl;
+          agrees = λ r. and_last refl;
           same = λ x. tie-texts x.callsign k;
         };
       };

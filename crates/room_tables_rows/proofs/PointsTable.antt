@@ -11,7 +11,7 @@ use Rattle.room_tables_schema.proofs.ColumnValues.{cast-Int}
 use Rattle.room_tables_schema.proofs.Comparisons.{and_last, and_then, conflict_of_two, is_eq-then, tie-numbers}
 use Rattle.room_tables_schema.proofs.StoredRows.{stores_row}
 use Rattle.room_tables_schema.specs.Schema.{points_table, room_schema}
-use Rattle.room_tables_schema.specs.Statements.{Selects, StandsAlone, Stores, Upserts, equals, row_update, row_values}
+use Rattle.room_tables_schema.specs.Statements.{Selects, StandsApart, Stores, Upserts, equals, row_update, row_values}
 use Rattle.room_tables_schema.specs.TypedRows.{number}
 use Rattle.room_types.specs.Keys.{pair_cmp, point_key}
 use Rattle.room_types.specs.declared.changes.Change.TheVariants.{PutPoint}
@@ -27,8 +27,8 @@ use Rattle.std.specs.Ordering.{is_eq, nat_cmp}
 abbrev all_of : Configuration → Room → List Point
 all_of config room = room.points
 
-pub points_alone : StandsAlone room_schema 9 points_table
-points_alone = record { is_there = refl; unreferenced = λ olds news. refl; uncounted = refl }
+pub points_apart : StandsApart room_schema 9 points_table
+points_apart = record { is_there = refl; unreferenced = λ olds news. refl; uncounted = refl }
 
 abbrev pub points_held : IsHeld pair_cmp point_key point_row points_table all_of
 points_held = record {
@@ -36,7 +36,7 @@ points_held = record {
   others = (3 ∷ 4 ∷ 5 ∷ []);
   places_are = refl;
   at = 9;
-  alone = points_alone;
+  apart = points_apart;
   held = λ trees config room h. h.points;
 }
 
@@ -57,7 +57,7 @@ point_at_chooses j k = record {
   selects = point_at_means;
   chooses = record {
     test = λ r. equal Binary (column r 0) (number j) && equal Binary (column r 1) (number k);
-    tells = λ r. and_then refl (and_last refl);
+    agrees = λ r. and_then refl (and_last refl);
     same =
         λ x.
         and_then (tie-numbers x.division j) (tie-numbers x.number k)

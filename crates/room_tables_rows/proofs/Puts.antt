@@ -8,7 +8,7 @@ use Rattle.sqlite.specs.State.{State, Executes}
 use Rattle.room_types.specs.KeyedRows.{put_row, drop_row}
 use Rattle.room_types.specs.declared.changes.Change.{Change}
 use Rattle.room_tables_schema.specs.Outcomes.{Inside, Only}
-use Rattle.room_tables_schema.specs.Statements.{StandsAlone}
+use Rattle.room_tables_schema.specs.Statements.{StandsApart}
 use Rattle.room_tables_schema.proofs.TypedTables.{insertion_puts, upsert_puts, overwrite_puts, deletion_drops}
 use Rattle.room_tables_schema.proofs.Overwrites.{overwritten}
 use Rattle.room_tables_schema.proofs.Insertions.{inserted_schema}
@@ -56,11 +56,11 @@ module _ {X K : Type 0} {order : K → K → Ordering} {key : X → K} {row : X 
       → Executes text (row x) old new (Ok count) → Changes old new config_after room_after
   put_changes puts x config_after room_after leads old new count has inside ran =
       changes_by x config_after room_after leads old new inside
-      (upserted_schema room_schema text is.at table is.alone (places table) table.primary puts.columns puts.values
+      (upserted_schema room_schema text is.at table is.apart (places table) table.primary puts.columns puts.values
       puts.update puts.upserts (row x) (puts.stores x) old new count has ran)
       (λ xs.
       upsert_puts order key row room_schema text old new is.at table (places table) table.primary puts.columns
-      puts.values puts.update count x xs is.alone puts.upserts is.faithful (puts.stores x) has ran)
+      puts.values puts.update count x xs is.apart puts.upserts is.faithful (puts.stores x) has ran)
 
   -- so does an insertion
   pub insert_changes : InsertsRow table row is.at text
@@ -70,27 +70,27 @@ module _ {X K : Type 0} {order : K → K → Ordering} {key : X → K} {row : X 
       → Executes text (row x) old new (Ok count) → Changes old new config_after room_after
   insert_changes inserts x config_after room_after leads old new count has inside ran =
       changes_by x config_after room_after leads old new inside
-      (inserted_schema room_schema text is.at table is.alone (places table) table.primary inserts.columns inserts.values
+      (inserted_schema room_schema text is.at table is.apart (places table) table.primary inserts.columns inserts.values
       inserts.update inserts.inserts (row x) (inserts.stores x) old new count has ran)
       (λ xs.
       insertion_puts order key row room_schema text old new is.at table (places table) table.primary inserts.columns
-      inserts.values inserts.update count x xs is.alone inserts.inserts is.faithful (inserts.stores x) has ran)
+      inserts.values inserts.update count x xs is.apart inserts.inserts is.faithful (inserts.stores x) has ran)
 
   -- the row of the key is dropped
-  pub drop_changes : (at : ℕ) → StandsAlone room_schema at table → (params : Row) (k : K)
+  pub drop_changes : (at : ℕ) → StandsApart room_schema at table → (params : Row) (k : K)
       → DeletesChosen table row at text params (λ x. is_eq (order k (key x)))
       → (config_after : Configuration → Configuration) (room_after : Room → Room)
       → Leads (λ config room. drop_row order key (rows config room) k) config_after room_after
       → (old new : State) (count : ℕ) → old.now.schema ≡ room_schema → Inside old new
       → Executes text params old new (Ok count) → Changes old new config_after room_after
-  drop_changes at alone params k means config_after room_after leads old new count has inside ran = record {
+  drop_changes at apart params k means config_after room_after leads old new count has inside ran = record {
     inside = inside;
     schema =
-        (deleted room_schema text at table alone means.terms means.deletes old new params count has ran).0.schema_is
+        (deleted room_schema text at table apart means.terms means.deletes old new params count has ran).0.schema_is
         ∙ has;
     stands = λ config room h.
         let it = deletion_drops order key row room_schema text old new at table (places table) table.primary means.terms
-        params means.chooses.test count k (rows config room) alone means.deletes is.faithful means.chooses.tells
+        params means.chooses.test count k (rows config room) apart means.deletes is.faithful means.chooses.agrees
         means.chooses.same has ran
         (is.held old.now.trees config room h) in
         leads old.now new.now config room h it.0 it.1;
@@ -124,11 +124,11 @@ module _ {X K : Type 0} {order : K → K → Ordering} {key : X → K} {row : X 
       record {
         inside = inside;
         schema =
-            (overwritten room_schema text over.at table over.alone (places table) table.primary over.columns
+            (overwritten room_schema text over.at table over.apart (places table) table.primary over.columns
             over.overwrites (row x) (over.covers x) old new count has ran).0.schema_is ∙ has;
         stands = λ config room h.
             let it = overwrite_puts order key row room_schema text old new over.at table (places table) table.primary
-            over.columns count x (rows room) over.alone over.overwrites is.is_held.faithful (over.covers x) has ran
+            over.columns count x (rows room) over.apart over.overwrites is.is_held.faithful (over.covers x) has ran
             (is.is_held.held old.now.trees config room h) in
             after config room h it.0 (count == 0) it.1;
       }
@@ -147,5 +147,5 @@ module _ {X K : Type 0} {order : K → K → Ordering} {key : X → K} {row : X 
       → (k : K) (old new : State) (count : ℕ) → old.now.schema ≡ room_schema → Inside old new
       → Executes text (key_row k) old new (Ok count) → Makes old new (drop k)
   drop_makes drop text dropped k =
-      drop_changes is.is_held text dropped.at dropped.alone (key_row k) k (dropped.deletes k) (λ config. config)
+      drop_changes is.is_held text dropped.at dropped.apart (key_row k) k (dropped.deletes k) (λ config. config)
       (λ room. apply_one room (drop k)) (λ old new config room. dropped.leads old new config room k)

@@ -129,13 +129,13 @@ state_of : (n : ℕ) (o : Option ℕ) (read : Option State) → Decodes state_co
     → is_some read ≡ is_state (number n) (number_or_null o)
 state_of n o (Some s) h fits =
     rw (← ap (λ (p : ℕ × Option ℕ). p.0) h.has_it, ← ap (λ (p : ℕ × Option ℕ). p.1) h.has_it)
-    (told s (fits ∙ ap (λ (p : ℕ × Option ℕ). is_or_null is_serial (number_or_null p.1)) (sym h.has_it)))
+    (merged_read s (fits ∙ ap (λ (p : ℕ × Option ℕ). is_or_null is_serial (number_or_null p.1)) (sym h.has_it)))
   where
-    told : (s : State) → true ≡ is_or_null is_serial (number_or_null (merged_into s))
+    merged_read : (s : State) → true ≡ is_or_null is_serial (number_or_null (merged_into s))
         → true ≡ is_state (number (state_number s)) (number_or_null (merged_into s))
-    told Active fits = refl
-    told Closed fits = refl
-    told (Merged m) fits = fits
+    merged_read Active fits = refl
+    merged_read Closed fits = refl
+    merged_read (Merged m) fits = fits
 state_of zero None None h fits = absurd (taken (h.only_one Active refl))
 state_of zero (Some m) None h fits = refl
 state_of (suc zero) None None h fits = absurd (taken (h.only_one Closed refl))

@@ -16,7 +16,7 @@ use Rattle.room_tables_schema.proofs.Comparisons.{and_last, and_then, conflict_o
 use Rattle.room_tables_schema.proofs.Comparisons.{tie-numbers, tie-texts}
 use Rattle.room_tables_schema.proofs.StoredRows.{stores_row}
 use Rattle.room_tables_schema.specs.Schema.{reports_table, room_schema}
-use Rattle.room_tables_schema.specs.Statements.{Inserts, Selects, StandsAlone, Stores, Upserts, equals, row_update}
+use Rattle.room_tables_schema.specs.Statements.{Inserts, Selects, StandsApart, Stores, Upserts, equals, row_update}
 use Rattle.room_tables_schema.specs.Statements.{row_values}
 use Rattle.room_tables_schema.specs.TypedRows.{number}
 use Rattle.room_types.specs.Codes.{outcome_number}
@@ -37,8 +37,8 @@ use Rattle.std.specs.Ordering.{is_eq, nat_cmp}
 abbrev all_of : Configuration → Room → List Report
 all_of config room = room.reports
 
-pub reports_alone : StandsAlone room_schema 11 reports_table
-reports_alone = record { is_there = refl; unreferenced = λ olds news. refl; uncounted = refl }
+pub reports_apart : StandsApart room_schema 11 reports_table
+reports_apart = record { is_there = refl; unreferenced = λ olds news. refl; uncounted = refl }
 
 abbrev pub reports_held : IsHeld numbered_cmp report_key report_row reports_table all_of
 reports_held = record {
@@ -46,7 +46,7 @@ reports_held = record {
   others = (3 ∷ 4 ∷ 5 ∷ 6 ∷ 7 ∷ 8 ∷ 9 ∷ 10 ∷ 11 ∷ []);
   places_are = refl;
   at = 11;
-  alone = reports_alone;
+  apart = reports_apart;
   held = λ trees config room h. h.reports;
 }
 
@@ -68,7 +68,7 @@ report_at_chooses j k = record {
   selects = report_at_means;
   chooses = record {
     test = λ r. equal Binary (column r 0) (Text j) && equal Binary (column r 1) (number k);
-    tells = λ r. and_then refl (and_last refl);
+    agrees = λ r. and_then refl (and_last refl);
     same =
         λ x.
         and_then (tie-texts x.callsign j) (tie-numbers x.number k)
@@ -92,7 +92,7 @@ uncleared_reports_chooses o d = record {
         λ r.
         equal Binary (column r 8) (outcome_code o)
         && (equal Binary (column r 10) (truth false) && equal Binary (column r 7) (number d));
-    tells =
+    agrees =
         λ r.
         and_three (equal Binary (column r 9) (outcome_code o)) (equal Binary (column r 11) (truth false))
         (equal Binary (column r 8) (number d));

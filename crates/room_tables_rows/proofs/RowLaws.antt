@@ -112,13 +112,13 @@ pub meta_faithful : IsFaithful nat_cmp meta_key meta_row (0 ∷ [])
 meta_faithful = version_faithful 2
 
 -- of whichever version
-abbrev pub told_row : ℕ × List ℕ → Row
-told_row told = version_row told.0 told.1
+abbrev pub pair_row : ℕ × List ℕ → Row
+pair_row pair = version_row pair.0 pair.1
 
-pub told_faithful : IsFaithful nat_cmp (λ (told : ℕ × List ℕ). meta_key told.1) told_row (0 ∷ [])
-told_faithful = record {
+pub pair_faithful : IsFaithful nat_cmp (λ (pair : ℕ × List ℕ). meta_key pair.1) pair_row (0 ∷ [])
+pair_faithful = record {
   read = λ r. (number_in (column r 1), zone_in r);
-  read_back = λ told. refl;
+  read_back = λ pair. refl;
   total = nat_cmp_total;
   ordered = λ x y. key_of_one (value_cmp-numbers 1 1);
 }

@@ -13,7 +13,7 @@ use Rattle.room_tables_schema.proofs.Upserts.{upserted_schema}
 use Rattle.room_place.specs.declared.plans.Area.{Area}
 use Rattle.room_tables_rows.specs.MetaSql.{meta_key, meta_row, version_row}
 use Rattle.room_tables_rows.specs.AreaSql.{area_key, area_row}
-use Rattle.room_tables_rows.proofs.RowLaws.{meta_faithful, told_faithful, told_row, area_faithful}
+use Rattle.room_tables_rows.proofs.RowLaws.{meta_faithful, pair_faithful, pair_row, area_faithful}
 use Rattle.room_model.specs.Room.{Room}
 use Rattle.room_tables_schema.specs.Definitions.{IsBlank}
 use Rattle.room_tables_schema.specs.Schema.{room_schema, meta_table, areas_table}
@@ -24,8 +24,8 @@ use Rattle.room_tables_rows.specs.Writes.{Changes, AppendsArea}
 use Rattle.room_tables_rows.proofs.Kept.{with_meta, with_areas, with_first}
 use Rattle.room_tables_rows.proofs.Puts.{put_changes}
 use Rattle.room_tables_rows.proofs.PlanLaws.{numbered-keyed, numbered-injective, put_row-numbered}
-use Rattle.room_tables_rows.proofs.MetaTable.{meta_alone, meta_held, meta_puts, put_meta_means, meta_stores}
-use Rattle.room_tables_rows.proofs.AreasTable.{all_areas_are, areas_alone, put_area_means, area_stores}
+use Rattle.room_tables_rows.proofs.MetaTable.{meta_apart, meta_held, meta_puts, put_meta_means, meta_stores}
+use Rattle.room_tables_rows.proofs.AreasTable.{all_areas_are, areas_apart, put_area_means, area_stores}
 
 module _ (zone : List ℕ) (old new : State) (count : ℕ) (has : old.now.schema ≡ room_schema)
     (inside : Inside old new) (ran : Executes PUT_META.now (meta_row zone) old new (Ok count)) where
@@ -38,7 +38,7 @@ module _ (zone : List ℕ) (old new : State) (count : ℕ) (has : old.now.schema
       → Stands new.now.trees (record { zone = zone; terminals = [] }) empty_room
   put_meta_begins blank =
       let it = upsert_puts nat_cmp meta_key meta_row room_schema PUT_META.now old new 0 meta_table (0 ∷ 2 ∷ 3 ∷ [])
-      (0 ∷ []) 3 (rowid_values 3) (rowid_update 3) count zone [] meta_alone put_meta_means meta_faithful
+      (0 ∷ []) 3 (rowid_values 3) (rowid_update 3) count zone [] meta_apart put_meta_means meta_faithful
       (meta_stores zone) has ran
       (holds_none (0 ∷ 2 ∷ 3 ∷ []) (0 ∷ []) (old.now.trees 0) blank.meta) in
       with_first old.now new.now blank it.0 zone it.1
@@ -50,8 +50,8 @@ pub put_meta_renews : (version : ℕ) (was zone : List ℕ) (old new : State) (c
     → StandsFor old.now.trees meta_table (version_row version) (was ∷ [])
     → Only room_schema 0 old.now new.now × StandsFor new.now.trees meta_table meta_row (zone ∷ [])
 put_meta_renews version was zone old new count has ran h =
-    upsert_puts nat_cmp _ told_row room_schema PUT_META.now old new 0 meta_table (0 ∷ 2 ∷ 3 ∷ []) (0 ∷ []) 3
-    (rowid_values 3) (rowid_update 3) count (2, zone) ((version, was) ∷ []) meta_alone put_meta_means told_faithful
+    upsert_puts nat_cmp _ pair_row room_schema PUT_META.now old new 0 meta_table (0 ∷ 2 ∷ 3 ∷ []) (0 ∷ []) 3
+    (rowid_values 3) (rowid_update 3) count (2, zone) ((version, was) ∷ []) meta_apart put_meta_means pair_faithful
     (meta_stores zone) has ran h
 
 pub put_area_makes : (at : ℕ) (area : Area) (old new : State) (count : ℕ)
@@ -60,13 +60,13 @@ pub put_area_makes : (at : ℕ) (area : Area) (old new : State) (count : ℕ)
 put_area_makes at area old new count has inside ran = record {
   inside = inside;
   schema =
-      upserted_schema room_schema PUT_AREA.now 1 areas_table areas_alone (0 ∷ 2 ∷ 3 ∷ 4 ∷ 5 ∷ 6 ∷ []) (0 ∷ []) 6
+      upserted_schema room_schema PUT_AREA.now 1 areas_table areas_apart (0 ∷ 2 ∷ 3 ∷ 4 ∷ 5 ∷ 6 ∷ []) (0 ∷ []) 6
       (rowid_values 6) (rowid_update 6) put_area_means (area_row (at, area)) (area_stores (at, area)) old new count has
       ran;
   stands = λ config room h next.
       let it = upsert_puts nat_cmp area_key area_row room_schema PUT_AREA.now old new 1 areas_table
       (0 ∷ 2 ∷ 3 ∷ 4 ∷ 5 ∷ 6 ∷ []) (0 ∷ []) 6 (rowid_values 6) (rowid_update 6) count (at, area) (numbered 1 room.plan)
-      areas_alone put_area_means area_faithful (area_stores (at, area)) has ran h.areas in
+      areas_apart put_area_means area_faithful (area_stores (at, area)) has ran h.areas in
       with_areas old.now new.now config room h it.0 (room.plan ++ area ∷ [])
       (subst (λ xs. StandsFor new.now.trees areas_table area_row xs)
       (put_row-numbered 1 at room.plan area (omega arith)) it.1);

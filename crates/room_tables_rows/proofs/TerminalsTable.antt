@@ -16,7 +16,7 @@ use Rattle.room_tables_schema.proofs.Comparisons.{and_last, conflict_of_one, tie
 use Rattle.room_tables_schema.proofs.StoredRows.{stores_row}
 use Rattle.room_tables_schema.specs.Outcomes.{Inside}
 use Rattle.room_tables_schema.specs.Schema.{room_schema, terminals_table}
-use Rattle.room_tables_schema.specs.Statements.{Selects, StandsAlone, Stores, Upserts, equals, row_update, row_values}
+use Rattle.room_tables_schema.specs.Statements.{Selects, StandsApart, Stores, Upserts, equals, row_update, row_values}
 use Rattle.room_types.specs.KeyedRows.{put_row, row_at}
 use Rattle.room_types.specs.Texts.{Token}
 use Rattle.room_types.specs.declared.fleet.Terminal.{Terminal}
@@ -33,8 +33,8 @@ use Rattle.std.specs.Ordering.{is_eq}
 abbrev all_of : Configuration → Room → List Terminal
 all_of config room = config.terminals
 
-pub terminals_alone : StandsAlone room_schema 2 terminals_table
-terminals_alone = record { is_there = refl; unreferenced = λ olds news. refl; uncounted = refl }
+pub terminals_apart : StandsApart room_schema 2 terminals_table
+terminals_apart = record { is_there = refl; unreferenced = λ olds news. refl; uncounted = refl }
 
 abbrev pub terminals_held : IsHeld token_cmp terminal_key terminal_row terminals_table all_of
 terminals_held = record {
@@ -42,7 +42,7 @@ terminals_held = record {
   others = (2 ∷ 3 ∷ 4 ∷ []);
   places_are = refl;
   at = 2;
-  alone = terminals_alone;
+  apart = terminals_apart;
   held = λ trees config room h. h.terminals;
 }
 
@@ -65,7 +65,7 @@ terminal_at_chooses k = record {
   selects = terminal_at_means;
   chooses = record {
     test = λ r. equal Binary (column r 0) (Text k);
-    tells = λ r. and_last refl;
+    agrees = λ r. and_last refl;
     same = λ x. tie-texts x.token k;
   };
 }

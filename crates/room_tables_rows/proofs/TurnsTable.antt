@@ -14,7 +14,7 @@ use Rattle.room_tables_schema.proofs.Comparisons.{and_last, and_then, conflict_o
 use Rattle.room_tables_schema.proofs.Comparisons.{tie-numbers, tie-texts, tie_of_two}
 use Rattle.room_tables_schema.proofs.StoredRows.{covers_row, stores_row}
 use Rattle.room_tables_schema.specs.Schema.{room_schema, turns_table}
-use Rattle.room_tables_schema.specs.Statements.{Covers, Inserts, Overwrites, Selects, StandsAlone, Stores, Upserts}
+use Rattle.room_tables_schema.specs.Statements.{Covers, Inserts, Overwrites, Selects, StandsApart, Stores, Upserts}
 use Rattle.room_tables_schema.specs.Statements.{equals, row_update, row_values}
 use Rattle.room_tables_schema.specs.TypedRows.{number}
 use Rattle.room_types.specs.Keys.{callsign_cmp, numbered_cmp, turn_key}
@@ -33,8 +33,8 @@ use Rattle.std.specs.Ordering.{is_eq, nat_cmp}
 abbrev all_of : Configuration → Room → List Turn
 all_of config room = room.turns
 
-pub turns_alone : StandsAlone room_schema 7 turns_table
-turns_alone = record { is_there = refl; unreferenced = λ olds news. refl; uncounted = refl }
+pub turns_apart : StandsApart room_schema 7 turns_table
+turns_apart = record { is_there = refl; unreferenced = λ olds news. refl; uncounted = refl }
 
 abbrev pub turns_held : IsHeld numbered_cmp turn_key turn_row turns_table all_of
 turns_held = record {
@@ -42,7 +42,7 @@ turns_held = record {
   others = (3 ∷ 4 ∷ 5 ∷ 6 ∷ 7 ∷ 8 ∷ 9 ∷ 10 ∷ 11 ∷ 12 ∷ []);
   places_are = refl;
   at = 7;
-  alone = turns_alone;
+  apart = turns_apart;
   held = λ trees config room h. h.turns;
 }
 
@@ -64,7 +64,7 @@ turn_at_chooses j k = record {
   selects = turn_at_means;
   chooses = record {
     test = λ r. equal Binary (column r 0) (Text j) && equal Binary (column r 1) (number k);
-    tells = λ r. and_then refl (and_last refl);
+    agrees = λ r. and_then refl (and_last refl);
     same =
         λ x.
         and_then (tie-texts x.callsign j) (tie-numbers x.order k)
@@ -85,7 +85,7 @@ turns_of_chooses d n = record {
   selects = turns_of_means;
   chooses = record {
     test = λ r. equal Binary (column r 3) (number n) && equal Binary (column r 2) (number d);
-    tells = λ r. and_then refl (and_last refl);
+    agrees = λ r. and_then refl (and_last refl);
     same = λ x. and_then (equal-numbers x.incident n) (equal-numbers x.division d);
   };
 }
@@ -187,7 +187,7 @@ turn_covers x =
 pub turns_overwritten : IsOverwritten turns_table turn_row (λ room. room.turns) OVERWRITE_TURN.now
 turns_overwritten = record {
   at = 7;
-  alone = turns_alone;
+  apart = turns_apart;
   columns = 12;
   overwrites = overwrite_turn_means;
   covers = turn_covers;

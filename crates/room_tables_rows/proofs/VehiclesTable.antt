@@ -12,7 +12,7 @@ use Rattle.room_tables_schema.proofs.ColumnValues.{AreKept, cast-Int, cast-numbe
 use Rattle.room_tables_schema.proofs.Comparisons.{and_last, conflict_of_one, tie-texts, tie_of_one}
 use Rattle.room_tables_schema.proofs.StoredRows.{covers_row, stores_row}
 use Rattle.room_tables_schema.specs.Schema.{room_schema, vehicles_table}
-use Rattle.room_tables_schema.specs.Statements.{Covers, Overwrites, Selects, StandsAlone, Stores, Upserts, equals}
+use Rattle.room_tables_schema.specs.Statements.{Covers, Overwrites, Selects, StandsApart, Stores, Upserts, equals}
 use Rattle.room_tables_schema.specs.Statements.{row_update, row_values}
 use Rattle.room_types.specs.Keys.{callsign_cmp, vehicle_key}
 use Rattle.room_types.specs.Texts.{Callsign}
@@ -30,8 +30,8 @@ use Rattle.std.specs.Ordering.{is_eq}
 abbrev all_of : Configuration → Room → List Vehicle
 all_of config room = room.vehicles
 
-pub vehicles_alone : StandsAlone room_schema 6 vehicles_table
-vehicles_alone = record { is_there = refl; unreferenced = λ olds news. refl; uncounted = refl }
+pub vehicles_apart : StandsApart room_schema 6 vehicles_table
+vehicles_apart = record { is_there = refl; unreferenced = λ olds news. refl; uncounted = refl }
 
 abbrev pub vehicles_held : IsHeld callsign_cmp vehicle_key vehicle_row vehicles_table all_of
 vehicles_held = record {
@@ -39,7 +39,7 @@ vehicles_held = record {
   others = (2 ∷ 3 ∷ 4 ∷ 5 ∷ 6 ∷ 7 ∷ 8 ∷ 9 ∷ 10 ∷ 11 ∷ []);
   places_are = refl;
   at = 6;
-  alone = vehicles_alone;
+  apart = vehicles_apart;
   held = λ trees config room h. h.vehicles;
 }
 
@@ -61,7 +61,7 @@ vehicle_at_chooses k = record {
   selects = vehicle_at_means;
   chooses = record {
     test = λ r. equal Binary (column r 0) (Text k);
-    tells = λ r. and_last refl;
+    agrees = λ r. and_last refl;
     same = λ x. tie-texts x.callsign k;
   };
 }
@@ -127,7 +127,7 @@ vehicle_covers x =
 pub vehicles_overwritten : IsOverwritten vehicles_table vehicle_row (λ room. room.vehicles) OVERWRITE_VEHICLE.now
 vehicles_overwritten = record {
   at = 6;
-  alone = vehicles_alone;
+  apart = vehicles_apart;
   columns = 11;
   overwrites = overwrite_vehicle_means;
   covers = vehicle_covers;

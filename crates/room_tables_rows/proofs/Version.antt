@@ -19,7 +19,7 @@ use Rattle.room_tables_schema.specs.Schema.{meta_table}
 use Rattle.room_tables_schema.specs.Versions.{BeginsAsRoom}
 use Rattle.room_tables_rows.specs.MetaSql.{version_row}
 use Rattle.room_tables_rows.specs.RoomsInTables.{StandsFor}
-use Rattle.room_tables_rows.specs.MetaVersions.{IsOfVersion, OneTells}
+use Rattle.room_tables_rows.specs.MetaVersions.{IsOfVersion, OneShows}
 use Rattle.room_tables_rows.specs.declared.meta_sql.TheConstants.{ALL_META}
 
 -- The text selects all of `meta`, whatever tables and indexes stand behind it ..
@@ -51,11 +51,11 @@ one_held (r ∷ []) shown is = (r, refl, cc)
 one_held (r ∷ s ∷ more) shown is = cc
 
 -- tables that hold the row of a version give it
-pub tells_held : (version : ℕ) (zone : List ℕ) (trees : Trees)
+pub held_shown : (version : ℕ) (zone : List ℕ) (trees : Trees)
     → StandsFor trees meta_table (version_row version) (zone ∷ []) → IsOfVersion version trees
-tells_held version zone trees h =
+held_shown version zone trees h =
     let one = one_held (trees 0) (version_row version zone) (one_permutation _ _ (IsPermutation-sym _ _ h.same)) in
-    record { row = one.0; alone = one.1; told = ap (λ (r : Row). column r 1) one.2 }
+    record { row = one.0; only_row = one.1; version_is = ap (λ (r : Row). column r 1) one.2 }
 
 module _ (old new : State) (shown : List Row) (begins : BeginsAsRoom old.now.schema)
     (shows : Shown ALL_META.now [] old new shown) where
@@ -65,21 +65,21 @@ module _ (old new : State) (shown : List Row) (begins : BeginsAsRoom old.now.sch
       (all_meta_begins old.now.schema begins) refl shows).0
 
   module _ (version : ℕ) where
-    pub shows_version : IsOfVersion version old.now.trees → OneTells version shown
+    pub shows_version : IsOfVersion version old.now.trees → OneShows version shown
     shows_version is =
-        let same : IsPermutation (cells (0 ∷ 2 ∷ 3 ∷ []) is.row ∷ []) shown = rw is.alone at all_are in
-        rw (one_permutation _ _ same) is.told
+        let same : IsPermutation (cells (0 ∷ 2 ∷ 3 ∷ []) is.row ∷ []) shown = rw is.only_row at all_are in
+        rw (one_permutation _ _ same) is.version_is
 
-    pub version_shown : OneTells version shown → IsOfVersion version old.now.trees
+    pub version_shown : OneShows version shown → IsOfVersion version old.now.trees
     version_shown = go shown all_are
       where
         go : (rows : List Row) → IsPermutation
-            (map (cells (0 ∷ 2 ∷ 3 ∷ [])) (old.now.trees 0)) rows → OneTells version rows
+            (map (cells (0 ∷ 2 ∷ 3 ∷ [])) (old.now.trees 0)) rows → OneShows version rows
             → IsOfVersion version old.now.trees
         go [] same none = absurd none
-        go (row ∷ []) same told =
+        go (row ∷ []) same version_is =
             let one = one_held (old.now.trees 0) row (one_permutation row _ (IsPermutation-sym _ _ same)) in
-            record { row = one.0; alone = one.1; told = rw (← one.2) at told }
+            record { row = one.0; only_row = one.1; version_is = rw (← one.2) at version_is }
         go (r ∷ s ∷ more) same none = absurd none
 
   -- one row that gives a version and a zone is what the table holds

@@ -9,11 +9,11 @@ use Rattle.room_tables_schema.specs.Schema.{meta_table}
 -- which had no offers.
 pub record IsOfVersion (version : ℕ) (trees : Trees) : Type 0 where
   pub row : Row
-  pub alone : trees meta_table.tree ≡ row ∷ []
-  pub told : column row 2 ≡ number version
+  pub only_row : trees meta_table.tree ≡ row ∷ []
+  pub version_is : column row 2 ≡ number version
 
 -- one row of `meta` was read, and it gives this version
-abbrev pub OneTells : ℕ → List Row → Type 0
-OneTells version [] = ⊥
-OneTells version (row ∷ []) = column row 1 ≡ number version
-OneTells version (_ ∷ _ ∷ _) = ⊥
+abbrev pub OneShows : ℕ → List Row → Type 0
+OneShows version [] = ⊥
+OneShows version (row ∷ []) = column row 1 ≡ number version
+OneShows version (_ ∷ _ ∷ _) = ⊥

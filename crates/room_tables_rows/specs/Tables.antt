@@ -8,7 +8,7 @@ use Rattle.sqlite_sql.specs.Term.{Term}
 use Rattle.sqlite_schema.specs.declared.schema.Table.{Table}
 use Rattle.sqlite.specs.Effect.{Database}
 use Rattle.room_tables_schema.specs.Outcomes.{Only}
-use Rattle.room_tables_schema.specs.Statements.{passes, Selects, StandsAlone, Deletes, Inserts, Upserts, Stores}
+use Rattle.room_tables_schema.specs.Statements.{passes, Selects, StandsApart, Deletes, Inserts, Upserts, Stores}
 use Rattle.room_tables_schema.specs.Statements.{Overwrites, Covers}
 use Rattle.room_tables_schema.specs.TableTrees.{cells}
 use Rattle.room_tables_schema.specs.TypedRows.{IsFaithful}
@@ -26,7 +26,7 @@ pub record IsHeld {X K : Type 0} (order : K → K → Ordering) (key : X → K) 
   pub others : List ℕ
   pub places_are : places table ≡ table.primary ++ others
   pub at : ℕ
-  pub alone : StandsAlone room_schema at table
+  pub apart : StandsApart room_schema at table
   pub held : (trees : Trees) (config : Configuration) (room : Room) → Stands trees config room
       → StandsFor trees table row (rows config room)
 
@@ -34,7 +34,7 @@ module _ {X : Type 0} (table : Table) (row : X → Row) where
   -- the terms choose among the columns of rows as `chosen` does among the rows
   pub record Chooses (terms : List Term) (params : Row) (chosen : X → Bool) : Type 0 where
     pub test : Row → Bool
-    pub tells : (r : Row) → passes terms params r ≡ test (cells (places table) r)
+    pub agrees : (r : Row) → passes terms params r ≡ test (cells (places table) r)
     pub same : (x : X) → test (row x) ≡ chosen x
 
   -- the text selects the rows that are chosen, in the order of the key
@@ -72,7 +72,7 @@ module _ {X : Type 0} (table : Table) (row : X → Row) (rows : Room → List X)
   -- The text writes a row over the one with its key. Where none has that, the room is as before.
   pub record IsOverwritten (text : List ℕ) : Type 0 where
     pub at : ℕ
-    pub alone : StandsAlone room_schema at table
+    pub apart : StandsApart room_schema at table
     pub columns : ℕ
     pub overwrites : Overwrites room_schema text at table table.primary columns
     pub covers : (x : X) → Covers table (places table) table.primary columns (row x)
@@ -106,7 +106,7 @@ module _ {X K : Type 0} (order : K → K → Ordering) (key : X → K) (row : X 
   pub record IsDropped (drop : K → Change) (text : List ℕ) : Type 0 where
     -- said again, since the law of a trait cannot name that of the trait above it
     pub at : ℕ
-    pub alone : StandsAlone room_schema at table
+    pub apart : StandsApart room_schema at table
     pub deletes : (k : K) → DeletesChosen table row at text (key_row k)
         (λ x. is_eq (order k (key x)))
     pub leads : (old new : Database) (config : Configuration) (room : Room) (k : K)

@@ -17,8 +17,8 @@ impl Stored for Assignment {
     ghost is_row = { is_assignment_row };
 
     fn read(row: &Row) -> Option<Assignment> {
-        let (callsign, (division, (incident, (order, told)))) = values_of(row, 7)?;
-        let (east, (north, (class, ()))) = told;
+        let (callsign, (division, (incident, (order, last_cells)))) = values_of(row, 7)?;
+        let (east, (north, (class, ()))) = last_cells;
         Some(Assignment {
             callsign,
             division,

@@ -19,8 +19,8 @@ impl Stored for Call {
 
     fn read(row: &Row) -> Option<Call> {
         let (position, (serial, (division, (incident, (given, called))))) = values_of(row, 14)?;
-        let (linked, (east, (north, (class, told)))) = called;
-        let (ambulances, (cars, (support, (note, (at, ()))))) = told;
+        let (linked, (east, (north, (class, last_cells)))) = called;
+        let (ambulances, (cars, (support, (note, (at, ()))))) = last_cells;
         let needs = Needs::new(Counts {
             ambulances,
             cars,

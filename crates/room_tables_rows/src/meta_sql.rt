@@ -17,11 +17,11 @@ pub const VERSION: u32 = 2;
 pub const FIRST_VERSION: u32 = 1;
 
 /// Whether a row of `meta` gives this version.
-pub fn tells_version(row: &Row, version: u32) -> bool
+pub fn has_version(row: &Row, version: u32) -> bool
     ensures { IsTrue result ↔ (column row.now 1 ≡ number version) }
 {
     match column_at(row, 1) {
-        ValueRef::Int(told) => told == i64::from(version),
+        ValueRef::Int(found_version) => found_version == i64::from(version),
         _ => false,
     }
 }
@@ -35,8 +35,8 @@ pub fn zone_of(row: &Row, version: u32) -> Option<&str>
         return None;
     }
     let id: u32 = value_at(row, 0)?;
-    let told: u32 = value_at(row, 1)?;
-    if id != 1 || told != version {
+    let found_version: u32 = value_at(row, 1)?;
+    if id != 1 || found_version != version {
         return None;
     }
     text(column_at(row, 2))

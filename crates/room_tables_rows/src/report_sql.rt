@@ -18,8 +18,10 @@ impl Stored for Report {
     ghost is_row = { is_report_row };
 
     fn read(row: &Row) -> Option<Report> {
-        let (callsign, (number, (button, (order, (east, (north, told)))))) = values_of(row, 11)?;
-        let (at, (division, (outcome, (status, (cleared, ()))))) = told;
+        let (callsign, (number, (button, (order, (east, (north, last_cells)))))) = values_of(
+            row, 11,
+        )?;
+        let (at, (division, (outcome, (status, (cleared, ()))))) = last_cells;
         Some(Report {
             callsign,
             number,

@@ -23,14 +23,14 @@ use Rattle.sqlite.proofs.Callers.{one_step, runs_as, statement_of}
 use Rattle.sqlite.specs.Listing.{understood}
 use Rattle.room_tables_schema.specs.TableTrees.{cells, Holds}
 use Rattle.room_tables_schema.specs.Outcomes.{Only}
-use Rattle.room_tables_schema.specs.Statements.{passes, table_query, StandsAlone, Deletes}
+use Rattle.room_tables_schema.specs.Statements.{passes, table_query, StandsApart, Deletes}
 use Rattle.room_tables_schema.proofs.Rising.{has_permuted}
 use Rattle.room_tables_schema.proofs.Standing.{holds-without_all}
 use Rattle.room_tables_schema.proofs.Selections.{table_answer, overlay-none}
 use Rattle.room_tables_schema.proofs.Writes.{went_on, same_value, deletes_rows, only_edited}
 
 module _ (schema : Schema) (text : List ℕ) (at : ℕ) (table : Table)
-    (alone : StandsAlone schema at table) (terms : List Term)
+    (apart : StandsApart schema at table) (terms : List Term)
     (means : Deletes schema text at table terms)
     (old new : State) (params : Row) (count : ℕ) (has : old.now.schema ≡ schema)
     (ran : Executes text params old new (Ok count)) where
@@ -43,14 +43,14 @@ module _ (schema : Schema) (text : List ℕ) (at : ℕ) (table : Table)
       let query : Program = record { lets = []; body = table_query table.tree (0 ∷ []) [] terms } in
       let statement = statement_of text (understood schema text) in
       let w = runs_as text params old new schema has (Delete at query) means.command means.plain count ran in
-      let it = deletes_rows schema at table alone old new has statement params count query w in
+      let it = deletes_rows schema at table apart old new has statement params count query w in
       let asked = went_on it.1 in
       let ids = asked.0 in
       let wrote = went_on asked.2 in
       let db = old.now.trees in
       let tree = db table.tree in
       let edit = edit_of db table (ids_of ids) Given 0 [] in
-      let applies = one_step schema Enforced db wrote.0 edit (alone.unreferenced (taken_by db edit) edit.news)
+      let applies = one_step schema Enforced db wrote.0 edit (apart.unreferenced (taken_by db edit) edit.news)
       wrote.1 in
       let next : new.now
       ≡ record { schema = schema; trees = wrote.0 } =
@@ -58,10 +58,10 @@ module _ (schema : Schema) (text : List ℕ) (at : ℕ) (table : Table)
       let got = (table_answer table.tree [] (0 ∷ []) terms (overlay db []) params ids (asked.1.answer Null)).0 in
       let found = subst (λ l. IsPermutation (map (cells (0 ∷ [])) (filter (passes terms params) l)) ids)
       (overlay-none db table.tree) got in (
-        only_edited schema at table alone old new has statement params count wrote.0 edit refl next applies,
-        λ places key rows test holds tells.
+        only_edited schema at table apart old new has statement params count wrote.0 edit refl next applies,
+        λ places key rows test holds agrees.
             holds-without_all places key tree (new.now.trees table.tree) rows (passes terms params) test (ids_of ids)
-            holds tells
+            holds agrees
             (λ r h yes.
             mapped_has (λ x. id_in (rowid x)) ids (rowid r ∷ [])
             (has_permuted _ _ _ (IsPermutation-sym _ _ found)

@@ -29,10 +29,10 @@ use Rattle.sqlite.specs.State.{State, Executes}
 use Rattle.sqlite.proofs.Callers.{one_step, runs_as, statement_of}
 use Rattle.room_tables_schema.specs.TableTrees.{cells, keys, Holds, AreNumbered, put_in}
 use Rattle.room_tables_schema.specs.Outcomes.{Only}
-use Rattle.room_tables_schema.specs.Statements.{StandsAlone, Inserts, Stores, insertion}
+use Rattle.room_tables_schema.specs.Statements.{StandsApart, Inserts, Stores, insertion}
 use Rattle.room_tables_schema.proofs.Comparisons.{false_from_not, int_present, equal-value_cmp, differ-value_cmp}
 use Rattle.room_tables_schema.proofs.Numbered.{alike, is_int_in}
-use Rattle.room_tables_schema.proofs.Overwrites.{puts_alone, put_holds}
+use Rattle.room_tables_schema.proofs.Overwrites.{only_puts, put_holds}
 use Rattle.room_tables_schema.proofs.Writes.{task, only_edited, inserts_row}
 
 module _ (table : Table) (new : Row) where
@@ -91,7 +91,7 @@ module _ (table : Table) (new : Row) where
     ])
 
 module _ (schema : Schema) (text : List ℕ) (at : ℕ) (table : Table)
-    (alone : StandsAlone schema at table) (places key : List ℕ) (columns : ℕ)
+    (stands_apart : StandsApart schema at table) (places key : List ℕ) (columns : ℕ)
     (values update : List Term) (means : Inserts schema text at columns values) (row : Row)
     (stores : Stores schema table places key columns values update row)
     (old new : State) (count : ℕ) (has : old.now.schema ≡ schema)
@@ -106,7 +106,7 @@ module _ (schema : Schema) (text : List ℕ) (at : ℕ) (table : Table)
   statement = statement_of text (understood schema text)
 
   abbrev doing : Task
-  doing = task schema at table alone old new has statement row count
+  doing = task schema at table stands_apart old new has statement row count
 
   ran_one : (w : Written)
       × Applies schema Enforced old.now.trees (one_more table fresh) w.trees
@@ -114,12 +114,15 @@ module _ (schema : Schema) (text : List ℕ) (at : ℕ) (table : Table)
   ran_one =
       let db = old.now.trees in
       let w = runs_as text row old new schema has (insertion at columns values) means.command means.plain count ran in
-      let it = inserts_row schema at table alone old new has statement row count columns values stores.source w
+      let it = inserts_row schema at table stands_apart old new has statement row count columns values stores.source w
       stores.source_is in
       let edit = one_more table fresh in
       let wrote = subst (λ r. Edited schema Enforced db (one_more table r) (Ok it.0.trees)) (stores.fresh_is kept)
-      it.1 in
-      (it.0, one_step schema Enforced db it.0.trees edit (alone.unreferenced (taken_by db edit) edit.news) wrote, it.2)
+      it.1 in (
+        it.0,
+        one_step schema Enforced db it.0.trees edit (stands_apart.unreferenced (taken_by db edit) edit.news) wrote,
+        it.2,
+      )
 
   -- the schema stays
   pub inserted_schema : new.now.schema ≡ schema
@@ -135,11 +138,11 @@ module _ (schema : Schema) (text : List ℕ) (at : ℕ) (table : Table)
       let applies = ran_one.1 in
       let next = ap (λ (d : Database). d.trees table.tree) ran_one.2 in
       let in_the_way = conflicts (Some key) schema.indexes table fresh in
-      let listed = has_got schema.tables at table alone.is_there in
+      let listed = has_got schema.tables at table stands_apart.is_there in
       let none = none_in_the_way table fresh schema Enforced listed db one.trees applies holds.numbered (Some key) in
-      let put = puts_alone doing db one in_the_way fresh row places applies none
+      let put = only_puts doing db one in_the_way fresh row places applies none
       (stores.fresh_stands (next_rowid kept)) in (
-        only_edited schema at table alone old new has statement row count one.trees (one_more table fresh) refl
+        only_edited schema at table stands_apart old new has statement row count one.trees (one_more table fresh) refl
             ran_one.2 applies,
         put_holds doing db one in_the_way row places key (new.now.trees table.tree) rows holds
             (stores.conflicts_are (next_rowid kept)) put next,

@@ -18,7 +18,7 @@ use Rattle.sqlite_exec.proofs.PartitionLemmas.{ascending_from_sorted}
 use Rattle.sqlite.specs.State.{State}
 use Rattle.room_types.specs.KeyedRows.{IsKeyed, IsBelowAll}
 use Rattle.room_tables_schema.specs.TableTrees.{cells, keys, AreNumbered, RowidsRise}
-use Rattle.room_tables_schema.specs.Laws.{RowidsTell, StandsForRead, NumbersRead}
+use Rattle.room_tables_schema.specs.Laws.{RowidsShow, StandsForRead, NumbersRead}
 use Rattle.room_tables_schema.proofs.Numbered.{numbered-permutation}
 use Rattle.room_tables_schema.proofs.Rising.{less}
 use Rattle.room_tables_schema.proofs.Selections.{shows_all}
@@ -71,9 +71,9 @@ rowids_rise rows sorted = (
         (ascending_from_sorted (key_cmp 0 (keys (0 ∷ []))) (key_cmp_total (keys (0 ∷ [])) 0) rows sorted)
 
 -- of a selection of the rowids in their order
-pub rowids_tell : (schema : Schema) (text : List ℕ) (old new : State)
-    → RowidsTell schema text old new
-rowids_tell schema text old new tree params rows means has shows =
+pub rowids_shown : (schema : Schema) (text : List ℕ) (old new : State)
+    → RowidsShow schema text old new
+rowids_shown schema text old new tree params rows means has shows =
     let got = shows_all schema text old new tree (0 ∷ []) [] params rows means has shows in
     let rising = rowids_rise rows got.1 in
     let same = numbered_shown [] tree_rows rows got.0 in

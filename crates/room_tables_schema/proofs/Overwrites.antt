@@ -30,7 +30,7 @@ use Rattle.sqlite.specs.State.{State, Executes}
 use Rattle.sqlite.proofs.Callers.{one_step, one_permutation, runs_as, statement_of}
 use Rattle.room_tables_schema.specs.TableTrees.{cells, keys, Holds, AreNumbered, put_in}
 use Rattle.room_tables_schema.specs.Outcomes.{Only}
-use Rattle.room_tables_schema.specs.Statements.{passes, plain_query, own_key, own_update, StandsAlone, Overwrites}
+use Rattle.room_tables_schema.specs.Statements.{passes, plain_query, own_key, own_update, StandsApart, Overwrites}
 use Rattle.room_tables_schema.specs.Statements.{Covers}
 use Rattle.room_tables_schema.proofs.Comparisons.{false_from_not}
 use Rattle.room_tables_schema.proofs.Numbered.{alike, alike_itself, one_row, filter-alike, without_all-passing}
@@ -55,12 +55,12 @@ module _ (task : Task) (db : Trees) (one : Written) (in_the_way : Row → Bool) 
     pub shows : cells places row ≡ x
 
   -- one row went in, and none was in its way
-  pub puts_alone : (row x : Row) (places : List ℕ)
+  pub only_puts : (row x : Row) (places : List ℕ)
       → Applies task.schema task.keys db
       (record { table = task.table; gone = []; news = row ∷ [] }) one.trees
       → ((r : Row) → Has (db task.table.tree) r → in_the_way r ≡ false)
       → cells places row ≡ x → PutsOne x places
-  puts_alone row x places applies none shows =
+  only_puts row x places applies none shows =
       let tree : List Row = db task.table.tree in
       let all : others ≡ tree = filter_all _ tree (all_from _ tree (λ r h. ap not (none r h))) in
       record {
@@ -80,8 +80,8 @@ module _ (task : Task) (db : Trees) (one : Written) (in_the_way : Row → Bool) 
       → ((r : Row) → in_the_way r ≡ is_eq (key_cmp 0 (keys key) (cells places r) x))
       → PutsOne x places → next ≡ one.trees task.table.tree
       → Holds places key next (put_in (key_cmp 0 (keys key)) x rows)
-  put_holds x places key next rows holds tells put is =
-      holds-put_row places key (db task.table.tree) next rows put.row x in_the_way holds tells put.int put.free
+  put_holds x places key next rows holds agrees put is =
+      holds-put_row places key (db task.table.tree) next rows put.row x in_the_way holds agrees put.int put.free
       put.shows (is ∙ put.is)
 
 -- what an update of one row leaves of a table that stood for these rows, by its count
@@ -160,11 +160,11 @@ module _ (task : Task) (unreferenced : (olds news : List Row)
       → AreNumbered tree → Has tree r → in_the_way r ≡ true
       → ((a : Row) → Has tree a → in_the_way a ≡ true → a ≡ r) → IsOver r over
       → cells places (cast_row task.table over) ≡ x → PutsOne task db one in_the_way x places
-  puts_over in_the_way x places r over numbered h there alone is shows =
+  puts_over in_the_way x places r over numbered h there apart is shows =
       let done = subst (λ e. Applies task.schema task.keys db e one.trees) is edit_applies in
       let all : without_all tree (id_in (rowid r) ∷ [])
       ≡ filter (λ a. not (in_the_way a)) tree = without_all-passing tree in_the_way (id_in (rowid r) ∷ []) numbered
-      (λ a k t. inl (ap (λ y. id_in (rowid y)) (alone a k t)))
+      (λ a k t. inl (ap (λ y. id_in (rowid y)) (apart a k t)))
       (λ id k. elim k [ inl e ↦ (r, h, there, e) | inr none ↦ absurd none ]) in
       record {
         edit = edit;
@@ -197,20 +197,20 @@ module _ (task : Task) (unreferenced : (olds news : List Row)
     leaves (r ∷ more) some =
         let test = passes terms params in
         let it = has_filtered test tree r (subst (λ l. Has l r) (sym some) (inl refl)) in
-        let alone = λ (a : Row) (h : Has tree a) (t : test a ≡ true).
+        let apart = λ (a : Row) (h : Has tree a) (t : test a ≡ true).
         one_tied places key tree stood test params a r holds finds h it.0 t it.1 in
         let back = λ (a : Row) (h : Has tree a) (t : alike a r ≡ true).
         ap test (one_row tree a r holds.numbered h it.0 t) ∙ it.1 in
         let over = one_edited r (rowid r ∷ params) holds.numbered it.0
-        (λ a h. both_ways _ _ (λ t. ap (λ y. alike y r) (alone a h t) ∙ alike_itself r) (back a h)) (over_is r) in
-        let put = puts_over test params places r (rowid r ∷ params) holds.numbered it.0 it.1 alone over
+        (λ a h. both_ways _ _ (λ t. ap (λ y. alike y r) (apart a h t) ∙ alike_itself r) (back a h)) (over_is r) in
+        let put = puts_over test params places r (rowid r ∷ params) holds.numbered it.0 it.1 apart over
         (over_shows (rowid r)) in
         subst (Leaves places key next stood params)
         (sym (ap length edit_written ∙ ap (λ (e : Edit). length e.news) over))
         (put_holds task db one test params places key next stood holds finds put is)
 
 module _ (schema : Schema) (text : List ℕ) (at : ℕ) (table : Table)
-    (alone : StandsAlone schema at table) (places key : List ℕ) (columns : ℕ)
+    (apart : StandsApart schema at table) (places key : List ℕ) (columns : ℕ)
     (means : Overwrites schema text at table key columns) (row : Row)
     (covers : Covers table places key columns row)
     (old new : State) (count : ℕ) (has : old.now.schema ≡ schema)
@@ -221,16 +221,16 @@ module _ (schema : Schema) (text : List ℕ) (at : ℕ) (table : Table)
       → Leaves places key (new.now.trees table.tree) rows row count)
   overwritten =
       let statement = statement_of text (understood schema text) in
-      let doing = task schema at table alone old new has statement row count in
+      let doing = task schema at table apart old new has statement row count in
       let query = update_of table.tree (own_update columns) (own_key key) in
-      let it = updates_rows schema at table alone old new has statement row count query
+      let it = updates_rows schema at table apart old new has statement row count query
       (runs_as text row old new schema has (Update at query) means.command means.plain count ran) in
       let db = old.now.trees in (
-        only_edited schema at table alone old new has statement row count it.0.trees
-            (edit doing alone.unreferenced (own_update columns) (own_key key) row db it.0 it.1) refl it.2
-            (edit_applies doing alone.unreferenced (own_update columns) (own_key key) row db it.0 it.1),
+        only_edited schema at table apart old new has statement row count it.0.trees
+            (edit doing apart.unreferenced (own_update columns) (own_key key) row db it.0 it.1) refl it.2
+            (edit_applies doing apart.unreferenced (own_update columns) (own_key key) row db it.0 it.1),
         λ rows holds. subst (Leaves places key (new.now.trees table.tree) rows row) (sym it.3)
-            (leaves doing alone.unreferenced (own_update columns) (own_key key) row db it.0 it.1 places key
+            (leaves doing apart.unreferenced (own_update columns) (own_key key) row db it.0 it.1 places key
             (new.now.trees table.tree) rows (ap (λ (d : Database). d.trees table.tree) it.2) covers.finds covers.over_is
             covers.over_shows holds
             (filter (passes (own_key key) row) (db table.tree)) refl),

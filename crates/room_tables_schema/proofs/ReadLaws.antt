@@ -43,20 +43,20 @@ module _ {S : Type 0} {g : Ghosts S} {a b : Held S} where
   pub looked : {T E : Type 0} {x : T} → ReadsOnly {T = T} {E = E} g a b (Ok x) → Looked g a b
   looked h = record { ok = h.ok; err = λ clean. tt; mode = h.mode; survives = h.survives }
 
-  -- what was read is told as this
-  pub told : {T E : Type 0} {x : T} → Looked g a b → ReadsOnly {T = T} {E = E} g a b (Ok x)
-  told h = record { ok = h.ok; err = λ clean. tt; mode = h.mode; survives = h.survives }
+  -- what was read has this outcome
+  pub succeeds : {T E : Type 0} {x : T} → Looked g a b → ReadsOnly {T = T} {E = E} g a b (Ok x)
+  succeeds h = record { ok = h.ok; err = λ clean. tt; mode = h.mode; survives = h.survives }
 
-  -- memory was wanting after reads
-  pub wants : {T E : Type 0} {r : Result T E} → IsErr r → Looked g a b → ReadsOnly g a b r
-  wants {r = r} is h = record {
+  -- memory was unavailable after reads
+  pub lacks_memory : {T E : Type 0} {r : Result T E} → IsErr r → Looked g a b → ReadsOnly g a b r
+  lacks_memory {r = r} is h = record {
     ok = λ clean. none_ok _ r is;
     err = λ clean. any_err r (inl (h.ok clean));
     mode = h.mode;
     survives = h.survives;
   }
 
-  -- a read that failed is told as this
+  -- a read that failed has this outcome
   pub fails : {T U E F : Type 0} {e : E} {r : Result U F} → IsErr r
       → ReadsOnly {T = T} {E = E} g a b (Err e) → ReadsOnly g a b r
   fails {r = r} is h = record {
@@ -92,23 +92,23 @@ module _ {S : Type 0} {g : Ghosts S} {a b c : Held S} (before : Looked g a b) wh
   }
 
 -- what is made of what was read: it succeeds or fails, and nothing changed
-pub told_any : {S : Type 0} {g : Ghosts S} {a b : Held S} {T E : Type 0} (r : Result T E)
+pub ends_any : {S : Type 0} {g : Ghosts S} {a b : Held S} {T E : Type 0} (r : Result T E)
     → Looked g a b → ReadsOnly g a b r
-told_any (Ok x) h = told h
-told_any (Err e) h = wants refl h
+ends_any (Ok x) h = succeeds h
+ends_any (Err e) h = lacks_memory refl h
 
 -- the next read succeeds or fails
 pub then_any : {S : Type 0} {g : Ghosts S} {a b c : Held S} {T E : Type 0} → Looked g a b
     → (r : Result T E) → ReadsOnly g b c r → ReadsOnly g a c r
-then_any before (Ok x) next = told (and before next)
+then_any before (Ok x) next = succeeds (and before next)
 then_any before (Err e) next = but before refl next
 
 -- the same in a transaction
 module _ {S : Type 0} {g : Ghosts S} {a b : Held S} {T U E F : Type 0} where
-  pub told_inside : {x : T} (r : Result U F) → ReadsInside {T = T} {E = E} g a b (Ok x)
+  pub ends_inside : {x : T} (r : Result U F) → ReadsInside {T = T} {E = E} g a b (Ok x)
       → ReadsInside g a b r
-  told_inside (Ok y) h = record { ok = h.ok; err = λ clean. tt; survives = h.survives }
-  told_inside (Err e) h = record { ok = λ clean. tt; err = λ clean. inl (h.ok clean); survives = h.survives }
+  ends_inside (Ok y) h = record { ok = h.ok; err = λ clean. tt; survives = h.survives }
+  ends_inside (Err e) h = record { ok = λ clean. tt; err = λ clean. inl (h.ok clean); survives = h.survives }
 
   pub fails_inside : {e : E} {r : Result U F} → IsErr r → ReadsInside {T = T} {E = E} g a b (Err e)
       → ReadsInside g a b r

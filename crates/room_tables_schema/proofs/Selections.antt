@@ -160,11 +160,11 @@ module _ (schema : Schema) (text : List ℕ) (tree : ℕ) (key more : List ℕ) 
   pub selected : (kept : List Row) (test : Row → Bool)
       → Holds (key ++ more) key (old.now.trees tree) kept
       → ((r : Row) → passes terms params r ≡ test (cells (key ++ more) r)) → rows ≡ filter test kept
-  selected kept test h tells =
+  selected kept test h agrees =
       let columns = cells (key ++ more) in
       let first : map columns (filter (passes terms params) (old.now.trees tree))
       ≡ filter test (map columns (old.now.trees tree)) =
-      (λ i. map columns (filter (λ r. tells r i) (old.now.trees tree)))
+      (λ i. map columns (filter (λ r. agrees r i) (old.now.trees tree)))
       ∙ sym (filter-map test columns (old.now.trees tree)) in
       let same = IsPermutation-trans _ _ _ (IsPermutation-sym _ _ (IsPermutation-filter test _ _ h.same))
       (subst (λ l. IsPermutation l rows) first selected_found.0) in

@@ -56,8 +56,8 @@ module _ (places key : List ℕ) where
   pub one_tied : (tree rows : List Row) (test : Row → Bool) (x a b : Row)
       → Holds places key tree rows → ((r : Row) → test r ≡ is_eq (cmp (cells places r) x))
       → Has tree a → Has tree b → test a ≡ true → test b ≡ true → a ≡ b
-  one_tied tree rows test x a b h tells p q s t =
-      let tie = λ (r : Row) (e : test r ≡ true). is_Equal _ (sym (tells r) ∙ e) in
+  one_tied tree rows test x a b h agrees p q s t =
+      let tie = λ (r : Row) (e : test r ≡ true). is_Equal _ (sym (agrees r) ∙ e) in
       one_key tree rows a b h p q
       (ap is_eq (total.congr _ _ (cells places b) (tie a s) ∙ tied_back total _ _ (tie b t)))
 
@@ -68,12 +68,12 @@ module _ (places key : List ℕ) where
       → ((r : Row) → Has tree r → test r ≡ true → Has ids (id_in (rowid r)))
       → ((id : ℤ) → Has ids id → (r : Row) × Has tree r × (test r ≡ true) × (id ≡ id_in (rowid r)))
       → next ≡ without_all tree ids → Holds places key next (filter (λ x. not (shows x)) rows)
-  holds-without_all tree next rows test shows ids h tells complete sound is =
+  holds-without_all tree next rows test shows ids h agrees complete sound is =
       let left : next
       ≡ filter (λ r. not (test r)) tree = is ∙ without_all-passing tree test ids h.numbered complete sound in
       let image : map (cells places) (filter (λ r. not (test r)) tree)
       ≡ filter (λ x. not (shows x)) (map (cells places) tree) =
-      (λ i. map (cells places) (filter (λ r. not (tells r i)) tree))
+      (λ i. map (cells places) (filter (λ r. not (agrees r i)) tree))
       ∙ sym (filter-map (λ x. not (shows x)) (cells places) tree) in
       record {
         numbered = rw left (numbered-filter (λ r. not (test r)) tree h.numbered);
@@ -89,10 +89,10 @@ module _ (places key : List ℕ) where
       → cells places new ≡ x
       → next ≡ put_row new (filter (λ r. not (test r)) tree)
       → Holds places key next (put_in cmp x rows)
-  holds-put_row tree next rows new x test h tells int free shown is =
+  holds-put_row tree next rows new x test h agrees int free shown is =
       let rest = filter (λ r. not (test r)) tree in
       let others : IsPermutation (map (cells places) rest) (drop_from cmp x rows) =
-      rw ((λ i. map (cells places) (filter (λ r. not (tells r i)) tree))
+      rw ((λ i. map (cells places) (filter (λ r. not (agrees r i)) tree))
       ∙ sym (filter-map (λ y. not (is_eq (cmp y x))) (cells places) tree))
       (IsPermutation-filter (λ y. not (is_eq (cmp y x))) _ _ h.same) in
       let all : IsPermutation (map (cells places) (new ∷ rest)) (x ∷ drop_from cmp x rows) = rw (← shown)

@@ -20,7 +20,7 @@ use Rattle.sqlite.proofs.Callers.{begun_plain, unchanged_then}
 use Rattle.sqlite.proofs.StateLemmas.{unchanged}
 use Rattle.sqlite.proofs.StreamLemmas.{fails_since, given_plain}
 use Rattle.room_tables_schema.specs.Outcomes.{ReadsOnly}
-use Rattle.room_tables_schema.specs.QueryStreams.{ReadsOut, Tells}
+use Rattle.room_tables_schema.specs.QueryStreams.{ReadsOut, TakesShown}
 use Rattle.room_tables_schema.proofs.ReadLaws.{still}
 use Rattle.room_tables_schema.proofs.Refusals.{keeps_then, query_failed, query_survives, query_unchanged}
 use Rattle.room_tables_schema.specs.FileConnections.{IsClean}
@@ -74,9 +74,9 @@ module _ (text : List ℕ) (params : Row) (old mid new : State) (same : IsUnchan
         ),
       )
 
-  told_since : (AreTaken : List Row → Type 0) (result : Result (Unit {0}) Error)
-      → Tells AreTaken text params mid new result → Tells AreTaken text params old new result
-  told_since AreTaken result h = record {
+  shown_since_first : (AreTaken : List Row → Type 0) (result : Result (Unit {0}) Error)
+      → TakesShown AreTaken text params mid new result → TakesShown AreTaken text params old new result
+  shown_since_first AreTaken result h = record {
     shown = on_ok_weaker result (λ it. (it.0, shown_since it.0 it.1, it.2)) h.shown;
     why =
         IfErr-weaker result _ _ (λ e why. elim why [ inl memory ↦ inl memory | inr fails ↦ inr (failed_since e fails) ])
@@ -121,13 +121,14 @@ module _ {S : Type 0} {g : Ghosts S} {AreTaken : List Row → Type 0} {first mid
   out : (result : Result (Unit {0}) Error)
       → (IsClean g new → (text : List ℕ) (params : Row) (given : List Row)
       → HasGiven g text params mid given → AreTaken given
-      → Tells AreTaken text params (state g mid) (state g new) result)
+      → TakesShown AreTaken text params (state g mid) (state g new) result)
       → ReadsOut g AreTaken first new result
   out result last = record {
-    tells = λ clean text params begun.
+    takes_shown = λ clean text params begun.
         let it = reads.so_far (omega (arith, survives.clean)) text params begun in
         let plain = given_plain g text params mid it.0 it.1 in
-        told_since text params (state g first) (state g mid) (state g new) it.2 reads.survives plain AreTaken result
+        shown_since_first text params (state g first) (state g mid) (state g new) it.2 reads.survives plain AreTaken
+        result
         (last clean text params it.0 it.1 it.3);
     mode = λ outside. mode (reads.mode outside);
     survives = still reads.survives survives;
@@ -180,30 +181,31 @@ module _ {S : Type 0} (g : Ghosts S) (text : List ℕ) (params : Row) (old : Hel
     stays = query_survives text params _ _ plain first
 
     -- its rows are all taken, or it is reported why not
-    told : IsClean g new
-        → Tells AreTaken text params (state g old) (state g new) result
-    told clean =
+    why_or_shown : IsClean g new
+        → TakesShown AreTaken text params (state g old) (state g new) result
+    why_or_shown clean =
         let at = begun_plain g text params old mid (plain (was clean)) (begun (omega (arith, reads.survives.clean))) in
-        told_since text params (state g old) (state g mid) (state g new) at.1 stays
-        (given_plain g text params mid [] at.0) AreTaken result (reads.tells clean text params at.0)
+        shown_since_first text params (state g old) (state g mid) (state g new) at.1 stays
+        (given_plain g text params mid [] at.0) AreTaken result (reads.takes_shown clean text params at.0)
 
     pub shows : IsClean g new
         → OnOk result ((rows : List Row) × Shown text params (state g old) (state g new) rows
         × AreTaken rows)
-    shows clean = (told clean).shown
+    shows clean = (why_or_shown clean).shown
 
     pub because : IsClean g new
         → IfErr result (λ e. (e ≡ SqliteFailure OutOfMemory)
         ⊎ FailsToQuery text params (state g old) (state g new) e)
-    because clean = (told clean).why
+    because clean = (why_or_shown clean).why
 
     pub leaves : (old.in_transaction ≡ false → mid.in_transaction ≡ false)
         → ReadsOnly g old new result
     leaves mode = record {
       ok =
           λ clean.
-          on_ok_weaker result (λ it. query_unchanged text params _ _ plain (was clean) it.0 it.1) (told clean).shown;
-      err = λ clean. (told clean).kept;
+          on_ok_weaker result (λ it. query_unchanged text params _ _ plain (was clean) it.0 it.1)
+          (why_or_shown clean).shown;
+      err = λ clean. (why_or_shown clean).kept;
       mode = λ outside. reads.mode (mode outside);
       survives = still stays reads.survives;
     }

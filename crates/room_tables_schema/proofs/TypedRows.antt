@@ -133,9 +133,9 @@ module _ {X K : Type 0} (order : K → K → Ordering) (key : X → K) (row : X 
       → (xs : List X) → IsKeyed order key xs
       → Holds places key_places tree (filter (λ r. not (test r)) (map row xs))
       → Holds places key_places tree (map row (drop_row order key xs k))
-  holds-drop k test tells xs keyed =
+  holds-drop k test agrees xs keyed =
       subst (Holds places key_places tree)
-      (filter-rows row (λ r. not (test r)) (λ x. not (is_eq (order k (key x)))) (λ x. ap not (tells x)) xs
+      (filter-rows row (λ r. not (test r)) (λ x. not (is_eq (order k (key x)))) (λ x. ap not (agrees x)) xs
       ∙ ap (map row) (filter-lacks order key faithful.total k xs keyed))
 
 -- rows that were read back are those that a selection chooses
@@ -144,5 +144,5 @@ pub read_chosen : {X K : Type 0} (order : K → K → Ordering) (key : X → K) 
     → (test : Row → Bool) (chosen : X → Bool)
     → ((x : X) → test (row x) ≡ chosen x) → (xs found : List X)
     → map row found ≡ filter test (map row xs) → found ≡ filter chosen xs
-read_chosen order key row key_places faithful test chosen tells xs found is =
-    map_injective row faithful.read faithful.read_back found _ (is ∙ filter-rows row test chosen tells xs)
+read_chosen order key row key_places faithful test chosen agrees xs found is =
+    map_injective row faithful.read faithful.read_back found _ (is ∙ filter-rows row test chosen agrees xs)

@@ -22,28 +22,29 @@ module _ {X K : Type 0} (order : K → K → Ordering) (key : X → K) (row : X 
 
   module _ (schema : Schema) (text : List ℕ) (old new : State) where
     pub selection_is_chosen : SelectionIsChosen order key row schema text old new
-    selection_is_chosen tree key_places more terms params test chosen shown found xs means faithful tells same has shows
+    selection_is_chosen tree key_places more terms params test chosen shown found xs means faithful agrees same has
+        shows
         is h =
         read_chosen order key row key_places faithful test chosen same xs found
         (is
         ∙ selected schema text tree key_places more terms means old new params shown has shows (map row xs) test h
-        tells)
+        agrees)
 
     pub insertion_puts : InsertionPuts order key row schema text old new
-    insertion_puts at table places key_places columns values update count x xs alone means faithful stores has ran h =
-        let it = inserted schema text at table alone places key_places columns values update means (row x) stores old
+    insertion_puts at table places key_places columns values update count x xs apart means faithful stores has ran h =
+        let it = inserted schema text at table apart places key_places columns values update means (row x) stores old
         new count has ran (map row xs) h in
         (it.0, holds-put order key row places key_places faithful (new.now.trees table.tree) x xs it.1)
 
     pub upsert_puts : UpsertPuts order key row schema text old new
-    upsert_puts at table places key_places columns values update count x xs alone means faithful stores has ran h =
-        let it = upserted schema text at table alone places key_places columns values update means (row x) stores old
+    upsert_puts at table places key_places columns values update count x xs apart means faithful stores has ran h =
+        let it = upserted schema text at table apart places key_places columns values update means (row x) stores old
         new count has ran (map row xs) h in
         (it.0, holds-put order key row places key_places faithful (new.now.trees table.tree) x xs it.1)
 
     pub overwrite_puts : OverwritePuts order key row schema text old new
-    overwrite_puts at table places key_places columns count x xs alone means faithful covers has ran h =
-        let it = overwritten schema text at table alone places key_places columns means (row x) covers old new count has
+    overwrite_puts at table places key_places columns count x xs apart means faithful covers has ran h =
+        let it = overwritten schema text at table apart places key_places columns means (row x) covers old new count has
         ran in (
           it.0,
           holds-put_if order key row places key_places faithful (new.now.trees table.tree) (count == 0) x xs
@@ -51,10 +52,10 @@ module _ {X K : Type 0} (order : K → K → Ordering) (key : X → K) (row : X 
         )
 
     pub deletion_drops : DeletionDrops order key row schema text old new
-    deletion_drops at table places key_places terms params test count k xs alone means faithful tells same has ran h =
-        let it = deleted schema text at table alone terms means old new params count has ran in (
+    deletion_drops at table places key_places terms params test count k xs apart means faithful agrees same has ran h =
+        let it = deleted schema text at table apart terms means old new params count has ran in (
           it.0,
           holds-drop order key row places key_places faithful (new.now.trees table.tree) k test same xs
               (keyed_held order key row places key_places faithful (old.now.trees table.tree) xs h)
-              (it.1 places key_places (map row xs) test h tells),
+              (it.1 places key_places (map row xs) test h agrees),
         )

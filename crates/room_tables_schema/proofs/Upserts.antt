@@ -23,11 +23,11 @@ use Rattle.sqlite.specs.State.{State, Executes}
 use Rattle.sqlite.proofs.Callers.{one_step, runs_as, statement_of}
 use Rattle.room_tables_schema.specs.TableTrees.{cells, keys, Holds, AreNumbered, put_in}
 use Rattle.room_tables_schema.specs.Outcomes.{Only}
-use Rattle.room_tables_schema.specs.Statements.{passes, equals, upsert, written_over, StandsAlone, Upserts, Stores}
+use Rattle.room_tables_schema.specs.Statements.{passes, equals, upsert, written_over, StandsApart, Upserts, Stores}
 use Rattle.room_tables_schema.proofs.Comparisons.{passes-rowid}
 use Rattle.room_tables_schema.proofs.Numbered.{alike, is_int_in}
 use Rattle.room_tables_schema.proofs.Standing.{one_tied}
-use Rattle.room_tables_schema.proofs.Overwrites.{PutsOne, puts_alone, put_holds, update_of, one_edited, puts_over}
+use Rattle.room_tables_schema.proofs.Overwrites.{PutsOne, only_puts, put_holds, update_of, one_edited, puts_over}
 use Rattle.room_tables_schema.proofs.Writes.{went_on, same_value, task, only_edited, upserts_row}
 
 module _ (task : Task) (unreferenced : (olds news : List Row)
@@ -72,7 +72,7 @@ module _ (task : Task) (unreferenced : (olds news : List Row)
       let applies = one_step task.schema task.keys db wrote.0 edit (unreferenced (taken_by db edit) edit.news)
       wrote.1 in
       let same : one.trees ≡ wrote.0 = ap (λ (v : Written). v.trees) (same_value wrote.2) in
-      puts_alone task db one in_the_way (cast_row task.table new) x places
+      only_puts task db one in_the_way (cast_row task.table new) x places
       (subst (Applies task.schema task.keys db edit) (sym same) applies) none shows
 
   -- where one is in the way, and only it, it is written over
@@ -84,9 +84,9 @@ module _ (task : Task) (unreferenced : (olds news : List Row)
       → eval_all update (given r ∷ r ∷ []) ≡ rowid r ∷ over r
       → cells places (cast_row task.table (over r)) ≡ x
       → IsPut x places
-  puts_there x places over r numbered h there alone goes finds over_is shows =
+  puts_there x places over r numbered h there apart goes finds over_is shows =
       puts_over task unreferenced update (equals 0 columns ∷ []) (given r) db one goes in_the_way x places r (over r)
-      numbered h there alone
+      numbered h there apart
       (one_edited task unreferenced update (equals 0 columns ∷ []) (given r) db one goes r (over r) numbered h
       (λ a k. finds a) over_is) shows
 
@@ -101,14 +101,14 @@ module _ (task : Task) (unreferenced : (olds news : List Row)
       → (found : List Row) → AreConflicts (Some key) task.schema.indexes task.table tree new found
       → Meets task (UpsertsRows task Abort new db []) new db clause found (Ok one)
       → IsPut x places
-  puts_one x places rows over holds tells finds over_is shows over_shows [] are goes =
+  puts_one x places rows over holds agrees finds over_is shows over_shows [] are goes =
       puts_new x places (cleared goes.0 goes.2) (λ r h. false_from_ne_true (in_the_way r) (λ t. are.complete r h t))
       shows
-  puts_one x places rows over holds tells finds over_is shows over_shows (there ∷ more) are goes =
+  puts_one x places rows over holds agrees finds over_is shows over_shows (there ∷ more) are goes =
       let it = are.sound there (inl refl) in
       let r = it.0 in
       puts_there x places over r holds.numbered it.1 it.2
-      (λ a h t. one_tied places key tree rows in_the_way x a r holds tells h it.1 t it.2)
+      (λ a h t. one_tied places key tree rows in_the_way x a r holds agrees h it.1 t it.2)
       (subst (λ v.
       Updates task (update_of task.table.tree update (equals 0 columns ∷ [])) (task.params ++ v ∷ shown task.table new)
       db (Ok one)) (ap rowid it.3) goes)
@@ -122,12 +122,12 @@ module _ (task : Task) (unreferenced : (olds news : List Row)
       → cells places (cast_row task.table new) ≡ x
       → ((r : Row) → cells places (cast_row task.table (over r)) ≡ x)
       → Tries task Abort (clause ∷ []) new db (Ok one) → IsPut x places
-  tries_to_put x places rows over holds tells finds over_is shows over_shows tries =
+  tries_to_put x places rows over holds agrees finds over_is shows over_shows tries =
       let goes = tried tries in
-      puts_one x places rows over holds tells finds over_is shows over_shows goes.0 goes.1 goes.2
+      puts_one x places rows over holds agrees finds over_is shows over_shows goes.0 goes.1 goes.2
 
 module _ (schema : Schema) (text : List ℕ) (at : ℕ) (table : Table)
-    (alone : StandsAlone schema at table) (places key : List ℕ) (columns : ℕ)
+    (apart : StandsApart schema at table) (places key : List ℕ) (columns : ℕ)
     (values update : List Term)
     (means : Upserts schema text at table key columns values update) (row : Row)
     (stores : Stores schema table places key columns values update row)
@@ -139,7 +139,7 @@ module _ (schema : Schema) (text : List ℕ) (at : ℕ) (table : Table)
   fresh = stores.fresh (next_rowid kept)
 
   abbrev doing : Task
-  doing = task schema at table alone old new has (statement_of text (understood schema text)) row count
+  doing = task schema at table apart old new has (statement_of text (understood schema text)) row count
 
   ran_one : (one : Written) × Tries doing Abort
       (written_over table key columns update ∷ []) fresh old.now.trees (Ok one)
@@ -147,7 +147,7 @@ module _ (schema : Schema) (text : List ℕ) (at : ℕ) (table : Table)
   ran_one =
       let w = runs_as text row old new schema has (upsert at table key columns values update) means.command means.plain
       count ran in
-      let it = upserts_row schema at table alone old new has (statement_of text (understood schema text)) row count key
+      let it = upserts_row schema at table apart old new has (statement_of text (understood schema text)) row count key
       columns values update stores.source w stores.source_is in (
         it.0,
         subst (λ r. Tries doing Abort (written_over table key columns update ∷ []) r old.now.trees (Ok it.0))
@@ -166,12 +166,12 @@ module _ (schema : Schema) (text : List ℕ) (at : ℕ) (table : Table)
   upserted rows holds =
       let id = next_rowid kept in
       let one = ran_one.0 in
-      let put = tries_to_put doing alone.unreferenced key columns update old.now.trees fresh one row places rows
+      let put = tries_to_put doing apart.unreferenced key columns update old.now.trees fresh one row places rows
       stores.over holds (stores.conflicts_are id)
       (λ r a h.
       passes-rowid columns (row ++ rowid r ∷ shown table fresh) r a (is_int_in kept r holds.numbered h)
       (stores.over_names id r)) (stores.over_is id) (stores.fresh_shows id) stores.over_shows ran_one.1 in (
-        only_edited schema at table alone old new has (statement_of text (understood schema text)) row count one.trees
+        only_edited schema at table apart old new has (statement_of text (understood schema text)) row count one.trees
             put.edit put.table_is ran_one.2 put.applies,
         put_holds doing old.now.trees one (conflicts (Some key) schema.indexes table fresh) row places key
             (new.now.trees table.tree) rows holds (stores.conflicts_are id) put

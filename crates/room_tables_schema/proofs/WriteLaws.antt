@@ -53,7 +53,7 @@ commits_more {g = g} {b = b} before next = record {
   survives = still before.survives next.survives;
 }
 
--- a write that succeeded, or failed, is told as this
+-- a write that succeeded, or failed, has this outcome
 module _ {S : Type 0} {g : Ghosts S} {a b : Held S} {T U E F : Type 0} where
   pub wrote : {x : T} {y : U} → WritesInside {T = T} {E = E} g a b (Ok x)
       → WritesInside {T = U} {E = F} g a b (Ok y)
@@ -66,9 +66,9 @@ module _ {S : Type 0} {g : Ghosts S} {a b : Held S} {T U E F : Type 0} where
 -- after what was read in a transaction
 module _ {S : Type 0} {g : Ghosts S} {a b : Held S} {T E : Type 0} where
   -- nothing is written
-  pub read_alone : {U F : Type 0} {x : T} {y : U} → ReadsInside {T = T} {E = E} g a b (Ok x)
+  pub only_read : {U F : Type 0} {x : T} {y : U} → ReadsInside {T = T} {E = E} g a b (Ok x)
       → WritesInside {T = U} {E = F} g a b (Ok y)
-  read_alone h = record { err = λ clean. tt; survives = h.survives }
+  only_read h = record { err = λ clean. tt; survives = h.survives }
 
   -- nothing is written, where the read failed
   pub unread : {U F : Type 0} {e : E} {r : Result U F} → ReadsInside {T = T} {E = E} g a b (Err e)

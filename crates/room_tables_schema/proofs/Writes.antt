@@ -27,7 +27,7 @@ use Rattle.sqlite.specs.Rows.{Deletes as DeletesRows, Edited, Counts, count_of, 
 use Rattle.sqlite.specs.Effect.{Database, IsSource, value_rows}
 use Rattle.sqlite.specs.State.{State, mode_of, Writes}
 use Rattle.room_tables_schema.specs.Outcomes.{Only}
-use Rattle.room_tables_schema.specs.Statements.{StandsAlone, insertion, upsert, written_over}
+use Rattle.room_tables_schema.specs.Statements.{StandsApart, insertion, upsert, written_over}
 
 -- a part that gave a value did not stop on the way
 pub went_on : {B E R : Type 0} {b : B} {Stops : E → Type 0}
@@ -85,7 +85,7 @@ module _ (task : Task) (uncounted : task.table.is_counted ≡ false) (clauses : 
       (one.0, one.1, ap (λ (v : Written). v.trees) last ∙ same ∙ one.2)
 
   -- without clauses its edit puts that row in
-  inserts_alone : (from : Source) (source : Row) (db : Trees) (w : Written)
+  only_inserts : (from : Source) (source : Row) (db : Trees) (w : Written)
       → InsertsRows task from db (Ok w)
       → ((rows : List Row) → IsSource (record { schema = task.schema; trees = db })
       (stamped task.table task.params) from rows → rows ≡ source ∷ [])
@@ -94,7 +94,7 @@ module _ (task : Task) (uncounted : task.table.is_counted ≡ false) (clauses : 
         gone = [];
         news = with_rowid Chosen (db task.table.tree) (cast_row task.table source) ∷ [];
       }) (Ok w.trees)
-  inserts_alone from source db w h is =
+  only_inserts from source db w h is =
       let given = went_on h in
       let counter = went_on given.2 in
       let top = count_of counter.0 in
@@ -108,7 +108,7 @@ module _ (task : Task) (uncounted : task.table.is_counted ≡ false) (clauses : 
       λ i. edit_of db task.table [] (chosen i) 0 (is given.0 given.1 i) in
       subst₂ (λ (e : Edit) (d : Trees). Edited task.schema task.keys db e (Ok d)) edit (sym same) wrote.1
 
-module _ (schema : Schema) (at : ℕ) (table : Table) (alone : StandsAlone schema at table)
+module _ (schema : Schema) (at : ℕ) (table : Table) (apart : StandsApart schema at table)
     (old new : State) (has : old.now.schema ≡ schema) (text : List ℕ) (params : Row)
     (count : ℕ) where
   -- what a statement on the rows of this table is given
@@ -129,7 +129,7 @@ module _ (schema : Schema) (at : ℕ) (table : Table) (alone : StandsAlone schem
       let done = went_on
       (subst (λ o.
       AtPlace (λ t. OnRows (record task { table = t }) (mode_of old) None command old.now.trees) o
-      (Ok (tally, new.now))) alone.is_there all) in
+      (Ok (tally, new.now))) apart.is_there all) in
       let is = same_value (went_on (went_on done.2).2).2 in
       (done.0, done.1, ap (λ (p : Tally × Database). p.1) is, ap (λ (p : Tally × Database). p.0.rows) is)
 
@@ -176,7 +176,7 @@ module _ (schema : Schema) (at : ℕ) (table : Table) (alone : StandsAlone schem
       let command = upsert at table key columns values update in
       let done = wrote_rows command w.tally
       (subst (λ s. does command (record old.now { schema = s }) w.tally) has w.changed) in
-      let one = inserts_one task alone.uncounted (written_over table key columns update ∷ [])
+      let one = inserts_one task apart.uncounted (written_over table key columns update ∷ [])
       (Values values (columns + 1)) source old.now.trees done.0 done.1 (λ rows h. h.1 ∙ is) in
       (one.0, one.1, done.2 ∙ (λ i. record { schema = schema; trees = one.2 i }))
 
@@ -195,7 +195,7 @@ module _ (schema : Schema) (at : ℕ) (table : Table) (alone : StandsAlone schem
       let done = wrote_rows command w.tally
       (subst (λ s. does command (record old.now { schema = s }) w.tally) has w.changed) in (
         done.0,
-        inserts_alone task alone.uncounted [] (Values values (columns + 1)) source old.now.trees done.0 done.1
+        only_inserts task apart.uncounted [] (Values values (columns + 1)) source old.now.trees done.0 done.1
             (λ rows h. h.1 ∙ is),
         done.2,
       )

@@ -15,7 +15,7 @@ use Rattle.sqlite.specs.State.{State, Shown, Executes}
 use Rattle.room_types.specs.KeyedRows.{IsKeyed, put_row, drop_row}
 use Rattle.room_tables_schema.specs.TableTrees.{cells, keys, AreNumbered, RowidsRise, Holds}
 use Rattle.room_tables_schema.specs.Outcomes.{Only, MakesTable, MakesIndex}
-use Rattle.room_tables_schema.specs.Statements.{passes, Selects, StandsAlone, Deletes, Inserts, Upserts, Stores}
+use Rattle.room_tables_schema.specs.Statements.{passes, Selects, StandsApart, Deletes, Inserts, Upserts, Stores}
 use Rattle.room_tables_schema.specs.Statements.{Overwrites, Covers, Creates, Indexes}
 use Rattle.room_tables_schema.specs.TypedRows.{IsFaithful}
 
@@ -43,8 +43,8 @@ module _ (schema : Schema) (text : List ℕ) (old new : State) where
 
   -- The rowids that a selection shows in their order rise where the tree is numbered, and only
   -- there.
-  abbrev pub RowidsTell : Type 0
-  RowidsTell =
+  abbrev pub RowidsShow : Type 0
+  RowidsShow =
       (tree : ℕ) (params : Row) (rows : List Row) → Selects schema text tree (0 ∷ []) (0 ∷ []) []
       → old.now.schema ≡ schema → Shown text params old new rows
       → RowidsRise rows ↔ AreNumbered (old.now.trees tree)
@@ -109,7 +109,7 @@ module _ {X K : Type 0} (order : K → K → Ordering) (key : X → K) (row : X 
     UpsertPuts =
         (at : ℕ) (table : Table) (places key_places : List ℕ) (columns : ℕ)
         (values update : List Term) (count : ℕ) (x : X) (xs : List X)
-        → StandsAlone schema at table → Upserts schema text at table key_places columns values
+        → StandsApart schema at table → Upserts schema text at table key_places columns values
         update → IsFaithful order key row key_places
         → Stores schema table places key_places columns values update (row x)
         → old.now.schema ≡ schema → Executes text (row x) old new (Ok count)
@@ -122,7 +122,7 @@ module _ {X K : Type 0} (order : K → K → Ordering) (key : X → K) (row : X 
     InsertionPuts =
         (at : ℕ) (table : Table) (places key_places : List ℕ) (columns : ℕ)
         (values update : List Term) (count : ℕ) (x : X) (xs : List X)
-        → StandsAlone schema at table → Inserts schema text at columns values
+        → StandsApart schema at table → Inserts schema text at columns values
         → IsFaithful order key row key_places
         → Stores schema table places key_places columns values update (row x)
         → old.now.schema ≡ schema → Executes text (row x) old new (Ok count)
@@ -136,7 +136,7 @@ module _ {X K : Type 0} (order : K → K → Ordering) (key : X → K) (row : X 
     OverwritePuts =
         (at : ℕ) (table : Table) (places key_places : List ℕ) (columns : ℕ) (count : ℕ) (x : X)
         (xs : List X)
-        → StandsAlone schema at table → Overwrites schema text at table key_places columns
+        → StandsApart schema at table → Overwrites schema text at table key_places columns
         → IsFaithful order key row key_places → Covers table places key_places columns (row x)
         → old.now.schema ≡ schema → Executes text (row x) old new (Ok count)
         → Holds places key_places (old.now.trees table.tree) (map row xs)
@@ -150,7 +150,7 @@ module _ {X K : Type 0} (order : K → K → Ordering) (key : X → K) (row : X 
     DeletionDrops =
         (at : ℕ) (table : Table) (places key_places : List ℕ) (terms : List Term) (params : Row)
         (test : Row → Bool) (count : ℕ) (k : K) (xs : List X)
-        → StandsAlone schema at table → Deletes schema text at table terms
+        → StandsApart schema at table → Deletes schema text at table terms
         → IsFaithful order key row key_places
         → ((r : Row) → passes terms params r ≡ test (cells places r))
         → ((x : X) → test (row x) ≡ is_eq (order k (key x)))

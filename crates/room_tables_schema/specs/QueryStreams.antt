@@ -13,7 +13,8 @@ use Rattle.room_tables_schema.specs.FileConnections.{IsClean}
 
 -- All rows that the query shows are taken; or it is reported why they are not, and nothing was
 -- written.
-pub record Tells (AreTaken : List Row → Type 0) (text : List ℕ) (params : Row) (old new : State)
+pub record TakesShown (AreTaken : List Row → Type 0) (text : List ℕ) (params : Row)
+    (old new : State)
     (result : Result (Unit {0}) Error) : Type 0 where
   pub shown : OnOk result ((rows : List Row) × Shown text params old new rows × AreTaken rows)
   pub why : IfErr result (λ e. (e ≡ SqliteFailure OutOfMemory) ⊎ FailsToQuery text params old new e)
@@ -23,8 +24,8 @@ pub record Tells (AreTaken : List Row → Type 0) (text : List ℕ) (params : Ro
 -- leaves nothing more to a stop.
 pub record ReadsOut {S : Type 0} (g : Ghosts S) (AreTaken : List Row → Type 0) (old new : Held S)
     (result : Result (Unit {0}) Error) : Type 0 where
-  pub tells : IsClean g new → (text : List ℕ) (params : Row)
-      → HasGiven g text params old [] → Tells AreTaken text params (state g old)
+  pub takes_shown : IsClean g new → (text : List ℕ) (params : Row)
+      → HasGiven g text params old [] → TakesShown AreTaken text params (state g old)
       (state g new) result
   pub mode : old.in_transaction ≡ false → new.in_transaction ≡ false
   pub survives : Survives (state g old) (state g new) (λ _. ⊥)

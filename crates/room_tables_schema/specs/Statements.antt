@@ -93,7 +93,7 @@ pub record Selects (schema : Schema) (text : List ℕ) (tree : ℕ) (places key 
 -- ---- writes
 
 -- the table is at this place of the schema, no foreign key refers to it, and it counts no rowids
-pub record StandsAlone (schema : Schema) (at : ℕ) (table : Table) : Type 0 where
+pub record StandsApart (schema : Schema) (at : ℕ) (table : Table) : Type 0 where
   pub is_there : slice_get schema.tables at ≡ Some table
   pub unreferenced : (olds news : List Row) → works schema Enforced 0 table.tree olds news ≡ []
   pub uncounted : table.is_counted ≡ false

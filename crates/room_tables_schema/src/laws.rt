@@ -10,7 +10,7 @@ ghost use Rattle.sqlite.specs.Tree.{Trees};
 ghost use Rattle.room_tables_schema.specs.Laws.{
   ShowsPassing,
   ShowsAll,
-  RowidsTell,
+  RowidsShow,
   CreateMakes,
   IndexMakes,
   StandsForOne,
@@ -49,7 +49,7 @@ pub fn a_selection_shows_the_rows_that_pass<S: Alter>(before: &Connection<S>, af
     ensures all { (schema : Schema) (text : List ℕ)
         → ShowsAll schema text (state S.Store before.now) (state S.Store after.now) }
     ensures rowids { (schema : Schema) (text : List ℕ)
-        → RowidsTell schema text (state S.Store before.now) (state S.Store after.now) }
+        → RowidsShow schema text (state S.Store before.now) (state S.Store after.now) }
 {}
 
 /// A selection of a table that stands for a list is a selection of the list.

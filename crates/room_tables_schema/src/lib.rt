@@ -9,7 +9,7 @@
 //!    as it was written, and SQL's order is that of the keys. `Holds places key (trees t) (map row
 //!    xs)` then says that a tree stands for a list.
 //! 3. For each text it has a `Selects`, `Upserts`, `Overwrites`, `Deletes`, `Creates` or
-//!    `Indexes`, whose facts are `refl`; for each table a `StandsAlone`; for the rows of an upsert
+//!    `Indexes`, whose facts are `refl`; for each table a `StandsApart`; for the rows of an upsert
 //!    `stores_row` or `stores_rowid`, and for those of an update `covers_row`.
 //! 4. `specs/Laws` says what such a statement makes of the list; the functions of `laws` promise
 //!    it.

@@ -36,7 +36,7 @@ pub fn is_room(schema: &Schema) -> bool
 }
 
 /// Whether a schema is that of a room's tables, with no index but those of their keys.
-pub fn has_tables_alone(schema: &Schema) -> bool
+pub fn has_only_tables(schema: &Schema) -> bool
     ensures { IsTrue result ↔ (schema.now ≡ tables_schema) }
 {
     has_room_objects(schema, KEY_INDEXES)
@@ -50,7 +50,7 @@ pub fn is_first(schema: &Schema) -> bool
 }
 
 /// Whether a schema is that of the first version's tables, with no index but those of their keys.
-pub fn has_first_tables_alone(schema: &Schema) -> bool
+pub fn has_only_first_tables(schema: &Schema) -> bool
     ensures { IsTrue result ↔ (schema.now ≡ first_tables_schema) }
 {
     has_first_objects(schema, FIRST_KEY_INDEXES)

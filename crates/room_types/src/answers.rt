@@ -111,7 +111,7 @@ pub struct History {
 /// A vehicle that may be sent to an incident.
 #[derive(Clone, Copy)]
 pub struct Proposal {
-    /// Whether sending it leaves a standby point with fewer vehicles than it wants.
+    /// Whether sending it leaves a standby point with fewer vehicles than it needs.
     pub breaks: bool,
     /// From the incident, in whole metres.
     pub distance: u32,

@@ -9,7 +9,7 @@ pub type PointNumber = Bounded<1, 99>;
 pub type Class = Bounded<1, 3>;
 /// How many vehicles of one kind are wanted, sent or lacking: 0 to 9.
 pub type Need = Bounded<0, 9>;
-/// How many vehicles a standby point wants: 0 to 9.
+/// How many vehicles a standby point needs: 0 to 9.
 pub type Cover = Bounded<0, 9>;
 /// The number of a call, a report, an incident or an order: 1 to 2147483647.
 pub type Number = Bounded<1, 2147483647>;

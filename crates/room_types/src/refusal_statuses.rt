@@ -1,6 +1,6 @@
 //! Why a request is refused, and how a refusal is given: by number, by status and by name.
 ghost use Rattle.std.specs.Prelude.{◌≡◌, Some};
-ghost use Rattle.room_types.specs.RefusalStatuses.{refusal_number, refusal_status, refusal_name, told};
+ghost use Rattle.room_types.specs.RefusalStatuses.{refusal_number, refusal_status, refusal_name, refusal_parts};
 ghost use Rattle.room_types.specs.declared.refusal_statuses.Refusal.TheVariants.{Memory};
 
 use std::alloc::{AllocError, AllocFailed};
@@ -112,7 +112,7 @@ impl Refusal {
 
     // Number, status and name.
     fn number_status_name(&self) -> (u8, u16, &'static str)
-        ensures { told self.now ≡ record {
+        ensures { refusal_parts self.now ≡ record {
           number = result.0;
           status = result.1;
           name = result.2.now;

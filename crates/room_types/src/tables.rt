@@ -103,7 +103,7 @@ pub struct Assignment {
     pub class: Class,
 }
 
-/// A standby point of a division, and how many vehicles it wants.
+/// A standby point of a division, and how many vehicles it needs.
 #[derive(Clone, Copy)]
 pub struct Point {
     pub division: DivisionNumber,

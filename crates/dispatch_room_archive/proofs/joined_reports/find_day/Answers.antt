@@ -14,7 +14,7 @@ returns-in-Ok-clause-day g c clean =
 pub returns-in-Ok-clause-fault : goal.returns-in-Ok-clause-fault
 returns-in-Ok-clause-fault g c =
     IfErr-weaker c.day_of-found.result _ _ (λ failure why. record {
-      let_go = c.read_room.new.conn;
+      released = c.read_room.new.conn;
       nothing = c.read_room.ensures.nothing;
       why = inr (record {
         plan = c.in-Ok.whole.config.plan;
@@ -29,12 +29,12 @@ returns-in-Ok-clause-fault g c =
 
 pub returns-in-Err-clause-fault : goal.returns-in-Err-clause-fault
 returns-in-Err-clause-fault g c = record {
-  let_go = c.read_room.new.conn;
+  released = c.read_room.new.conn;
   nothing = c.read_room.ensures.nothing;
   why =
       inl (record {
         wrong = c.in-Err.wrong;
-        told = c.failure_of.ensures;
+        failed = c.failure_of.ensures;
         explains = c.in-Err.ensures.wrong;
         why = c.in-Err.ensures.why;
       });

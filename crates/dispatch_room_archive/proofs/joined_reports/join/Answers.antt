@@ -14,19 +14,19 @@ returns-in-Ok-clause-report g c clean =
 pub returns-in-Ok-clause-fault : goal.returns-in-Ok-clause-fault
 returns-in-Ok-clause-fault g c =
     IfErr-weaker c.joined_report-report.result _ _ (λ failure memory. record {
-      let_go = c.read_room.new.conn;
+      released = c.read_room.new.conn;
       nothing = c.read_room.ensures.nothing;
       why = inr memory;
     }) c.joined_report-report.ensures.memory
 
 pub returns-in-Err-clause-fault : goal.returns-in-Err-clause-fault
 returns-in-Err-clause-fault g c = record {
-  let_go = c.read_room.new.conn;
+  released = c.read_room.new.conn;
   nothing = c.read_room.ensures.nothing;
   why =
       inl (record {
         wrong = c.in-Err.wrong;
-        told = c.failure_of.ensures;
+        failed = c.failure_of.ensures;
         explains = c.in-Err.ensures.wrong;
         why = c.in-Err.ensures.why;
       });

@@ -12,9 +12,9 @@ pub returns-clause-reported : goal.returns-clause-reported
 returns-clause-reported g c =
     let room = c.in_ok-room.room in
     let closed = c.report_of-report.new.room in
-    let told = c.report_of-report.ensures in
+    let stated = c.report_of-report.ensures in
     rw c.close.ensures (λ (clean : IsClean g.S.Store closed.conn).
-    let opened = c.in_ok-room.ensures.room (told.clean clean) in
+    let opened = c.in_ok-room.ensures.room (stated.clean clean) in
     record {
       opened = room;
       closed = closed;
@@ -22,9 +22,9 @@ returns-clause-reported g c =
       terminals = opened.0;
       room = opened.1;
       is = opened.2;
-      still = told.same clean opened.0 opened.1 opened.2.is;
+      still = stated.same clean opened.0 opened.1 opened.2.is;
       zone = zone_of c.in_ok-room.zone;
       of_plan = c.in_ok-room.ensures.zone;
-      report = more_of c.report_of-report.result (λ _ is. is opened.0 opened.1 opened.2.is) (told.report clean);
-      fault = told.fault;
+      report = more_of c.report_of-report.result (λ _ is. is opened.0 opened.1 opened.2.is) (stated.report clean);
+      fault = stated.fault;
     })

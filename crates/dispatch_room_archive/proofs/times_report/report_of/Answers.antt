@@ -21,7 +21,7 @@ returns-in-Ok-clause-report g c clean terminals held is =
     let addressed = ap (λ (areas : List Area). has_division areas division) is.plan ∙ has in
     let from_fits : FitsSigned w64 from = search rules in
     let to_fits : FitsSigned w64 to = search rules in
-    let told = (rw (to_z-of_z w64 from from_fits, to_z-of_z w64 to to_fits) at c.in-Ok.ensures.bytes clean terminals
+    let stated = (rw (to_z-of_z w64 from from_fits, to_z-of_z w64 to to_fits) at c.in-Ok.ensures.bytes clean terminals
     held is addressed) in
     let report : c.in-Ok.report.items ≡ report_in (answer_of (show_times division from to held)) = search rules in
     ((from, to), c.in-Some.ensures.span, report ∙ times_shown division from to held)

@@ -7,7 +7,7 @@ pub returns-in-Err : goal.returns-in-Err
 returns-in-Err g c =
     inl (record {
       stays = c.head_of.ensures.stays;
-      untold = refl;
+      unprinted = refl;
       fault = c.in-Err.fault;
       done_is = refl;
       why = inl (c.in-Err.ensures.fault, refl);
@@ -17,7 +17,7 @@ pub returns-then-is_err : goal.returns-then-is_err
 returns-then-is_err g c =
     inl (record {
       stays = c.head_of.ensures.stays;
-      untold = refl;
+      unprinted = refl;
       fault = _;
       done_is = refl;
       why = inr (
@@ -40,7 +40,7 @@ returns g c =
       imports = record {
         clean = λ clean. omega (arith, c.enrol-came.ensures.survives.clean);
         imported = c.enrol-came.ensures.imported;
-        told = c.enrol-came.ensures.told;
+        printed = c.enrol-came.ensures.printed;
       };
       ends = c.end_kept.ensures;
     })

@@ -21,4 +21,4 @@ pub returns-in-Err-clause-unkept : goal.returns-in-Err-clause-unkept
 returns-in-Err-clause-unkept g c =
     let kept = c.lines.invariant.kept in
     lacks_more c.keep_row.new.list c.args.text.now c.lines.left.now c.first_line.result.0.now
-    c.first_line.result.1.now kept.0 kept.1 c.first_line.ensures.is c.in-Err.ensures.unkept
+    c.first_line.result.1.now kept.0 kept.1 c.first_line.ensures.is c.first_line.ensures.line c.in-Err.ensures.unkept

@@ -14,7 +14,7 @@ returns-in-Err-clause-made g c = record {
   is = inl (record {
     stays = c.keep_text.ensures.stays;
     fault = c.in-Err.fault;
-    told = refl;
+    failed = refl;
     why = c.in-Err.ensures.fault;
   });
   conn = sym c.close.ensures;

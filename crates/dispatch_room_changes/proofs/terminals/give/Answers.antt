@@ -17,7 +17,7 @@ returns-in-Ok-clause-done g c = (
   record {
     between = _;
     is = c.in_ok-reissue.ensures.done;
-    told = rw c.as_str.ensures.text at c.in-Ok.ensures.bytes;
+    printed = rw c.as_str.ensures.text at c.in-Ok.ensures.bytes;
     whole = refl;
   },
 )

@@ -13,7 +13,7 @@ returns-in-Ok-writeln-clause-done g c =
     record {
       between = _;
       is = c.in_ok-make_in_file.ensures.done;
-      told = rw count at c.in-Ok-writeln.ensures.bytes;
+      printed = rw count at c.in-Ok-writeln.ensures.bytes;
       whole = refl;
     }
 

@@ -8,7 +8,7 @@ returns-in_err-reissue-clause-undone g c =
 
 pub returns-in-Ok-clause-done : goal.returns-in-Ok-clause-done
 returns-in-Ok-clause-done g c =
-    record { between = _; is = c.in_ok-reissue.ensures.done; told = c.in-Ok.ensures.bytes; whole = refl }
+    record { between = _; is = c.in_ok-reissue.ensures.done; printed = c.in-Ok.ensures.bytes; whole = refl }
 
 pub returns-in-Err-clause-undone : goal.returns-in-Err-clause-undone
 returns-in-Err-clause-undone g c = inr (c.args.change.token, refl, inr (refl, (_, c.in_ok-reissue.ensures.done)))

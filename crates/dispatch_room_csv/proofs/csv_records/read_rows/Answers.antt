@@ -10,8 +10,8 @@ use Rattle.dispatch_room_csv.proofs.csv_records.read_rows.Goals.{then-is_empty-v
 
 pub returns-in_err-records-clause-fault : goal.returns-in_err-records-clause-fault
 returns-in_err-records-clause-fault c =
-    let told = err_from_is_err_and c.from_residual.result c.from_residual.ensures.1 in
-    rw (told.1, told.2) (rows_explained _ c.args.text.now _ c.in_err-records.ensures.fault)
+    let stated = err_from_is_err_and c.from_residual.result c.from_residual.ensures.1 in
+    rw (stated.1, stated.2) (rows_explained _ c.args.text.now _ c.in_err-records.ensures.fault)
 
 pub returns-then-is_empty-clause-fault : goal.returns-then-is_empty-clause-fault
 returns-then-is_empty-clause-fault c = λ rows under.

@@ -7,4 +7,9 @@ returns-in-Ok-clause-found g c clean =
 
 pub returns-in-Err-clause-unharmed : goal.returns-in-Err-clause-unharmed
 returns-in-Err-clause-unharmed g c =
-    record { error = c.in-Err.error; told = c.fault_of.ensures; left = c.in-Err.left; kept = c.in-Err.ensures.unharmed }
+    record {
+      error = c.in-Err.error;
+      failed = c.fault_of.ensures;
+      left = c.in-Err.left;
+      kept = c.in-Err.ensures.unharmed;
+    }

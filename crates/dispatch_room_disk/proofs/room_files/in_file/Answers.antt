@@ -13,4 +13,4 @@ returns-in-Ok-clause-undone g c =
     (λ fault is. inr (c.in-Ok.conn, c.in-Ok.ensures.connected, is)) c.on_disk.ensures.undone
 
 pub returns-in-Err-clause-undone : goal.returns-in-Err-clause-undone
-returns-in-Err-clause-undone g c = inl (record { why = c.in-Err.ensures.fault; untold = refl })
+returns-in-Err-clause-undone g c = inl (record { why = c.in-Err.ensures.fault; unprinted = refl })

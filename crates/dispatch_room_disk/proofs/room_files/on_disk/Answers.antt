@@ -25,14 +25,14 @@ module _ {D T : Type 0} {g : Ghosts D} (says : Saying T) (conn : Held (FileStore
   undone_by : (refuses : Refusing) (worked : Result (Result T Failure × Held (FileStore D g)) Failure)
       (result : Result T Failure)
       → IfOk worked (λ w. says (FileStore D g) over_files conn w.1 before after w.0)
-      → IfErr worked (refuses (FileStore D g) over_files conn)
+      → IfErr worked (refuses (FileStore D g) over_files conn before after)
       → IfOk worked (λ w. IfErr result (λ fault. ((w.0 ≡ Err fault) × IsCopiedOut w.1) ⊎ IsUnclosed w.1 fault))
       → IfErr worked (λ fault. result ≡ Err fault)
       → IfErr result (IsUndone says refuses conn before after)
   undone_by refuses worked (Ok done) said refused why none = tt
   undone_by refuses (Err cause) (Err fault) said refused why none =
       let same : cause ≡ fault = cc none in
-      inl (subst (λ it. refuses (FileStore D g) over_files conn it) same refused)
+      inl (subst (λ it. refuses (FileStore D g) over_files conn before after it) same refused)
   undone_by refuses (Ok (inner, closed)) (Err fault) said refused (inl (is, copied)) none =
       inr (inl (record {
         closed = closed;

@@ -11,8 +11,8 @@ pub unwrap-zone-requires : goal.unwrap-zone-requires
 unwrap-zone-requires g c =
     c.read.ensures.read.1 (rw (c.zone.ensures, c.plan.ensures, c.in_ok-store.ensures.zone) zone_is_read)
 
-pub returns-clause-talk : goal.returns-clause-talk
-returns-clause-talk g c =
+pub returns-clause-dialogue : goal.returns-clause-dialogue
+returns-clause-dialogue g c =
     let zone =
     rw (c.unwrap-zone.ensures, c.zone.ensures, c.plan.ensures, c.in_ok-store.ensures.zone) at c.read.ensures.zone in
     let setting : Setting = record { zone = c.unwrap-zone.result; history = false } in (
@@ -22,6 +22,6 @@ returns-clause-talk g c =
         c.serve-end.ensures.run.course,
         serves machine setting _ _ _ (memory_is_clean c.serve-end.new.room.conn) _ _ _ _ IsExample
             (λ terminals room begins. rw (begins.0, begins.1) c.in_ok-store.ensures.room) c.serve-end.ensures.run.course
-            c.args.budget c.serve-end.result (rw c.in-Ok.ensures.setting at c.serve-end.ensures.run.talk),
+            c.args.budget c.serve-end.result (rw c.in-Ok.ensures.setting at c.serve-end.ensures.run.dialogue),
       ),
     )

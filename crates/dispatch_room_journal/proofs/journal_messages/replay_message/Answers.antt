@@ -2,7 +2,7 @@ use Rattle.std.proofs.Common.{◌∙◌, refl, [], false, inl, inr, true}
 use Rattle.std.proofs.KnownBytes.{Consumes-kept, Keeps-refl}
 use Rattle.room_types.specs.declared.refusal_statuses.Refusal.TheVariants.{Memory}
 use Rattle.dispatch_room_journal.specs.Entries.{message}
-use Rattle.dispatch_room_journal.specs.declared.replay_faults.ReplayFault.TheVariants.{Want}
+use Rattle.dispatch_room_journal.specs.declared.replay_faults.ReplayFault.TheVariants.{Unavailable}
 use Rattle.dispatch_room_journal.proofs.FaultLemmas.{unless_known, read_due}
 use Rattle.dispatch_room_journal.proofs.NextEntryLemmas.{taken, at_end, no_status_end, head_end}
 use Rattle.dispatch_room_journal.proofs.StepLemmas.{left_turn, refused_stops, unread_stops, copied, settled_played}
@@ -17,7 +17,7 @@ returns-in_default-clause-turn g c =
     let gone = taken _ (g.R.Source.left c.args.reader.now) _ _ c.args.entry.now.layout _ x.1 (Keeps-refl _) refl in (
       [],
       refused_stops true _ _ (digits_of g.M.Digested.digest_of (g.M.Room.zone c.args.room.now)) _ _ _ _ c.args.entry.now.at x.0
-          x.1.begins.0 _ false _ gone (Want Memory) c.requires.sound refl
+          x.1.begins.0 _ false _ gone (Unavailable Memory) c.requires.sound refl
           (λ trust terminals room stood. stood)
           (inr (Memory, refl, inl refl)) (λ rest known wait bad. absurd (cc bad)),
     )

@@ -1,8 +1,9 @@
 use Rattle.std.proofs.Common.{refl, [], drop, inl, None}
 use Rattle.dispatch_room_journal.specs.Entries.{room, answer}
 use Rattle.dispatch_room_journal.specs.ReplayFaults.{broken, unasked, headless}
-use Rattle.dispatch_room_journal.proofs.FaultLemmas.{unless_known, not_both, read_explains, read_due, wanting_explains}
-use Rattle.dispatch_room_journal.proofs.FaultLemmas.{wanting_due}
+use Rattle.dispatch_room_journal.proofs.FaultLemmas.{unless_known, not_both, read_explains, read_due}
+use Rattle.dispatch_room_journal.proofs.FaultLemmas.{unavailable_explains}
+use Rattle.dispatch_room_journal.proofs.FaultLemmas.{unavailable_due}
 use Rattle.dispatch_room_journal.proofs.NextEntryLemmas.{layout_of_room, layout_of_message, layout_of_mark, taken}
 use Rattle.dispatch_room_journal.proofs.NextEntryLemmas.{by_not_after, ends_before}
 use Rattle.dispatch_room_journal.proofs.next_entry.next_entry.Goals as goal
@@ -77,10 +78,10 @@ returns-in-Ok-false-clause-next g c =
 pub returns-in-Err-is_at-clause-next : goal.returns-in-Err-is_at-clause-next
 returns-in-Err-is_at-clause-next g c =
     let read = rw c.in-Ok-Some.field-0-is at c.in-Ok-Some.ensures.read in
-    let want = c.in-Err-is_at.ensures.wants in (
+    let cause = c.in-Err-is_at.ensures.unavailable in (
       c.is_at.ensures.same,
-      λ waits text known. (text, refl, wanting_explains waits _ ⊥ _ [] c.in-Err-is_at.fault text want),
-      wanting_due _ _ c.in-Err-is_at.fault read.says.1 refl want,
+      λ waits text known. (text, refl, unavailable_explains waits _ ⊥ _ [] c.in-Err-is_at.fault text cause),
+      unavailable_due _ _ c.in-Err-is_at.fault read.says.1 refl cause,
     )
 
 pub returns-then-not-is_begun-clause-next : goal.returns-then-not-is_begun-clause-next

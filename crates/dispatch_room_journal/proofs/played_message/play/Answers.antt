@@ -1,13 +1,14 @@
 use Rattle.std.proofs.Common.{inr, refl}
 use Rattle.room_http.specs.Arrivals.{message}
 use Rattle.dispatch_room_journal.specs.ReplayedTurns.{Play}
-use Rattle.dispatch_room_journal.proofs.FaultLemmas.{caused_want}
+use Rattle.dispatch_room_journal.proofs.FaultLemmas.{caused_unavailable}
 use Rattle.dispatch_room_journal.proofs.played_message.play.Goals as goal
 
 pub returns-in-Ok-clause-plays : goal.returns-in-Ok-clause-plays
 returns-in-Ok-clause-plays g c =
     let shown = c.in-Some.ensures in
-    let p : Play = record { at = c.args.at; sent = c.args.sent.now; whole = shown.0; told = c.in-Ok.told.items } in (
+    let p :
+    Play = record { at = c.args.at; sent = c.args.sent.now; whole = shown.0; response = c.in-Ok.response.items } in (
       p,
       refl,
       refl,
@@ -20,5 +21,5 @@ returns-in-Ok-clause-plays g c =
 pub returns-in-Err-clause-plays : goal.returns-in-Err-clause-plays
 returns-in-Err-clause-plays g c = (
   c.in-Err.ensures.reply.says,
-  inr (c.in-Err.refusal, refl, caused_want c.in-Err.refusal c.in-Err.ensures.reply.wants),
+  inr (c.in-Err.refusal, refl, caused_unavailable c.in-Err.refusal c.in-Err.ensures.reply.unavailable),
 )

@@ -9,7 +9,8 @@ use Rattle.dispatch_room_journal.proofs.played_message.play_towards.Goals as goa
 pub returns-in-Ok-clause-plays : goal.returns-in-Ok-clause-plays
 returns-in-Ok-clause-plays g c =
     let shown = c.in-Some.ensures in
-    let p : Play = record { at = c.args.at; sent = c.args.sent.now; whole = shown.0; told = c.in-Ok.told.items } in (
+    let p :
+    Play = record { at = c.args.at; sent = c.args.sent.now; whole = shown.0; response = c.in-Ok.response.items } in (
       p,
       refl,
       refl,
@@ -23,7 +24,7 @@ returns-in-Err-clause-plays g c =
     let shown = c.in-Some.ensures in
     let says = c.in-Err.ensures.reply.says in
     missed _ _ (digits_of g.M.Digested.digest_of (g.M.Room.zone c.args.room.now)) _ _ _ _ _ _ c.in-Err.miss _
-    c.fault_of.ensures c.in-Err.ensures.reply.wants
+    c.fault_of.ensures c.in-Err.ensures.reply.unavailable
     (λ trust terminals room stood. (says trust terminals room stood).0)
     (λ is trust terminals room stood elsewhere. (
       shown.0,

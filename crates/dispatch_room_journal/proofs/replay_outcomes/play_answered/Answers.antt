@@ -11,13 +11,14 @@ returns-then-has_status-clause-turn g c = (
   answer c.args.status,
   tt,
   refl,
-  answered_turn _ _ _ _ _ _ _ _ c.in-Ok.told.items c.args.status c.in-Ok.ensures.plays
+  answered_turn _ _ _ _ _ _ _ _ c.in-Ok.response.items c.args.status c.in-Ok.ensures.plays
       (ap status_in (sym c.as_slice.ensures.value) ∙ c.has_status.ensures.0 c.if-has_status.true),
 )
 
 pub returns-in-Ok-clause-turn : goal.returns-in-Ok-clause-turn
 returns-in-Ok-clause-turn g c =
-    differs_stops _ _ (digits_of g.M.Digested.digest_of (g.M.Room.zone c.args.room.now)) _ _ _ _ _ c.in-Ok.told.items
+    differs_stops _ _ (digits_of g.M.Digested.digest_of (g.M.Room.zone c.args.room.now)) _ _ _ _ _
+    c.in-Ok.response.items
     c.args.status c.in-Ok.ensures.plays
     (λ same. not_both _ c.if-has_status.false (c.has_status.ensures.1 (ap status_in c.as_slice.ensures.value ∙ same)))
 

@@ -35,7 +35,7 @@ returns-in-Err-play_towards-clause-turn g c =
     (rw c.is_at.ensures.zone at c.in-Err-play_towards.ensures.plays)
 
 pub returns-in-Err-clause-turn : goal.returns-in-Err-clause-turn
-returns-in-Err-clause-turn g c = inl (c.is_at.ensures.same, inl (inl c.in-Err.ensures.wants))
+returns-in-Err-clause-turn g c = inl (c.is_at.ensures.same, inl (inl c.in-Err.ensures.unavailable))
 
 pub returns-in-Err-play_towards-clause-kept : goal.returns-in-Err-play_towards-clause-kept
 returns-in-Err-play_towards-clause-kept g c = λ trust.

@@ -1,7 +1,7 @@
 use Rattle.std.proofs.Common.{refl, [], None, false}
 use Rattle.room_http_messages.proofs.StreamLemmas.{Appends-none}
 use Rattle.room_types.specs.declared.refusal_statuses.Refusal.TheVariants.{Memory}
-use Rattle.dispatch_room_journal.specs.declared.replay_faults.ReplayFault.TheVariants.{Want}
+use Rattle.dispatch_room_journal.specs.declared.replay_faults.ReplayFault.TheVariants.{Unavailable}
 use Rattle.dispatch_room_journal.specs.ReplayedTurns.{IsPlayed}
 use Rattle.dispatch_room_journal.proofs.FaultLemmas.{stopped_kept}
 use Rattle.dispatch_room_journal.proofs.TurnLemmas.{nothing_done}
@@ -27,11 +27,11 @@ returns-clause-answers g c = (
 pub returns-in_default-clause-kept : goal.returns-in_default-clause-kept
 returns-in_default-clause-kept g c =
     λ trust.
-    stopped_kept _ (Want Memory) _ (g.M.Room.is_kept c.args.room.now → g.M.Room.is_kept c.args.room.now)
+    stopped_kept _ (Unavailable Memory) _ (g.M.Room.is_kept c.args.room.now → g.M.Room.is_kept c.args.room.now)
     c.memory.ensures tt
 
 pub returns-clause-kept : goal.returns-clause-kept
 returns-clause-kept g c =
     λ trust.
-    stopped_kept _ (Want Memory) _ (g.M.Room.is_kept c.args.room.now → g.M.Room.is_kept c.args.room.now)
+    stopped_kept _ (Unavailable Memory) _ (g.M.Room.is_kept c.args.room.now → g.M.Room.is_kept c.args.room.now)
     c.memory-in-Err.ensures tt

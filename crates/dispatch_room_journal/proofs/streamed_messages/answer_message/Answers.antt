@@ -47,7 +47,7 @@ returns-in-Err-put_frame-clause-turn g c =
     subst (λ (t : List ℕ). IsLayout c.args.inbox.now.kept c.args.entry.now.layout (message c.args.entry.now.at t)) (sym same) x.1 in
     let part = c.in-Err-put_frame.ensures.part in
     each_stops _ _ (digits_of g.M.Digested.digest_of (g.M.Room.zone c.args.room.now)) _ _ _ _ _ _ c.args.entry.now.at
-    c.message.result.now c.in-Ok.told.items c.as_slice.result.now
+    c.message.result.now c.in-Ok.response.items c.as_slice.result.now
     c.in-Ok.ensures.plays c.as_slice.ensures.value
     front.begins.0 WriteFailed _ _
     (begins_front _ _ c.args.entry.now.layout _ front) (c.requires.reader, part.4) part.0 part.1 part.2 part.3
@@ -67,7 +67,7 @@ returns-in-Ok-follow-clause-turn g c =
     (prepend_known c.follow.new.inbox.kept (g.R.Source.left c.follow.new.reader))
     (g.R.Source.has_failed c.follow.new.reader) t (Ok c.in-Ok-follow.field-0)) (sym again) c.in-Ok-follow.ensures in
     let done = each_done _ _ (digits_of g.M.Digested.digest_of (g.M.Room.zone c.args.room.now)) _ _ _ _ _ _ c.args.entry.now.at
-    c.message.result.now c.in-Ok.told.items c.as_slice.result.now
+    c.message.result.now c.in-Ok.response.items c.as_slice.result.now
     c.in-Ok.ensures.plays c.as_slice.ensures.value front.begins.0
     _ _ (g.R.Source.has_failed c.follow.new.reader) gone wrote.0 c.in-Ok-follow.field-0 followed in
     (done.0, done.1, done.2, done.3, done.4, wrote.1, done.5)
@@ -84,12 +84,12 @@ returns-clause-turn g c =
     let again = sym (c.as_slice-in-Ok-put_frame.ensures.value ∙ sym c.as_slice.ensures.value) in
     let stops = c.in-Err-follow.ensures in
     each_stops _ _ (digits_of g.M.Digested.digest_of (g.M.Room.zone c.args.room.now)) _ _ _ _ _ _ c.args.entry.now.at
-    c.message.result.now c.in-Ok.told.items c.as_slice.result.now
+    c.message.result.now c.in-Ok.response.items c.as_slice.result.now
     c.in-Ok.ensures.plays c.as_slice.ensures.value
     front.begins.0 c.in-Err-follow.fault _ _
     (each_follows _ _ (digits_of g.M.Digested.digest_of (g.M.Room.zone c.args.room.now)) _ _ _ _ _ c.args.entry.now.at
     c.message.result.now c.as_slice.result.now c.in-Ok.ensures.plays.0 c.in-Err-follow.fault
-    (c.in-Ok.ensures.plays.3 ∙ sym c.as_slice.ensures.value) gone (λ p told. stops.0 p (told ∙ again)))
+    (c.in-Ok.ensures.plays.3 ∙ sym c.as_slice.ensures.value) gone (λ p response. stops.0 p (response ∙ again)))
     (due_with _ _ _ wrote.1 stops.1) (frame_of c.as_slice.result.now) []
     (sym (append-nil (frame_of c.as_slice.result.now))) wrote.0
 

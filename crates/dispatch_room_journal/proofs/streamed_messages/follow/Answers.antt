@@ -10,7 +10,7 @@ pub returns-in-Err : goal.returns-in-Err
 returns-in-Err g c =
     let read = c.in-Err.ensures.read in
     rw c.read_fault.ensures (
-      λ p told text known. (
+      λ p response text known. (
         text,
         refl,
         read_explains false ⊥ ⊥ _ _ c.in-Err.fault text text (read.first text known)
@@ -22,7 +22,7 @@ returns-in-Err g c =
 pub returns-else-has_status : goal.returns-else-has_status
 returns-else-has_status g c =
     let read = rw c.in-Ok-Some.field-0-is at c.in-Ok-Some.ensures.read in (
-      λ p told text known.
+      λ p response text known.
           let first = read.first text known in
           let front = layout_of_mark text c.in-Ok-Some.next first.0 (answer c.in-Answer.status) first.1 tt
           c.in-Answer.is in (
@@ -34,7 +34,7 @@ returns-else-has_status g c =
               drop c.in-Ok-Some.next.end text,
               refl,
               front.begins,
-              λ same. not_both _ c.if-has_status.false (c.has_status.ensures.1 (sym (ap status_in told) ∙ same)),
+              λ same. not_both _ c.if-has_status.false (c.has_status.ensures.1 (sym (ap status_in response) ∙ same)),
             ),
           ),
       (read.says.1, refl),

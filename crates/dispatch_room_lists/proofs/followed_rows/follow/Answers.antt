@@ -18,7 +18,7 @@ pub returns-in-Ok-Some-Fleet-clause-fault : goal.returns-in-Ok-Some-Fleet-clause
 returns-in-Ok-Some-Fleet-clause-fault g c =
     in_part _ _ _ c.args.text.now _ c.in-Ok-Some-Fleet.rows.items c.enrol.result.0
     (rw c.in-Ok-Some-Fleet.field-0-0-is at (rw c.in-Ok-Some-Fleet.field-0-is at c.in-Ok-Some-Fleet.ensures.listed))
-    (rw c.as_slice.ensures.value at c.enrol.ensures.part) c.enrol.ensures.wants
+    (rw c.as_slice.ensures.value at c.enrol.ensures.part) c.enrol.ensures.unavailable
 
 pub returns-in-Ok-Some-Change-clause-followed : goal.returns-in-Ok-Some-Change-clause-followed
 returns-in-Ok-Some-Change-clause-followed g c =

@@ -1,6 +1,6 @@
 use Rattle.std.proofs.Common.{inl, inr, refl}
 use Rattle.std.proofs.lemmas.Result.{IfErr-weaker, on_ok_weaker}
-use Rattle.dispatch_room_lists.proofs.FollowLemmas.{handed_on}
+use Rattle.room_tables.proofs.ReadFailures.{holds_on}
 use Rattle.dispatch_room_lists.proofs.FollowLemmas.{elsewhere}
 use Rattle.dispatch_room_lists.proofs.followed_rows.make_towards.Goals as goal
 
@@ -12,15 +12,16 @@ returns-in-Ok-true-clause-made g c =
     })
 
 pub returns-in-Err-clause-fault : goal.returns-in-Err-clause-fault
-returns-in-Err-clause-fault g c = inl (c.in-Err.ensures.wants, c.has_come_to.ensures.stays)
+returns-in-Err-clause-fault g c = inl (c.in-Err.ensures.unavailable, c.has_come_to.ensures.stays)
 
 pub returns-in_err-remade-clause-lost : goal.returns-in_err-remade-clause-lost
 returns-in_err-remade-clause-lost g c =
-    handed_on c.from_residual.result _ c.from_residual.ensures.1
-    (λ fault is. record {
+    holds_on c.from_residual.result _ _ c.from_residual.ensures.1 (record {
       begun = c.has_come_to.new.room;
-      elsewhere = elsewhere _ _ _ _ _ c.has_come_to.ensures.stays c.in-Ok-false.ensures.found c.in-Ok-false.field-0-test;
-      loses = rw is c.in_err-remade.ensures.fault;
+      elsewhere =
+          elsewhere _ _ _ _ _ c.has_come_to.ensures.stays c.in-Ok-false.ensures.found
+          c.in-Ok-false.field-0-test;
+      loses = c.in_err-remade.ensures.fault;
     })
 
 pub returns-clause-made : goal.returns-clause-made
@@ -28,7 +29,9 @@ returns-clause-made g c =
     on_ok_weaker c.followed_by.result.0
     (λ made. inr (record {
       begun = c.has_come_to.new.room;
-      elsewhere = elsewhere _ _ _ _ _ c.has_come_to.ensures.stays c.in-Ok-false.ensures.found c.in-Ok-false.field-0-test;
+      elsewhere =
+          elsewhere _ _ _ _ _ c.has_come_to.ensures.stays c.in-Ok-false.ensures.found
+          c.in-Ok-false.field-0-test;
       remakes = rw c.followed_by.ensures.room (rw made at c.in_ok-remade.ensures.made);
     }))
     c.followed_by.ensures.made
@@ -38,10 +41,12 @@ returns-clause-fault g c =
     IfErr-weaker c.followed_by.result.0 _ _
     (λ fault is. inr (record {
       begun = c.has_come_to.new.room;
-      elsewhere = elsewhere _ _ _ _ _ c.has_come_to.ensures.stays c.in-Ok-false.ensures.found c.in-Ok-false.field-0-test;
+      elsewhere =
+          elsewhere _ _ _ _ _ c.has_come_to.ensures.stays c.in-Ok-false.ensures.found
+          c.in-Ok-false.field-0-test;
       failure = is.0;
       remakes = rw c.followed_by.ensures.room (rw is.1 at c.in_ok-remade.ensures.made);
-      told = is.2;
+      failed = is.2;
     }))
     c.followed_by.ensures.fault
 

@@ -16,4 +16,4 @@ returns-in-Ok-false-clause-fault g c =
     )
 
 pub returns-in-Err-clause-fault : goal.returns-in-Err-clause-fault
-returns-in-Err-clause-fault g c = inl (c.in-Err.ensures.wants, c.has_come_to-met.ensures.stays)
+returns-in-Err-clause-fault g c = inl (c.in-Err.ensures.unavailable, c.has_come_to-met.ensures.stays)

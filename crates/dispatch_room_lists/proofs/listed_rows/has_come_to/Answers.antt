@@ -26,5 +26,5 @@ returns-clause-stays g c = record { clean = c.is_at.ensures.trusted; same = c.is
 pub returns-clause-found : goal.returns-clause-found
 returns-clause-found g c = found g.S.Store _ _ c.args.head.now _ c.is_at.result c.is_at.ensures.says
 
-pub returns-clause-wants : goal.returns-clause-wants
-returns-clause-wants g c = c.is_at.ensures.wants
+pub returns-clause-unavailable : goal.returns-clause-unavailable
+returns-clause-unavailable g c = c.is_at.ensures.unavailable

@@ -1,5 +1,5 @@
 use Rattle.std.proofs.Common.{refl}
-use Rattle.dispatch_room_lists.proofs.FollowLemmas.{handed_on}
+use Rattle.room_tables.proofs.ReadFailures.{holds_on}
 use Rattle.dispatch_room_lists.proofs.LegLemmas.{due_by, end_by}
 use Rattle.dispatch_room_lists.proofs.replayed_legs.follow_by.Goals as goal
 
@@ -14,8 +14,8 @@ returns-in-Err-clause-fault g c = (_, c.in-Room.is, rw c.in-Err.is at c.in_ok-do
 
 pub returns-in_err-done-in-Room-clause-lost : goal.returns-in_err-done-in-Room-clause-lost
 returns-in_err-done-in-Room-clause-lost g c =
-    handed_on c.from_residual.result _ c.from_residual.ensures.1
-    (λ fault is. (_, c.in-Room.is, rw is c.in_err-done-in-Room.ensures.lost))
+    holds_on c.from_residual.result _ _ c.from_residual.ensures.1
+    (_, c.in-Room.is, c.in_err-done-in-Room.ensures.lost)
 
 pub returns-in-End-clause-by : goal.returns-in-End-clause-by
 returns-in-End-clause-by g c = rw c.in-End.is (end_by g.S.Store c.args.stage.room c.args.stage.room c.args.rows.now refl)

@@ -1,7 +1,7 @@
 use Rattle.std.proofs.Common.{Ok, arith, inl, inr}
 use Rattle.dispatch_room_lists.proofs.LegLemmas.{ends_here, first_leg, next_leg, so_many, spent_by}
 use Rattle.dispatch_room_lists.proofs.LegLemmas.{whole_leg}
-use Rattle.dispatch_room_lists.proofs.FollowLemmas.{handed_on}
+use Rattle.room_tables.proofs.ReadFailures.{holds_on}
 use Rattle.dispatch_room_lists.proofs.replayed_legs.replay_legs.Goals as goal
 
 pub loop-leg-init : goal.loop-leg-init
@@ -54,7 +54,7 @@ returns-in-Err-clause-played g c =
             | inr is ↦ inr (inr (is.0, is.1, tt, is.3))
           ]
         ];
-        told = c.stopped_behind.ensures;
+        failed = c.stopped_behind.ensures;
       });
     })
 
@@ -69,10 +69,8 @@ returns-in_default-clause-played g c =
 
 pub returns-in_err-goes_on-clause-lost : goal.returns-in_err-goes_on-clause-lost
 returns-in_err-goes_on-clause-lost g c =
-    handed_on c.from_residual.result _ c.from_residual.ensures.1
-    (λ fault is.
     let lost = c.in_err-goes_on.ensures.lost in
-    record {
+    holds_on c.from_residual.result _ _ c.from_residual.ensures.1 (record {
       stood = c.loop-leg.stage.room;
       holds = _;
       before = c.loop-leg.before;
@@ -80,7 +78,7 @@ returns-in_err-goes_on-clause-lost g c =
       leg = whole_leg _ _ _ _ _ _ _ _ _ _ _ (rw c.in-Ok.is at c.loop-leg.invariant.legs);
       rows = lost.0;
       head = lost.1;
-      lost = rw is lost.3;
+      lost = lost.3;
     })
 
 pub returns-in-Ok-false-clause-played : goal.returns-in-Ok-false-clause-played

@@ -1,20 +1,19 @@
 use Rattle.std.proofs.Common.{None, inr, refl}
-use Rattle.dispatch_room_lists.proofs.FollowLemmas.{handed_on}
+use Rattle.room_tables.proofs.ReadFailures.{holds_on}
 use Rattle.dispatch_room_lists.proofs.LegLemmas.{any_spent}
 use Rattle.dispatch_room_lists.proofs.replayed_lists.replay_from.Goals as goal
 
 pub returns-in_err-came-clause-lost : goal.returns-in_err-came-clause-lost
 returns-in_err-came-clause-lost g c =
     let lost = rw c.new.ensures at rw c.new-list.ensures.left at c.in_err-came.ensures.lost in
-    handed_on c.from_residual-in_err-came.result _ c.from_residual-in_err-came.ensures.1
-    (λ fault is. rw is (inr (record {
+    holds_on c.from_residual-in_err-came.result _ _ c.from_residual-in_err-came.ensures.1
+    (inr (record {
       first = c.in_ok-room.room;
       setting = record { zone = c.in_ok-room.zone; history = c.args.course.now.replay.now.history };
       opens = c.in_ok-room.ensures.room;
       is_set = record { zone = c.in_ok-room.ensures.zone; history = refl };
-      held = lost.0;
-      loses = lost.1;
-    })))
+      loses = lost;
+    }))
 
 pub returns-clause-replayed : goal.returns-clause-replayed
 returns-clause-replayed g c =
@@ -34,7 +33,7 @@ returns-clause-replayed g c =
             write_failed = is.write_failed;
             result = is.result;
             is = any_spent _ _ _ _ _ _ _ _ _ is.is;
-            told = is.told;
+            printed = is.printed;
           };
       answered = λ asked.
           let is = said.answered asked in (

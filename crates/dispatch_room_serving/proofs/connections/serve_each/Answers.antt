@@ -1,9 +1,13 @@
-use Rattle.std.proofs.Common.{◌∙◌, ◌<◌, arith, length, sym, [], ◌∷◌, ◌++◌}
+use Rattle.std.proofs.Common.{◌∙◌, ◌<◌, arith, length, refl, sym, [], ◌∷◌, ◌++◌}
 use Rattle.dispatch_room_serving.proofs.ConnectionLaws.{attended_more, ends_after, kept_ending, served_none}
 use Rattle.dispatch_room_serving.proofs.connections.serve_each.Goals as goal
 
 pub loop-connection-init : goal.loop-connection-init
-loop-connection-init g c = record { ready = c.requires.ready; served = served_none g.S.Store c.args.handler.now.setting _ _ _ }
+loop-connection-init g c = record {
+  ready = c.requires.ready;
+  served = served_none g.S.Store c.args.handler.now.setting _ _ _;
+  prints = refl;
+}
 
 pub returns-in-Err-clause-served : goal.returns-in-Err-clause-served
 returns-in-Err-clause-served g c =
@@ -27,4 +31,5 @@ loop-connection-preserved g c =
     record {
       ready = c.serve_next.ensures.ready;
       served = c.serve_next.ensures.attended.longer c.in_default.is _ _ c.loop-connection.invariant.served;
+      prints = c.serve_next.ensures.prints ∙ c.loop-connection.invariant.prints;
     }

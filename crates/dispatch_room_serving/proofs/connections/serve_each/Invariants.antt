@@ -1,3 +1,4 @@
+use Rattle.std.specs.Prelude.{◌≡◌}
 use Rattle.room_store.specs.StoredRoom.{IsReady}
 use Rattle.dispatch_room_serving.specs.Connections.{HasServed}
 use Rattle.dispatch_room_serving.proofs.connections.serve_each.Given as goal
@@ -5,10 +6,10 @@ use Rattle.dispatch_room_serving.proofs.connections.serve_each.Given as goal
 abbrev pub invariant-loop-connection : goal.invariant-loop-connection
 invariant-loop-connection g l = record {
   ready : IsReady g.S.Store l.room;
-  served : HasServed g.S.Store l.handler.setting g.N.Observer.came g.N.Observer.told
+  served : HasServed g.S.Store l.handler.setting g.N.Observer.came g.N.Observer.response
       (record {
         heard = g.P.Callers.heard l.initial.callers;
-        told = g.P.Callers.told l.initial.callers;
+        written = g.P.Callers.written l.initial.callers;
         stage = record {
           given = g.C.Clock.given l.initial.clock;
           kept = g.N.Observer.held l.initial.observer;
@@ -18,7 +19,7 @@ invariant-loop-connection g l = record {
       })
       (record {
         heard = g.P.Callers.heard l.callers;
-        told = g.P.Callers.told l.callers;
+        written = g.P.Callers.written l.callers;
         stage = record {
           given = g.C.Clock.given l.clock;
           kept = g.N.Observer.held l.observer;
@@ -27,4 +28,5 @@ invariant-loop-connection g l = record {
         };
       })
       l._connection;
+  prints : g.P.Callers.prints l.callers ≡ g.P.Callers.prints l.initial.callers;
 }

@@ -6,12 +6,13 @@ use Rattle.dispatch_room_serving.proofs.connections.serve_next.Goals as goal
 pub returns-in_default-clause-attended : goal.returns-in_default-clause-attended
 returns-in_default-clause-attended g c =
     attends_next g.S.Store c.args.handler.now.setting _ _ None _ _ _
-    (attended_nothing g.S.Store c.args.handler.now.setting _ _ _ _ c.in_default.ensures.heard c.in_default.ensures.told refl)
+    (attended_nothing g.S.Store c.args.handler.now.setting _ _ _ _ c.in_default.ensures.heard
+    c.in_default.ensures.written refl)
     refl
 
 pub returns-clause-attended : goal.returns-clause-attended
 returns-clause-attended g c =
-    let talk : Conversation g.row.S.Denot = record {
+    let dialogue : Conversation g.row.S.Denot = record {
       before = record {
         left = g.P.Reader.Source.left c.in-Some.reader;
         reads = g.P.Reader.Source.reads c.in-Some.reader;
@@ -37,13 +38,14 @@ returns-clause-attended g c =
       keeps = g.N.Observer.held c.serve-end.new.observer;
       had_failed = g.N.Observer.has_failed c.args.observer.now;
     } in
-    attends_next g.S.Store c.args.handler.now.setting _ _ (Some talk) _ _ _
-    (attended_one g.S.Store c.args.handler.now.setting _ _ talk _ _ (rw c.done.ensures.heard c.in-Some.ensures.heard)
-    (rw c.in-Some.ensures.told at c.done.ensures.told) (refl {a = stage_after talk})
+    attends_next g.S.Store c.args.handler.now.setting _ _ (Some dialogue) _ _ _
+    (attended_one g.S.Store c.args.handler.now.setting _ _ dialogue _ _
+    (rw c.done.ensures.heard c.in-Some.ensures.heard)
+    (rw c.in-Some.ensures.written at c.done.ensures.written) (refl {a = stage_after dialogue})
     (record {
       begins = refl;
       reads = c.serve-end.ensures.reads;
-      talk = c.serve-end.ensures.run.talk;
+      dialogue = c.serve-end.ensures.run.dialogue;
       none_missed = c.serve-end.ensures.none_missed;
       observed = c.serve-end.ensures.run.observed;
       failed = c.serve-end.ensures.failed;

@@ -33,7 +33,7 @@ returns-then-not-wants_digest-clause-announces g c = (
       known =
           never_wanted (g.N.JournalObserver.wants c.args.journal_observer.now) c.wants_digest.result
           c.wants_digest.ensures c.if-not-wants_digest.true;
-      told =
+      text_is =
           where_unwanted (g.N.JournalObserver.wants c.args.journal_observer.now) c.wants_digest.result
           (g.N.JournalObserver.begun (second [])) c.wants_digest.ensures c.if-not-wants_digest.true;
     },
@@ -62,7 +62,7 @@ returns-in-Ok-begins-clause-announces g c = (
             λ clean terminals room is.
                 sym (c.digest_of.ensures.written ∙ ap encode_lower (c.in-Ok.ensures.known clean terminals room is)),
           );
-      told =
+      text_is =
           where_wanted (g.N.JournalObserver.wants c.args.journal_observer.now) c.wants_digest.result
           (g.N.JournalObserver.begun (second c.digest_of.result)) c.wants_digest.ensures c.if-not-wants_digest.false;
     },
@@ -91,7 +91,7 @@ returns-in-Err-begins-clause-announces g c =
                 λ clean terminals room is.
                     sym (c.digest_of.ensures.written ∙ ap encode_lower (c.in-Ok.ensures.known clean terminals room is)),
               );
-          told =
+          text_is =
               where_wanted (g.N.JournalObserver.wants c.args.journal_observer.now) c.wants_digest.result
               (g.N.JournalObserver.begun (second c.digest_of.result)) c.wants_digest.ensures
               c.if-not-wants_digest.false;

@@ -12,7 +12,7 @@ use Rattle.dispatch_room_serving.proofs.served_room.begin_and_serve.Goals as goa
 same_failed : (result : Result (Unit {0}) Failure)
     → ((fault : Failure) → result ≡ Err fault → ⊥) → (old new : Bool)
     → MatchResult result (λ _. new ≡ old) (λ fault. fault ≡ Journal → new ≡ true) → new ≡ old
-same_failed (Ok told) well old new is = is
+same_failed (Ok stated) well old new is = is
 same_failed (Err fault) well old new is = absurd (well fault refl)
 
 module _ {S : Type 0} (g : Ghosts S) (wants : Bool) (begun : Head → List ℕ) (old new : Store S)
@@ -20,7 +20,7 @@ module _ {S : Type 0} (g : Ghosts S) (wants : Bool) (begun : Head → List ℕ) 
   announced : (result : Result (Unit {0}) Failure) → ((fault : Failure) → result ≡ Err fault → ⊥)
       → Announces g wants begun old new kept keeps result
       → LooksOnly g old new × KeepsHead g wants begun old new kept keeps (Ok tt)
-  announced (Ok told) well is = is
+  announced (Ok stated) well is = is
   announced (Err fault) well is = absurd (well fault refl)
 
   -- what was announced is there where the callers don't begin
@@ -32,7 +32,7 @@ pub returns-in-Err-clause-attends : goal.returns-in-Err-clause-attends
 returns-in-Err-clause-attends g c = inl (record {
   fault = c.in-Err.fault;
   why = c.in-Err.ensures.announces.0;
-  told = refl;
+  result_is = refl;
   failed = c.in-Err.ensures.failed;
   unheard = (refl, refl, refl);
   looks = c.in-Err.ensures.announces.1;
@@ -41,7 +41,7 @@ returns-in-Err-clause-attends g c = inl (record {
 
 pub returns-in-Ok-clause-attends : goal.returns-in-Ok-clause-attends
 returns-in-Ok-clause-attends g c =
-    let told = announced g.S.Store _ _ c.args.room.now c.announce.new.room _ _ c.announce.result c.in_default.not-Err
+    let stated = announced g.S.Store _ _ c.args.room.now c.announce.new.room _ _ c.announce.result c.in_default.not-Err
     c.announce.ensures.announces in
     let failed : g.N.Observer.has_failed c.announce.new.journal_observer
     ≡ g.N.Observer.has_failed c.args.journal_observer.now =
@@ -49,7 +49,7 @@ returns-in-Ok-clause-attends g c =
     inr (record {
       store = c.announce.new.room;
       kept = g.N.Observer.held c.announce.new.journal_observer;
-      looks = told.0;
-      head = told.1;
-      serves = rw (c.begin.ensures.heard, c.begin.ensures.told, failed) at c.serve_each.ensures.served;
+      looks = stated.0;
+      head = stated.1;
+      serves = rw (c.begin.ensures.heard, c.begin.ensures.written, failed) at c.serve_each.ensures.served;
     })

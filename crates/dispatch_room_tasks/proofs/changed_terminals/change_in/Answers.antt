@@ -1,6 +1,6 @@
 use Rattle.std.proofs.Common.{arith, sym, ◌∙◌}
 use Rattle.std.proofs.lemmas.Result.{on_ok_weaker}
-use Rattle.room_store_writes.specs.Houses.{config_of}
+use Rattle.room_store_writes.specs.Configurations.{config_of}
 use Rattle.dispatch_room_tasks.proofs.ReissueLemmas.{same_room}
 use Rattle.room_tables_schema.specs.FileConnections.{IsClean}
 use Rattle.dispatch_room_tasks.proofs.changed_terminals.change_in.Goals as goal
@@ -28,8 +28,8 @@ returns-in-Ok-clause-changed g c =
 pub returns-in-Err-clause-fault : goal.returns-in-Err-clause-fault
 returns-in-Err-clause-fault g c = record {
   fault = c.in-Err.fault;
-  told = c.of_opening.ensures;
-  let_go = c.open_in.new.conn;
+  failed = c.of_opening.ensures;
+  released = c.open_in.new.conn;
   left = c.in-Err.ensures.leaves;
   untouched = c.in-Err.ensures.untouched;
   version = c.in-Err.ensures.old_room;

@@ -1,6 +1,6 @@
 use Rattle.std.proofs.Common.{arith}
 use Rattle.std.proofs.lemmas.Result.{on_ok_weaker}
-use Rattle.room_store_writes.specs.Houses.{config_of}
+use Rattle.room_store_writes.specs.Configurations.{config_of}
 use Rattle.room_tables_schema.specs.FileConnections.{IsClean}
 use Rattle.dispatch_room_tasks.proofs.listed_terminals.list_in.Goals as goal
 
@@ -14,11 +14,11 @@ returns-in-Ok-clause-listed g c =
       rows = c.in-Ok.ensures.kept;
       whole = made.whole;
       fault = made.fault;
-      told = λ clean.
+      printed = λ clean.
           let early : IsClean g.S.Store opened = omega (arith, made.survives.clean) in
           let it = c.in-Ok.ensures.room early in
           on_ok_weaker c.list_opened-done.result
-          (λ told. (it.0, it.1, it.3, it.5, told (config_of c.in-Ok._plan it.0) it.1 it.5)) (made.told clean);
+          (λ stated. (it.0, it.1, it.3, it.5, stated (config_of c.in-Ok._plan it.0) it.1 it.5)) (made.printed clean);
       left = made.leaves;
       opening = c.open_in.ensures.survives;
       survives = made.survives;
@@ -27,8 +27,8 @@ returns-in-Ok-clause-listed g c =
 pub returns-in-Err-clause-fault : goal.returns-in-Err-clause-fault
 returns-in-Err-clause-fault g c = record {
   fault = c.in-Err.fault;
-  told = c.of_opening.ensures;
-  let_go = c.open_in.new.conn;
+  failed = c.of_opening.ensures;
+  released = c.open_in.new.conn;
   left = c.in-Err.ensures.leaves;
   untouched = c.in-Err.ensures.untouched;
   version = c.in-Err.ensures.old_room;

@@ -1,6 +1,6 @@
 use Rattle.std.specs.Prelude.{refl}
 use Rattle.room_tables_rows.proofs.Moves.{no_offers}
-use Rattle.room_store_writes.specs.Houses.{config_of}
+use Rattle.room_store_writes.specs.Configurations.{config_of}
 use Rattle.dispatch_room_tasks.proofs.migration.migrate_in.Goals as goal
 
 pub returns-in-Ok-clause-migrated : goal.returns-in-Ok-clause-migrated
@@ -23,15 +23,15 @@ returns-in-Ok-clause-migrated g c =
             },
           );
       moved = made.moved;
-      kept = λ clean. (made.kept clean).alone;
+      kept = λ clean. (made.kept clean).only_left;
       survives = made.survives;
     })
 
 pub returns-in-Err-clause-fault : goal.returns-in-Err-clause-fault
 returns-in-Err-clause-fault g c = record {
   fault = c.in-Err.fault;
-  told = c.of_migrating.ensures;
-  let_go = c.in-Err._conn;
+  failed = c.of_migrating.ensures;
+  released = c.in-Err._conn;
   left = c.in-Err.ensures.same_fault;
   untouched = c.in-Err.ensures.untouched;
   version = c.in-Err.ensures.not_old;

@@ -7,7 +7,7 @@ use Rattle.room_types.specs.declared.fleet.Terminal.{Terminal}
 use Rattle.room_model.specs.Room.{Room}
 use Rattle.room_tables.specs.RoomsInTables.{Configuration, Stands}
 use Rattle.room_tables_rows.proofs.OneRoom.{one_config, one_room}
-use Rattle.room_store_writes.specs.Houses.{config_of}
+use Rattle.room_store_writes.specs.Configurations.{config_of}
 use Rattle.room_store_file.proofs.FileLaws.{stands_before}
 use Rattle.room_store_file.specs.OpenedFile.{KeepsFile}
 use Rattle.room_tables_schema.specs.Schema.{room_schema}
@@ -68,8 +68,8 @@ pub returns-in-Err-clause-fault : goal.returns-in-Err-clause-fault
 returns-in-Err-clause-fault g c =
     inl (record {
       fault = c.in-Err.fault;
-      told = c.of_opening.ensures;
-      let_go = c.in-Err._conn;
+      failed = c.of_opening.ensures;
+      released = c.in-Err._conn;
       left = c.in-Err.ensures.same_fault;
       untouched = c.in-Err.ensures.untouched;
       version = c.in-Err.ensures.old_room;
@@ -82,7 +82,7 @@ returns-in-Err-read-clause-fault g c =
     let made = c.in-Ok.ensures in
     let text : c.zone.result.now ≡ c.in-Ok.room.plan.zone = search rules in
     inr (record {
-      told = refl;
+      failed = refl;
       opened = c.in-Ok.room;
       opens =
           λ clean.

@@ -5,7 +5,7 @@ use Rattle.room_tables_schema.proofs.WriteLaws.{commits_more}
 use Rattle.room_tables.proofs.RoomReads.{kept}
 use Rattle.room_tables.specs.RoomsInTables.{Stands}
 use Rattle.room_store_writes.proofs.TransactionReads.{reads_commit}
-use Rattle.room_store_writes.specs.Houses.{config_of}
+use Rattle.room_store_writes.specs.Configurations.{config_of}
 use Rattle.room_store_writes.specs.NewRoom.{put_all}
 use Rattle.dispatch_room_tasks.proofs.PutRows.{still_in_order}
 use Rattle.dispatch_room_tasks.specs.ReplacedTerminals.{kept_beside, replaced_by}

@@ -7,12 +7,12 @@ pub returns-clause-served : goal.returns-clause-served
 returns-clause-served g c =
     let is = rw c.new-callers.ensures.listener at c.in_ok-done.ensures.served in
     record {
-      hears = g.L.Listener.heard c.serve_parts.new.callers.listener;
-      tells = g.L.Listener.told c.serve_parts.new.callers.listener;
+      hears = g.L.Listener.heard c.serve_parts-came.new.callers.listener;
+      writes = g.L.Listener.written c.serve_parts-came.new.callers.listener;
       known = IfOk-weaker c.given_back.result _ _
           (λ served same. (
-            ap g.L.Listener.heard (sym (same ∙ c.into_listener.ensures)),
-            ap g.L.Listener.told (sym (same ∙ c.into_listener.ensures)),
+            ap g.L.Listener.heard (sym (same ∙ c.into_listener-listener.ensures.listener)),
+            ap g.L.Listener.written (sym (same ∙ c.into_listener-listener.ensures.listener)),
           ))
           c.given_back.ensures.listener;
       given = _;
@@ -22,5 +22,5 @@ returns-clause-served g c =
 
 pub returns-in_err-done-clause-fault : goal.returns-in_err-done-clause-fault
 returns-in_err-done-clause-fault g c =
-    let told = rw c.new-callers.ensures.listener at c.in_err-done.ensures.fault in
-    handed_on c.from_residual.result _ c.from_residual.ensures.1 (λ fault is. (_, rw (← is) at told))
+    let written = rw c.new-callers.ensures.listener at c.in_err-done.ensures.fault in
+    handed_on c.from_residual.result _ c.from_residual.ensures.1 (λ fault is. (_, rw (← is) at written))

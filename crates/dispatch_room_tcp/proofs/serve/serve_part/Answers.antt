@@ -1,5 +1,6 @@
 use Rattle.std.proofs.Common.{ap, false, is_some, ◌∙◌, ◌≡◌}
 use Rattle.dispatch_room_serving.specs.Journals.{failed_by}
+use Rattle.dispatch_room_tcp.proofs.PartLemmas.{printed_to_end, where_failed}
 use Rattle.dispatch_room_tcp.proofs.serve.serve_part.Goals as goal
 
 pub returns-clause-served : goal.returns-clause-served
@@ -10,10 +11,28 @@ returns-clause-served g c =
     let fresh : failed_by c.new-log_and_journal.result.journal
     ≡ false = ap (λ it. failed_by it) c.new-log_and_journal.ensures.journal ∙ c.journal_of-journal.ensures.fresh in
     record {
-      kept = _;
-      keeps = _;
-      fails = _;
+      logs = c.new-log_and_journal.result.log.goes_on;
+      journal = c.new-log_and_journal.result.journal;
+      later = c.serve_in.new.journal_observer.journal;
+      last = c.end_part-done.new.log_and_journal.journal;
+      are = record {
+        logged = c.new-log_and_journal.ensures.log ∙ c.new-log.ensures;
+        kept = journal;
+        synced = rw c.new-log_and_journal.ensures.journal c.journal_of-journal.ensures.synced;
+        of = rw c.new-log_and_journal.ensures.journal c.journal_of-journal.ensures.of;
+      };
       served = _;
       ends = c.end_part-done.ensures.part;
+      found = c.standing-left.result;
+      ended = c.end_part-done.ensures.ended;
+      cut = λ is. let cut = c.end_part-done.ensures.cut is in (cut.0, ap (λ it. it.journal) cut.1);
       is = rw (journal, fresh, c.terms_of-terms.ensures) at c.in_ok-done.ensures.served;
     }
+
+pub returns-clause-prints : goal.returns-clause-prints
+returns-clause-prints g c =
+    printed_to_end _ _ _ _ _ c.end_part-done.ensures.part c.in_ok-done.ensures.prints
+
+pub returns-in_err-done-clause-unopened : goal.returns-in_err-done-clause-unopened
+returns-in_err-done-clause-unopened g c =
+    where_failed c.from_residual.result _ (ap g.P.Callers.prints c.in_err-done.ensures.unheard.0)

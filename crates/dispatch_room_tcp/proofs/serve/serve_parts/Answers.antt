@@ -1,5 +1,6 @@
 use Rattle.std.proofs.Common.{◌∙◌, ap, inl, inr, refl, sym}
-use Rattle.dispatch_room_tcp.proofs.PartLemmas.{first_before, first_part, next_before, not_false}
+use Rattle.dispatch_room_serving.proofs.CallerLemmas.{may_of, printed_once}
+use Rattle.dispatch_room_tcp.proofs.PartLemmas.{called_before, first_before, first_part, next_before, not_false, where_failed}
 use Rattle.dispatch_room_disk.proofs.WorkLemmas.{handed_on}
 use Rattle.dispatch_room_tcp.proofs.serve.serve_parts.Goals as goal
 
@@ -8,6 +9,7 @@ loop-part-init g c = record {
   outside = c.in_ok-first.ensures.outside;
   listed = refl;
   served = λ first is. first_part _ _ _ first _ _ is;
+  prints = c.in_ok-first.ensures.prints;
 }
 
 pub loop-part-preserved : goal.loop-part-preserved
@@ -23,6 +25,9 @@ loop-part-preserved g c =
         before = next_before _ _ _ first _ _ renews well (c.loop-part.invariant.served first is);
         is = rw listed at c.in_ok-next.ensures.served;
       };
+      prints =
+          printed_once _ _ _ c.in_ok-next.next (may_of _ _ _ well c.loop-part.invariant.prints)
+          c.in_ok-next.ensures.prints;
     }
 
 pub returns-in_err-first-clause-fault : goal.returns-in_err-first-clause-fault
@@ -44,7 +49,7 @@ returns-in-Err-clause-served g c =
       renews = renews;
       before = next_before _ _ _ _ _ _ renews well (c.loop-part.invariant.served _ c.in_ok-first.ensures.served);
       fault = c.in-Err.fault;
-      told = refl;
+      result_is = refl;
       why = c.in-Err.ensures.fault;
     })
 
@@ -61,3 +66,18 @@ returns-in_err-next-clause-fault g c =
 
 pub returns-clause-served : goal.returns-clause-served
 returns-clause-served g c = inl (c.loop-part.invariant.served _ c.in_ok-first.ensures.served)
+
+pub returns-in-Err-clause-prints : goal.returns-in-Err-clause-prints
+returns-in-Err-clause-prints g c =
+    let well = sym c.is_err.ensures.value ∙ c.if-is_err.false in
+    inr (inl (may_of _ _ _ well c.loop-part.invariant.prints))
+
+pub returns-in_err-next-clause-unopened : goal.returns-in_err-next-clause-unopened
+returns-in_err-next-clause-unopened g c =
+    let well = sym c.is_err.ensures.value ∙ c.if-is_err.false in
+    where_failed c.from_residual-in_err-next.result _
+    (inr (called_before _ _ _ (may_of _ _ _ well c.loop-part.invariant.prints) c.in_err-next.ensures.unopened))
+
+pub returns-in_err-first-clause-unopened : goal.returns-in_err-first-clause-unopened
+returns-in_err-first-clause-unopened g c =
+    where_failed c.from_residual.result _ (inl c.in_err-first.ensures.unopened)

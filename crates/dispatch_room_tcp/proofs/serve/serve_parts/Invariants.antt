@@ -1,5 +1,6 @@
 use Rattle.std.specs.Prelude.{◌≡◌, false, is_some}
-use Rattle.dispatch_room_tcp.specs.ServedFiles.{terms_of}
+use Rattle.dispatch_room_serving.specs.Callers.{Prints}
+use Rattle.dispatch_room_tcp.specs.ServedFiles.{terms_of, watch_of}
 use Rattle.dispatch_room_tcp.specs.ServedParts.{EndsPart, Interval, IsPart}
 use Rattle.dispatch_room_tcp.proofs.serve.serve_parts.Given as goal
 
@@ -9,20 +10,21 @@ invariant-loop-part g l = record {
   outside : l.conn.in_transaction ≡ false;
   listed : is_some l.list ≡ is_some l.initial.list;
   served : (first : Interval g.row.S.Denot)
-      → IsPart g.S.Store (is_some l.initial.list) (terms_of l.run.service.now) first
+      → IsPart g.S.Store (watch_of (is_some l.initial.list) l.run.service.now) (terms_of l.run.service.now) first
       (record {
         conn = l.initial.conn;
         heard = g.P.Callers.heard l.initial.callers;
-        told = g.P.Callers.told l.initial.callers;
+        written = g.P.Callers.written l.initial.callers;
         given = g.C.Clock.given l.initial.clock;
       })
       l.initial.done
-      → EndsPart g.S.Store (is_some l.initial.list) (terms_of l.run.service.now) first
+      → EndsPart g.S.Store (watch_of (is_some l.initial.list) l.run.service.now) (terms_of l.run.service.now) first
       (record {
         conn = l.conn;
         heard = g.P.Callers.heard l.callers;
-        told = g.P.Callers.told l.callers;
+        written = g.P.Callers.written l.callers;
         given = g.C.Clock.given l.clock;
       })
       l.done;
+  prints : Prints (g.P.Callers.prints l.fn.callers) (g.P.Callers.prints l.callers) l.done;
 }

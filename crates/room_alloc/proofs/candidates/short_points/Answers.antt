@@ -10,5 +10,5 @@ on_ok P y (Err e) h f = tt
 pub returns-clause-ok : goal.returns-clause-ok
 returns-clause-ok c =
     let slice = c.args.slice.now in
-    on_ok (AreShort slice.division c.args.at (unplanned slice.rows)) _ c.points_in_want.result
-    (are_short slice.division c.args.at slice.rows c.as_slice-in_order.ensures.keyed) c.points_in_want.ensures.ok
+    on_ok (AreShort slice.division c.args.at (unplanned slice.rows)) _ c.points_in_need.result
+    (are_short slice.division c.args.at slice.rows c.as_slice-in_order.ensures.keyed) c.points_in_need.ensures.ok

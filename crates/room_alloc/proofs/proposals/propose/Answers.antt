@@ -1,12 +1,12 @@
 use Rattle.std.proofs.Common.{rules, ◌∙◌}
 use Rattle.room_model.specs.RoomSlices.{room_of}
-use Rattle.room_alloc.proofs.ProposedLaws.{for_incident, told}
+use Rattle.room_alloc.proofs.ProposedLaws.{all_proposals, for_incident}
 use Rattle.room_alloc.proofs.proposals.propose.Goals as goal
 
 pub returns-clause-decides : goal.returns-clause-decides
 returns-clause-decides c plan =
     let slice = c.args.slice.now in
-    told slice.division c.args.number c.args.at plan slice.rows c.in_ok-incident.incident.now
+    all_proposals slice.division c.args.number c.args.at plan slice.rows c.in_ok-incident.incident.now
     (c.in_ok-incident.ensures.decided plan) ∙ search rules
 
 pub returns-clause-first : goal.returns-clause-first

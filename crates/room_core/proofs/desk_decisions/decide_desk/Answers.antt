@@ -12,11 +12,11 @@ returns-clause-decides c r formed planned read =
     let a = c.args.ask.now in
     let at = c.args.at in
     let here = ap (λ plan. desk_asks d a at (room_of plan c.args.slice.now.rows)) (sym planned) in
-    let told : desk_asks d a at (room_of r.plan c.args.slice.now.rows) ≡ desk_asks d a at r = elim read [
+    let asked : desk_asks d a at (room_of r.plan c.args.slice.now.rows) ≡ desk_asks d a at r = elim read [
       | inl e ↦ ap (desk_asks d a at) e ∙ desk_working d r formed a at
       | inr e ↦ ap (desk_asks d a at) e ∙ desk_own d r formed.order a at
     ] in
-    subst (λ decided. Decides decided c.decide.result) (here ∙ told) c.decide.ensures
+    subst (λ decided. Decides decided c.decide.result) (here ∙ asked) c.decide.ensures
 
 pub returns-clause-apart : goal.returns-clause-apart
 returns-clause-apart c r other formed planned read order same =

@@ -4,9 +4,9 @@ use Rattle.room_http.specs.Arrivals.{is_head_only}
 use Rattle.room_http.specs.KeptMessages.{Acts, Unmoved}
 use Rattle.room_http.specs.declared.session.ServeEnd.TheVariants.{Closed, Unkept, WriteFault}
 use Rattle.room_http_messages.proofs.StreamLemmas.{Appends-none}
-use Rattle.room_http.proofs.KeptLemmas.{kept_all, kept_cut, kept_none, kept_part, kept_want, nothing_done}
-use Rattle.room_http.proofs.ServedLaws.{none_served, one_promised, want_of}
-use Rattle.room_http.proofs.TalkLemmas.{IsTalk-one, Talks-none}
+use Rattle.room_http.proofs.KeptLemmas.{kept_all, kept_cut, kept_none, kept_part, kept_unserved_tail, nothing_done}
+use Rattle.room_http.proofs.ServedLaws.{none_served, one_promised, unavailable_of}
+use Rattle.room_http.proofs.DialogueLemmas.{IsDialogue-one, WritesDialogue-none}
 use Rattle.room_http.proofs.arrival_answers.answer.Goals as goal
 
 -- where it failed now, it has failed
@@ -14,9 +14,9 @@ now_failed : (before after : Bool) → after ≡ (before || true) → after ≡ 
 now_failed true after is = is
 now_failed false after is = is
 
-pub returns-in-Ok-tell-clause-answers : goal.returns-in-Ok-tell-clause-answers
-returns-in-Ok-tell-clause-answers g c o shown =
-    let wrote = c.in-Ok-tell.ensures.written.all in (
+pub returns-in-Ok-write_answer-clause-answers : goal.returns-in-Ok-write_answer-clause-answers
+returns-in-Ok-write_answer-clause-answers g c o shown =
+    let wrote = c.in-Ok-write_answer.ensures.written.all in (
       c.in-Some.at,
       (
         c.in-Some.ensures,
@@ -26,7 +26,7 @@ returns-in-Ok-tell-clause-answers g c o shown =
               says.0,
               c.in-Ok.bytes.items,
               [],
-              IsTalk-one _ _ _ _ _ _ _ says.1,
+              IsDialogue-one _ _ _ _ _ _ _ says.1,
               (
                 (
                   says.2,
@@ -37,7 +37,7 @@ returns-in-Ok-tell-clause-answers g c o shown =
               rw (append-nil, ← c.as_slice-text.ensures.value) wrote.0,
             ),
       ),
-      kept_all g.N.Observer.came g.N.Observer.told
+      kept_all g.N.Observer.came g.N.Observer.response
           (g.M.Room.is_trusted c.reply.new.room → g.M.Room.is_kept c.args.room.now → g.M.Room.is_kept c.reply.new.room)
           (Unmoved (g.M.Room.is_trusted c.reply.new.room) (g.M.Room.stands c.args.room.now)
           (g.M.Room.stands c.reply.new.room))
@@ -47,13 +47,14 @@ returns-in-Ok-tell-clause-answers g c o shown =
           c.in-Some.ensures.1 c.as_slice-text.result.now c.in-Ok.bytes.items c.as_slice-text.ensures.value
           (λ trust terminals room stood. c.in-Ok.ensures.reply.says trust terminals room stood o shown)
           (λ trust was. c.in-Ok.ensures.keeps.kept trust was)
-          _ _ _ _ _ _ c.in_default-arrived.ensures.kept c.in_default-answering.ensures.kept c.in-Ok-tell.ensures.kept
+          _ _ _ _ _ _ c.in_default-arrived.ensures.kept c.in_default-answering.ensures.kept
+          c.in-Ok-write_answer.ensures.kept
           wrote.0,
     )
 
 pub returns-in-Ok-clause-answers : goal.returns-in-Ok-clause-answers
 returns-in-Ok-clause-answers g c o shown =
-    let cut = c.in-Err-tell.ensures.written.part in (
+    let cut = c.in-Err-write_answer.ensures.written.part in (
       c.in-Some.at,
       (
         c.in-Some.ensures,
@@ -77,7 +78,7 @@ returns-in-Ok-clause-answers g c o shown =
               cut.3,
             )),
       ),
-      kept_cut g.N.Observer.came g.N.Observer.told
+      kept_cut g.N.Observer.came g.N.Observer.response
           (g.M.Room.is_trusted c.reply.new.room → g.M.Room.is_kept c.args.room.now → g.M.Room.is_kept c.reply.new.room)
           (Unmoved (g.M.Room.is_trusted c.reply.new.room) (g.M.Room.stands c.args.room.now)
           (g.M.Room.stands c.reply.new.room))
@@ -88,12 +89,12 @@ returns-in-Ok-clause-answers g c o shown =
           (λ trust terminals room stood. c.in-Ok.ensures.reply.says trust terminals room stood o shown)
           (λ trust was. c.in-Ok.ensures.keeps.kept trust was)
           _ _ _ _ _ _ cut.0 c.in_default-arrived.ensures.kept c.in_default-answering.ensures.kept
-          c.in-Err-tell.ensures.kept (cut.1, cut.2) cut.3,
+          c.in-Err-write_answer.ensures.kept (cut.1, cut.2) cut.3,
     )
 
 pub returns-clause-answers : goal.returns-clause-answers
 returns-clause-answers g c o shown =
-    let cut = c.in-Err-tell-2.ensures.written.part in
+    let cut = c.in-Err-write_answer-2.ensures.written.part in
     let r = c.in-Err-reply.refusal in
     let front = ap (fixed_bytes r) (sym (c.head_only.ensures o shown)) ∙ sym c.fixed.ensures ∙ cut.2 in (
       c.in-Some.at,
@@ -102,7 +103,7 @@ returns-clause-answers g c o shown =
         cut.4,
         inr (
           r,
-          c.in-Err-reply.ensures.reply.wants,
+          c.in-Err-reply.ensures.reply.unavailable,
           λ trust terminals room stood. (
             room,
             [],
@@ -119,7 +120,7 @@ returns-clause-answers g c o shown =
           ),
         ),
       ),
-      kept_want g.N.Observer.came g.N.Observer.told
+      kept_unserved_tail g.N.Observer.came g.N.Observer.response
           (g.M.Room.is_trusted c.reply.new.room → g.M.Room.is_kept c.args.room.now → g.M.Room.is_kept c.reply.new.room)
           (Unmoved (g.M.Room.is_trusted c.reply.new.room) (g.M.Room.stands c.args.room.now)
           (g.M.Room.stands c.reply.new.room))
@@ -127,21 +128,21 @@ returns-clause-answers g c o shown =
           (g.M.Room.stands c.args.room.now)
           (g.M.Room.stands c.reply.new.room)) c.args.arrived.now o shown c.in-Some.at c.in-Some.ensures.0 _ _
           c.in-Some.ensures.1 WriteFault _ _ _ _ _ r cut.0
-          c.in-Err-reply.ensures.reply.says (want_of _ _ c.in-Err-reply.ensures.reply.wants)
-          c.in_default-arrived.ensures.kept c.in-Err-tell-2.ensures.kept
+          c.in-Err-reply.ensures.reply.says (unavailable_of _ _ c.in-Err-reply.ensures.reply.unavailable)
+          c.in_default-arrived.ensures.kept c.in-Err-write_answer-2.ensures.kept
           (cut.1, front) cut.3,
     )
 
-pub returns-in-Ok-tell-2-clause-answers : goal.returns-in-Ok-tell-2-clause-answers
-returns-in-Ok-tell-2-clause-answers g c o shown =
-    let wrote = c.in-Ok-tell-2.ensures.written.all in
+pub returns-in-Ok-write_answer-2-clause-answers : goal.returns-in-Ok-write_answer-2-clause-answers
+returns-in-Ok-write_answer-2-clause-answers g c o shown =
+    let wrote = c.in-Ok-write_answer-2.ensures.written.all in
     let r = c.in-Err-reply.refusal in (
       c.in-Some.at,
       (
         c.in-Some.ensures,
         (
           r,
-          c.in-Err-reply.ensures.reply.wants,
+          c.in-Err-reply.ensures.reply.unavailable,
           λ trust terminals room stood. (
             room,
             [],
@@ -158,7 +159,7 @@ returns-in-Ok-tell-2-clause-answers g c o shown =
           ),
         ),
       ),
-      kept_want g.N.Observer.came g.N.Observer.told
+      kept_unserved_tail g.N.Observer.came g.N.Observer.response
           (g.M.Room.is_trusted c.reply.new.room → g.M.Room.is_kept c.args.room.now → g.M.Room.is_kept c.reply.new.room)
           (Unmoved (g.M.Room.is_trusted c.reply.new.room) (g.M.Room.stands c.args.room.now)
           (g.M.Room.stands c.reply.new.room))
@@ -166,8 +167,8 @@ returns-in-Ok-tell-2-clause-answers g c o shown =
           (g.M.Room.stands c.args.room.now)
           (g.M.Room.stands c.reply.new.room)) c.args.arrived.now o shown c.in-Some.at c.in-Some.ensures.0 _ _
           c.in-Some.ensures.1 Closed _ _ _ _ _ r c.fixed.result.now
-          c.in-Err-reply.ensures.reply.says (want_of _ _ c.in-Err-reply.ensures.reply.wants)
-          c.in_default-arrived.ensures.kept c.in-Ok-tell-2.ensures.kept (
+          c.in-Err-reply.ensures.reply.says (unavailable_of _ _ c.in-Err-reply.ensures.reply.unavailable)
+          c.in_default-arrived.ensures.kept c.in-Ok-write_answer-2.ensures.kept (
             [],
             ap (fixed_bytes r) (sym (c.head_only.ensures o shown)) ∙ sym c.fixed.ensures
                 ∙ sym (append-nil c.fixed.result.now),
@@ -179,7 +180,7 @@ returns-in_default-clause-answers g c o shown = (
   0,
   (
     c.in_default.ensures,
-    Talks-none g.M.Room.step c.args.handler.now.setting _ _ _ _
+    WritesDialogue-none g.M.Room.step c.args.handler.now.setting _ _ _ _
         (λ terminals room stood. (stood, λ was. g.met.M.Room.leaves_it _ terminals room was stood)),
   ),
   ((λ trust was. was), (λ trust terminals room stood. stood), nothing_done _ _ _ _ _ c.in_default.ensures),
@@ -191,10 +192,10 @@ returns-in-Err-clause-answers g c o shown = (
   (
     c.in-Some.ensures,
     now_failed _ _ c.in-Err.ensures.failed,
-    inl (Talks-none g.M.Room.step c.args.handler.now.setting _ _ _ _
+    inl (WritesDialogue-none g.M.Room.step c.args.handler.now.setting _ _ _ _
         (λ terminals room stood. (stood, λ was. g.met.M.Room.leaves_it _ terminals room was stood))),
   ),
-  kept_none g.N.Observer.came g.N.Observer.told
+  kept_none g.N.Observer.came g.N.Observer.response
       (g.M.Room.is_trusted c.args.room.now → g.M.Room.is_kept c.args.room.now → g.M.Room.is_kept c.args.room.now) _
       (Acts g.M.Room.step c.args.handler.now.setting (g.M.Room.is_trusted c.args.room.now) (g.M.Room.stands c.args.room.now)
       (g.M.Room.stands c.args.room.now)) c.args.arrived.now o shown c.in-Some.at c.in-Some.ensures.0 _ _
@@ -230,7 +231,7 @@ returns-in-Err-answering-clause-answers g c o shown = (
           Appends-none _,
         )),
   ),
-  kept_part g.N.Observer.came g.N.Observer.told
+  kept_part g.N.Observer.came g.N.Observer.response
       (g.M.Room.is_trusted c.reply.new.room → g.M.Room.is_kept c.args.room.now → g.M.Room.is_kept c.reply.new.room)
       (Unmoved (g.M.Room.is_trusted c.reply.new.room) (g.M.Room.stands c.args.room.now)
       (g.M.Room.stands c.reply.new.room))
@@ -246,20 +247,20 @@ pub returns-in_default-clause-promised : goal.returns-in_default-clause-promised
 returns-in_default-clause-promised g c same o shown =
     none_served _ _ _ _ _ _ _ (g.met.M.Room.fits _) (g.met.M.Room.leaves_it _) tt
 
-pub returns-in-Ok-tell-clause-promised : goal.returns-in-Ok-tell-clause-promised
-returns-in-Ok-tell-clause-promised g c same o shown =
+pub returns-in-Ok-write_answer-clause-promised : goal.returns-in-Ok-write_answer-clause-promised
+returns-in-Ok-write_answer-clause-promised g c same o shown =
     one_promised _ _ _ _ _ _ false false _ _ (Unit {0}) _ _ _ (g.met.M.Room.fits _) _ o _ (Ok tt)
-    (returns-in-Ok-tell-clause-answers g c o shown).1 same
+    (returns-in-Ok-write_answer-clause-answers g c o shown).1 same
 
 pub returns-in-Ok-clause-promised : goal.returns-in-Ok-clause-promised
 returns-in-Ok-clause-promised g c same o shown =
     one_promised _ _ _ _ _ _ false false _ _ _ _ _ _ (g.met.M.Room.fits _) _ o _ (Err WriteFault)
     (returns-in-Ok-clause-answers g c o shown).1 same
 
-pub returns-in-Ok-tell-2-clause-promised : goal.returns-in-Ok-tell-2-clause-promised
-returns-in-Ok-tell-2-clause-promised g c same o shown =
+pub returns-in-Ok-write_answer-2-clause-promised : goal.returns-in-Ok-write_answer-2-clause-promised
+returns-in-Ok-write_answer-2-clause-promised g c same o shown =
     one_promised _ _ _ _ _ false false false _ _ _ _ _ _ (g.met.M.Room.fits _) _ o _ (Err Closed)
-    (returns-in-Ok-tell-2-clause-answers g c o shown).1 same
+    (returns-in-Ok-write_answer-2-clause-answers g c o shown).1 same
 
 pub returns-clause-promised : goal.returns-clause-promised
 returns-clause-promised g c same o shown =

@@ -7,5 +7,5 @@ use Rattle.room_http.proofs.contents.content.Goals as goal
 pub returns-in-Ok : goal.returns-in-Ok
 unfolding Sends content
 returns-in-Ok c =
-    let told = c.in-Ok.ensures.events in
-    text_of_value _ told.0 _ told.1 told.2 (has_float-json c.args.answer.now)
+    let stated = c.in-Ok.ensures.events in
+    text_of_value _ stated.0 _ stated.1 stated.2 (has_float-json c.args.answer.now)

@@ -18,7 +18,7 @@ use Rattle.room_http.specs.declared.arrivals.Arrived.TheVariants.{Message, Refus
 use Rattle.room_http.specs.Arrivals.{Arrival, IsShown, message, refused}
 use Rattle.room_http.specs.MessageEvents.{AsksFor}
 use Rattle.room_http.specs.ReplyMessages.{IsReply}
-use Rattle.room_http.specs.Talk.{Finds}
+use Rattle.room_http.specs.Dialogues.{Finds}
 use Rattle.room_http.specs.DigestReplies.{LeadsToAnother}
 use Rattle.room_http.proofs.digest_replies.reply_towards.Goals as goal
 
@@ -54,7 +54,7 @@ says (Err e) b d n s x stays y = (stays s, λ is. y (n is))
 pub returns-in-Refused-clause-reply : goal.returns-in-Refused-clause-reply
 returns-in-Refused-clause-reply g c = record {
   trusted = λ trust. trust;
-  wants = inl refl;
+  unavailable = inl refl;
   says = λ trust terminals room stood. (
     stood,
     λ is elsewhere o shown.
@@ -69,7 +69,7 @@ returns-in-Refused-clause-reply g c = record {
 pub returns-in-Ok-clause-reply : goal.returns-in-Ok-clause-reply
 returns-in-Ok-clause-reply g c = record {
   trusted = λ trust. c.event_of.ensures.event.trusted (c.act_towards.ensures.trusted trust);
-  wants = c.act_towards.ensures.wants;
+  unavailable = c.act_towards.ensures.unavailable;
   says = λ trust terminals room stood.
       let early = c.act_towards.ensures.trusted trust in
       let asks = c.in-Ok.ensures.event.says early terminals room stood in
@@ -80,17 +80,17 @@ returns-in-Ok-clause-reply g c = record {
       says c.act_towards.result (c.act_towards.ensures.bytes trust)
       (rw c.event_of.ensures.zone at (c.act_towards.ensures.after trust))
       (rw c.event_of.ensures.zone at (c.act_towards.ensures.another trust)) (c.act_towards.ensures.same trust)
-      (λ bytes told after o shown.
+      (λ bytes stated after o shown.
       let there = after terminals room still asks.1 in
-      let rendered = told terminals room still asks.1 in
-      let tells : IsReply (g.M.Room.step c.in-Ok.event room).1 c.args.at c.head_only-head_only.result
+      let rendered = stated terminals room still asks.1 in
+      let states : IsReply (g.M.Room.step c.in-Ok.event room).1 c.args.at c.head_only-head_only.result
       c.is_closing-closing.result bytes.items = search rules in (
         _,
         (
           Ok c.in-Ok.event,
           asked o shown,
           refl,
-          rw (c.head_only-head_only.ensures o shown, c.is_closing-closing.ensures o shown) at tells,
+          rw (c.head_only-head_only.ensures o shown, c.is_closing-closing.ensures o shown) at states,
         ),
         there.1,
         there.0,

@@ -9,7 +9,7 @@ use Rattle.room_model.specs.Rooms.{Step}
 use Rattle.room_http.specs.declared.arrivals.Arrived.{Arrived}
 use Rattle.room_http.specs.declared.arrivals.Arrived.TheVariants.{Refused}
 use Rattle.room_http.specs.Arrivals.{Arrival, IsShown, is_closing, is_head_only, message, refused}
-use Rattle.room_http.specs.Talk.{IsReplyTo}
+use Rattle.room_http.specs.Dialogues.{IsReplyTo}
 use Rattle.room_http.proofs.replies.reply.Goals as goal
 
 -- well or not, so much holds
@@ -18,7 +18,7 @@ either_way (Ok x) p q = (p, tt)
 either_way (Err e) p q = (tt, q)
 
 pub returns-in-Err-clause-reply : goal.returns-in-Err-clause-reply
-returns-in-Err-clause-reply g c = record { trusted = search rules; wants = search rules; says = search rules }
+returns-in-Err-clause-reply g c = record { trusted = search rules; unavailable = search rules; says = search rules }
 
 pub returns-in-Err-clause-keeps : goal.returns-in-Err-clause-keeps
 returns-in-Err-clause-keeps g c =
@@ -34,31 +34,32 @@ returns-in-Err-clause-keeps g c =
     }
 
 -- what is refused in the place of a message is reported, and the room stays
-told : (step : Step) (setting : Setting) (terminals : List Terminal) (room : Room) (arrived : Arrived)
+stated : (step : Step) (setting : Setting) (terminals : List Terminal) (room : Room) (arrived : Arrived)
     (r : Refusal) (without head_only closing : Bool) (at : ℕ) (bytes : List ℕ) (o : Arrival)
     → arrived ≡ Refused r without → IsShown arrived o
     → head_only ≡ is_head_only o → closing ≡ is_closing o
     → IsReply (Err r) at head_only closing bytes
     → IsReplyTo step setting terminals room (o, at) room bytes
-told step setting terminals room arrived r without head_only closing at bytes (message m) is shown headless closes
+stated step setting terminals room arrived r without head_only closing at bytes (message m) is shown headless closes
     says = absurd (rw is at shown)
-told step setting terminals room arrived r without head_only closing at bytes (refused s other) is shown headless closes
+stated step setting terminals room arrived r without head_only closing at bytes (refused s other) is shown headless
+    closes
     says =
     let same = rw is at shown in (Err r, ap Err same.0, refl, rw (headless, closes) at says)
 
-if_told : {T E Q : Type 0} {P R : T → Type 0} (r : Result T E) → IfOk r P
+if_answered : {T E Q : Type 0} {P R : T → Type 0} (r : Result T E) → IfOk r P
     → ((x : T) → P x → R x) → Q → MatchResult r R (λ _. Q)
-if_told (Ok x) p then q = then x p
-if_told (Err e) p then q = q
+if_answered (Ok x) p then q = then x p
+if_answered (Err e) p then q = q
 
 pub returns-in-Refused-clause-reply : goal.returns-in-Refused-clause-reply
 returns-in-Refused-clause-reply g c = record {
   trusted = λ trust. trust;
-  wants = search rules;
-  says = λ trust terminals room stood. if_told c.refused.result c.refused.ensures.ok
+  unavailable = search rules;
+  says = λ trust terminals room stood. if_answered c.refused.result c.refused.ensures.ok
       (λ bytes says o shown. (
         room,
-        told g.M.Room.step c.args.handler.now.setting terminals room c.args.arrived.now c.in-Refused.refusal
+        stated g.M.Room.step c.args.handler.now.setting terminals room c.args.arrived.now c.in-Refused.refusal
             c.in-Refused.head_only _ _ c.args.at bytes.items o c.in-Refused.is shown
             (c.head_only-head_only.ensures o shown) (c.is_closing-closing.ensures o shown) says,
         stood,

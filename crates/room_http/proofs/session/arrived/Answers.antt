@@ -1,7 +1,7 @@
 use Rattle.std.proofs.Common.{refl, ◌≡◌}
 use Rattle.room_http_messages.specs.declared.read_faults.Unread.TheVariants.{Refused}
 use Rattle.room_http.specs.Arrivals.{message, refused}
-use Rattle.room_http.proofs.StreamLemmas.{message_alone}
+use Rattle.room_http.proofs.StreamLemmas.{just_message}
 use Rattle.room_http.proofs.session.arrived.Goals as goal
 
 pub returns-in-Ok-clause-ok : goal.returns-in-Ok-clause-ok
@@ -11,7 +11,7 @@ returns-in-Ok-clause-ok c =
       rw c.in-Ok.is whole.1,
       (
         c.message.ensures whole.0 whole.2,
-        message_alone c.args.inbox.now c.bytes.result.now c.in-Ok.layout whole.0 whole.1 whole.2 whole.3.content.1
+        just_message c.args.inbox.now c.bytes.result.now c.in-Ok.layout whole.0 whole.1 whole.2 whole.3.content.1
             c.bytes.ensures.value c.bytes.ensures.fits,
       ),
     )

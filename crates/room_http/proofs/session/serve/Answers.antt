@@ -26,7 +26,7 @@ messages-init g c =
             (λ terminals room standing. (standing, λ was. g.met.M.Room.leaves_it _ terminals room was standing)))
             (Keeps-prepend _ _ c.in-Ok.ensures),
         Noted-kept _ _ _ _ _ _ _ _ _ _ _ _ _ _
-            (Noted-none g.N.Observer.came g.N.Observer.told g.M.Room.step c.args.handler.now.setting _ _ _ _)
+            (Noted-none g.N.Observer.came g.N.Observer.response g.M.Room.step c.args.handler.now.setting _ _ _ _)
             (Keeps-prepend _ _ c.in-Ok.ensures),
       );
       trusted = λ trust. trust;
@@ -242,5 +242,5 @@ returns-in_default-clause-run g c =
     c.args.budget Memory
     (refl, (refl, Going-ends _ _ _ _ _ _ _ _ _ _ _ _ _ _ _ _ (λ rest. ⊤) going (λ rest known. tt)), CountsBy-none _)
     (Noted-ends _ _ _ _ _ _ _ _ _ _ _ _ _
-    (Noted-none g.N.Observer.came g.N.Observer.told g.M.Room.step c.args.handler.now.setting _ _ _ _) Memory _
+    (Noted-none g.N.Observer.came g.N.Observer.response g.M.Room.step c.args.handler.now.setting _ _ _ _) Memory _
     (λ trust was. was))

@@ -2,7 +2,7 @@ use Rattle.std.proofs.Common.{◌≡◌, ◌≤◌, false, ◌+◌, ◌-◌, ◌
 use Rattle.std.specs.Io.KnownBytes.{prepend_known}
 use Rattle.room_http_messages.specs.declared.limits.TheConstants.{INBOX_ROOM}
 use Rattle.room_http_messages.specs.Streams.{CountsBy}
-use Rattle.room_http.specs.Talk.{Stays, Timed}
+use Rattle.room_http.specs.Dialogues.{Stays, Timed}
 use Rattle.room_http.proofs.KeptLemmas.{Noted}
 use Rattle.room_http.proofs.ServeLemmas.{Going}
 use Rattle.room_http.proofs.session.serve.Given as goal
@@ -19,7 +19,8 @@ invariant-messages g l = record {
       (prepend_known l.inbox (g.R.Source.left l.connection.reader)) (g.W.Sink.held l.connection.writer) (g.C.Clock.given l.clock)
       (g.M.Room.is_trusted l.room) (g.M.Room.stands l.initial.room)
       (Stays (g.M.Room.is_kept l.initial.room) (g.M.Room.stands l.room) (g.M.Room.leaves_one_of l.room)) outs
-      × Noted g.N.Observer.came g.N.Observer.told g.M.Room.step l.handler.setting (g.R.Source.left l.initial.connection.reader)
+      × Noted g.N.Observer.came g.N.Observer.response g.M.Room.step l.handler.setting
+      (g.R.Source.left l.initial.connection.reader)
       (record {
         given = g.C.Clock.given l.initial.clock;
         kept = g.N.Observer.held l.initial.observer;

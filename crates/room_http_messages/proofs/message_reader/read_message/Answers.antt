@@ -5,14 +5,14 @@ use Rattle.room_http_messages.proofs.message_reader.read_message.Goals as goal
 
 pub reads-init : goal.reads-init
 reads-init g c =
-    let wants = rw (c.bytes.ensures.value) at c.in-Wants.ensures in
+    let needs = rw (c.bytes.ensures.value) at c.in-Needs.ensures in
     record {
       read = c.looks.invariant.read;
       sound = c.looks.invariant.sound;
-      room = wants.1;
-      part = wants.2;
+      room = needs.1;
+      part = needs.2;
       spent = omega arith;
-      begun = λ _. wants.0;
+      begun = λ _. needs.0;
     }
 
 pub read_once-requires-clause-part : goal.read_once-requires-clause-part

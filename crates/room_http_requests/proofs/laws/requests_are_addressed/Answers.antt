@@ -1,4 +1,4 @@
-use Rattle.room_http_requests.specs.Roles.{role_of}
+use Rattle.room_http_requests.specs.RequestTable.{role_of}
 use Rattle.room_http_requests.proofs.RoleLaws.{addressed, asked_is}
 use Rattle.room_http_requests.proofs.laws.requests_are_addressed.Goals as goal
 

@@ -6,7 +6,7 @@ pub returns : goal.returns
 unfolding machine
 returns c = record {
   the_lender_lists_no_lent_vehicle = refl;
-  the_lender_is_told_that_it_is_lent = refl;
+  the_lender_is_answered_that_it_is_lent = refl;
   a_recall_is_done = refl;
   a_second_recall_is_answered_alike = refl;
   a_second_recall_changes_nothing = refl;

@@ -1,12 +1,12 @@
 use Rattle.std.proofs.Common.{ap, inl, refl, ◌∙◌}
 use Rattle.room_model.specs.Decisions.{answer_of, changes_of}
-use Rattle.room_tables_schema.proofs.ReadLaws.{fails, looked, told, wants}
-use Rattle.room_store.proofs.Wants.{not_parted, parted, want_is}
+use Rattle.room_tables_schema.proofs.ReadLaws.{fails, lacks_memory, looked, succeeds}
+use Rattle.room_store.proofs.Unavailable.{not_parted, parted, unavailable_is}
 use Rattle.room_store.specs.EventDecisions.{unless_out_of_memory}
 use Rattle.room_store.proofs.acted_events.prepare.Goals as goal
 
-pub returns-in-Err-rendered-clause-wants : goal.returns-in-Err-rendered-clause-wants
-returns-in-Err-rendered-clause-wants g c = inl (c.requires.memory _ _ (_, c.in-Err-rendered.ensures, refl))
+pub returns-in-Err-rendered-clause-unavailable : goal.returns-in-Err-rendered-clause-unavailable
+returns-in-Err-rendered-clause-unavailable g c = inl (c.requires.memory _ _ (_, c.in-Err-rendered.ensures, refl))
 
 pub returns-in-Ok-rendered-clause-changes : goal.returns-in-Ok-rendered-clause-changes
 returns-in-Ok-rendered-clause-changes g c clean config room h =
@@ -29,21 +29,22 @@ returns-in-Ok-rendered-clause-cache g c clean =
 pub returns-in-Ok-rendered-clause-reads : goal.returns-in-Ok-rendered-clause-reads
 returns-in-Ok-rendered-clause-reads g c =
     let it = parted (unless_out_of_memory c.decide-decision.result) _ c.in-Ok.ensures in
-    told (looked (rw it.1 at c.decide-decision.ensures.reads))
+    succeeds (looked (rw it.1 at c.decide-decision.ensures.reads))
 
 pub returns-in-Err-rendered-clause-reads : goal.returns-in-Err-rendered-clause-reads
 returns-in-Err-rendered-clause-reads g c =
     let it = parted (unless_out_of_memory c.decide-decision.result) _ c.in-Ok.ensures in
-    wants refl (looked (rw it.1 at c.decide-decision.ensures.reads))
+    lacks_memory refl (looked (rw it.1 at c.decide-decision.ensures.reads))
 
 pub returns-in-Err-clause-reads : goal.returns-in-Err-clause-reads
 returns-in-Err-clause-reads g c =
     let it = not_parted (unless_out_of_memory c.decide-decision.result) _ c.in-Err.ensures in
     fails refl (rw it at c.decide-decision.ensures.reads)
 
-pub returns-in-Err-clause-wants : goal.returns-in-Err-clause-wants
-returns-in-Err-clause-wants g c =
-    want_is c.decide-decision.result _ (not_parted (unless_out_of_memory c.decide-decision.result) _ c.in-Err.ensures)
+pub returns-in-Err-clause-unavailable : goal.returns-in-Err-clause-unavailable
+returns-in-Err-clause-unavailable g c =
+    unavailable_is c.decide-decision.result _
+    (not_parted (unless_out_of_memory c.decide-decision.result) _ c.in-Err.ensures)
 
 pub decide-decision-requires-clause-room : goal.decide-decision-requires-clause-room
 decide-decision-requires-clause-room g c = c.requires.room

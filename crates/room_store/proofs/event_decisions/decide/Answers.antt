@@ -1,9 +1,9 @@
 use Rattle.std.proofs.Common.{ap, arith, refl, ◌∙◌}
 use Rattle.std.proofs.lemmas.Result.{IfOk-weaker}
 use Rattle.room_model.specs.Calls.{take_call}
-use Rattle.room_tables_schema.proofs.ReadLaws.{fails, looked, then_any, wants}
+use Rattle.room_tables_schema.proofs.ReadLaws.{fails, lacks_memory, looked, then_any}
 use Rattle.room_tables.proofs.RoomReads.{kept}
-use Rattle.room_store.proofs.Wants.{all_known, failed, filled, still_known, unsaid}
+use Rattle.room_store.proofs.Unavailable.{all_known, failed, filled, still_known, unsaid}
 use Rattle.room_store.specs.EventDecisions.{unless_out_of_memory}
 use Rattle.room_tables_schema.specs.FileConnections.{IsClean}
 use Rattle.room_store.proofs.event_decisions.decide.Goals as goal
@@ -18,9 +18,10 @@ pub returns-in-Desk-clause-decided : goal.returns-in-Desk-clause-decided
 returns-in-Desk-clause-decided g c clean =
     let first : IsClean g.S.Store c.fill.new.conn = omega
     (arith, c.for_desk.ensures.reads.survives.clean) in
-    IfOk-weaker (unless_out_of_memory c.for_desk.result) _ _ (λ x told config room h.
+    IfOk-weaker (unless_out_of_memory c.for_desk.result) _ _ (λ x answered config room h.
     let fleet = c.in-Ok.ensures.known first config room h.stands h.cache.fleet in
-    rw c.in-Desk.is (told config room (kept _ _ (c.in-Ok.ensures.reads.ok first) config room h.stands) h.formed h.plan
+    rw c.in-Desk.is
+    (answered config room (kept _ _ (c.in-Ok.ensures.reads.ok first) config room h.stands) h.formed h.plan
     (all_known fleet (filled _ fleet h.cache)))) (c.for_desk.ensures.decided clean)
 
 pub returns-in-Desk-clause-cache : goal.returns-in-Desk-clause-cache
@@ -41,9 +42,10 @@ pub returns-in-Crew-clause-decided : goal.returns-in-Crew-clause-decided
 returns-in-Crew-clause-decided g c clean =
     let first : IsClean g.S.Store c.fill.new.conn = omega
     (arith, c.for_crew.ensures.reads.survives.clean) in
-    IfOk-weaker (unless_out_of_memory c.for_crew.result) _ _ (λ x told config room h.
+    IfOk-weaker (unless_out_of_memory c.for_crew.result) _ _ (λ x answered config room h.
     let fleet = c.in-Ok.ensures.known first config room h.stands h.cache.fleet in
-    rw c.in-Crew.is (told config room (kept _ _ (c.in-Ok.ensures.reads.ok first) config room h.stands) h.formed fleet))
+    rw c.in-Crew.is
+    (answered config room (kept _ _ (c.in-Ok.ensures.reads.ok first) config room h.stands) h.formed fleet))
     (c.for_crew.ensures.decided clean)
 
 pub returns-in-Crew-clause-cache : goal.returns-in-Crew-clause-cache
@@ -63,9 +65,9 @@ pub returns-in-Call-clause-decided : goal.returns-in-Call-clause-decided
 returns-in-Call-clause-decided g c clean =
     let first : IsClean g.S.Store c.fill.new.conn = omega
     (arith, c.for_call.ensures.reads.survives.clean) in
-    IfOk-weaker (unless_out_of_memory c.for_call.result) _ _ (λ x told config room h.
+    IfOk-weaker (unless_out_of_memory c.for_call.result) _ _ (λ x answered config room h.
     let fleet = c.in-Ok.ensures.known first config room h.stands h.cache.fleet in
-    told config room (kept _ _ (c.in-Ok.ensures.reads.ok first) config room h.stands) _ _ _ h.formed h.plan
+    answered config room (kept _ _ (c.in-Ok.ensures.reads.ok first) config room h.stands) _ _ _ h.formed h.plan
     c.new_call-call.ensures c.in-Call.is fleet (filled _ fleet h.cache)
     ∙ ap (λ call. take_call call room) c.new_call-call.ensures ∙ rw (c.in-Position.is, c.in-Call.is) refl)
     (c.for_call.ensures.decided clean)
@@ -87,16 +89,16 @@ pub returns-in-Last-clause-decided : goal.returns-in-Last-clause-decided
 returns-in-Last-clause-decided g c clean =
     let first : IsClean g.S.Store c.fill.new.conn = omega
     (arith, c.for_last.ensures.reads.survives.clean) in
-    IfOk-weaker (unless_out_of_memory c.for_last.result) _ _ (λ x told config room h.
+    IfOk-weaker (unless_out_of_memory c.for_last.result) _ _ (λ x answered config room h.
     rw (c.in-Position.is, c.in-Last.is)
-    (told config room (kept _ _ (c.in-Ok.ensures.reads.ok first) config room h.stands)))
+    (answered config room (kept _ _ (c.in-Ok.ensures.reads.ok first) config room h.stands)))
     (c.for_last.ensures.decided clean)
 
 pub returns-in-Last-clause-cache : goal.returns-in-Last-clause-cache
 returns-in-Last-clause-cache g c clean =
     let first : IsClean g.S.Store c.fill.new.conn = omega
     (arith, c.for_last.ensures.reads.survives.clean) in
-    IfOk-weaker (unless_out_of_memory c.for_last.result) _ _ (λ x told config room h.
+    IfOk-weaker (unless_out_of_memory c.for_last.result) _ _ (λ x answered config room h.
     filled _ (c.in-Ok.ensures.known first config room h.stands h.cache.fleet) h.cache)
     (c.for_last.ensures.decided clean)
 
@@ -105,7 +107,7 @@ returns-in-Last-clause-reads g c =
     then_any (looked c.in-Ok.ensures.reads) (unless_out_of_memory c.for_last.result) c.for_last.ensures.reads
 
 pub returns-in_default-clause-reads : goal.returns-in_default-clause-reads
-returns-in_default-clause-reads g c = wants refl (looked c.in-Ok.ensures.reads)
+returns-in_default-clause-reads g c = lacks_memory refl (looked c.in-Ok.ensures.reads)
 
 pub returns-in-Err-clause-decided : goal.returns-in-Err-clause-decided
 returns-in-Err-clause-decided g c clean = unsaid c.in-Err.fault c.refusal_of.ensures _

@@ -1,9 +1,9 @@
 use Rattle.std.proofs.Common.{arith, inl, refl}
 use Rattle.std.proofs.lemmas.Result.{IfOk-weaker}
 use Rattle.room_model.specs.Calls.{take_call}
-use Rattle.room_tables_schema.proofs.ReadLaws.{and, but, fails, looked, told, told_any}
-use Rattle.room_store.proofs.CallReads.{is_new, nowhere, placed_in, told_again}
-use Rattle.room_store.proofs.Wants.{all_known, failed, machines, says, still_known, unsaid}
+use Rattle.room_tables_schema.proofs.ReadLaws.{and, but, ends_any, fails, looked, succeeds}
+use Rattle.room_store.proofs.CallReads.{answered_again, is_new, nowhere, placed_in}
+use Rattle.room_store.proofs.Unavailable.{all_known, failed, machines, says, still_known, unsaid}
 use Rattle.room_store.specs.EventDecisions.{unless_out_of_memory}
 use Rattle.room_tables.proofs.RoomReads.{kept}
 use Rattle.room_tables_schema.specs.FileConnections.{IsClean}
@@ -12,7 +12,8 @@ use Rattle.room_store.proofs.event_decisions.for_call.Goals as goal
 pub returns-in-Some-clause-decided : goal.returns-in-Some-clause-decided
 returns-in-Some-clause-decided g c clean =
     says c.decide_repeated_call.result _ (λ config room h _ _ _ formed planned made ask _ _.
-    told_again c.args.call.now c.args.plan.now.areas room planned c.in-Ok.found (c.in-Ok.ensures.row clean config room h)
+    answered_again c.args.call.now c.args.plan.now.areas room planned c.in-Ok.found
+    (c.in-Ok.ensures.row clean config room h)
     c.in-Some.kept c.decide_repeated_call.result c.in-Some.is c.decide_repeated_call.ensures)
 
 pub returns-in-Some-clause-cache : goal.returns-in-Some-clause-cache
@@ -20,7 +21,7 @@ returns-in-Some-clause-cache g c clean = says c.decide_repeated_call.result _ (�
 
 pub returns-in-Some-clause-reads : goal.returns-in-Some-clause-reads
 returns-in-Some-clause-reads g c =
-    told_any (unless_out_of_memory c.decide_repeated_call.result) (looked c.in-Ok.ensures.reads)
+    ends_any (unless_out_of_memory c.decide_repeated_call.result) (looked c.in-Ok.ensures.reads)
 
 pub returns-in_default-division_of-clause-decided : goal.returns-in_default-division_of-clause-decided
 returns-in_default-division_of-clause-decided g c clean config room h _ _ _ formed planned made ask _ _ =
@@ -28,7 +29,7 @@ returns-in_default-division_of-clause-decided g c clean config room h _ _ _ form
     c.division_of.result c.division_of.ensures.value c.in_default.is c.in_default-division_of.is
 
 pub returns-in_default-division_of-clause-reads : goal.returns-in_default-division_of-clause-reads
-returns-in_default-division_of-clause-reads g c = told (looked c.in-Ok.ensures.reads)
+returns-in_default-division_of-clause-reads g c = succeeds (looked c.in-Ok.ensures.reads)
 
 pub load_working-requires-clause-open : goal.load_working-requires-clause-open
 load_working-requires-clause-open g c clean = (c.in-Ok.ensures.reads.ok clean).0.is_open
@@ -38,7 +39,7 @@ returns-clause-decided g c clean =
     let first : IsClean g.S.Store c.row_at.new.conn = omega
     (arith, c.load_working.ensures.reads.survives.clean) in
     IfOk-weaker (unless_out_of_memory c.decide_call-decision.result) _ _
-    (λ x told config room h position at form formed planned made ask fleet is.
+    (λ x answered config room h position at form formed planned made ask fleet is.
     let call = c.args.call.now in
     let areas = c.args.plan.now.areas in
     let row = c.in-Ok.ensures.row first config room h in
@@ -50,7 +51,7 @@ returns-clause-decided g c clean =
     c.in-Some-division_of.division c.in-Some-division_of.is in
     let decides = rw (made, c.in-Ok-load_working.ensures.division) at
     c.decide_call-decision.ensures.decides room form formed in
-    told (take_call call room)
+    answered (take_call call room)
     (rw made (decides refl (rw made at new) (rw made at placed) (inl (rw (made, ask) at rows)))))
     (machines c.decide_call-decision.result)
 
@@ -65,7 +66,7 @@ returns-clause-cache g c clean =
 
 pub returns-clause-reads : goal.returns-clause-reads
 returns-clause-reads g c =
-    told_any (unless_out_of_memory c.decide_call-decision.result)
+    ends_any (unless_out_of_memory c.decide_call-decision.result)
     (and (looked c.in-Ok.ensures.reads) c.in-Ok-load_working.ensures.reads)
 
 pub returns-in-Err-clause-decided : goal.returns-in-Err-clause-decided

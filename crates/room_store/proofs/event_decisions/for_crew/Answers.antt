@@ -3,7 +3,7 @@ use Rattle.std.proofs.lemmas.Result.{IfOk-weaker}
 use Rattle.room_types.specs.KeyedRows.{row_at}
 use Rattle.room_types.specs.Keys.{assignment_key, callsign_cmp, vehicle_key}
 use Rattle.room_model.specs.Queries.{assignment_at, vehicle_at}
-use Rattle.room_tables_schema.proofs.ReadLaws.{begins, told, wants}
+use Rattle.room_tables_schema.proofs.ReadLaws.{begins, lacks_memory, succeeds}
 use Rattle.room_store_cache.specs.declared.fleets.FleetRows.{FleetRows}
 use Rattle.room_store_reads.proofs.CrewReads.{found_here}
 use Rattle.room_store.specs.EventDecisions.{unless_out_of_memory}
@@ -27,7 +27,7 @@ returns-in-Order-clause-decided g c clean config room h formed fleet =
 
 pub returns-in-Report-clause-decided : goal.returns-in-Report-clause-decided
 returns-in-Report-clause-decided g c clean =
-    IfOk-weaker (unless_out_of_memory c.for_report.result) _ _ (λ x told config room h formed fleet.
+    IfOk-weaker (unless_out_of_memory c.for_report.result) _ _ (λ x answered config room h formed fleet.
     let k = c.args.callsign.now in
     let there : row_at callsign_cmp vehicle_key room.vehicles k
     ≡ Some c.in-Some.vehicle =
@@ -35,7 +35,7 @@ returns-in-Report-clause-decided g c clean =
     (sym (ap (λ (r : FleetRows). r.vehicles) c.get.ensures ∙ fleet.rows.vehicles))
     ∙ sym (c.copied.ensures ∙ c.get-2.ensures) ∙ c.in-Some.is in
     let here = found_here k c.in-Some.vehicle room there in
-    rw c.in-Report.is (rw here.0 at (told config room h formed fleet here.1))) (c.for_report.ensures.decided clean)
+    rw c.in-Report.is (rw here.0 at (answered config room h formed fleet here.1))) (c.for_report.ensures.decided clean)
 
 pub returns-in-Last-clause-decided : goal.returns-in-Last-clause-decided
 unfolding vehicle_at
@@ -49,16 +49,16 @@ returns-in-Last-clause-decided g c clean config room h formed fleet =
     sym (rw (c.in-Last.is, there) (sym c.decide_last.ensures))
 
 pub returns-in-Last-clause-reads : goal.returns-in-Last-clause-reads
-returns-in-Last-clause-reads g c = told (begins c.requires.open)
+returns-in-Last-clause-reads g c = succeeds (begins c.requires.open)
 
 pub returns-in-Order-clause-reads : goal.returns-in-Order-clause-reads
-returns-in-Order-clause-reads g c = told (begins c.requires.open)
+returns-in-Order-clause-reads g c = succeeds (begins c.requires.open)
 
 pub returns-in-Report-clause-reads : goal.returns-in-Report-clause-reads
 returns-in-Report-clause-reads g c = c.for_report.ensures.reads
 
 pub returns-in_default-clause-reads : goal.returns-in_default-clause-reads
-returns-in_default-clause-reads g c = wants refl (begins c.requires.open)
+returns-in_default-clause-reads g c = lacks_memory refl (begins c.requires.open)
 
 pub returns-in_default-ask-clause-reads : goal.returns-in_default-ask-clause-reads
-returns-in_default-ask-clause-reads g c = told (begins c.requires.open)
+returns-in_default-ask-clause-reads g c = succeeds (begins c.requires.open)

@@ -7,9 +7,9 @@ use Rattle.room_model.specs.Decisions.{Decides}
 use Rattle.room_model.specs.Queries.{kept_report}
 use Rattle.room_model.specs.Reports.{take_report}
 use Rattle.room_model.specs.RoomSlices.{AreCrewRows}
-use Rattle.room_tables_schema.proofs.ReadLaws.{and, but, fails, looked, told_any, wants}
+use Rattle.room_tables_schema.proofs.ReadLaws.{and, but, ends_any, fails, lacks_memory, looked}
 use Rattle.room_tables.proofs.RoomReads.{kept}
-use Rattle.room_store.proofs.Wants.{failed, machines, says, unsaid}
+use Rattle.room_store.proofs.Unavailable.{failed, machines, says, unsaid}
 use Rattle.room_store.specs.EventDecisions.{unless_out_of_memory}
 use Rattle.room_store.proofs.event_decisions.for_report.Goals as goal
 
@@ -59,7 +59,7 @@ returns-in-Err-clause-reads g c = fails (failed c.in-Err.fault c.refusal_of.ensu
 
 pub returns-in-Some-clause-reads : goal.returns-in-Some-clause-reads
 returns-in-Some-clause-reads g c =
-    told_any (unless_out_of_memory c.decide_repeated_report.result) (looked c.in-Ok.ensures.reads)
+    ends_any (unless_out_of_memory c.decide_repeated_report.result) (looked c.in-Ok.ensures.reads)
 
 pub returns-in-Err-load_crew-clause-reads : goal.returns-in-Err-load_crew-clause-reads
 returns-in-Err-load_crew-clause-reads g c =
@@ -68,11 +68,12 @@ returns-in-Err-load_crew-clause-reads g c =
 
 pub returns-in-Some-build-clause-reads : goal.returns-in-Some-build-clause-reads
 returns-in-Some-build-clause-reads g c =
-    told_any (unless_out_of_memory c.decide_report.result)
+    ends_any (unless_out_of_memory c.decide_report.result)
     (and (looked c.in-Ok.ensures.reads) c.in-Ok-load_crew.ensures.reads)
 
 pub returns-in-None-clause-reads : goal.returns-in-None-clause-reads
-returns-in-None-clause-reads g c = wants refl (and (looked c.in-Ok.ensures.reads) c.in-Ok-load_crew.ensures.reads)
+returns-in-None-clause-reads g c =
+    lacks_memory refl (and (looked c.in-Ok.ensures.reads) c.in-Ok-load_crew.ensures.reads)
 
 pub returns-in-Err-clause-decided : goal.returns-in-Err-clause-decided
 returns-in-Err-clause-decided g c clean = unsaid c.in-Err.fault c.refusal_of.ensures _

@@ -1,7 +1,7 @@
 use Rattle.std.proofs.Common.{arith, false, refl, sym, true, ◌∙◌, ◌≡◌}
 use Rattle.room_place.specs.Plans.{has_division}
 use Rattle.room_tables.proofs.RoomReads.{kept}
-use Rattle.room_tables_schema.proofs.ReadLaws.{and, but, fails, looked, told}
+use Rattle.room_tables_schema.proofs.ReadLaws.{and, but, fails, looked, succeeds}
 use Rattle.room_tables_schema.specs.FileConnections.{IsClean}
 use Rattle.room_store.proofs.fleet_enrolment.find_fate.Goals as goal
 
@@ -30,7 +30,7 @@ returns-in_err-terminal-clause-reads g c =
     but (looked c.in_ok-vehicle.ensures.reads) c.from_residual-in_err-terminal.ensures.0 c.in_err-terminal.ensures.reads
 
 pub returns-then-has-clause-reads : goal.returns-then-has-clause-reads
-returns-then-has-clause-reads g c = told (and (looked c.in_ok-vehicle.ensures.reads) c.in_ok-terminal.ensures.reads)
+returns-then-has-clause-reads g c = succeeds (and (looked c.in_ok-vehicle.ensures.reads) c.in_ok-terminal.ensures.reads)
 
 pub returns-else-has-clause-reads : goal.returns-else-has-clause-reads
-returns-else-has-clause-reads g c = told (and (looked c.in_ok-vehicle.ensures.reads) c.in_ok-terminal.ensures.reads)
+returns-else-has-clause-reads g c = succeeds (and (looked c.in_ok-vehicle.ensures.reads) c.in_ok-terminal.ensures.reads)

@@ -3,13 +3,13 @@ use Rattle.std.proofs.lemmas.Result.{on_ok_weaker}
 use Rattle.std.specs.Prelude.{IfOk, OnOk}
 use Rattle.sqlite.specs.Held.{state}
 use Rattle.sqlite.specs.State.{HasCleanDisk, Survives}
-use Rattle.room_store_writes.specs.Houses.{config_of}
+use Rattle.room_store_writes.specs.Configurations.{config_of}
 use Rattle.room_store_writes.specs.Transactions.{Leaves}
 use Rattle.room_store.proofs.KnownLaws.{knows_nothing}
 use Rattle.room_store.proofs.LookLaws.{left_then, survives_read}
 use Rattle.room_store.proofs.StoreLaws.{kept_stands, looked_left, ready_schema, room_left, settled_kept}
 use Rattle.room_store.proofs.store_digest.digest_of_room.Given.{Over}
-use Rattle.room_store.proofs.store_digest.digest_of_room.Goals.{After-told}
+use Rattle.room_store.proofs.store_digest.digest_of_room.Goals.{After-sound_digest}
 use Rattle.room_tables_schema.specs.FileConnections.{IsClean}
 use Rattle.room_store.proofs.store_digest.digest_of_room.Goals as goal
 
@@ -21,7 +21,7 @@ through (Ok x) (Ok y) is p open_ f = let same : y ≡ x = cc in f x (rw same at 
 through (Ok x) (Err e) is p open_ f = absurd (cc)
 through (Err e) from is p open_ f = tt
 
-left : (g : Over) (c : After-told g) → IsClean g.S.Store c.test_file.new.self.conn
+left : (g : Over) (c : After-sound_digest g) → IsClean g.S.Store c.test_file.new.self.conn
     → Leaves (state g.S.Store c.args.store.now.conn) (state g.S.Store c.test_file.new.self.conn)
 left g c clean =
     let early : HasCleanDisk (state g.S.Store c.digest_in-digest.new.conn) = omega
@@ -32,10 +32,11 @@ pub returns-clause-known : goal.returns-clause-known
 returns-clause-known g c clean =
     let early : HasCleanDisk (state g.S.Store c.digest_in-digest.new.conn) = omega
     (arith, c.test_file.ensures.survives.clean) in
-    through c.told.result c.digest_in-digest.result c.told.ensures.read (c.digest_in-digest.ensures.digest early)
-    c.told.ensures.sound
-    (λ x tells sound terminals room is.
-    tells (config_of c.args.store.now.plan terminals) room
+    through c.sound_digest.result c.digest_in-digest.result c.sound_digest.ensures.read
+    (c.digest_in-digest.ensures.digest early)
+    c.sound_digest.ensures.sound
+    (λ x states sound terminals room is.
+    states (config_of c.args.store.now.plan terminals) room
     (is.tables ((left g c clean).was_open (c.test_file.ensures.ready.sound sound clean).settled.is_open)))
 
 pub returns-clause-same : goal.returns-clause-same
@@ -46,10 +47,10 @@ returns-clause-same g c clean terminals room is =
 
 pub returns-clause-kept : goal.returns-clause-kept
 returns-clause-kept g c clean =
-    on_ok_weaker c.told.result
+    on_ok_weaker c.sound_digest.result
     (λ sound _.
     settled_kept g.S.Store c.test_file.new.self (g.met.S.Store.settled c.test_file.new.self.conn.store)
-    (c.test_file.ensures.ready.sound sound clean).settled) c.told.ensures.sound
+    (c.test_file.ensures.ready.sound sound clean).settled) c.sound_digest.ensures.sound
 
 pub returns-clause-left : goal.returns-clause-left
 returns-clause-left g c clean kept terminals room is =

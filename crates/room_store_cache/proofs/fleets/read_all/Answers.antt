@@ -1,5 +1,5 @@
 use Rattle.std.proofs.Common.{◌∙◌}
-use Rattle.room_tables_schema.proofs.ReadLaws.{fails, looked, told}
+use Rattle.room_tables_schema.proofs.ReadLaws.{fails, looked, succeeds}
 use Rattle.room_store_cache.proofs.fleets.read_all.Goals as goal
 
 pub returns-clause-rows : goal.returns-clause-rows
@@ -11,4 +11,4 @@ pub returns-in_err-rows-clause-reads : goal.returns-in_err-rows-clause-reads
 returns-in_err-rows-clause-reads g c = fails c.from_residual.ensures.0 c.in_err-rows.ensures.reads
 
 pub returns-clause-reads : goal.returns-clause-reads
-returns-clause-reads g c = told (looked c.in_ok-rows.ensures.reads)
+returns-clause-reads g c = succeeds (looked c.in_ok-rows.ensures.reads)

@@ -11,13 +11,13 @@ neither : (fits b : Bool) → fits ≡ false → fits ≡ (fits && b)
 neither fits b h = rw h refl
 
 pub returns-then-do_histories_fit : goal.returns-then-do_histories_fit
-returns-then-do_histories_fit c = λ s in_order same tell fits.
+returns-then-do_histories_fit c = λ s in_order same are_openings fits.
     room_decides c.args.plan.now s in_order c.args.rows.now c.args.openings.now c.args.do_histories_fit c.is_none.result
-    same tell fits
+    same are_openings fits
     (both _ _ _ c.if-do_histories_fit.true (ap is_some (sym c.kept_disagreement.ensures) ∙ c.is_none.ensures))
 
 pub returns-else-do_histories_fit : goal.returns-else-do_histories_fit
-returns-else-do_histories_fit c = λ s in_order same tell fits.
+returns-else-do_histories_fit c = λ s in_order same are_openings fits.
     room_decides c.args.plan.now s in_order c.args.rows.now c.args.openings.now c.args.do_histories_fit
-    c.args.do_histories_fit same tell fits
+    c.args.do_histories_fit same are_openings fits
     (neither _ _ c.if-do_histories_fit.false)

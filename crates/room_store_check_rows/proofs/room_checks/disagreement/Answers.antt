@@ -2,8 +2,8 @@ use Rattle.std.proofs.Common.{ap, subst, sym, ◌∙◌}
 use Rattle.std.specs.Option.{option_or}
 use Rattle.room_model.specs.RoomSlices.{room_of}
 use Rattle.room_store_check_rows.specs.FirstFaults.{rows_disagreement}
-use Rattle.room_store_check_rows.specs.Disagreements.{Tells}
-use Rattle.room_store_check_rows.proofs.RowFaults.{search_tells}
+use Rattle.room_store_check_rows.specs.Disagreements.{Detects}
+use Rattle.room_store_check_rows.proofs.RowFaults.{search_detects}
 use Rattle.room_store_check_rows.proofs.room_checks.disagreement.Goals as goal
 
 pub returns-clause-first : goal.returns-clause-first
@@ -12,7 +12,7 @@ returns-clause-first c =
     ∙ ap (λ o. option_or o c.in_ok-unopened.unopened) c.rows_disagreement.ensures
     ∙ ap (option_or (rows_disagreement c.args.plan.now.areas c.args.rows.now)) c.in_ok-unopened.ensures.first
 
-pub returns-clause-told : goal.returns-clause-told
-returns-clause-told c =
-    subst (Tells (room_of c.args.plan.now.areas c.args.rows.now)) (sym (returns-clause-first c))
-    (search_tells c.args.plan.now c.args.rows.now c.are_in_order.ensures)
+pub returns-clause-detected : goal.returns-clause-detected
+returns-clause-detected c =
+    subst (Detects (room_of c.args.plan.now.areas c.args.rows.now)) (sym (returns-clause-first c))
+    (search_detects c.args.plan.now c.args.rows.now c.are_in_order.ensures)

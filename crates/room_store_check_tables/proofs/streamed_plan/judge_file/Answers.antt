@@ -4,8 +4,8 @@ use Rattle.sqlite.specs.Effect.{Database}
 use Rattle.sqlite.specs.Held.{state}
 use Rattle.sqlite.specs.State.{HasCleanDisk}
 use Rattle.room_tables_schema.proofs.ReadLaws.{and, looked}
-use Rattle.room_tables.proofs.Told.{if_storage}
-use Rattle.room_store_check_tables.proofs.Findings.{none_found, not_told, stored, told_storage}
+use Rattle.room_tables.proofs.ReadFailures.{if_storage}
+use Rattle.room_store_check_tables.proofs.Findings.{none_found, not_reported, storage_reported, stored}
 use Rattle.room_store_check_tables.proofs.RowLaws.{fails_at_rowids, fails_then}
 use Rattle.room_store_check_tables.proofs.StreamLaws.{inside_of, none_done, reads_nothing}
 use Rattle.room_store_check_tables.specs.StreamedPlan.{HasJudged}
@@ -25,10 +25,10 @@ returns-in_err-are_numbered_streamed g c =
     let settled = c.lemma_committed.ensures c.requires.outside in
     record {
       found = λ clean. none_found _ _ failed.0;
-      unnumbered = λ clean. not_told _ c.in_err-are_numbered_streamed.field-0.0 _ failed.1;
+      unnumbered = λ clean. not_reported _ c.in_err-are_numbered_streamed.field-0.0 _ failed.1;
       why =
           λ clean.
-          told_storage _ c.in_err-are_numbered_streamed.field-0.0 _ failed.1
+          storage_reported _ c.in_err-are_numbered_streamed.field-0.0 _ failed.1
           (if_storage c.in_err-are_numbered_streamed.field-0.0 (c.in_err-are_numbered_streamed.ensures.why clean)
           (λ f. inr (fails_at_rowids f)));
       nothing = reads_nothing g.S.Store _ _ _ settled reads;

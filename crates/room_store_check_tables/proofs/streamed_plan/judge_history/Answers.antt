@@ -2,9 +2,9 @@ use Rattle.std.proofs.Common.{arith, subst}
 use Rattle.sqlite.specs.Effect.{Database}
 use Rattle.sqlite.specs.Held.{state}
 use Rattle.sqlite.specs.State.{HasCleanDisk}
-use Rattle.room_tables_schema.proofs.ReadLaws.{and, but, fails, looked, told}
+use Rattle.room_tables_schema.proofs.ReadLaws.{and, but, fails, looked, succeeds}
 use Rattle.room_tables.specs.Failures.{IfStorage}
-use Rattle.room_tables.proofs.Told.{if_storage, told_on}
+use Rattle.room_tables.proofs.ReadFailures.{holds_on, if_storage}
 use Rattle.room_store_check_tables.proofs.Findings.{none_found}
 use Rattle.room_store_check_tables.proofs.RowLaws.{fails_first, fails_then}
 use Rattle.room_store_check_tables.proofs.StreamLaws.{all_agree, inside_of}
@@ -19,7 +19,7 @@ returns-in_err-turns g c =
       history = λ clean. none_found _ _ failed;
       why =
           λ clean.
-          told_on _ c.in_err-turns.field-0.0 (IfStorage (FailsInTables g.S.Store c.args.conn.now c.judge.new.conn))
+          holds_on _ c.in_err-turns.field-0.0 (IfStorage (FailsInTables g.S.Store c.args.conn.now c.judge.new.conn))
           c.from_residual.ensures.1
           (if_storage c.in_err-turns.field-0.0 (c.in_err-turns.ensures.why clean) (λ f. fails_first (turns_fail f)));
       reads = fails failed c.in_err-turns.ensures.reads;
@@ -30,7 +30,7 @@ returns-in_err-reports g c =
     let failed = c.from_residual-in_err-reports.ensures.0 in
     record {
       history = λ clean. none_found _ _ failed;
-      why = λ clean. told_on _ c.in_err-reports.field-0.0
+      why = λ clean. holds_on _ c.in_err-reports.field-0.0
           (IfStorage (FailsInTables g.S.Store c.args.conn.now c.judge-2.new.conn))
           c.from_residual-in_err-reports.ensures.1
           (if_storage c.in_err-reports.field-0.0 (c.in_err-reports.ensures.why clean)
@@ -43,7 +43,7 @@ returns-in_err-openings g c =
     let failed = c.from_residual-in_err-openings.ensures.0 in
     record {
       history = λ clean. none_found _ _ failed;
-      why = λ clean. told_on _ c.in_err-openings.field-0.0
+      why = λ clean. holds_on _ c.in_err-openings.field-0.0
           (IfStorage (FailsInTables g.S.Store c.args.conn.now c.judge-3.new.conn))
           c.from_residual-in_err-openings.ensures.1
           (if_storage c.in_err-openings.field-0.0 (c.in_err-openings.ensures.why clean)
@@ -79,9 +79,9 @@ returns g c =
             calls_are = subst (λ (db : Database). AreCalls db.trees calls.0) (two.ok clean_third).0.now_is calls.1;
             open_turns = turns.3 c.new.ensures;
             last_reports = reports.3 c.new-2.ensures;
-            told = calls.3 c.new-3.ensures;
+            called = calls.3 c.new-3.ensures;
             agree = all_agree _ _ _ _ _ _ turns.2 reports.2 calls.2;
           };
       why = λ clean. tt;
-      reads = told (and two c.in_ok-openings.ensures.reads);
+      reads = succeeds (and two c.in_ok-openings.ensures.reads);
     }

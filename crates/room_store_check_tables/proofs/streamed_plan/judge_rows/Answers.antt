@@ -2,9 +2,9 @@ use Rattle.std.proofs.Common.{arith, refl, subst}
 use Rattle.sqlite.specs.Effect.{Database}
 use Rattle.sqlite.specs.Held.{state}
 use Rattle.sqlite.specs.State.{HasCleanDisk}
-use Rattle.room_tables_schema.proofs.ReadLaws.{and, but, fails, looked, told}
+use Rattle.room_tables_schema.proofs.ReadLaws.{and, but, fails, looked, succeeds}
 use Rattle.room_tables.specs.Failures.{IfStorage}
-use Rattle.room_tables.proofs.Told.{if_storage, told_on}
+use Rattle.room_tables.proofs.ReadFailures.{holds_on, if_storage}
 use Rattle.room_store_check_tables.proofs.Findings.{none_found}
 use Rattle.room_store_check_tables.proofs.RowLaws.{fails_then}
 use Rattle.room_store_check_tables.proofs.StreamLaws.{inside_of, judged_with}
@@ -17,7 +17,7 @@ returns-in_err-rows g c = record {
   judged = λ clean. none_found _ _ c.from_residual.ensures.0;
   why =
       λ clean.
-      told_on _ c.in_err-rows.field-0.0 (IfStorage (FailsInTables g.S.Store c.args.conn.now c.rows_beside.new.conn))
+      holds_on _ c.in_err-rows.field-0.0 (IfStorage (FailsInTables g.S.Store c.args.conn.now c.rows_beside.new.conn))
       c.from_residual.ensures.1 (c.in_err-rows.ensures.why clean);
   reads = fails c.from_residual.ensures.0 c.in_err-rows.ensures.reads;
 }
@@ -35,7 +35,7 @@ returns-in-Ok g c =
           judged_with c.args.plan.now.areas c.in_ok-rows.rows c.in-Ok.history
           (state g.S.Store c.args.conn.now).now.trees (c.in_ok-rows.ensures.beside early) history;
       why = λ clean. tt;
-      reads = told (and (looked reads) c.in-Ok.ensures.reads);
+      reads = succeeds (and (looked reads) c.in-Ok.ensures.reads);
     }
 
 pub returns-in-Err : goal.returns-in-Err

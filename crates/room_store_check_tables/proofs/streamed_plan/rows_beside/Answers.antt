@@ -1,6 +1,6 @@
 use Rattle.std.proofs.Common.{false, refl, ◌≡◌}
 use Rattle.sqlite.specs.Held.{state}
-use Rattle.room_tables_schema.proofs.ReadLaws.{fails_inside, told_inside}
+use Rattle.room_tables_schema.proofs.ReadLaws.{ends_inside, fails_inside}
 use Rattle.room_store_check_tables.proofs.RowLaws.{and_read, became, first_read}
 use Rattle.room_store_check_tables.proofs.StreamLaws.{found_beside, outside_of}
 use Rattle.room_store_check_tables.specs.ReadCauses.{assignments_fail, divisions_fail, incidents_fail, loans_fail}
@@ -25,7 +25,7 @@ returns-in-Ok g c =
     record {
       beside = λ clean. found_beside (state g.S.Store c.args.conn.now).now.trees _ c.new.ensures (all.found clean);
       why = λ clean. tt;
-      reads = outside_of mode (told_inside _ all.reads);
+      reads = outside_of mode (ends_inside _ all.reads);
     }
 
 pub returns-in-Err : goal.returns-in-Err

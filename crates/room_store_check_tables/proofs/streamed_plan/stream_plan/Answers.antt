@@ -3,7 +3,7 @@ use Rattle.std.proofs.lemmas.Result.{IfErr-weaker, IfOk-weaker}
 use Rattle.sqlite.specs.Effect.{Database}
 use Rattle.sqlite.specs.Held.{state}
 use Rattle.sqlite.specs.State.{HasCleanDisk}
-use Rattle.room_tables.proofs.Told.{told_on}
+use Rattle.room_tables.proofs.ReadFailures.{holds_on}
 use Rattle.room_store_check_tables.proofs.Findings.{held_numbered, none_stored}
 use Rattle.room_store_check_tables.proofs.StreamLaws.{file_fails, is_no_room, is_plan, nothing_then}
 use Rattle.room_store_check_tables.specs.HeldRooms.{HoldsRoom}
@@ -30,9 +30,9 @@ returns-in-Ok-clause-no_room g c clean =
     let config = c.in_ok-config.config in
     let left = c.in_ok-config.ensures.nothing.left early in
     IfErr-weaker c.plan_of_judged.result _ _
-    (λ e tells is.
+    (λ e shows is.
     is_no_room old mid left.now_is config.plan config.terminals.items (c.in_ok-config.ensures.found early)
-    c.in-Ok.judged (c.in-Ok.ensures.found clean) (tells is)) c.plan_of_judged.ensures.no_room
+    c.in-Ok.judged (c.in-Ok.ensures.found clean) (shows is)) c.plan_of_judged.ensures.no_room
 
 pub returns-in-Ok-clause-nothing : goal.returns-in-Ok-clause-nothing
 returns-in-Ok-clause-nothing g c = nothing_then _ _ _ c.in_ok-config.ensures.nothing c.in-Ok.ensures.nothing
@@ -51,7 +51,7 @@ returns-in-Err-clause-nothing g c = nothing_then _ _ _ c.in_ok-config.ensures.no
 
 pub returns-in_err-config-clause-why : goal.returns-in_err-config-clause-why
 returns-in_err-config-clause-why g c clean =
-    told_on _ c.in_err-config.field-0.0 _ c.from_residual.ensures.1
+    holds_on _ c.in_err-config.field-0.0 _ c.from_residual.ensures.1
     (λ storage. inr (c.in_err-config.ensures.why clean storage))
 
 pub returns-in-Ok-clause-why : goal.returns-in-Ok-clause-why

@@ -11,9 +11,9 @@ use Rattle.room_tables_schema.specs.Schema.{areas_table, meta_table, terminals_t
 use Rattle.room_tables_schema.specs.TableTrees.{AreNumbered}
 use Rattle.room_tables.specs.RoomsInTables.{StandsFor, numbered}
 use Rattle.room_tables.proofs.Inside.{inside_then}
-use Rattle.room_tables_schema.proofs.ReadLaws.{fails_inside, told_inside}
-use Rattle.room_tables.proofs.Told.{if_storage}
-use Rattle.room_store_check_tables.proofs.Findings.{none_found, none_stored, not_told, told_storage}
+use Rattle.room_tables_schema.proofs.ReadLaws.{ends_inside, fails_inside}
+use Rattle.room_tables.proofs.ReadFailures.{if_storage}
+use Rattle.room_store_check_tables.proofs.Findings.{none_found, none_stored, not_reported, storage_reported}
 use Rattle.room_store_check_tables.proofs.RowLaws.{fails_first, fails_then}
 use Rattle.room_store_check_tables.specs.ReadCauses.{areas_fail, meta_fails, terminals_fail}
 use Rattle.room_tables_schema.specs.FileConnections.{IsClean}
@@ -71,10 +71,10 @@ returns-in_err-terminals g c =
     let failed = c.from_residual.ensures in
     record {
       found = λ clean. none_found _ _ failed.0;
-      no_plan = λ clean. not_told _ c.in_err-terminals.field-0.0 _ failed.1;
+      no_plan = λ clean. not_reported _ c.in_err-terminals.field-0.0 _ failed.1;
       why =
           λ clean.
-          told_storage _ c.in_err-terminals.field-0.0 _ failed.1
+          storage_reported _ c.in_err-terminals.field-0.0 _ failed.1
           (if_storage c.in_err-terminals.field-0.0 (c.in_err-terminals.ensures.why clean)
           (λ f. fails_first (terminals_fail f)));
       reads = fails_inside failed.0 c.in_err-terminals.ensures.reads;
@@ -86,10 +86,10 @@ returns-in_err-zone g c =
     let failed = c.from_residual-in_err-zone.ensures in
     record {
       found = λ clean. none_found _ _ failed.0;
-      no_plan = λ clean. not_told _ c.in_err-zone.field-0.0 _ failed.1;
+      no_plan = λ clean. not_reported _ c.in_err-zone.field-0.0 _ failed.1;
       why =
           λ clean.
-          told_storage _ c.in_err-zone.field-0.0 _ failed.1
+          storage_reported _ c.in_err-zone.field-0.0 _ failed.1
           (if_storage c.in_err-zone.field-0.0 (c.in_err-zone.ensures.why clean)
           (λ f. fails_then c.in_ok-terminals.ensures.reads (fails_first (meta_fails f))));
       reads = inside_then c.in_ok-terminals.ensures.reads _ (fails_inside failed.0 c.in_err-zone.ensures.reads);
@@ -101,10 +101,10 @@ returns-in_err-areas g c =
     let failed = c.from_residual-in_err-areas.ensures in
     record {
       found = λ clean. none_found _ _ failed.0;
-      no_plan = λ clean. not_told _ c.in_err-areas.field-0.0 _ failed.1;
+      no_plan = λ clean. not_reported _ c.in_err-areas.field-0.0 _ failed.1;
       why =
           λ clean.
-          told_storage _ c.in_err-areas.field-0.0 _ failed.1
+          storage_reported _ c.in_err-areas.field-0.0 _ failed.1
           (if_storage c.in_err-areas.field-0.0 (c.in_err-areas.ensures.why clean)
           (λ f.
           fails_then c.in_ok-terminals.ensures.reads
@@ -119,7 +119,7 @@ returns-in_err-areas g c =
 pub returns-clause-reads : goal.returns-clause-reads
 returns-clause-reads g c =
     inside_then c.in_ok-terminals.ensures.reads _
-    (inside_then c.in_ok-zone.ensures.reads _ (told_inside _ c.in_ok-areas.ensures.reads))
+    (inside_then c.in_ok-zone.ensures.reads _ (ends_inside _ c.in_ok-areas.ensures.reads))
 
 pub returns-clause-why : goal.returns-clause-why
 returns-clause-why g c clean = none_stored c.planned_config.result _ c.planned_config.ensures.cause

@@ -1,6 +1,6 @@
 use Rattle.std.proofs.Common.{refl}
 use Rattle.sqlite.specs.Held.{state}
-use Rattle.room_tables_schema.proofs.ReadLaws.{fails_inside, told_inside}
+use Rattle.room_tables_schema.proofs.ReadLaws.{ends_inside, fails_inside}
 use Rattle.room_store_check_tables.proofs.RowLaws.{and_read, became, first_read, found_rows}
 use Rattle.room_store_check_tables.specs.ReadCauses.{assignments_fail, calls_fail, divisions_fail, incidents_fail}
 use Rattle.room_store_check_tables.specs.ReadCauses.{loans_fail, offers_fail, points_fail, reports_fail, turns_fail}
@@ -35,7 +35,7 @@ returns-in-Ok-clause-reads g c =
     (and_read (and_read five c.next_rows-6.ensures.next turns_fail) c.next_rows-7.ensures.next assignments_fail)
     c.next_rows-8.ensures.next points_fail) c.next_rows-9.ensures.next loans_fail) c.next_rows-10.ensures.next
     offers_fail in
-    told_inside _ (became c.in-Ok.is ten).reads
+    ends_inside _ (became c.in-Ok.is ten).reads
 
 pub returns-in-Err-clause-reads : goal.returns-in-Err-clause-reads
 returns-in-Err-clause-reads g c =

@@ -4,9 +4,9 @@ use Rattle.sqlite.specs.Held.{state}
 use Rattle.sqlite.specs.State.{HasCleanDisk}
 use Rattle.room_tables.specs.Rowids.{AreAllNumbered}
 use Rattle.room_tables.proofs.Inside.{inside_then}
-use Rattle.room_tables_schema.proofs.ReadLaws.{fails_inside, told_inside}
-use Rattle.room_tables.proofs.Told.{if_storage, told_on}
-use Rattle.room_store_check_tables.proofs.Findings.{none_found, not_told, stands_with, told_storage}
+use Rattle.room_tables_schema.proofs.ReadLaws.{ends_inside, fails_inside}
+use Rattle.room_tables.proofs.ReadFailures.{holds_on, if_storage}
+use Rattle.room_store_check_tables.proofs.Findings.{none_found, not_reported, stands_with, storage_reported}
 use Rattle.room_store_check_tables.proofs.RowLaws.{fails_at_rowids, fails_then}
 use Rattle.room_store_check_tables.specs.HeldRooms.{HasConfiguration, HasRows, MakesNoPlan}
 use Rattle.room_store_check_tables.specs.declared.file_faults.FileFault.TheVariants.{NotARoom}
@@ -33,17 +33,17 @@ returns-clause-stands g c clean =
 pub returns-in_err-are_numbered : goal.returns-in_err-are_numbered
 returns-in_err-are_numbered g c = record {
   stands = λ clean. none_found _ _ c.from_residual.ensures.0;
-  no_plan = λ clean. not_told _ c.in_err-are_numbered.field-0.0 _ c.from_residual.ensures.1;
+  no_plan = λ clean. not_reported _ c.in_err-are_numbered.field-0.0 _ c.from_residual.ensures.1;
   why =
       λ clean.
-      told_storage _ c.in_err-are_numbered.field-0.0 _ c.from_residual.ensures.1
+      storage_reported _ c.in_err-are_numbered.field-0.0 _ c.from_residual.ensures.1
       (if_storage c.in_err-are_numbered.field-0.0 (c.in_err-are_numbered.ensures.why clean) fails_at_rowids);
   reads = fails_inside c.from_residual.ensures.0 c.in_err-are_numbered.ensures.reads;
   same_reference = c.are_numbered.ensures.same_reference;
 }
 
 pub returns-then-not-branch-clause-reads : goal.returns-then-not-branch-clause-reads
-returns-then-not-branch-clause-reads g c = told_inside _ c.in_ok-are_numbered.ensures.reads
+returns-then-not-branch-clause-reads g c = ends_inside _ c.in_ok-are_numbered.ensures.reads
 
 pub returns-then-not-branch-clause-no_plan : goal.returns-then-not-branch-clause-no_plan
 returns-then-not-branch-clause-no_plan g c clean is =
@@ -58,12 +58,12 @@ returns-in_err-config-clause-no_plan g c clean =
     let none = subst
     (λ (db : Database). c.in_err-config.field-0.0 ≡ NotARoom → AreAllNumbered db.trees → MakesNoPlan db.trees) same
     (c.in_err-config.ensures.no_plan clean) in
-    told_on c.from_residual-in_err-config.result c.in_err-config.field-0.0 _ c.from_residual-in_err-config.ensures.1
+    holds_on c.from_residual-in_err-config.result c.in_err-config.field-0.0 _ c.from_residual-in_err-config.ensures.1
     (λ is. inr (none is all))
 
 pub returns-in_err-config-clause-why : goal.returns-in_err-config-clause-why
 returns-in_err-config-clause-why g c clean =
-    told_on c.from_residual-in_err-config.result c.in_err-config.field-0.0 _ c.from_residual-in_err-config.ensures.1
+    holds_on c.from_residual-in_err-config.result c.in_err-config.field-0.0 _ c.from_residual-in_err-config.ensures.1
     (λ storage. fails_then c.in_ok-are_numbered.ensures.reads (c.in_err-config.ensures.why clean storage))
 
 pub returns-in_err-config-clause-reads : goal.returns-in_err-config-clause-reads
@@ -76,10 +76,10 @@ returns-in_err-rows g c =
     let failed = c.from_residual-in_err-rows.ensures in
     record {
       stands = λ clean. none_found _ _ failed.0;
-      no_plan = λ clean. not_told _ c.in_err-rows.field-0.0 _ failed.1;
+      no_plan = λ clean. not_reported _ c.in_err-rows.field-0.0 _ failed.1;
       why =
           λ clean.
-          told_storage _ c.in_err-rows.field-0.0 _ failed.1
+          storage_reported _ c.in_err-rows.field-0.0 _ failed.1
           (if_storage c.in_err-rows.field-0.0 (c.in_err-rows.ensures.why clean)
           (λ f. fails_then c.in_ok-are_numbered.ensures.reads (fails_then c.in_ok-config.ensures.reads f)));
       reads =
@@ -93,4 +93,4 @@ returns-in_err-rows g c =
 pub returns-clause-reads : goal.returns-clause-reads
 returns-clause-reads g c =
     inside_then c.in_ok-are_numbered.ensures.reads _
-    (inside_then c.in_ok-config.ensures.reads _ (told_inside _ c.in_ok-rows.ensures.reads))
+    (inside_then c.in_ok-config.ensures.reads _ (ends_inside _ c.in_ok-rows.ensures.reads))

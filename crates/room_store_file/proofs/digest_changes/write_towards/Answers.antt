@@ -2,7 +2,7 @@ use Rattle.std.proofs.Common.{arith, rules, subst, sym, ◌≡◌}
 use Rattle.std.proofs.lemmas.Result.{on_ok_weaker}
 use Rattle.room_store_writes.proofs.CommitLaws.{IsWhole, is_whole}
 use Rattle.room_store_file.specs.DigestChanges.{Reaches}
-use Rattle.room_store_file.proofs.Undoing.{told_another}
+use Rattle.room_store_file.proofs.Undoing.{another_reported}
 use Rattle.room_store_file.proofs.digest_changes.write_towards.Given.{Over}
 use Rattle.room_store_file.proofs.digest_changes.write_towards.Goals.{After-conn-1}
 use Rattle.room_tables_schema.specs.FileConnections.{IsClean}
@@ -45,7 +45,7 @@ returns-clause-another g c clean =
     let same : c.end.new.tx.0 ≡ c.conn-1.given.0 = search rules in
     let early : IsClean g.S.Store done.new.tx.conn.now = omega
     (arith, (rw same at c.end.ensures.survives).clean) in
-    told_another c.end.result done.result _ c.end.ensures.why
+    another_reported c.end.result done.result _ c.end.ensures.why
     (rw c.transaction-tx.ensures.begun at (done.ensures.another early))
 
 pub end-requires : goal.end-requires

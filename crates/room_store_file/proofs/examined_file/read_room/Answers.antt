@@ -12,9 +12,9 @@ pub returns-in-Ok-false-clause-wrong : goal.returns-in-Ok-false-clause-wrong
 returns-in-Ok-false-clause-wrong g c clean =
     let early : IsClean g.S.Store c.is_room_of.new.conn = omega
     (arith, c.read_tables.ensures.nothing.survives.clean) in
-    let told = c.in-Ok-false.ensures.told early in
+    let stated = c.in-Ok-false.ensures.test early in
     let none : ¬ IsOldRoom (state g.S.Store c.args.conn.now).now = λ old.
-    true≢false (sym (told.1 old) ∙ c.in-Ok-false.field-0-test) in
+    true≢false (sym (stated.1 old) ∙ c.in-Ok-false.field-0-test) in
     IfErr-weaker c.read_tables.result _ _
     (λ e why.
     inl (

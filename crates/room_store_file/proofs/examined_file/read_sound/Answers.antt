@@ -2,7 +2,7 @@ use Rattle.std.proofs.Common.{subst, sym, ◌∙◌}
 use Rattle.std.proofs.lemmas.Result.{IfErr-weaker, IfOk-weaker}
 use Rattle.sqlite.specs.Held.{state}
 use Rattle.room_store_file.proofs.TakeLaws.{has_tables}
-use Rattle.room_store_file.proofs.ExaminedLaws.{no_plan_new, read_fault, stands_new, told_storage, weighed}
+use Rattle.room_store_file.proofs.ExaminedLaws.{no_plan_new, read_fault, stands_new, storage_reported, weighed}
 use Rattle.room_store_file.specs.ExaminedFile.{Weighs}
 use Rattle.room_store_file.proofs.examined_file.read_sound.Goals as goal
 
@@ -38,4 +38,4 @@ returns-in-Ok-clause-why g c clean =
 
 pub returns-in-Err-clause-why : goal.returns-in-Err-clause-why
 returns-in-Err-clause-why g c clean storage =
-    c.in-Err.ensures.why clean (told_storage c.in-Err.fault (sym c.from.ensures ∙ storage))
+    c.in-Err.ensures.why clean (storage_reported c.in-Err.fault (sym c.from.ensures ∙ storage))

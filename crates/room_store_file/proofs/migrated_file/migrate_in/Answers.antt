@@ -69,7 +69,7 @@ returns-clause-old_room g c clean =
     let before : IsClean g.S.Store c.is_room_of.new.conn = omega
     (arith, early, c.is_room_of-2.ensures.nothing.survives.clean) in
     on_ok _ _ (subst IsOldRoom (c.in_ok-is_room_of.ensures.ok before)
-    ((c.in_ok-is_room_of-2.ensures.told early).0 c.if-not-branch.false))
+    ((c.in_ok-is_room_of-2.ensures.test early).0 c.if-not-branch.false))
 
 pub returns-clause-not_old : goal.returns-clause-not_old
 returns-clause-not_old g c clean =
@@ -77,9 +77,9 @@ returns-clause-not_old g c clean =
     (arith, c.move_tables.ensures.survives.clean) in
     let before : IsClean g.S.Store c.is_room_of.new.conn = omega
     (arith, early, c.is_room_of-2.ensures.nothing.survives.clean) in
-    let told = c.in_ok-is_room_of.ensures.told before in
+    let stated = c.in_ok-is_room_of.ensures.test before in
     IfErr-weaker c.move_tables.result _ _
-    (λ e other. (λ is. absurd (other is), λ is new. absurd (true≢false (sym (told.1 new) ∙ c.if-branch.false))))
+    (λ e other. (λ is. absurd (other is), λ is new. absurd (true≢false (sym (stated.1 new) ∙ c.if-branch.false))))
     c.move_tables.ensures.is_old
 
 pub returns-clause-untouched : goal.returns-clause-untouched
@@ -99,16 +99,17 @@ pub returns-then-not-branch-clause-not_old : goal.returns-then-not-branch-clause
 returns-then-not-branch-clause-not_old g c clean =
     let before : IsClean g.S.Store c.is_room_of.new.conn = omega
     (arith, clean, c.is_room_of-2.ensures.nothing.survives.clean) in
-    let told = c.in_ok-is_room_of.ensures.told before in
-    (λ is. cc, λ is new. true≢false (sym (told.1 new) ∙ c.if-branch.false))
+    let stated = c.in_ok-is_room_of.ensures.test before in
+    (λ is. cc, λ is new. true≢false (sym (stated.1 new) ∙ c.if-branch.false))
 
 pub returns-then-not-branch-clause-no_room : goal.returns-then-not-branch-clause-no_room
 returns-then-not-branch-clause-no_room g c clean is has holds =
     let before : IsClean g.S.Store c.is_room_of.new.conn = omega
     (arith, clean, c.is_room_of-2.ensures.nothing.survives.clean) in
-    let told = c.in_ok-is_room_of-2.ensures.told clean in
+    let stated = c.in_ok-is_room_of-2.ensures.test clean in
     let was = first_is_old (state g.S.Store c.args.conn.now).now has holds in
-    true≢false (sym (told.1 (subst IsOldRoom (sym (c.in_ok-is_room_of.ensures.ok before)) was)) ∙ c.if-not-branch.true)
+    true≢false
+    (sym (stated.1 (subst IsOldRoom (sym (c.in_ok-is_room_of.ensures.ok before)) was)) ∙ c.if-not-branch.true)
 
 pub returns-then-not-branch-clause-leaves : goal.returns-then-not-branch-clause-leaves
 returns-then-not-branch-clause-leaves g c clean =

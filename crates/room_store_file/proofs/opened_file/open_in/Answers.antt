@@ -47,18 +47,18 @@ pub returns-clause-not_old : goal.returns-clause-not_old
 returns-clause-not_old g c clean =
     let early : IsClean g.S.Store c.is_room_of.new.conn = omega
     (arith, c.open_tables.ensures.survives.clean) in
-    let told = c.in_ok-is_room_of.ensures.told early in
+    let stated = c.in_ok-is_room_of.ensures.test early in
     let none : ¬ IsOldRoom (state g.S.Store c.args.conn.now).now = λ old.
-    true≢false (sym (told.1 old) ∙ c.if-branch.false) in
+    true≢false (sym (stated.1 old) ∙ c.if-branch.false) in
     on_ok _ _ none
 
 pub returns-clause-old_room : goal.returns-clause-old_room
 returns-clause-old_room g c clean =
     let early : IsClean g.S.Store c.is_room_of.new.conn = omega
     (arith, c.open_tables.ensures.survives.clean) in
-    let told = c.in_ok-is_room_of.ensures.told early in
+    let stated = c.in_ok-is_room_of.ensures.test early in
     IfErr-weaker c.open_tables.result _ _
-    (λ e other. (λ is. absurd (other is), λ is old. absurd (true≢false (sym (told.1 old) ∙ c.if-branch.false))))
+    (λ e other. (λ is. absurd (other is), λ is old. absurd (true≢false (sym (stated.1 old) ∙ c.if-branch.false))))
     c.open_tables.ensures.this_version
 
 pub returns-clause-no_room : goal.returns-clause-no_room
@@ -160,7 +160,7 @@ returns-then-branch g c =
       kept = λ clean. tt;
       leaves = λ clean. looked.left clean;
       not_old = λ clean. tt;
-      old_room = λ clean. (λ is. (c.in_ok-is_room_of.ensures.told clean).0 c.if-branch.true, λ is. cc);
+      old_room = λ clean. (λ is. (c.in_ok-is_room_of.ensures.test clean).0 c.if-branch.true, λ is. cc);
       no_room = λ clean is. cc;
       storage = λ clean is. cc;
       why = λ clean is. cc;

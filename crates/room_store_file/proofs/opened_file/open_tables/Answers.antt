@@ -1,7 +1,7 @@
 use Rattle.std.proofs.Common.{IsTrue, inr, rules, sym, ◌∙◌, ◌≡◌}
 use Rattle.sqlite.specs.Held.{state}
 use Rattle.room_store_file.proofs.FileLaws.{may_be_indexed, takes_opens}
-use Rattle.room_store_file.proofs.TakeLaws.{has_tables, holds_new, survives_less, told_open, told_storage}
+use Rattle.room_store_file.proofs.TakeLaws.{has_tables, holds_new, open_reported, storage_reported, survives_less}
 use Rattle.room_store_file.specs.OpenedFile.{MayBeIndexed, schema_of}
 use Rattle.room_store_file.proofs.opened_file.open_tables.Goals as goal
 
@@ -15,7 +15,7 @@ returns-in-Ok-clause-opens g c clean =
 
 pub returns-in-Err-clause-no_room : goal.returns-in-Err-clause-no_room
 returns-in-Err-clause-no_room g c clean is has holds =
-    let none = told_open c.in-Err.fault (sym c.from.ensures ∙ is) in
+    let none = open_reported c.in-Err.fault (sym c.from.ensures ∙ is) in
     c.in-Err.ensures.no_room clean none (holds_new c.in-Some.tables _ c.in-Some.ensures.tables.1 holds)
 
 pub returns-in-Err-clause-storage : goal.returns-in-Err-clause-storage
@@ -27,10 +27,11 @@ returns-in-Err-clause-storage g c clean is =
 pub returns-in-Err-clause-why : goal.returns-in-Err-clause-why
 returns-in-Err-clause-why g c clean is =
     let has : (state g.S.Store c.args.conn.now).now.schema ≡ schema_of c.in-Some.tables = search rules in
-    (c.in-Some.tables, has, c.in-Err.ensures.why clean (told_storage c.in-Err.fault (sym c.from.ensures ∙ is)))
+    (c.in-Some.tables, has, c.in-Err.ensures.why clean (storage_reported c.in-Err.fault (sym c.from.ensures ∙ is)))
 
 pub returns-in-Err-clause-untouched : goal.returns-in-Err-clause-untouched
-returns-in-Err-clause-untouched g c is = c.in-Err.ensures.untouched (told_open c.in-Err.fault (sym c.from.ensures ∙ is))
+returns-in-Err-clause-untouched g c is =
+    c.in-Err.ensures.untouched (open_reported c.in-Err.fault (sym c.from.ensures ∙ is))
 
 pub returns-in-Ok-clause-survives : goal.returns-in-Ok-clause-survives
 returns-in-Ok-clause-survives g c =

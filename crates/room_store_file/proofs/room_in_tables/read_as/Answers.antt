@@ -7,7 +7,7 @@ use Rattle.room_model.specs.RoomSlices.{room_of}
 use Rattle.room_tables.proofs.RoomReads.{kept}
 use Rattle.room_tables_schema.proofs.WriteLaws.{commits_more}
 use Rattle.room_store_writes.proofs.CommitLaws.{ok_then}
-use Rattle.room_store_writes.specs.Houses.{config_of}
+use Rattle.room_store_writes.specs.Configurations.{config_of}
 use Rattle.room_store_file.proofs.TakeLaws.{may_write_on, not_made, ok_holds}
 use Rattle.room_store_check_tables.proofs.StreamLaws.{reads_commit}
 use Rattle.room_store_file.specs.OpenedFile.{Becomes, FailsToMake}

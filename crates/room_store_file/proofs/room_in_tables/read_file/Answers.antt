@@ -7,7 +7,7 @@ use Rattle.sqlite.proofs.Callers.{survives_begin}
 use Rattle.room_model.specs.RoomSlices.{room_of}
 use Rattle.room_tables_schema.proofs.ReadLaws.{still}
 use Rattle.room_store_writes.proofs.CommitLaws.{undone_leaves}
-use Rattle.room_store_writes.specs.Houses.{config_of}
+use Rattle.room_store_writes.specs.Configurations.{config_of}
 use Rattle.room_store_file.proofs.TakeLaws.{becomes_back, ok_holds}
 use Rattle.room_store_file.specs.OpeningCauses.{FailsInside}
 use Rattle.room_store_file.specs.OpenedFile.{HasNoPlanBy, StandsBy}

@@ -60,8 +60,9 @@ returns-clause-no_room g c =
     let early : HasCleanDisk last = omega (arith, c.finish.ensures.survives.clean) in
     let none = rw begun at c.find_room-found.ensures.no_room early in
     IfErr-weaker c.finish.result _ _
-    (λ e told is.
-    refused c.find_room-found.result NotARoom (λ e. e ≡ NotARoom → ¬ HoldsBy c.args.tables old.now.trees) (told is) none
+    (λ e stated is.
+    refused c.find_room-found.result NotARoom (λ e. e ≡ NotARoom → ¬ HoldsBy c.args.tables old.now.trees) (stated is)
+    none
     refl) c.finish.ensures.no_room in
     search rules
 
@@ -79,7 +80,7 @@ returns-clause-why g c =
     let early : IsClean g.S.Store last = omega (arith, c.finish.ensures.survives.clean) in
     let why = rw begun at c.find_room-found.ensures.why early in
     both_errs c.finish.result _ _ _ (c.finish.ensures.why clean) (c.finish.ensures.err clean)
-    (λ e told back storage. elim told [
+    (λ e stated back storage. elim stated [
       | inl is ↦
           inl (record {
             last = last;
@@ -119,14 +120,14 @@ returns-clause-untouched g c =
     let found = c.find_room-found.result in
     let all : IfErr c.finish.result (λ e. e ≡ NotARoom → WritesNothing (state g.S.Store old) (state g.S.Store end)) =
     both_errs c.finish.result _ _ _ c.finish.ensures.no_room (under c.finish.result _ _ c.finish.ensures.err)
-    (λ e told back is. record {
+    (λ e stated back is. record {
       left = λ clean.
           let early : IsClean g.S.Store last = omega (arith, c.finish.ensures.survives.clean) in
           undone_leaves g.S.Store old last end (rw begun at c.find_room-found.ensures.commits.kept early) (back clean)
           c.requires.committed;
       survives =
           ended_survives g.S.Store old last end found (λ _. ⊥) (rw begun at c.find_room-found.ensures.commits.survives)
-          c.finish.ensures.survives (λ _. subst (λ f. OnOk f ⊥) (sym (told is)) tt);
+          c.finish.ensures.survives (λ _. subst (λ f. OnOk f ⊥) (sym (stated is)) tt);
     }) in
     search rules
 

@@ -7,7 +7,7 @@ use Rattle.room_store_writes.proofs.CommitLaws.{ok_then}
 use Rattle.room_tables_schema.proofs.ReadLaws.{any_err}
 use Rattle.room_store_check_tables.proofs.StreamLaws.{nothing_then}
 use Rattle.room_store_file.proofs.TakeLaws.{any_fault, found_holds, lacking, looked_takes, refused, survives_less}
-use Rattle.room_store_file.specs.OpenedFile.{HoldsBy, MayBecome, TellsNoVersion, schema_of}
+use Rattle.room_store_file.specs.OpenedFile.{HoldsBy, MayBecome, ShowsNoVersion, schema_of}
 use Rattle.room_store_check_tables.specs.HeldRooms.{IsPlanOf}
 use Rattle.room_store_check_tables.specs.ReadCauses.{FailsToTake}
 use Rattle.room_store_check_tables.specs.declared.file_faults.FileFault.TheVariants.{NotARoom, Storage}
@@ -48,8 +48,8 @@ returns-clause-no_room g c clean =
     (λ e no is holds. no is (subst (λ t. HoldsBy t old.now.trees) c.in-Whole.is holds))
     (c.stream_plan-found.ensures.no_room early) in
     IfErr-weaker c.if_open.result _ _
-    (λ e told is.
-    refused c.stream_plan-found.result NotARoom (λ e. e ≡ NotARoom → ¬ HoldsBy c.args.tables old.now.trees) (told is)
+    (λ e stated is.
+    refused c.stream_plan-found.result NotARoom (λ e. e ≡ NotARoom → ¬ HoldsBy c.args.tables old.now.trees) (stated is)
     none refl) c.if_open.ensures.no_room
 
 pub returns-clause-why : goal.returns-clause-why
@@ -59,10 +59,10 @@ returns-clause-why g c clean =
     let new = c.if_open.new.conn in
     let early : IsClean g.S.Store mid = omega (arith, c.if_open.ensures.nothing.survives.clean) in
     let found = c.stream_plan-found.result in
-    IfErr-weaker c.if_open.result _ _ (λ e told storage.
+    IfErr-weaker c.if_open.result _ _ (λ e stated storage.
     let fails : FailsToTake g.S.Store old mid
-    ⊎ TellsNoVersion (state g.S.Store mid) (state g.S.Store new) =
-    elim (told storage)
+    ⊎ ShowsNoVersion (state g.S.Store mid) (state g.S.Store new) =
+    elim (stated storage)
     [ inl is ↦ inl (refused found Storage _ is (c.stream_plan-found.ensures.why early) refl) | inr none ↦ inr none ] in
     rw c.in-Whole.is (record { mid = mid; nothing = c.stream_plan-found.ensures.nothing; fails = fails }))
     (c.if_open.ensures.storage clean)

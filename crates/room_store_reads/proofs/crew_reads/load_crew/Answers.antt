@@ -1,5 +1,5 @@
 use Rattle.std.proofs.Common.{refl, subst, sym, ◌∙◌}
-use Rattle.room_tables_schema.proofs.ReadLaws.{fails, looked, told}
+use Rattle.room_tables_schema.proofs.ReadLaws.{fails, looked, succeeds}
 use Rattle.room_store_cache.specs.Cache.{AreRowsOf}
 use Rattle.room_store_reads.proofs.crew_reads.load_crew.Goals as goal
 
@@ -25,4 +25,4 @@ pub returns-in_err-turn-clause-reads : goal.returns-in_err-turn-clause-reads
 returns-in_err-turn-clause-reads g c = fails c.from_residual.ensures.0 c.in_err-turn.ensures.reads
 
 pub returns-clause-reads : goal.returns-clause-reads
-returns-clause-reads g c = told (looked c.in_ok-turn.ensures.reads)
+returns-clause-reads g c = succeeds (looked c.in_ok-turn.ensures.reads)

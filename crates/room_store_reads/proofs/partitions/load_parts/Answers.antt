@@ -1,7 +1,7 @@
 use Rattle.std.proofs.Common.{[], ap, arith, length, sym, take, take_all, ◌+◌, ◌++◌, ◌∙◌, ◌∷◌, ◌≡◌, ◌≤◌, ◌||◌}
 use Rattle.std.proofs.lemmas.List.{take_more}
 use Rattle.sqlite.specs.Held.{state}
-use Rattle.room_tables_schema.proofs.ReadLaws.{and, begins, but, clean_before, told, wants}
+use Rattle.room_tables_schema.proofs.ReadLaws.{and, begins, but, clean_before, lacks_memory, succeeds}
 use Rattle.room_store_reads.specs.Partitions.{any}
 use Rattle.room_tables.proofs.RoomReads.{kept}
 use Rattle.room_store_cache.proofs.Filters.{filter_as, or_assoc, or_none}
@@ -56,7 +56,7 @@ returns-in_err-more-clause-reads g c =
 
 pub returns-in_err-add_all-clause-reads : goal.returns-in_err-add_all-clause-reads
 returns-in_err-add_all-clause-reads g c =
-    wants c.from_residual-in_err-add_all.ensures.0 (and c.loop-part.invariant.looked c.in_ok-more.ensures.reads)
+    lacks_memory c.from_residual-in_err-add_all.ensures.0 (and c.loop-part.invariant.looked c.in_ok-more.ensures.reads)
 
 pub returns-clause-reads : goal.returns-clause-reads
-returns-clause-reads g c = told c.loop-part.invariant.looked
+returns-clause-reads g c = succeeds c.loop-part.invariant.looked

@@ -3,7 +3,7 @@ use Rattle.std.proofs.lemmas.Result.{IfOk-weaker}
 use Rattle.room_store_cache.proofs.Filters.{filter_as}
 use Rattle.room_store_reads.proofs.ReadFilters.{and_all, filter_never}
 use Rattle.room_store_reads.specs.Selections.{listed as list_of}
-use Rattle.room_store_reads.proofs.KeyedUnions.{found_alone}
+use Rattle.room_store_reads.proofs.KeyedUnions.{only_found}
 use Rattle.room_store_reads.proofs.selections.part_of.Goals as goal
 
 pub returns-in-Nothing-clause-rows : goal.returns-in-Nothing-clause-rows
@@ -15,7 +15,7 @@ pub returns-in-One-clause-rows : goal.returns-in-One-clause-rows
 returns-in-One-clause-rows g c =
     IfOk-weaker c.listed.result _ _ (λ x is keyed.
     rw c.in-One.is (is ∙ ap list_of c.owned_row.ensures
-    ∙ found_alone g.R.Key.Ord.cmp g.R.Row.key_of g.met.R.Key.Ord.total (g.R.Row.owned c.args.division) c.args.rows.now
+    ∙ only_found g.R.Key.Ord.cmp g.R.Row.key_of g.met.R.Key.Ord.total (g.R.Row.owned c.args.division) c.args.rows.now
     c.in-One.key _ keyed (c.copied.ensures ∙ c.get.ensures))) c.listed.ensures.rows
 
 pub returns-in-Everything-clause-rows : goal.returns-in-Everything-clause-rows

@@ -3,7 +3,7 @@ use Rattle.std.proofs.lemmas.Result.{IfOk-weaker}
 use Rattle.room_types.specs.Keys.{owns_turn}
 use Rattle.room_model.specs.Queries.{held}
 use Rattle.room_model.specs.WorkingRows.{is_last_turn}
-use Rattle.room_tables_schema.proofs.ReadLaws.{begins, told}
+use Rattle.room_tables_schema.proofs.ReadLaws.{begins, succeeds}
 use Rattle.room_store_reads.proofs.ReadFilters.{filter_never, filter_own}
 use Rattle.room_store_reads.proofs.working_rows.last_turn.Goals as goal
 
@@ -30,4 +30,4 @@ returns-in-None-clause-rows g c clean config room h in_order are =
     (λ t. ap (λ o. is_last_turn o t) (sym own) ∙ c.last_key.ensures t ∙ rw c.in-None.is refl))
 
 pub returns-in-None-clause-reads : goal.returns-in-None-clause-reads
-returns-in-None-clause-reads g c = told (begins c.requires.open)
+returns-in-None-clause-reads g c = succeeds (begins c.requires.open)

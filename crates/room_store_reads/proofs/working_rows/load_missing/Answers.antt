@@ -1,7 +1,7 @@
 use Rattle.std.proofs.Common.{ap, false, not, refl, sym, ℕ, ◌&&◌, ◌∙◌, ◌≡◌, ◌||◌}
 use Rattle.std.specs.Prelude.{◌==◌}
 use Rattle.room_model.specs.WorkingRows.{names_turn, reads_calls, reads_number}
-use Rattle.room_tables_schema.proofs.ReadLaws.{and, but, clean_before, fails, looked, told}
+use Rattle.room_tables_schema.proofs.ReadLaws.{and, but, clean_before, fails, looked, succeeds}
 use Rattle.room_store_cache.specs.IncidentNumbers.{contains}
 use Rattle.room_store_cache.proofs.Filters.{filter_as, or_none}
 use Rattle.room_store_reads.proofs.KnownRows.{known_or_not, read_or_not}
@@ -74,4 +74,4 @@ returns-in_err-reports-clause-reads g c =
 pub returns-clause-reads : goal.returns-clause-reads
 returns-clause-reads g c =
     let two = and (looked c.in_ok-calls.ensures.reads) c.in_ok-turns.ensures.reads in
-    told (and two c.in_ok-reports.ensures.reads)
+    succeeds (and two c.in_ok-reports.ensures.reads)

@@ -3,7 +3,7 @@ use Rattle.std.proofs.lemmas.Result.{IfOk-weaker}
 use Rattle.std.specs.Prelude.{false}
 use Rattle.room_types.specs.Codes.{is_normal}
 use Rattle.room_types.specs.Keys.{owns_report}
-use Rattle.room_tables_schema.proofs.ReadLaws.{begins, told, told_any}
+use Rattle.room_tables_schema.proofs.ReadLaws.{begins, ends_any, succeeds}
 use Rattle.room_store_cache.proofs.Filters.{filter_as, filter_owned}
 use Rattle.room_store_reads.proofs.ReadFilters.{filter_never, filter_none, numbered_is}
 use Rattle.room_store_reads.proofs.Selected.{exceptional}
@@ -15,7 +15,7 @@ returns-in-Nothing-clause-rows g c clean config room h in_order are =
     (c.new.ensures ∙ sym (filter_never (owns_report c.args.division) (λ y. false) room.reports (λ y. refl)))
 
 pub returns-in-Nothing-clause-reads : goal.returns-in-Nothing-clause-reads
-returns-in-Nothing-clause-reads g c = told (begins c.requires.open)
+returns-in-Nothing-clause-reads g c = succeeds (begins c.requires.open)
 
 pub returns-in-Some-clause-rows : goal.returns-in-Some-clause-rows
 returns-in-Some-clause-rows g c clean =
@@ -27,7 +27,7 @@ returns-in-Some-clause-rows g c clean =
     c.own_rows.ensures.rows
 
 pub returns-in-Some-clause-reads : goal.returns-in-Some-clause-reads
-returns-in-Some-clause-reads g c = told_any c.own_rows.result (begins c.requires.open)
+returns-in-Some-clause-reads g c = ends_any c.own_rows.result (begins c.requires.open)
 
 pub returns-in-None-clause-rows : goal.returns-in-None-clause-rows
 returns-in-None-clause-rows g c clean =

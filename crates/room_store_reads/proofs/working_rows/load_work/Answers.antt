@@ -2,7 +2,7 @@ use Rattle.std.proofs.Common.{false, refl, sym, ◌∙◌, ◌≡◌}
 use Rattle.std.proofs.lemmas.Result.{IfOk-weaker}
 use Rattle.std.specs.Prelude.{◌==◌}
 use Rattle.room_types.specs.declared.asks.Ask.TheVariants.{StandDown}
-use Rattle.room_tables_schema.proofs.ReadLaws.{begins, fails, looked, told, wants}
+use Rattle.room_tables_schema.proofs.ReadLaws.{begins, fails, lacks_memory, looked, succeeds}
 use Rattle.room_store_reads.proofs.ReadFilters.{filter_never}
 use Rattle.room_store_reads.proofs.working_rows.load_work.Goals as goal
 
@@ -17,7 +17,7 @@ returns-in-Some-clause-rows g c clean config room h a at in_order are selects sh
     })
 
 pub returns-in-Some-clause-reads : goal.returns-in-Some-clause-reads
-returns-in-Some-clause-reads g c = told (looked c.in_ok-last.ensures.reads)
+returns-in-Some-clause-reads g c = succeeds (looked c.in_ok-last.ensures.reads)
 
 pub returns-in_err-last-clause-reads : goal.returns-in_err-last-clause-reads
 returns-in_err-last-clause-reads g c = fails c.from_residual.ensures.0 c.in_err-last.ensures.reads
@@ -29,4 +29,4 @@ returns-clause-rows g c clean =
     found config room h a at part.0 in_order are selects c.in_default.is part.1) (c.load_missing.ensures.rows clean)
 
 pub returns-in_err-part-clause-reads : goal.returns-in_err-part-clause-reads
-returns-in_err-part-clause-reads g c = wants c.from_residual-in_err-part.ensures.0 (begins c.requires.open)
+returns-in_err-part-clause-reads g c = lacks_memory c.from_residual-in_err-part.ensures.0 (begins c.requires.open)

@@ -2,7 +2,7 @@ use Rattle.std.proofs.Common.{subst, sym, ◌∙◌, ◌≡◌}
 use Rattle.std.proofs.lemmas.Result.{IfOk-weaker}
 use Rattle.room_model.specs.RoomSlices.{room_of}
 use Rattle.room_model.specs.WorkingRows.{working}
-use Rattle.room_tables_schema.proofs.ReadLaws.{and, begins, but, clean_before, fails, looked, told_any, wants}
+use Rattle.room_tables_schema.proofs.ReadLaws.{and, begins, but, clean_before, ends_any, fails, lacks_memory, looked}
 use Rattle.room_store_cache.specs.Cache.{AreRowsOf}
 use Rattle.room_store_cache.specs.RecentIncidents.{AreRecent}
 use Rattle.room_store_cache.specs.declared.fleets.Fleet.{Fleet}
@@ -18,7 +18,7 @@ load_work-requires g c =
     record { room = still_room one c.requires.room; «open» = still_open one }
 
 pub returns-in_err-held-clause-reads : goal.returns-in_err-held-clause-reads
-returns-in_err-held-clause-reads g c = wants c.from_residual.ensures.0 (begins c.requires.open)
+returns-in_err-held-clause-reads g c = lacks_memory c.from_residual.ensures.0 (begins c.requires.open)
 
 pub returns-then-is_of_fleet-clause-rows : goal.returns-then-is_of_fleet-clause-rows
 returns-then-is_of_fleet-clause-rows g c clean = IfOk-weaker c.slice_of.result _ _
@@ -34,7 +34,7 @@ returns-then-is_of_fleet-clause-known g c clean =
     IfOk-weaker c.slice_of.result _ _ (λ slice same config room h in_order are. are) c.slice_of.ensures.rows
 
 pub returns-then-is_of_fleet-clause-reads : goal.returns-then-is_of_fleet-clause-reads
-returns-then-is_of_fleet-clause-reads g c = told_any _ (begins c.requires.open)
+returns-then-is_of_fleet-clause-reads g c = ends_any _ (begins c.requires.open)
 
 pub returns-in_err-incidents-clause-reads : goal.returns-in_err-incidents-clause-reads
 returns-in_err-incidents-clause-reads g c =
@@ -100,4 +100,4 @@ returns-clause-known g c clean = IfOk-weaker c.slice_of-2.result _ _
     }) c.slice_of-2.ensures.rows
 
 pub returns-clause-reads : goal.returns-clause-reads
-returns-clause-reads g c = told_any _ (and (looked c.in_ok-incidents.ensures.reads) c.in_ok-work.ensures.reads)
+returns-clause-reads g c = ends_any _ (and (looked c.in_ok-incidents.ensures.reads) c.in_ok-work.ensures.reads)

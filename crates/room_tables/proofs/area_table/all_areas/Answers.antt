@@ -7,8 +7,8 @@ use Rattle.room_tables_schema.specs.Schema.{room_schema}
 use Rattle.room_tables_rows.specs.declared.area_sql.TheConstants.{ALL_AREAS}
 use Rattle.room_tables_rows.proofs.AreasTable.{all_areas_means}
 use Rattle.room_tables_rows.proofs.Starts.{areas_found, areas_are}
-use Rattle.room_tables_schema.proofs.ReadLaws.{fails_inside, told_inside}
-use Rattle.room_tables.proofs.Told.{shown_fails}
+use Rattle.room_tables_schema.proofs.ReadLaws.{ends_inside, fails_inside}
+use Rattle.room_tables.proofs.ReadFailures.{shown_fails}
 use Rattle.room_tables.specs.Failures.{AreNoPlan}
 use Rattle.room_tables.proofs.area_table.all_areas.Goals as goal
 
@@ -41,7 +41,7 @@ returns-clause-why g c clean =
     (rw c.as_slice.ensures.value at c.areas_in.ensures.why)
 
 pub returns-clause-reads : goal.returns-clause-reads
-returns-clause-reads g c = told_inside c.areas_in.result c.in_ok-shown.ensures.reads
+returns-clause-reads g c = ends_inside c.areas_in.result c.in_ok-shown.ensures.reads
 
 pub returns-in_err-shown-clause-reads : goal.returns-in_err-shown-clause-reads
 returns-in_err-shown-clause-reads g c = fails_inside c.from_residual.ensures.0 c.in_err-shown.ensures.reads

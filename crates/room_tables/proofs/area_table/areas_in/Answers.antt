@@ -3,7 +3,7 @@ use Rattle.std.proofs.lemmas.Grind.{common_steps}
 use Rattle.std.proofs.lemmas.List.{take_all}
 use Rattle.room_tables_rows.proofs.PlanLaws.{areas_more}
 use Rattle.room_tables_rows.specs.AreaSql.{is_area_row}
-use Rattle.room_tables.proofs.Told.{memory_fails}
+use Rattle.room_tables.proofs.ReadFailures.{memory_fails}
 use Rattle.room_tables.proofs.Unread.{misnumbered_at, stranger_at}
 use Rattle.room_tables.proofs.area_table.areas_in.Goals as goal
 

@@ -6,7 +6,7 @@ use Rattle.room_model.specs.Queries.{greatest_serial, last_serial}
 use Rattle.room_tables_schema.specs.Schema.{room_schema}
 use Rattle.room_tables_rows.proofs.CallsTable.{calls_by_are, calls_by_means}
 use Rattle.room_tables_rows.specs.declared.call_sql.TheConstants.{CALLS_BY}
-use Rattle.room_tables_schema.proofs.ReadLaws.{fails, looked, told}
+use Rattle.room_tables_schema.proofs.ReadLaws.{fails, looked, succeeds}
 use Rattle.room_tables_schema.proofs.Refusals.{plain_here}
 use Rattle.room_tables.proofs.call_table.last_serial.Goals as goal
 
@@ -25,7 +25,7 @@ returns-in-Ok-clause-serial g c clean config room h =
     taken.2 c.of.ensures ∙ ap greatest_serial found
 
 pub returns-in-Ok-clause-reads : goal.returns-in-Ok-clause-reads
-returns-in-Ok-clause-reads g c = told (looked c.in-Ok.ensures.reads)
+returns-in-Ok-clause-reads g c = succeeds (looked c.in-Ok.ensures.reads)
 
 pub returns-in-Err-clause-why : goal.returns-in-Err-clause-why
 returns-in-Err-clause-why g c clean = rw c.store.ensures at (c.in-Err.ensures.why clean)

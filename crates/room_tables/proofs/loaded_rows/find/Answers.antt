@@ -2,8 +2,8 @@
 use Rattle.std.proofs.Common.{subst, sym, ◌∙◌}
 use Rattle.std.proofs.lemmas.Result.{IfErr-weaker, IfOk-weaker}
 use Rattle.sqlite.specs.Held.{state}
-use Rattle.room_tables_schema.proofs.ReadLaws.{fails, looked, told_any}
-use Rattle.room_tables.proofs.Told.{shown_fails}
+use Rattle.room_tables_schema.proofs.ReadLaws.{ends_any, fails, looked}
+use Rattle.room_tables.proofs.ReadFailures.{shown_fails}
 use Rattle.sqlite.specs.Values.{bound}
 use Rattle.room_tables.specs.Failures.{AreMoreThanOne}
 use Rattle.sqlite.specs.State.{Shown}
@@ -25,7 +25,7 @@ returns-clause-why g c clean =
     (rw c.as_slice.ensures.value at c.row_of.ensures.why)
 
 pub returns-clause-reads : goal.returns-clause-reads
-returns-clause-reads g c = told_any c.row_of.result (looked c.in_ok-shown.ensures.reads)
+returns-clause-reads g c = ends_any c.row_of.result (looked c.in_ok-shown.ensures.reads)
 
 pub returns-in_err-shown-clause-reads : goal.returns-in_err-shown-clause-reads
 returns-in_err-shown-clause-reads g c = fails c.from_residual.ensures.0 c.in_err-shown.ensures.reads

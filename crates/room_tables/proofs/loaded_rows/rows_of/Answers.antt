@@ -27,5 +27,5 @@ returns g c =
     (λ shown.
     AreRead g.X.Stored.is_row order key g.X.Stored.cells (λ first rows now. first ≡ [] → now ≡ rows) [] shown
     c.end.result) (take_all c.loop-columns.columns-index c.args.shown.now c.loop-columns-test.false) read in
-    let told = of_rows g.X.Stored.is_row order key g.X.Stored.cells c.args.shown.now c.end.result all in
-    record { shown = told.0; keyed = told.1; why = told.2 }
+    let stated = of_rows g.X.Stored.is_row order key g.X.Stored.cells c.args.shown.now c.end.result all in
+    record { shown = stated.0; keyed = stated.1; why = stated.2 }

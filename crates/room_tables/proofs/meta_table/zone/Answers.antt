@@ -9,8 +9,8 @@ use Rattle.room_tables_schema.specs.Versions.{BeginsAsRoom}
 use Rattle.room_tables_rows.specs.declared.meta_sql.TheConstants.{ALL_META}
 use Rattle.room_tables_rows.proofs.MetaTable.{all_meta_means}
 use Rattle.room_tables_rows.proofs.Version.{version_found}
-use Rattle.room_tables_schema.proofs.ReadLaws.{fails_inside, told_inside}
-use Rattle.room_tables.proofs.Told.{shown_fails}
+use Rattle.room_tables_schema.proofs.ReadLaws.{ends_inside, fails_inside}
+use Rattle.room_tables.proofs.ReadFailures.{shown_fails}
 use Rattle.room_tables.specs.Failures.{AreNotJustOne}
 use Rattle.room_tables_rows.specs.MetaSql.{is_meta_row}
 use Rattle.room_tables.proofs.meta_table.zone.Goals as goal
@@ -36,7 +36,7 @@ returns-clause-why g c clean =
     (rw c.as_slice.ensures.value at c.zone_in.ensures.why)
 
 pub returns-clause-reads : goal.returns-clause-reads
-returns-clause-reads g c = told_inside c.zone_in.result c.in_ok-shown.ensures.reads
+returns-clause-reads g c = ends_inside c.zone_in.result c.in_ok-shown.ensures.reads
 
 pub returns-in_err-shown-clause-reads : goal.returns-in_err-shown-clause-reads
 returns-in_err-shown-clause-reads g c = fails_inside c.from_residual.ensures.0 c.in_err-shown.ensures.reads

@@ -4,8 +4,8 @@ use Rattle.std.proofs.lemmas.Result.{IfOk-weaker}
 use Rattle.sqlite.specs.Held.{state}
 use Rattle.sqlite.specs.State.{Shown}
 use Rattle.room_tables_schema.proofs.Refusals.{plain_here}
-use Rattle.room_tables_schema.proofs.ReadLaws.{told_inside}
-use Rattle.room_tables_schema.proofs.WriteLaws.{read_alone, read_writes, unread}
+use Rattle.room_tables_schema.proofs.ReadLaws.{ends_inside}
+use Rattle.room_tables_schema.proofs.WriteLaws.{only_read, read_writes, unread}
 use Rattle.room_tables_schema.specs.Schema.{room_schema}
 use Rattle.room_tables_rows.specs.KeyColumns.{text_cells}
 use Rattle.room_tables_rows.specs.declared.vehicle_sql.TheConstants.{VEHICLE_AT}
@@ -51,12 +51,12 @@ returns-in_default-clause-ok g c clean =
     (c.requires.inside.inside early) (c.requires.inside.room early) found
 
 pub returns-in_default-clause-writes : goal.returns-in_default-clause-writes
-returns-in_default-clause-writes g c = read_alone c.in_ok-shown.ensures.reads
+returns-in_default-clause-writes g c = only_read c.in_ok-shown.ensures.reads
 
 pub returns-in_err-shown-clause-writes : goal.returns-in_err-shown-clause-writes
 returns-in_err-shown-clause-writes g c = unread c.in_err-shown.ensures.reads
 
 pub returns-in_err-vehicle-clause-writes : goal.returns-in_err-vehicle-clause-writes
 returns-in_err-vehicle-clause-writes g c =
-    let read = told_inside c.from_residual-in_err-vehicle.result c.in_ok-shown.ensures.reads in
+    let read = ends_inside c.from_residual-in_err-vehicle.result c.in_ok-shown.ensures.reads in
     record { err = read.err; survives = read.survives }

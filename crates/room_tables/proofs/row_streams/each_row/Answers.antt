@@ -19,10 +19,10 @@ returns-clause-taken g c clean =
     let early : HasCleanDisk old = omega (arith, c.each_shown.ensures.reads.survives.clean) in
     let is = g.met.T.Row.Table.is_table in
     let text = g.T.Row.Table.texts.all in
-    IfOk-weaker c.each_shown.result _ _ (λ taken told.
-    let shown = rw c.statements.ensures.all at told.1.shown in
-    let all = all_rows is.is_held text is.selects_all old new told.0 (c.requires.room early) shown told.1.keyed in
-    (told.0, record { keyed = told.1.keyed; stands = all.0; of_any = all.1 }, told.2))
+    IfOk-weaker c.each_shown.result _ _ (λ taken stated.
+    let shown = rw c.statements.ensures.all at stated.1.shown in
+    let all = all_rows is.is_held text is.selects_all old new stated.0 (c.requires.room early) shown stated.1.keyed in
+    (stated.0, record { keyed = stated.1.keyed; stands = all.0; of_any = all.1 }, stated.2))
     (c.each_shown.ensures.taken clean)
 
 pub returns-clause-why : goal.returns-clause-why

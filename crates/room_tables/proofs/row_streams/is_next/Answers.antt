@@ -15,10 +15,10 @@ returns-in-Some-clause-next g c rows keyed is above_last =
 
 pub returns-in-Some-clause-not : goal.returns-in-Some-clause-not
 returns-in-Some-clause-not g c rows is =
-    let told : c.is_lt.result
+    let stated : c.is_lt.result
     ≡ is_lt (g.X.Key.Ord.cmp (g.X.Row.key_of c.in-Some.last.now) (g.X.Row.key_of c.args.row.now)) = cc in
     let last : Some c.in-Some.last.now ≡ last_of rows = cc in
-    next_or_not g.X.Key.Ord.cmp g.X.Row.key_of rows c.args.row.now c.in-Some.last.now _ c.is_lt.result told
+    next_or_not g.X.Key.Ord.cmp g.X.Row.key_of rows c.args.row.now c.in-Some.last.now _ c.is_lt.result stated
     (last ∙ sym (last_got rows))
 
 pub returns-in-None-clause-next : goal.returns-in-None-clause-next

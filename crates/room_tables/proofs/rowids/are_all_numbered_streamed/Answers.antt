@@ -5,7 +5,7 @@ use Rattle.sqlite.specs.State.{HasCleanDisk}
 use Rattle.sqlite.proofs.StateLemmas.{survives_then}
 use Rattle.room_tables.proofs.Repeats.{trees_stay, unchanged_after, well_so_far}
 use Rattle.room_tables.proofs.RowidLemmas.{Left, none_left, next_selects, less_left, one_numbered}
-use Rattle.room_tables.proofs.Told.{fails_at_last}
+use Rattle.room_tables.proofs.ReadFailures.{fails_at_last}
 use Rattle.room_tables.specs.Rowids.{FailsAtRowids}
 use Rattle.room_tables.proofs.rowids.are_all_numbered_streamed.Goals as goal
 

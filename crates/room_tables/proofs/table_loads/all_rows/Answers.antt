@@ -7,9 +7,9 @@ use Rattle.sqlite_exec.proofs.LoopsLemmas.{ok_both}
 use Rattle.room_tables_schema.proofs.Refusals.{plain_here}
 use Rattle.room_tables_schema.specs.Schema.{room_schema}
 use Rattle.room_tables_rows.proofs.Loads.{all_rows}
-use Rattle.room_tables_schema.proofs.ReadLaws.{fails_inside, told_inside}
+use Rattle.room_tables_schema.proofs.ReadLaws.{ends_inside, fails_inside}
 use Rattle.room_tables.specs.Failures.{AreNoRows}
-use Rattle.room_tables.proofs.Told.{shown_fails}
+use Rattle.room_tables.proofs.ReadFailures.{shown_fails}
 use Rattle.room_tables.proofs.table_loads.all_rows.Goals as goal
 
 pub select_inside-requires : goal.select_inside-requires
@@ -50,7 +50,7 @@ returns-clause-why g c clean =
     (rw c.as_slice.ensures.value at c.rows_of.ensures.why)
 
 pub returns-clause-reads : goal.returns-clause-reads
-returns-clause-reads g c = told_inside c.rows_of.result c.in_ok-shown.ensures.reads
+returns-clause-reads g c = ends_inside c.rows_of.result c.in_ok-shown.ensures.reads
 
 pub returns-in_err-shown-clause-reads : goal.returns-in_err-shown-clause-reads
 returns-in_err-shown-clause-reads g c = fails_inside c.from_residual.ensures.0 c.in_err-shown.ensures.reads

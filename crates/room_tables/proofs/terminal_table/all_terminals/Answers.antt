@@ -10,9 +10,9 @@ use Rattle.room_tables_schema.specs.Schema.{room_schema}
 use Rattle.room_tables_rows.specs.TerminalSql.{is_terminal_row, terminal_row}
 use Rattle.room_tables_rows.specs.declared.terminal_sql.TheConstants.{ALL_TERMINALS}
 use Rattle.room_tables_rows.proofs.TerminalsTable.{all_terminals_means, all_terminals_are}
-use Rattle.room_tables_schema.proofs.ReadLaws.{fails_inside, told_inside}
+use Rattle.room_tables_schema.proofs.ReadLaws.{ends_inside, fails_inside}
 use Rattle.room_tables.specs.Failures.{AreNoRows}
-use Rattle.room_tables.proofs.Told.{shown_fails}
+use Rattle.room_tables.proofs.ReadFailures.{shown_fails}
 use Rattle.room_tables.proofs.RoomReads.{was_clean}
 use Rattle.room_tables.proofs.terminal_table.all_terminals.Goals as goal
 
@@ -50,7 +50,7 @@ returns-clause-why g c clean =
     (rw c.as_slice.ensures.value at c.terminals_in.ensures.why)
 
 pub returns-clause-reads : goal.returns-clause-reads
-returns-clause-reads g c = told_inside c.terminals_in.result c.in_ok-shown.ensures.reads
+returns-clause-reads g c = ends_inside c.terminals_in.result c.in_ok-shown.ensures.reads
 
 pub returns-in_err-shown-clause-reads : goal.returns-in_err-shown-clause-reads
 returns-in_err-shown-clause-reads g c = fails_inside c.from_residual.ensures.0 c.in_err-shown.ensures.reads

@@ -38,8 +38,8 @@ returns-then-not-is_lt c =
     let a = c.index-terminals-at.result in
     let b = c.index-terminals-at-in-loop-at.result in
     let at_is : c.loop-at.at ≡ suc (c.loop-at.at - 1) = omega arith in
-    let told : is_lt (token_cmp a.token b.token) ≡ false = cc in
+    let stated : is_lt (token_cmp a.token b.token) ≡ false = cc in
     let less = λ (keyed : IsKeyed token_cmp terminal_key xs).
     adjacent_less token_cmp terminal_key xs (c.loop-at.at - 1) a b (omega arith) c.index-terminals-at.is
     (rw at_is at c.index-terminals-at-in-loop-at.is) keyed in
-    (λ no. absurd (true≢false (sym no)), λ keyed. absurd (true≢false (sym (ap is_lt (less keyed)) ∙ told)))
+    (λ no. absurd (true≢false (sym no)), λ keyed. absurd (true≢false (sym (ap is_lt (less keyed)) ∙ stated)))

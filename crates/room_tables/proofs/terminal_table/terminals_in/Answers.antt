@@ -2,7 +2,7 @@
 use Rattle.std.proofs.Common.{[], inl, inr, refl, sym, true≢false, ◌∙◌}
 use Rattle.std.proofs.lemmas.List.{append-nil, take_all}
 use Rattle.room_tables_rows.specs.TerminalSql.{is_terminal_row, terminal_row}
-use Rattle.room_tables.proofs.Told.{memory_fails}
+use Rattle.room_tables.proofs.ReadFailures.{memory_fails}
 use Rattle.room_tables.proofs.Unread.{read_more, stranger_at}
 use Rattle.room_tables.proofs.terminal_table.terminals_in.Goals as goal
 
@@ -25,12 +25,12 @@ pub returns-else-are_in_order-clause-why : goal.returns-else-are_in_order-clause
 returns-else-are_in_order-clause-why c =
     let read = c.loop-columns.invariant
     ∙ take_all c.loop-columns.columns-index c.args.shown.now c.loop-columns-test.false in
-    let told = rw c.as_slice.ensures.value at c.are_in_order.ensures in
+    let stated = rw c.as_slice.ensures.value at c.are_in_order.ensures in
     inr (
       c.loop-columns.terminals.items,
       [],
       append-nil _ ∙ read,
-      λ keyed. true≢false (sym (told.1 keyed) ∙ c.if-are_in_order.false),
+      λ keyed. true≢false (sym (stated.1 keyed) ∙ c.if-are_in_order.false),
     )
 
 pub loop-columns-init : goal.loop-columns-init
@@ -41,4 +41,4 @@ returns-in_err-push-clause-why c = memory_fails _ c.from_residual.result c.from_
 
 pub returns-then-are_in_order-clause-keyed : goal.returns-then-are_in_order-clause-keyed
 returns-then-are_in_order-clause-keyed c =
-    let told = rw c.as_slice.ensures.value at c.are_in_order.ensures in told.0 c.if-are_in_order.true
+    let stated = rw c.as_slice.ensures.value at c.are_in_order.ensures in stated.0 c.if-are_in_order.true

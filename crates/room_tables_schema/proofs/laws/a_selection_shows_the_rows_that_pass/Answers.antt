@@ -1,5 +1,5 @@
 use Rattle.sqlite.specs.Held.{state}
-use Rattle.room_tables_schema.proofs.Openings.{rowids_tell}
+use Rattle.room_tables_schema.proofs.Openings.{rowids_shown}
 use Rattle.room_tables_schema.proofs.Selections.{shows_passing, shows_all}
 use Rattle.room_tables_schema.proofs.laws.a_selection_shows_the_rows_that_pass.Goals as goal
 
@@ -13,4 +13,4 @@ returns-clause-all g c schema text =
 
 pub returns-clause-rowids : goal.returns-clause-rowids
 returns-clause-rowids g c schema text =
-    rowids_tell schema text (state g.S.Store c.args.before.now) (state g.S.Store c.args.after.now)
+    rowids_shown schema text (state g.S.Store c.args.before.now) (state g.S.Store c.args.after.now)

@@ -6,7 +6,7 @@ use Rattle.std.specs.Slice.{IsItemAt}
 use Rattle.room_types.specs.Keys.{pair_cmp}
 use Rattle.room_model.proofs.Tests.{or_left, or_right}
 use Rattle.dispatch_room_archive.specs.CalledIncidents.{AreCalled}
-use Rattle.dispatch_room_archive.proofs.CallLaws.{at_least, both_false, end_tells, next_more, next_same}
+use Rattle.dispatch_room_archive.proofs.CallLaws.{at_least, both_false, end_shows, next_more, next_same}
 use Rattle.dispatch_room_archive.proofs.called_incidents.Called.since.Goals as goal
 use Rattle.dispatch_room_archive.proofs.called_incidents.Called.since.Goals.{then-ge+in_ok-insert, then-ge-via-then-ge}
 use Rattle.dispatch_room_archive.proofs.called_incidents.Called.since.Goals.{then-ge-via-else-ge+then-is_end}
@@ -27,7 +27,7 @@ loop-at-preserved c =
             | then-ge-via-then-ge v ↦
                 or_left _ _ (sym (at_least call.at c.args.moment) ∙ (sym c.ge.ensures ∙ v.if-ge.true))
             | then-ge-via-else-ge+then-is_end v ↦
-                or_right (nat_le c.args.moment call.at) _ (sym (end_tells c.args.moment calls at call inside here
+                or_right (nat_le c.args.moment call.at) _ (sym (end_shows c.args.moment calls at call inside here
                 v.get.result keyed (subst (λ xs. IsItemAt xs (at + 1) v.get.result) same v.get.ensures.lookup))
                 ∙ (sym v.is_end.ensures ∙ v.if-is_end.true))
           ]) (subst (λ s. Updates pair_cmp c.loop-at.incidents s (call.division, call.incident) true)
@@ -37,7 +37,7 @@ loop-at-preserved c =
           subst (λ s. AreCalled c.args.moment calls (take (at + 1) calls) s) (sym w.incidents-is)
           (next_same c.args.moment calls at call inside here _ c.loop-at.invariant
           (both_false _ _ (sym (at_least call.at c.args.moment) ∙ (sym c.ge.ensures ∙ w.if-ge.false))
-          (sym (end_tells c.args.moment calls at call inside here w.get.result keyed
+          (sym (end_shows c.args.moment calls at call inside here w.get.result keyed
           (subst (λ xs. IsItemAt xs (at + 1) w.get.result) same w.get.ensures.lookup))
           ∙ (sym w.is_end.ensures ∙ w.if-is_end.false))))
     ]

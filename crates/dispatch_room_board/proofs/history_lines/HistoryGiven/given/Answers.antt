@@ -4,7 +4,7 @@ use Rattle.dispatch_room_board.proofs.history_lines.HistoryGiven.given.Goals as 
 pub returns-in-None : goal.returns-in-None
 returns-in-None c =
     read_none _ c.in-None.is
-    (read_both c.zip-told.ensures
+    (read_both c.zip-members.ensures
     (read_both c.zip.ensures c.from_json-subject.ensures c.in_ok-calls.ensures) c.in_ok-turns.ensures)
     (λ it. ((it.subject, it.calls), it.turns)) (λ it h. ((h.subject, h.calls), h.turns))
 

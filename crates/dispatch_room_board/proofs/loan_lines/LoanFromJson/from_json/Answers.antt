@@ -4,7 +4,7 @@ use Rattle.dispatch_room_board.proofs.loan_lines.LoanFromJson.from_json.Goals as
 pub returns-in-None : goal.returns-in-None
 returns-in-None c =
     read_none _ c.in-None.is
-    (read_both c.zip-told.ensures
+    (read_both c.zip-members.ensures
     (read_both c.zip-4.ensures
     (read_both c.zip-3.ensures
     (read_both c.zip-2.ensures (read_both c.zip.ensures c.member.ensures c.member-2.ensures) c.member-3.ensures)

@@ -5,7 +5,7 @@ use Rattle.dispatch_room_board.proofs.queue_lines.EntryFromJson.from_json.Goals 
 pub returns-in-None : goal.returns-in-None
 returns-in-None c =
     read_none _ c.in-None.is
-    (read_both c.zip-told.ensures
+    (read_both c.zip-members.ensures
     (read_both c.zip-2.ensures (read_both c.zip.ensures c.member.ensures c.member-2.ensures) c.member-3.ensures)
     c.member-4.ensures)
     (λ it. (((it.rank, it.since), it.number), record { callsign = it.callsign }))

@@ -4,7 +4,7 @@ use Rattle.dispatch_room_board.proofs.subject_lines.SubjectFromJson.from_json.Go
 pub returns-in-None : goal.returns-in-None
 returns-in-None c =
     read_none _ c.in-None.is
-    (read_both c.zip-told.ensures
+    (read_both c.zip-members.ensures
     (read_both c.zip-7.ensures
     (read_both c.zip-6.ensures
     (read_both c.zip-5.ensures

@@ -12,7 +12,7 @@ returns-in-None c =
     (read_both c.zip-4.ensures (read_both c.zip-3.ensures c.member-5.ensures c.member-6.ensures) c.member-7.ensures)
     c.member-8.ensures in
     let end = read_both c.zip-end.ensures c.member-9.ensures c.member-10.ensures in
-    read_none _ c.in-None.is (read_both c.zip-told.ensures (read_both c.zip-5.ensures sent steps) end)
+    read_none _ c.in-None.is (read_both c.zip-members.ensures (read_both c.zip-5.ensures sent steps) end)
     (λ it. (
       ((((it.callsign, it.kind), it.order), it.ordered), (((it.acknowledged, it.scene), it.left), it.hospital)),
       (it.ended, it.stood_down),

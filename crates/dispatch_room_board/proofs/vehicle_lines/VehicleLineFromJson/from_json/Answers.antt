@@ -4,7 +4,7 @@ use Rattle.dispatch_room_board.proofs.vehicle_lines.VehicleLineFromJson.from_jso
 pub returns-in-None : goal.returns-in-None
 returns-in-None c =
     read_none _ c.in-None.is
-    (read_both c.zip-told.ensures
+    (read_both c.zip-members.ensures
     (read_both c.zip-6.ensures
     (read_both c.zip-5.ensures
     (read_both c.zip-4.ensures

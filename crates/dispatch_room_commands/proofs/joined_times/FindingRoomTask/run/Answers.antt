@@ -1,4 +1,5 @@
-use Rattle.std.proofs.lemmas.Result.{IfOk-weaker}
+use Rattle.std.proofs.Common.{refl}
+use Rattle.std.proofs.lemmas.Result.{IfErr-weaker, IfOk-weaker}
 use Rattle.dispatch_room_disk.proofs.WorkLemmas.{both}
 use Rattle.dispatch_room_commands.proofs.joined_times.FindingRoomTask.run.Goals as goal
 
@@ -7,3 +8,6 @@ returns-clause-done g c =
     IfOk-weaker c.day_in.result _ _ (λ worked is. (is.0, is.1.0, is.1.1))
     (both c.day_in.result _ _ c.day_in.ensures.found
     (both c.day_in.result _ _ c.day_in.ensures.day c.day_in.ensures.nothing))
+
+pub returns-clause-refused : goal.returns-clause-refused
+returns-clause-refused g c = IfErr-weaker c.day_in.result _ _ (λ fault why. (why, refl)) c.day_in.ensures.fault

@@ -1,8 +1,8 @@
 use Rattle.std.proofs.Common.{◌∙◌, sym, []}
 use Rattle.std.proofs.lemmas.List.Sums.{fold_more}
-use Rattle.room_http_requests.specs.Paths.{with_path}
-use Rattle.room_http_requests.specs.declared.paths.Path.TheVariants.{Call}
-use Rattle.room_http_requests.specs.declared.paths.TheConstants.{PATHS}
+use Rattle.room_http_requests.specs.Routes.{with_path}
+use Rattle.room_http_requests.specs.declared.request_table.Path.TheVariants.{Call}
+use Rattle.room_http_requests.specs.declared.request_table.TheConstants.{PATHS}
 use Rattle.room_http_requests.proofs.TableLemmas.{all_free, free_at}
 use Rattle.room_http_requests.proofs.routes.Routes.new.Goals as goal
 

@@ -1,7 +1,7 @@
 use Rattle.std.proofs.Common.{◌≡◌, [], take}
 use Rattle.std.specs.List.{fold}
-use Rattle.room_http_requests.specs.Paths.{with_path}
-use Rattle.room_http_requests.specs.declared.paths.TheConstants.{PATHS}
+use Rattle.room_http_requests.specs.Routes.{with_path}
+use Rattle.room_http_requests.specs.declared.request_table.TheConstants.{PATHS}
 use Rattle.room_http_requests.proofs.routes.Routes.new.Given as goal
 
 abbrev pub invariant-loop-path : goal.invariant-loop-path

@@ -14,7 +14,7 @@ returns-clause-same g c clean =
 
 pub returns-clause-kept : goal.returns-clause-kept
 returns-clause-kept g c clean =
-    kept_settled g.S.Store c.act.new.self c.act.result (c.act.ensures.settled clean) (c.act.ensures.alone clean)
+    kept_settled g.S.Store c.act.new.self c.act.result (c.act.ensures.settled clean) (c.act.ensures.only_left clean)
 
 pub returns-clause-left : goal.returns-clause-left
 returns-clause-left g c clean =

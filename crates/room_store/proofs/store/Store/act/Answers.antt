@@ -3,7 +3,7 @@ use Rattle.std.specs.Fn.{FnOnceReturnsAt}
 use Rattle.sqlite.specs.Held.{state}
 use Rattle.room_model.proofs.OneStep.{decided_alike}
 use Rattle.room_model.specs.Decisions.{answer_of}
-use Rattle.room_store_writes.specs.Houses.{config_of}
+use Rattle.room_store_writes.specs.Configurations.{config_of}
 use Rattle.room_store.proofs.StoreLaws.{event_survives, for_room, ready_schema, ready_sound, room_moved, settled_kept}
 use Rattle.room_store.proofs.LookLaws.{left_same, left_then, survives_read}
 use Rattle.room_store_writes.proofs.CommitLaws.{unchanged_survives}
@@ -18,7 +18,7 @@ returns-in-Ok-clause-bytes g c clean terminals room is addressed =
 
 pub returns-in-Ok-clause-apart : goal.returns-in-Ok-clause-apart
 returns-in-Ok-clause-apart g c clean terminals room other is addressed formed agree =
-    subst (λ told. FnOnceReturnsAt g.F.FnOnce c.args.render told (Ok c.in-Ok.bytes))
+    subst (λ answered. FnOnceReturnsAt g.F.FnOnce c.args.render answered (Ok c.in-Ok.bytes))
     (ap answer_of (decided_alike room other is.formed formed c.args.event.now agree))
     (returns-in-Ok-clause-bytes g c clean terminals room is addressed)
 
@@ -58,10 +58,10 @@ returns-in-Ok-clause-ready g c =
 pub returns-in-Ok-clause-settled : goal.returns-in-Ok-clause-settled
 returns-in-Ok-clause-settled g c clean = (c.in-Ok.ensures.ok clean).settled
 
-pub returns-in-Ok-clause-alone : goal.returns-in-Ok-clause-alone
-returns-in-Ok-clause-alone g c clean =
+pub returns-in-Ok-clause-only_left : goal.returns-in-Ok-clause-only_left
+returns-in-Ok-clause-only_left g c clean =
     (settled_kept g.S.Store (record c.args.self.now { conn = c.act_on.new.conn; cache = c.act_on.new.cache })
-    (g.met.S.Store.settled c.act_on.new.conn.store) (c.in-Ok.ensures.ok clean).settled).alone
+    (g.met.S.Store.settled c.act_on.new.conn.store) (c.in-Ok.ensures.ok clean).settled).only_left
 
 pub returns-then-not-self-clause-failed : goal.returns-then-not-self-clause-failed
 returns-then-not-self-clause-failed g c = c.requires.ready.unsound c.if-not-self.true

@@ -1,6 +1,6 @@
 use Rattle.std.proofs.Common.{arith, inr, refl, ◌∙◌}
 use Rattle.sqlite.specs.Held.{state}
-use Rattle.room_store_writes.specs.Houses.{config_of}
+use Rattle.room_store_writes.specs.Configurations.{config_of}
 use Rattle.room_store.proofs.StoreLaws.{event_survives, for_room, ready_schema, ready_sound, room_moved}
 use Rattle.room_store.proofs.LookLaws.{left_same, left_then, survives_read}
 use Rattle.room_store_writes.proofs.CommitLaws.{unchanged_survives}
@@ -78,8 +78,8 @@ returns-in-Err-clause-another g c clean is terminals room stands addressed =
     c.in-Err.ensures.another early (c.after_test.ensures.same is) (config_of old.plan terminals) room
     (for_room g.S.Store old old c.args.event.now terminals room stands addressed open_)
 
-pub returns-in-Err-clause-wants : goal.returns-in-Err-clause-wants
-returns-in-Err-clause-wants g c = c.after_test.ensures.told c.in-Err.ensures.wants
+pub returns-in-Err-clause-unavailable : goal.returns-in-Err-clause-unavailable
+returns-in-Err-clause-unavailable g c = c.after_test.ensures.missed c.in-Err.ensures.unavailable
 
 pub returns-then-not-self-clause-another : goal.returns-then-not-self-clause-another
 returns-then-not-self-clause-another g c clean is = absurd (cc is)
@@ -87,5 +87,5 @@ returns-then-not-self-clause-another g c clean is = absurd (cc is)
 pub returns-then-not-self-clause-settled : goal.returns-then-not-self-clause-settled
 returns-then-not-self-clause-settled g c clean is = absurd (cc is)
 
-pub returns-then-not-self-clause-wants : goal.returns-then-not-self-clause-wants
-returns-then-not-self-clause-wants g c = inr (_, refl, inr refl)
+pub returns-then-not-self-clause-unavailable : goal.returns-then-not-self-clause-unavailable
+returns-then-not-self-clause-unavailable g c = inr (_, refl, inr refl)

@@ -5,7 +5,7 @@ use Rattle.room_store.proofs.ActLaws.{acted, acted_survives, missed, reached}
 use Rattle.room_store.proofs.LookLaws.{left_failed, left_later, room_read, settled_read, survives_more}
 use Rattle.room_model.specs.Digests.{IsMiss}
 use Rattle.room_store_writes.proofs.CommitLaws.{ok_then}
-use Rattle.room_store.proofs.Misses.{miss_is, reaches_weaker, told_another}
+use Rattle.room_store.proofs.Misses.{another_reported, miss_is, reaches_weaker}
 use Rattle.room_tables_schema.specs.FileConnections.{IsClean}
 use Rattle.room_store.proofs.store.Store.commit_towards.Goals as goal
 
@@ -108,14 +108,14 @@ returns-in-Err-write_towards-clause-another g c clean is config room h =
     c.in-Ok.ensures.reads.ok
     (λ sound config room h. c.as_slice.ensures ∙ c.in-Ok.ensures.changes sound config room h) early config room h
     (c.in-Err-write_towards.ensures.another clean
-    (told_another c.in-Err-write_towards.undone (sym c.miss_of.ensures ∙ is)))
+    (another_reported c.in-Err-write_towards.undone (sym c.miss_of.ensures ∙ is)))
 
-pub returns-in-Err-write_towards-clause-wants : goal.returns-in-Err-write_towards-clause-wants
-returns-in-Err-write_towards-clause-wants g c =
+pub returns-in-Err-write_towards-clause-unavailable : goal.returns-in-Err-write_towards-clause-unavailable
+returns-in-Err-write_towards-clause-unavailable g c =
     subst IsMiss (sym c.miss_of.ensures) (miss_is c.in-Err-write_towards.undone)
 
-pub returns-in-Err-clause-wants : goal.returns-in-Err-clause-wants
-returns-in-Err-clause-wants g c = inr (_, refl, c.in-Err.ensures.wants)
+pub returns-in-Err-clause-unavailable : goal.returns-in-Err-clause-unavailable
+returns-in-Err-clause-unavailable g c = inr (_, refl, c.in-Err.ensures.unavailable)
 
 pub returns-in-Err-clause-another : goal.returns-in-Err-clause-another
 returns-in-Err-clause-another g c clean is = absurd (cc is)

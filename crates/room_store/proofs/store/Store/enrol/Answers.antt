@@ -1,6 +1,6 @@
 use Rattle.std.proofs.Common.{arith, refl}
 use Rattle.sqlite.specs.Held.{state}
-use Rattle.room_store_writes.specs.Houses.{config_of}
+use Rattle.room_store_writes.specs.Configurations.{config_of}
 use Rattle.room_store.proofs.EnrolledLaws.{in_plan, room_after_row, store_survives}
 use Rattle.room_store.proofs.KnownLaws.{knows_nothing}
 use Rattle.room_store.proofs.LookLaws.{left_same, left_then, survives_read}
@@ -53,10 +53,10 @@ returns-in-Ok-clause-ready g c =
 pub returns-in-Ok-clause-settled : goal.returns-in-Ok-clause-settled
 returns-in-Ok-clause-settled g c clean = (c.in-Ok.ensures.ok clean).settled
 
-pub returns-in-Ok-clause-alone : goal.returns-in-Ok-clause-alone
-returns-in-Ok-clause-alone g c clean =
+pub returns-in-Ok-clause-only_left : goal.returns-in-Ok-clause-only_left
+returns-in-Ok-clause-only_left g c clean =
     (settled_kept g.S.Store (record c.args.self.now { conn = c.add_fate.new.conn; cache = c.forget.new.self })
-    (g.met.S.Store.settled c.add_fate.new.conn.store) (c.in-Ok.ensures.ok clean).settled).alone
+    (g.met.S.Store.settled c.add_fate.new.conn.store) (c.in-Ok.ensures.ok clean).settled).only_left
 
 pub add_fate-requires-clause-room : goal.add_fate-requires-clause-room
 add_fate-requires-clause-room g c = ready_schema g.S.Store c.args.self.now c.requires.ready c.if-not-self.false

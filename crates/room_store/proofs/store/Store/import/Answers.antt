@@ -4,7 +4,7 @@ use Rattle.sqlite.specs.Held.{state}
 use Rattle.sqlite.specs.State.{HasCleanDisk}
 use Rattle.room_types.specs.declared.fleet.Terminal.{Terminal}
 use Rattle.room_model.specs.Room.{Room}
-use Rattle.room_store.proofs.EnrolledLaws.{enrolled_more, rows_left, rows_survive, told_more}
+use Rattle.room_store.proofs.EnrolledLaws.{enrolled_more, fates_more, rows_left, rows_survive}
 use Rattle.room_store.proofs.StoreLaws.{kept_stands, room_left}
 use Rattle.room_store.specs.FleetEnrolment.{room_after_rows, terminals_after_rows}
 use Rattle.room_store.specs.StoredRoom.{IsRoom}
@@ -30,14 +30,14 @@ loop-row-preserved g c =
       still_open = λ clean is_open. (c.in-Ok.ensures.settled clean).is_open;
       kept =
           λ clean kept.
-          record { is_open = (c.in-Ok.ensures.settled clean).is_open; alone = c.in-Ok.ensures.alone clean };
+          record { is_open = (c.in-Ok.ensures.settled clean).is_open; only_left = c.in-Ok.ensures.only_left clean };
       done = λ clean terminals room is.
           let done = before.done (early clean) terminals room is in
           let now = terminals_after_rows (take i rows) room terminals in
           let at = room_after_rows (take i rows) room terminals in (
             subst (λ (p : Room × List Terminal). IsRoom g.S.Store new p.1 p.0)
                 (sym (enrolled_more rows i row more room terminals)) (c.in-Ok.ensures.ok clean now at done.0),
-            told_more rows i row more room terminals _ _ _ done.1 (c.in-Ok.ensures.fate clean now at done.0),
+            fates_more rows i row more room terminals _ _ _ done.1 (c.in-Ok.ensures.fate clean now at done.0),
           );
       survives =
           rows_survive rows i row more g.S.Store first mid new before.plan before.still_open
@@ -56,7 +56,7 @@ returns-in-Err-clause-enrolled g c clean terminals room is =
       record {
         count = c.loop-row.row-index;
         within = omega (arith, c.loop-row-test.true);
-        told = rw c.in-Err.ensures.kept done.1;
+        added = rw c.in-Err.ensures.kept done.1;
         stands =
             room_left g.S.Store c.loop-row.self c.enrol.new.self _ _ (c.in-Err.ensures.err clean) c.enrol.ensures.plan
             (rw c.enrol.ensures.known done.0.known)
@@ -89,7 +89,7 @@ returns-clause-enrolled g c clean terminals room is =
       record {
         count = c.loop-row.row-index;
         within = omega (arith, whole);
-        told = done.1;
+        added = done.1;
         stands = done.0;
         left =
             λ kept db left.

@@ -1,5 +1,5 @@
 use Rattle.std.proofs.Common.{refl, true}
-use Rattle.room_store_writes.specs.Houses.{config_of}
+use Rattle.room_store_writes.specs.Configurations.{config_of}
 use Rattle.room_store.proofs.KnownLaws.{knows_none, knows_nothing}
 use Rattle.room_store.proofs.StoreLaws.{ready_sound, settled_kept}
 use Rattle.room_store.proofs.store.Store.migrate.Goals as goal

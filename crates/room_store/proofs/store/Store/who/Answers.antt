@@ -1,7 +1,7 @@
 use Rattle.std.proofs.Common.{ap, arith, refl, sym, ◌∙◌}
 use Rattle.std.specs.Prelude.{option_map}
 use Rattle.room_types.specs.declared.fleet.Terminal.{Terminal}
-use Rattle.room_store_writes.specs.Houses.{config_of}
+use Rattle.room_store_writes.specs.Configurations.{config_of}
 use Rattle.room_store.proofs.KnownLaws.{knows_nothing, looked_up}
 use Rattle.room_store.proofs.LookLaws.{left_failed, left_same, left_then, left_unchanged, shows_read}
 use Rattle.room_store.proofs.LookLaws.{survives_read}

@@ -3,7 +3,7 @@ use Rattle.room_types.specs.Keys.{numbered_cmp, turn_key}
 use Rattle.room_types.specs.Orders.{exact_numbered, numbered_total}
 use Rattle.room_types.specs.KeyedRows.{row_at}
 use Rattle.room_model.proofs.Tests.{row_key}
-use Rattle.room_tables_schema.proofs.ReadLaws.{begins, fails, looked, told}
+use Rattle.room_tables_schema.proofs.ReadLaws.{begins, fails, looked, succeeds}
 use Rattle.room_store_cache.proofs.fleets.Fleet.turn_at.Goals as goal
 
 pub returns-in-Some-clause-turn : goal.returns-in-Some-clause-turn
@@ -26,13 +26,13 @@ returns-clause-known g c clean config room h are =
     c.fill.ensures room are (subst (λ j. row_at numbered_cmp turn_key room.turns j ≡ Some t) own found)
 
 pub returns-in-Some-clause-reads : goal.returns-in-Some-clause-reads
-returns-in-Some-clause-reads g c = told (begins c.requires.open)
+returns-in-Some-clause-reads g c = succeeds (begins c.requires.open)
 
 pub returns-in_err-turn-clause-reads : goal.returns-in_err-turn-clause-reads
 returns-in_err-turn-clause-reads g c = fails c.from_residual.ensures.0 c.in_err-turn.ensures.reads
 
 pub returns-in_default-2-clause-reads : goal.returns-in_default-2-clause-reads
-returns-in_default-2-clause-reads g c = told (looked c.in_ok-turn.ensures.reads)
+returns-in_default-2-clause-reads g c = succeeds (looked c.in_ok-turn.ensures.reads)
 
 pub returns-clause-reads : goal.returns-clause-reads
-returns-clause-reads g c = told (looked c.in_ok-turn.ensures.reads)
+returns-clause-reads g c = succeeds (looked c.in_ok-turn.ensures.reads)

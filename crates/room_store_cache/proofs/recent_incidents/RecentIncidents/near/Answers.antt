@@ -2,7 +2,7 @@ use Rattle.std.proofs.Common.{arith, of_z, pos, subst, to_z, w64, ◌∙◌, ◌
 use Rattle.std.proofs.lemmas.Int.{ints}
 use Rattle.std.proofs.lemmas.Result.{IfOk-weaker}
 use Rattle.std.specs.Prelude.{filter, int_le}
-use Rattle.room_tables_schema.proofs.ReadLaws.{begins, fails, looked, told_any}
+use Rattle.room_tables_schema.proofs.ReadLaws.{begins, ends_any, fails, looked}
 use Rattle.room_store_cache.proofs.RecentLaws.{known_near}
 use Rattle.room_store_cache.proofs.recent_incidents.RecentIncidents.near.Goals as goal
 
@@ -42,10 +42,10 @@ returns-in-Some-clause-kept g c clean =
     IfOk-weaker c.around.result _ _ (λ x are config room h recent. recent) c.around.ensures.rows
 
 pub returns-in-Some-clause-reads : goal.returns-in-Some-clause-reads
-returns-in-Some-clause-reads g c = told_any c.around.result (begins c.requires.open)
+returns-in-Some-clause-reads g c = ends_any c.around.result (begins c.requires.open)
 
 pub returns-in_err-since-clause-reads : goal.returns-in_err-since-clause-reads
 returns-in_err-since-clause-reads g c = fails c.from_residual.ensures.0 c.in_err-since.ensures.reads
 
 pub returns-clause-reads : goal.returns-clause-reads
-returns-clause-reads g c = told_any c.around-near.result (looked c.in_ok-since.ensures.reads)
+returns-clause-reads g c = ends_any c.around-near.result (looked c.in_ok-since.ensures.reads)

@@ -3,7 +3,7 @@ use Rattle.std.proofs.lemmas.Result.{IfOk-weaker}
 use Rattle.room_types.specs.Keys.{incident_key, pair_cmp}
 use Rattle.room_types.specs.KeyedRows.{row_at}
 use Rattle.room_types.specs.Orders.{pairs_total}
-use Rattle.room_tables_schema.proofs.ReadLaws.{begins, told_any}
+use Rattle.room_tables_schema.proofs.ReadLaws.{begins, ends_any}
 use Rattle.room_store_cache.proofs.Filters.{filter_as}
 use Rattle.room_store_reads.proofs.ReadFilters.{own_pair, pair_is}
 use Rattle.room_store_reads.specs.Selections.{listed as list_of}
@@ -21,7 +21,7 @@ returns-in-Some-clause-rows g c clean =
     ∙ filter_as _ _ room.incidents (λ i. pair_is d n i.division i.number)) c.listed.ensures.rows
 
 pub returns-in-Some-clause-reads : goal.returns-in-Some-clause-reads
-returns-in-Some-clause-reads g c = told_any c.listed.result (begins c.requires.open)
+returns-in-Some-clause-reads g c = ends_any c.listed.result (begins c.requires.open)
 
 pub returns-in-None-clause-rows : goal.returns-in-None-clause-rows
 returns-in-None-clause-rows g c clean =

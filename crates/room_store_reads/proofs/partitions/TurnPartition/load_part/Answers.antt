@@ -2,7 +2,7 @@ use Rattle.std.proofs.Common.{ap, ◌&&◌, ◌∙◌}
 use Rattle.std.proofs.lemmas.Result.{IfOk-weaker}
 use Rattle.std.specs.Prelude.{filter, ◌==◌}
 use Rattle.room_types.specs.Keys.{owns_turn}
-use Rattle.room_tables_schema.proofs.ReadLaws.{begins, told_any}
+use Rattle.room_tables_schema.proofs.ReadLaws.{begins, ends_any}
 use Rattle.room_store_reads.proofs.ReadFilters.{filter_again}
 use Rattle.room_store_reads.proofs.partitions.TurnPartition.load_part.Goals as goal
 
@@ -17,7 +17,7 @@ returns-in-Some-clause-rows g c clean =
     c.own_rows.ensures.rows
 
 pub returns-in-Some-clause-reads : goal.returns-in-Some-clause-reads
-returns-in-Some-clause-reads g c = told_any c.own_rows.result (begins c.requires.open)
+returns-in-Some-clause-reads g c = ends_any c.own_rows.result (begins c.requires.open)
 
 pub returns-in-None-clause-rows : goal.returns-in-None-clause-rows
 returns-in-None-clause-rows g c clean =

@@ -1,4 +1,0 @@
-use Rattle.dispatch_room_archive.proofs.examination.tell_plan.Goals as goal
-
-pub returns : goal.returns
-returns g c = record { text = c.writeln.ensures.bytes }

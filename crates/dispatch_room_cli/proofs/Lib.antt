@@ -1,0 +1,2 @@
+pub mod TerminalNameLemmas
+pub mod DatabaseNameLemmas

@@ -1,0 +1,333 @@
+//! The table of requests: each path, its pattern and methods, what its target names, who may ask,
+//! and what is asked.
+ghost use Rattle.std.specs.Prelude.{◌≡◌, ◌⊎◌, MatchResult, None, Some};
+ghost use Rattle.room_types.specs.declared.refusal_statuses.Refusal.TheVariants.{BadBody, Memory};
+ghost use Rattle.room_http_requests.specs.RequestTable.{allow_of, is_of, is_of_history, members_of};
+ghost use Rattle.room_http_requests.specs.RequestTable.{named_by, pattern_of, request_by, role_of};
+
+use crate::bodies::ask_with_body;
+use crate::body_fields::fields_of;
+use crate::parameters::{segment, whole};
+use room_http_time::days::Day;
+use room_types::asks::{Ask, Who};
+use room_types::callsign::Callsign;
+use room_types::numbers::{Number, PointNumber};
+use room_types::refusal_statuses::{Allow, Refusal};
+use std::alloc::Global;
+
+/// A path, without its parameters.
+#[derive(Clone, Copy, PartialEq, Eq)]
+pub enum Path {
+    Call,
+    Incidents,
+    Incident,
+    Propose,
+    Mobilise,
+    Needs,
+    Merge,
+    Close,
+    Vehicles,
+    StandDown,
+    Standby,
+    Duty,
+    Off,
+    Lend,
+    Withdraw,
+    Decline,
+    Accept,
+    Recall,
+    GiveBack,
+    Queue,
+    Clear,
+    Points,
+    SetPoint,
+    Loans,
+    Offers,
+    Times,
+    Order,
+    Report,
+    Last,
+}
+
+/// All paths.
+pub const PATHS: [Path; 29] = [
+    Path::Call,
+    Path::Incidents,
+    Path::Incident,
+    Path::Propose,
+    Path::Mobilise,
+    Path::Needs,
+    Path::Merge,
+    Path::Close,
+    Path::Vehicles,
+    Path::StandDown,
+    Path::Standby,
+    Path::Duty,
+    Path::Off,
+    Path::Lend,
+    Path::Withdraw,
+    Path::Decline,
+    Path::Accept,
+    Path::Recall,
+    Path::GiveBack,
+    Path::Queue,
+    Path::Clear,
+    Path::Points,
+    Path::SetPoint,
+    Path::Loans,
+    Path::Offers,
+    Path::Times,
+    Path::Order,
+    Path::Report,
+    Path::Last,
+];
+
+impl Path {
+    /// The pattern of the path, as a router takes it; a name in braces stands for one segment.
+    pub fn pattern(self) -> &'static str
+        ensures { result.now ≡ pattern_of self }
+    {
+        match self {
+            Path::Call => "/call",
+            Path::Incidents => "/incidents",
+            Path::Incident => "/incidents/{n}",
+            Path::Propose => "/incidents/{n}/propose",
+            Path::Mobilise => "/incidents/{n}/mobilise",
+            Path::Needs => "/incidents/{n}/needs",
+            Path::Merge => "/incidents/{n}/merge",
+            Path::Close => "/incidents/{n}/close",
+            Path::Vehicles => "/vehicles",
+            Path::StandDown => "/vehicles/{c}/standdown",
+            Path::Standby => "/vehicles/{c}/standby",
+            Path::Duty => "/vehicles/{c}/duty",
+            Path::Off => "/vehicles/{c}/off",
+            Path::Lend => "/vehicles/{c}/lend",
+            Path::Withdraw => "/vehicles/{c}/withdraw",
+            Path::Decline => "/vehicles/{c}/decline",
+            Path::Accept => "/vehicles/{c}/accept",
+            Path::Recall => "/vehicles/{c}/recall",
+            Path::GiveBack => "/vehicles/{c}/giveback",
+            Path::Queue => "/queue",
+            Path::Clear => "/queue/{c}/{n}/clear",
+            Path::Points => "/points",
+            Path::SetPoint => "/points/{n}",
+            Path::Loans => "/loans",
+            Path::Offers => "/offers",
+            Path::Times => "/times/{day}",
+            Path::Order => "/order",
+            Path::Report => "/report",
+            Path::Last => "/last",
+        }
+    }
+
+    /// The methods that the path takes.
+    pub fn allow(self) -> Allow
+        ensures { result ≡ allow_of self }
+    {
+        match self {
+            Path::Incidents
+            | Path::Incident
+            | Path::Propose
+            | Path::Vehicles
+            | Path::Queue
+            | Path::Points
+            | Path::Loans
+            | Path::Offers
+            | Path::Times
+            | Path::Order
+            | Path::Last => Allow::GetHead,
+            Path::Call
+            | Path::Mobilise
+            | Path::Needs
+            | Path::Merge
+            | Path::Close
+            | Path::StandDown
+            | Path::Standby
+            | Path::Duty
+            | Path::Off
+            | Path::Lend
+            | Path::Withdraw
+            | Path::Decline
+            | Path::Accept
+            | Path::Recall
+            | Path::GiveBack
+            | Path::Clear
+            | Path::SetPoint
+            | Path::Report => Allow::Post,
+        }
+    }
+
+    /// Whether the path is one of history, which is served only where that is asked for.
+    pub fn is_of_history(self) -> bool
+        ensures { result ≡ is_of_history self }
+    {
+        matches!(self, Path::Incident | Path::Last)
+    }
+}
+
+/// A path of the room, with the parameters that stand in the target.
+#[derive(Clone, Copy)]
+pub enum Target {
+    Call,
+    Incidents,
+    Incident(Number),
+    Propose(Number),
+    Mobilise(Number),
+    Needs(Number),
+    Merge(Number),
+    Close(Number),
+    Vehicles,
+    StandDown(Callsign),
+    Standby(Callsign),
+    Duty(Callsign),
+    Off(Callsign),
+    Lend(Callsign),
+    Withdraw(Callsign),
+    Decline(Callsign),
+    Accept(Callsign),
+    Recall(Callsign),
+    GiveBack(Callsign),
+    Queue,
+    Clear(Callsign, Number),
+    Points,
+    SetPoint(PointNumber),
+    Loans,
+    Offers,
+    Times(Day),
+    Order,
+    Report,
+    Last,
+}
+
+impl Target {
+    /// What the text of a target of this path names: none where a parameter is not of its form. The
+    /// parameter is the third segment, and for a report the fourth is one too.
+    pub(crate) fn parse(path: Path, text: &str) -> Option<Target>
+        ensures { result ≡ named_by path text.now }
+    {
+        let parameter = segment(text, 2);
+        match path {
+            Path::Call => Some(Target::Call),
+            Path::Incidents => Some(Target::Incidents),
+            Path::Incident => Some(Target::Incident(whole(parameter)?)),
+            Path::Propose => Some(Target::Propose(whole(parameter)?)),
+            Path::Mobilise => Some(Target::Mobilise(whole(parameter)?)),
+            Path::Needs => Some(Target::Needs(whole(parameter)?)),
+            Path::Merge => Some(Target::Merge(whole(parameter)?)),
+            Path::Close => Some(Target::Close(whole(parameter)?)),
+            Path::Vehicles => Some(Target::Vehicles),
+            Path::StandDown => Some(Target::StandDown(Callsign::parse(parameter)?)),
+            Path::Standby => Some(Target::Standby(Callsign::parse(parameter)?)),
+            Path::Duty => Some(Target::Duty(Callsign::parse(parameter)?)),
+            Path::Off => Some(Target::Off(Callsign::parse(parameter)?)),
+            Path::Lend => Some(Target::Lend(Callsign::parse(parameter)?)),
+            Path::Withdraw => Some(Target::Withdraw(Callsign::parse(parameter)?)),
+            Path::Decline => Some(Target::Decline(Callsign::parse(parameter)?)),
+            Path::Accept => Some(Target::Accept(Callsign::parse(parameter)?)),
+            Path::Recall => Some(Target::Recall(Callsign::parse(parameter)?)),
+            Path::GiveBack => Some(Target::GiveBack(Callsign::parse(parameter)?)),
+            Path::Queue => Some(Target::Queue),
+            Path::Clear => {
+                let callsign = Callsign::parse(parameter)?;
+                let number = whole(segment(text, 3))?;
+                Some(Target::Clear(callsign, number))
+            }
+            Path::Points => Some(Target::Points),
+            Path::SetPoint => Some(Target::SetPoint(whole(parameter)?)),
+            Path::Loans => Some(Target::Loans),
+            Path::Offers => Some(Target::Offers),
+            Path::Times => Some(Target::Times(Day::parse(parameter)?)),
+            Path::Order => Some(Target::Order),
+            Path::Report => Some(Target::Report),
+            Path::Last => Some(Target::Last),
+        }
+    }
+
+    /// How many members the body of a target has: none where it takes no body.
+    pub(crate) fn members(&self) -> usize
+        ensures { result ≡ members_of self.now }
+    {
+        match self {
+            Target::Call => 5,
+            Target::Report => 4,
+            Target::Duty(_) | Target::Lend(_) | Target::SetPoint(_) => 2,
+            Target::Mobilise(_) | Target::Needs(_) | Target::Merge(_) | Target::Standby(_) => 1,
+            _ => 0,
+        }
+    }
+}
+
+/// What a terminal is.
+#[derive(Clone, Copy, PartialEq, Eq)]
+pub enum Role {
+    Desk,
+    Position,
+    Crew,
+    /// A position or a crew, which number what they send.
+    Sender,
+}
+
+impl Role {
+    /// The role that may ask for what a target names.
+    pub fn of(target: &Target) -> Role
+        ensures { result ≡ role_of target.now }
+    {
+        match target {
+            Target::Call => Role::Position,
+            Target::Order | Target::Report => Role::Crew,
+            Target::Last => Role::Sender,
+            _ => Role::Desk,
+        }
+    }
+
+    /// Whether a terminal has this role.
+    pub fn is_of(self, who: &Who) -> bool
+        ensures { result ≡ is_of self who.now }
+    {
+        match (self, who) {
+            (Role::Desk, Who::Desk(_)) => true,
+            (Role::Position, Who::Position(_)) => true,
+            (Role::Crew, Who::Crew(_)) => true,
+            (Role::Sender, Who::Position(_) | Who::Crew(_)) => true,
+            _ => false,
+        }
+    }
+}
+
+/// What a request asks of the room.
+#[derive(Clone, Copy)]
+pub enum Request {
+    Ask(Ask),
+    /// The times of a day, whose first and last instants the plan's time zone gives.
+    Times(Day),
+}
+
+/// What a request asks for, by its target and its body.
+///
+/// A body is an object of JSON with exactly the members that the target takes; where it takes none,
+/// an empty body serves too. Of equal names the last counts. Any other body is refused as
+/// `BadBody`. The body of a target that takes none, as those of GET, is not looked at.
+#[tactic(auto, unfolding(crate::specs::RequestTable::request_by))]
+pub fn ask_of(alloc: Global, target: &Target, body: &[u8]) -> Result<Request, Refusal>
+    ensures { MatchResult result (λ given. request_by target.now body.now ≡ Some given)
+        (λ refusal. (refusal ≡ Memory) ⊎
+        ((refusal ≡ BadBody) × (request_by target.now body.now ≡ None))) }
+{
+    match *target {
+        Target::Incidents => Ok(Request::Ask(Ask::Incidents)),
+        Target::Incident(number) => Ok(Request::Ask(Ask::Incident(number))),
+        Target::Propose(number) => Ok(Request::Ask(Ask::Propose(number))),
+        Target::Vehicles => Ok(Request::Ask(Ask::Vehicles)),
+        Target::Queue => Ok(Request::Ask(Ask::Queue)),
+        Target::Points => Ok(Request::Ask(Ask::Points)),
+        Target::Loans => Ok(Request::Ask(Ask::Loans)),
+        Target::Offers => Ok(Request::Ask(Ask::Offers)),
+        Target::Times(day) => Ok(Request::Times(day)),
+        Target::Order => Ok(Request::Ask(Ask::Order)),
+        Target::Last => Ok(Request::Ask(Ask::Last)),
+        _ => match ask_with_body(target, &fields_of(alloc, body)?) {
+            Some(ask) => Ok(Request::Ask(ask)),
+            None => Err(Refusal::BadBody),
+        },
+    }
+}

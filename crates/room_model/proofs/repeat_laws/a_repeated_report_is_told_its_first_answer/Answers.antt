@@ -1,8 +1,0 @@
-use Rattle.room_model.proofs.RefusedAgain.{number_alone, report_told_again}
-use Rattle.room_model.proofs.repeat_laws.a_repeated_report_is_told_its_first_answer.Goals as goal
-
-pub returns-clause-refused : goal.returns-clause-refused
-returns-clause-refused g c p at r there = number_alone c p at r there
-
-pub returns-clause-again : goal.returns-clause-again
-returns-clause-again g c p at later r es order there = report_told_again c p at r es order there later

@@ -1,6 +1,0 @@
-use Rattle.std.proofs.Common.{take}
-use Rattle.room_store_check_rows.specs.HistoryChecks.{Tell}
-use Rattle.room_store_check_rows.proofs.opening_calls.told_by.Given as goal
-
-abbrev pub invariant-loop-call : goal.invariant-loop-call
-invariant-loop-call l = Tell (take l.call-index l.calls) l.openings
