@@ -119,7 +119,7 @@ def members_written():
     """The members that the code writes of each struct in an answer."""
     text = specs('room_http/src/contents.rt')
     found = re.findall(r'^impl ToJson for (\w+) \{(.*?)^\}', text, re.M | re.S)
-    return {name: re.findall(r'member\(out, "(\w+)"', own) for name, own in found
+    return {name: re.findall(r'^ +"(\w+)": &', own, re.M) for name, own in found
             if name not in ('Answer', 'Refusal')}
 
 

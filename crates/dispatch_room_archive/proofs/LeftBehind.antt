@@ -17,7 +17,8 @@ use Rattle.room_model.specs.Queries.{greatest_serial, incident_of, kept_call, ke
 use Rattle.room_model.specs.Room.{Room}
 use Rattle.room_model.specs.RoomAgreements.{IsWellFormed, ReportAgrees}
 use Rattle.dispatch_room_archive.specs.Continuation.{IsOver, IsSettled, IsSuccessor, StaysBehind}
-use Rattle.dispatch_room_archive.specs.Successor.{has_recent_call, incident_stays, is_last_report, is_over, is_recent}
+use Rattle.dispatch_room_archive.specs.Successor.{has_recent_call, incident_stays_behind, is_last_report, is_over}
+use Rattle.dispatch_room_archive.specs.Successor.{is_recent}
 use Rattle.dispatch_room_archive.specs.Successor.{is_settled, left_behind, renewed}
 
 -- ---- tests
@@ -115,11 +116,11 @@ module _ (since : ℕ) (r : Room) (w : IsWellFormed r) where
       cc
 
   recent_stays : (c : Call) → Among c r.calls → is_recent since r c ≡ true
-      → incident_stays since r c.division c.incident ≡ false
+      → incident_stays_behind since r c.division c.incident ≡ false
   unfolding incident_of
   recent_stays c a recent =
-      (elim (incident_stays since r c.division
-      c.incident) as (λ (x : Bool). incident_stays since r c.division c.incident ≡ x → x ≡ false) [
+      (elim (incident_stays_behind since r c.division
+      c.incident) as (λ (x : Bool). incident_stays_behind since r c.division c.incident ≡ x → x ≡ false) [
         | true ↦ λ e.
             let found = kept_some (is_over since r) (row_at pair_cmp incident_key r.incidents (c.division, c.incident))
             e in
@@ -133,12 +134,12 @@ module _ (since : ℕ) (r : Room) (w : IsWellFormed r) where
 
   -- a call that is there stays behind with its incident
   call_stays_with : (c : Call) → Among c r.calls
-      → (left_behind since r).call c.position c.serial ≡ incident_stays since r c.division c.incident
+      → (left_behind since r).call c.position c.serial ≡ incident_stays_behind since r c.division c.incident
   unfolding kept_call
   call_stays_with c a =
-      ap (λ o. is_some (keep (λ (c : Call). incident_stays since r c.division c.incident) o))
+      ap (λ o. is_some (keep (λ (c : Call). incident_stays_behind since r c.division c.incident) o))
       (row_among pair_cmp call_key pairs_total r.calls c w.order.calls a)
-      ∙ kept_one (incident_stays since r c.division c.incident)
+      ∙ kept_one (incident_stays_behind since r c.division c.incident)
     where
       kept_one : (x : Bool) → is_some (cond x (Some c) None) ≡ x
       kept_one true = refl

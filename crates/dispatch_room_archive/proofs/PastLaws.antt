@@ -11,7 +11,8 @@ use Rattle.room_types.specs.declared.tables.Incident.{Incident}
 use Rattle.room_types.specs.declared.tables.Report.{Report}
 use Rattle.room_model.specs.Queries.{incident_of, last_serial, vehicle_at}
 use Rattle.room_model.specs.RoomSlices.{room_of}
-use Rattle.dispatch_room_archive.specs.Successor.{has_recent_call, incident_stays, is_last_report, is_over, is_settled}
+use Rattle.dispatch_room_archive.specs.Successor.{has_recent_call, incident_stays_behind, is_last_report, is_over}
+use Rattle.dispatch_room_archive.specs.Successor.{is_settled}
 use Rattle.dispatch_room_archive.proofs.RowsLeft.{kept_is}
 use Rattle.dispatch_room_archive.specs.CalledIncidents.{AreCalled}
 use Rattle.dispatch_room_archive.specs.Leftovers.{is_report_over}
@@ -35,13 +36,13 @@ module _ (since : ℕ) (s : DivisionRows) (plan : List Area) where
 
   pub found_stays : (d n : ℕ) (i : Incident)
       → row_at pair_cmp incident_key s.incidents (d, n) ≡ Some i
-      → is_over since (room_of plan s) i ≡ incident_stays since (room_of plan s) d n
+      → is_over since (room_of plan s) i ≡ incident_stays_behind since (room_of plan s) d n
   unfolding incident_of
   found_stays d n i e =
       sym (ap (λ o. is_some (keep (is_over since (room_of plan s)) o)) e ∙ kept_is (is_over since (room_of plan s)) i)
 
   pub none_stays : (d n : ℕ) → row_at pair_cmp incident_key s.incidents (d, n) ≡ None
-      → false ≡ incident_stays since (room_of plan s) d n
+      → false ≡ incident_stays_behind since (room_of plan s) d n
   unfolding incident_of
   none_stays d n e = sym (ap (λ o. is_some (keep (is_over since (room_of plan s)) o)) e)
 

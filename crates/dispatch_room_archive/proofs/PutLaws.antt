@@ -16,9 +16,9 @@ module _ {X Y : Type 0} (f : X → Y) (before now : List Y) where
   module _ (stays : X → Bool) (xs : List X) (i : ℕ) (x : X) (inside : i < length xs)
       (here : x ≡ get_or xs i x)
       (so_far : now ≡ before ++ map f (filter (λ y. not (stays y)) (take i xs))) where
-    pub put_left_one : stays x ≡ false
+    pub put_kept_one : stays x ≡ false
         → now ++ f x ∷ [] ≡ before ++ map f (filter (λ y. not (stays y)) (take (i + 1) xs))
-    put_left_one e =
+    put_kept_one e =
         put_next (filter (λ y. not (stays y)) (take i xs)) x so_far
         ∙ ap (λ ys. before ++ map f ys)
         (with_passing (λ y. not (stays y)) xs (filter (λ y. not (stays y)) (take i xs)) i x inside here refl (ap not e))

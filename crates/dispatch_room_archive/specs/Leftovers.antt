@@ -9,22 +9,22 @@ use Rattle.room_types.specs.declared.tables.Report.{Report}
 use Rattle.room_types.specs.declared.tables.Turn.{Turn}
 use Rattle.room_model.specs.Queries.{vehicle_at}
 use Rattle.room_model.specs.Room.{Room}
-use Rattle.dispatch_room_archive.specs.Successor.{incident_stays, is_last_report, is_over, is_settled}
+use Rattle.dispatch_room_archive.specs.Successor.{incident_stays_behind, is_last_report, is_over, is_settled}
 
 -- calls and turns stay behind with their incident
 abbrev pub is_call_over : ℕ → Room → Call → Bool
-is_call_over since r c = incident_stays since r c.division c.incident
+is_call_over since r c = incident_stays_behind since r c.division c.incident
 
 abbrev pub is_turn_over : ℕ → Room → Turn → Bool
-is_turn_over since r t = incident_stays since r t.division t.incident
+is_turn_over since r t = incident_stays_behind since r t.division t.incident
 
 abbrev pub is_report_over : ℕ → Room → Report → Bool
 is_report_over since r x =
     is_settled since x && not (is_last_report x.number (vehicle_at x.callsign r))
 
 -- each row is put that doesn't stay behind, table after table
-abbrev pub puts_left : ℕ → Room → List Change
-puts_left since r =
+abbrev pub puts_kept : ℕ → Room → List Change
+puts_kept since r =
     map PutDivision r.divisions
     ++ (map PutIncident (filter (λ i. not (is_over since r i)) r.incidents)
     ++ (map PutCall (filter (λ c. not (is_call_over since r c)) r.calls)

@@ -47,23 +47,23 @@ is_settled since x = nat_lt x.at since && (x.cleared || is_normal x.outcome)
 
 -- an incident that is over stays behind, a call with its incident, and a report that is settled,
 -- unless it is its vehicle's last
-abbrev pub incident_stays : ℕ → Room → ℕ → ℕ → Bool
-incident_stays since r d n = is_some (keep (is_over since r) (incident_of d n r))
+abbrev pub incident_stays_behind : ℕ → Room → ℕ → ℕ → Bool
+incident_stays_behind since r d n = is_some (keep (is_over since r) (incident_of d n r))
 
-abbrev pub call_stays : ℕ → Room → ℕ → ℕ → Bool
-call_stays since r p s =
-    is_some (keep (λ c. incident_stays since r c.division c.incident) (kept_call p s r))
+abbrev pub call_stays_behind : ℕ → Room → ℕ → ℕ → Bool
+call_stays_behind since r p s =
+    is_some (keep (λ c. incident_stays_behind since r c.division c.incident) (kept_call p s r))
 
-abbrev pub report_stays : ℕ → Room → Callsign → ℕ → Bool
-report_stays since r c n =
+abbrev pub report_stays_behind : ℕ → Room → Callsign → ℕ → Bool
+report_stays_behind since r c n =
     is_some (keep (is_settled since) (kept_report c n r))
     && not (is_last_report n (vehicle_at c r))
 
 abbrev pub left_behind : ℕ → Room → Behind
 left_behind since r = record {
-  incident = incident_stays since r;
-  call = call_stays since r;
-  report = report_stays since r;
+  incident = incident_stays_behind since r;
+  call = call_stays_behind since r;
+  report = report_stays_behind since r;
 }
 
 -- ---- the new room

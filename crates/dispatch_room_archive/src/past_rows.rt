@@ -3,7 +3,7 @@ ghost use Rattle.std.specs.Prelude.{◌≡◌, ◌&&◌, IfOk, List, nat_lt, not
 ghost use Rattle.room_place.specs.declared.plans.Area.{Area};
 ghost use Rattle.room_types.specs.Codes.{is_active, is_normal};
 ghost use Rattle.room_model.specs.RoomSlices.{room_of};
-ghost use Rattle.dispatch_room_archive.specs.Successor.{incident_stays, is_last_report, is_over, is_settled};
+ghost use Rattle.dispatch_room_archive.specs.Successor.{incident_stays_behind, is_last_report, is_over, is_settled};
 ghost use Rattle.dispatch_room_archive.specs.CalledIncidents.{AreCalled};
 ghost use Rattle.dispatch_room_archive.specs.Leftovers.{is_report_over};
 
@@ -39,9 +39,10 @@ impl<'a> Past<'a> {
     }
 
     /// Whether the incident of a division and number stays behind.
-    pub fn incident_stays(&self, division: DivisionNumber, number: Number) -> bool
+    pub fn incident_stays_behind(&self, division: DivisionNumber, number: Number) -> bool
         ensures { (plan : List Area) → result
-            ≡ incident_stays self.now.since (room_of plan self.now.rows.now) division number }
+            ≡ incident_stays_behind self.now.since (room_of plan self.now.rows.now) division
+            number }
     {
         match self.rows.incidents.get(&(division, number)) {
             Some(incident) => self.is_over(incident),

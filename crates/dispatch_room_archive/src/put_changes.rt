@@ -28,12 +28,12 @@ pub(crate) trait Put: Row {
 /// A row that may stay behind when its room is renewed.
 pub(crate) trait Leaves: Put {
     // Whether it stays behind, of a room that is renewed since a moment.
-    ghost stays: { ℕ → Room → Self → Bool };
+    ghost stays_behind: { ℕ → Room → Self → Bool };
 
     /// Whether it stays behind.
-    fn stays(&self, past: &Past<'_>) -> bool
+    fn stays_behind(&self, past: &Past<'_>) -> bool
         ensures { (plan : List Area) → result
-            ≡ stays past.now.since (room_of plan past.now.rows.now) self.now };
+            ≡ stays_behind past.now.since (room_of plan past.now.rows.now) self.now };
 }
 
 /// Puts all rows of a table, after the changes that are there.
@@ -47,17 +47,17 @@ pub(crate) fn put_all<R: Put>(changes: &mut Vec<Change>, rows: &Rows<R>) -> Resu
 }
 
 /// Puts the rows of a table that don't stay behind.
-pub(crate) fn put_left<R: Leaves>(
+pub(crate) fn put_kept<R: Leaves>(
     changes: &mut Vec<Change>,
     rows: &Rows<R>,
     past: &Past<'_>,
 ) -> Result<(), AllocError>
     ensures { OnOk result ((plan : List Area) → changes.new.items ≡ changes.old.items
-        ++ map R.put_of (filter (λ x. not (R.stays past.now.since
+        ++ map R.put_of (filter (λ x. not (R.stays_behind past.now.since
         (room_of plan past.now.rows.now) x)) rows.now)) }
 {
     for row in rows.as_slice() {
-        if !row.stays(past) {
+        if !row.stays_behind(past) {
             changes.push(row.put())?;
         }
     }
@@ -145,33 +145,33 @@ impl Put for Report {
 }
 
 impl Leaves for Incident {
-    ghost stays = { is_over };
+    ghost stays_behind = { is_over };
 
-    fn stays(&self, past: &Past<'_>) -> bool {
+    fn stays_behind(&self, past: &Past<'_>) -> bool {
         past.is_over(self)
     }
 }
 
 impl Leaves for Call {
-    ghost stays = { is_call_over };
+    ghost stays_behind = { is_call_over };
 
-    fn stays(&self, past: &Past<'_>) -> bool {
-        past.incident_stays(self.division, self.incident)
+    fn stays_behind(&self, past: &Past<'_>) -> bool {
+        past.incident_stays_behind(self.division, self.incident)
     }
 }
 
 impl Leaves for Turn {
-    ghost stays = { is_turn_over };
+    ghost stays_behind = { is_turn_over };
 
-    fn stays(&self, past: &Past<'_>) -> bool {
-        past.incident_stays(self.division, self.incident)
+    fn stays_behind(&self, past: &Past<'_>) -> bool {
+        past.incident_stays_behind(self.division, self.incident)
     }
 }
 
 impl Leaves for Report {
-    ghost stays = { is_report_over };
+    ghost stays_behind = { is_report_over };
 
-    fn stays(&self, past: &Past<'_>) -> bool {
+    fn stays_behind(&self, past: &Past<'_>) -> bool {
         past.is_report_over(self)
     }
 }

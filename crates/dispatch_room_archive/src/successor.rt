@@ -5,10 +5,10 @@ ghost use Rattle.room_model.specs.Room.{IsInOrder};
 ghost use Rattle.room_model.specs.RoomSlices.{room_of};
 ghost use Rattle.dispatch_room_archive.specs.Composition.{puts};
 ghost use Rattle.dispatch_room_archive.specs.Successor.{renewed};
-ghost use Rattle.dispatch_room_archive.specs.Leftovers.{puts_left};
+ghost use Rattle.dispatch_room_archive.specs.Leftovers.{puts_kept};
 
 use crate::past_rows::Past;
-use crate::put_changes::{put_all, put_left};
+use crate::put_changes::{put_all, put_kept};
 use room_types::changes::Change;
 use room_types::numbers::Moment;
 use room_types::slices::DivisionRows;
@@ -31,19 +31,19 @@ pub fn puts_since(
 // The same, of rows of which is known what is over.
 fn puts_of(alloc: Global, past: &Past<'_>) -> Result<Vec<Change>, AllocError>
     ensures { IfOk result (λ changes. (plan : List Area)
-        → changes.items ≡ puts_left past.now.since (room_of plan past.now.rows.now)) }
+        → changes.items ≡ puts_kept past.now.since (room_of plan past.now.rows.now)) }
 {
     let rows = past.rows;
     let mut changes = Vec::new(alloc);
     put_all(&mut changes, &rows.divisions)?;
-    put_left(&mut changes, &rows.incidents, past)?;
-    put_left(&mut changes, &rows.calls, past)?;
+    put_kept(&mut changes, &rows.incidents, past)?;
+    put_kept(&mut changes, &rows.calls, past)?;
     put_all(&mut changes, &rows.vehicles)?;
-    put_left(&mut changes, &rows.turns, past)?;
+    put_kept(&mut changes, &rows.turns, past)?;
     put_all(&mut changes, &rows.assignments)?;
     put_all(&mut changes, &rows.points)?;
     put_all(&mut changes, &rows.loans)?;
     put_all(&mut changes, &rows.offers)?;
-    put_left(&mut changes, &rows.reports, past)?;
+    put_kept(&mut changes, &rows.reports, past)?;
     Ok(changes)
 }

@@ -3,8 +3,8 @@ use Rattle.std.proofs.Common.{ℕ, refl}
 use Rattle.dispatch_room_board.specs.declared.history_lines.History.{History}
 use Rattle.dispatch_room_board.specs.declared.board_pages.Page.{Page}
 use Rattle.dispatch_room_board.specs.declared.board_pages.Paint.TheVariants.{Plain, Title}
-use Rattle.dispatch_room_board.specs.declared.subject_lines.Subject.{Subject}
-use Rattle.dispatch_room_board.specs.BoardColumns.{row_of}
+use Rattle.dispatch_room_board.specs.declared.subject_columns.Subject.{Subject}
+use Rattle.dispatch_room_board.specs.CellLayout.{row_of}
 use Rattle.dispatch_room_board.specs.Histories.{call_table, history_lines, subject_columns, subject_lines}
 use Rattle.dispatch_room_board.specs.Histories.{subject_texts, subject_title, subject_titles, turn_table}
 use Rattle.dispatch_room_board.specs.Pages.{Adds, line_of, spaced_line, text_line}

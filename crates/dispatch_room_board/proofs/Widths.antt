@@ -2,9 +2,9 @@
 use Rattle.std.proofs.Common.{◌≡◌, ℕ, ◌+◌, ◌-◌, ◌≤◌, List, [], ◌∷◌, length, take, replicate, length-append, length-take}
 use Rattle.std.proofs.Common.{arith}
 use Rattle.std.proofs.lemmas.List.{length-replicate}
-use Rattle.dispatch_room_board.specs.declared.board_columns.Column.{Column}
-use Rattle.dispatch_room_board.specs.declared.board_columns.Column.TheVariants.{Left, Right}
-use Rattle.dispatch_room_board.specs.BoardColumns.{filled, in_column, places_of, row_of, width_of}
+use Rattle.dispatch_room_board.specs.declared.cell_layout.Column.{Column}
+use Rattle.dispatch_room_board.specs.declared.cell_layout.Column.TheVariants.{Left, Right}
+use Rattle.dispatch_room_board.specs.CellLayout.{filled, in_column, places_of, row_of, width_of}
 
 length-filled : (column : Column) (shown : List ℕ)
     → length (filled column shown) ≡ places_of column - length shown + length shown

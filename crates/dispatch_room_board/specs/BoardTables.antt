@@ -11,15 +11,15 @@ use Rattle.room_types.specs.declared.codes.Status.TheVariants.{OffDuty}
 use Rattle.room_types.specs.declared.needs.Counts.{Counts}
 use Rattle.room_types.specs.declared.tables.Loan.{Loan}
 use Rattle.room_types.specs.declared.tables.Offer.{Offer}
-use Rattle.dispatch_room_board.specs.declared.board_columns.Column.{Column}
-use Rattle.dispatch_room_board.specs.declared.board_columns.Column.TheVariants.{Left, Right}
+use Rattle.dispatch_room_board.specs.declared.cell_layout.Column.{Column}
+use Rattle.dispatch_room_board.specs.declared.cell_layout.Column.TheVariants.{Left, Right}
 use Rattle.dispatch_room_board.specs.declared.board_pages.Paint.{Paint}
 use Rattle.dispatch_room_board.specs.declared.board_pages.Paint.TheVariants.{Plain, Title, Alarm}
 use Rattle.dispatch_room_board.specs.declared.board_pages.TheConstants.{WIDEST}
 use Rattle.dispatch_room_board.specs.declared.board_tables.TableLayout.{TableLayout}
 use Rattle.dispatch_room_board.specs.BoardCells.{counts_text, kind_text, left_text, named_text, place_text, since_text}
 use Rattle.dispatch_room_board.specs.BoardCells.{status_text}
-use Rattle.dispatch_room_board.specs.BoardColumns.{row_of, width_of}
+use Rattle.dispatch_room_board.specs.CellLayout.{row_of, width_of}
 use Rattle.dispatch_room_board.specs.Pages.{line_of, note_lines, text_line}
 
 -- what an answer calls the rows, what the table is called, what stands above its rows, its columns,

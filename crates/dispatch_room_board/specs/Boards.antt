@@ -32,7 +32,7 @@ reached_with AllButRefused Unheard = Less
 reached_with AllButRefused Foreign = Less
 reached_with AllButRefused (Refused number name) = AllButRefused
 
--- a sheet has these bytes more, and nothing else is other
+-- a board has these bytes more, and nothing else is other
 abbrev pub Puts : Renderer → Renderer → List ℕ → Type 0
 Puts old new bytes =
     Adds old.page new.page bytes × (new.rest ≡ old.rest) × (new.reached ≡ old.reached)
@@ -68,7 +68,7 @@ pub record Shows {T : Type 0} (gives : Data → T → Type 0) (lines : Bool → 
   pub page : Adds old.page new.page (lines old.page.colour now given)
   pub reached : new.reached ≡ old.reached
 
--- it is reported why it gives nothing of the kind
+-- the board says why the answer gives nothing of the kind
 pub record ExplainsWhy {T : Type 0} (gives : Data → T → Type 0) (title : List ℕ)
     (old new : Renderer) : Type 0 where
   pub board_error : BoardError

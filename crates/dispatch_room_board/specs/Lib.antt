@@ -11,7 +11,7 @@ pub mod AnswerRows
 -- what stands in a column
 pub mod BoardCells
 -- the columns of a table
-pub mod BoardColumns
+pub mod CellLayout
 -- lines, and the page that they make
 pub mod Pages
 -- what stands in the rows of each table

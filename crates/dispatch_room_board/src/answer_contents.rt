@@ -14,12 +14,12 @@ use serde_json::error::Category;
 use std::alloc::{AllocError, Global};
 
 /// What an answer can give: the rows of a list, or all of an incident.
-pub trait Given: Drop {
+pub trait FromAnswer: Drop {
     // Whether the JSON of an answer gives it.
     ghost gives: { Data → Self → Type 0 };
 
     /// What a value of JSON gives; none where it gives nothing of the kind.
-    fn given(alloc: Global, value: &Value) -> Result<Option<Self>, AllocError>
+    fn from_answer(alloc: Global, value: &Value) -> Result<Option<Self>, AllocError>
         ensures { IfOk result (IsRead (gives (view value.now))) };
 }
 
@@ -28,7 +28,10 @@ pub type Found<G> = Result<(G, Moment), BoardError>;
 
 /// What an answer gives, with its moment, or why it gives nothing of the kind: it is a refusal, or
 /// no answer of a room. An answer without a date is none.
-pub fn found_in<G: Given>(alloc: Global, message: &HeardAnswer<'_>) -> Result<Found<G>, AllocError>
+pub fn found_in<G: FromAnswer>(
+    alloc: Global,
+    message: &HeardAnswer<'_>,
+) -> Result<Found<G>, AllocError>
     ensures { IfOk result (λ found. MatchResult found
         (IsDatedAnswer G.gives message.now)
         (IsNoAnswer (IsDatedAnswer G.gives message.now) message.now)) }
@@ -41,7 +44,7 @@ pub fn found_in<G: Given>(alloc: Global, message: &HeardAnswer<'_>) -> Result<Fo
 }
 
 // The same of an answer whose content says this value.
-fn found_by<G: Given>(
+fn found_by<G: FromAnswer>(
     alloc: Global,
     message: &HeardAnswer<'_>,
     value: &Value,
@@ -54,6 +57,6 @@ fn found_by<G: Given>(
     if message.code != 200 {
         return Ok(Err(refusal_in(value).unwrap_or(BoardError::Foreign)));
     }
-    let given = G::given(alloc, value)?;
+    let given = G::from_answer(alloc, value)?;
     Ok(given.zip(message.moment).ok_or(BoardError::Foreign))
 }

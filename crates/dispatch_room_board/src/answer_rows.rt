@@ -4,17 +4,17 @@ ghost use Rattle.serde_json.specs.View.{items_view, view};
 ghost use Rattle.dispatch_room_board.specs.Members.{HasMember, IsRead};
 ghost use Rattle.dispatch_room_board.specs.AnswerRows.{AreRows, IsList};
 
-use crate::answer_contents::Given;
+use crate::answer_contents::FromAnswer;
 use crate::board_tables::Tabled;
 use crate::json_members::FromJson;
 use room_types::answers::Listed;
 use serde_json::Value;
 use std::alloc::{AllocError, Global};
 
-impl<T: Tabled> Given for Listed<T> {
+impl<T: Tabled> FromAnswer for Listed<T> {
     ghost gives = { HasMember (IsList T.says) T.table.name };
 
-    fn given(alloc: Global, value: &Value) -> Result<Option<Listed<T>>, AllocError> {
+    fn from_answer(alloc: Global, value: &Value) -> Result<Option<Listed<T>>, AllocError> {
         rows_in(alloc, value, T::layout().name)
     }
 }

@@ -65,7 +65,7 @@ fn is_letter(byte: u8) -> bool
     matches!(byte, b'A'..=b'Z' | b'a'..=b'z' | b'0'..=b'9')
 }
 
-/// The trouble that a refusal reports; none where the value reports none.
+/// The error that a refusal reports; none where the value reports none.
 pub fn refusal_in(value: &Value) -> Option<BoardError>
     ensures { IsRead (IsErrorIn (view value.now)) result }
 {

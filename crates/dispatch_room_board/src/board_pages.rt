@@ -3,7 +3,7 @@ ghost use Rattle.std.specs.Prelude.{◌≡◌};
 ghost use Rattle.dispatch_room_board.specs.Pages.{closing_of, opening_of, visible};
 
 use crate::board_cells::BoardCell;
-use crate::board_columns::{Column, cut, put_cells, rest};
+use crate::cell_layout::{Column, cut, put_cells, rest};
 use std::alloc::{AllocError, Global};
 
 /// How a line is shown where colours are wanted.
@@ -32,7 +32,7 @@ pub const NOTED: usize = 70;
 impl Page {
     ghost use Rattle.std.specs.Prelude.{◌≡◌, ◌≤◌, [], length, map, OnOk};
     ghost use Rattle.dispatch_room_board.specs.BoardCells.{text_of};
-    ghost use Rattle.dispatch_room_board.specs.BoardColumns.{row_of, width_of};
+    ghost use Rattle.dispatch_room_board.specs.CellLayout.{row_of, width_of};
     ghost use Rattle.dispatch_room_board.specs.Pages.{Adds, closing_of, line_of, note_line, note_lines, noted, opening_of, spaced_line, text_line, visible};
 
     /// A page without lines.

@@ -4,8 +4,8 @@ ghost use Rattle.dispatch_room_board.specs.Pages.{Adds, spaced_line};
 ghost use Rattle.dispatch_room_board.specs.BoardTables.{IsLayout, Table, alarm_of, row_line, table_lines};
 ghost use Rattle.dispatch_room_board.specs.declared.board_pages.Paint.TheVariants.{Title};
 
-use crate::board_columns::Column;
 use crate::board_pages::{Page, Paint};
+use crate::cell_layout::Column;
 use crate::json_members::FromJson;
 use room_types::answers::Listed;
 use room_types::numbers::Moment;

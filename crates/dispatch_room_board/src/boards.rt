@@ -48,7 +48,7 @@ pub fn board_of(alloc: Global, heard: &[u8], named: bool, colour: bool) -> Resul
     Ok(renderer.board())
 }
 
-// Adds all of a board to an empty sheet.
+// Adds all of a board where none of it stands yet.
 fn put_all(renderer: &mut Renderer<'_>, named: bool) -> Result<(), AllocError>
     ensures { OnOk result ((heard : List ℕ) (colour : Bool) → IsEmpty heard colour renderer.old
         → IsBoard heard named colour

@@ -75,7 +75,7 @@ fn length_in(bytes: &[u8], fields: &[HeaderSpan]) -> Option<usize>
 /// What stands for every length that is more than is ever read.
 const TOO_LONG: usize = MOST + PIECE;
 
-// The number that only digits write, or `TOO_LONG` where it is above what is ever read.
+// The number that a text of digits only writes, or `TOO_LONG` where it is above what is ever read.
 fn numeral(value: &[u8]) -> Option<usize>
     ensures { MatchOption result (is_numeral value.now ≡ false)
         (λ n. (is_numeral value.now ≡ true) × (n ≡ min (digits_value 10 value.now) TOO_LONG)) }

@@ -3,14 +3,14 @@ ghost use Rattle.std.specs.Prelude.{OnOk};
 ghost use Rattle.dispatch_room_board.specs.Histories.{IsHistory, history_lines};
 ghost use Rattle.dispatch_room_board.specs.Pages.{Adds};
 
-use crate::answer_contents::Given;
+use crate::answer_contents::FromAnswer;
 use crate::answer_rows::rows_in;
 use crate::board_pages::Page;
 use crate::board_tables::put_rows;
-use crate::call_lines::CallLine;
+use crate::call_columns::CallLine;
 use crate::json_members::FromJson;
-use crate::subject_lines::{Subject, put_subject};
-use crate::turn_lines::TurnLine;
+use crate::subject_columns::{Subject, put_subject};
+use crate::turn_columns::TurnLine;
 use room_types::answers::Listed;
 use room_types::numbers::Moment;
 use serde_json::Value;
@@ -24,10 +24,10 @@ pub struct History {
     pub turns: Listed<TurnLine>,
 }
 
-impl Given for History {
+impl FromAnswer for History {
     ghost gives = { IsHistory };
 
-    fn given(alloc: Global, value: &Value) -> Result<Option<History>, AllocError> {
+    fn from_answer(alloc: Global, value: &Value) -> Result<Option<History>, AllocError> {
         let subject = Subject::from_json(value);
         let calls = rows_in(alloc, value, "calls")?;
         let turns = rows_in(alloc, value, "turns")?;

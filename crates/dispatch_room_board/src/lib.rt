@@ -1,28 +1,28 @@
 //! The board of a desk: what it asks a served room for, how the answers are read, and how they are
-//! laid out in lines of at most 80 columns. It only gets.
+//! laid out in lines of at most 80 columns. It only reads.
 #![tactic(auto)]
 
 mod answer_contents;
 mod answer_rows;
 mod board_cells;
-mod board_columns;
 mod board_errors;
 pub mod board_pages;
 mod board_tables;
 pub mod boards;
-mod call_lines;
+mod call_columns;
+mod cell_layout;
 mod cell_texts;
 pub mod exchange;
 mod heard_answers;
 mod history_lines;
-mod incident_lines;
+mod incident_columns;
 mod json_members;
-mod loan_lines;
-mod point_lines;
-mod proposal_lines;
-mod queue_lines;
+mod loan_columns;
+mod point_columns;
+mod proposal_columns;
+mod queue_columns;
 mod renderer;
 pub mod requests;
-mod subject_lines;
-mod turn_lines;
-mod vehicle_lines;
+mod subject_columns;
+mod turn_columns;
+mod vehicle_columns;

@@ -4,7 +4,7 @@ ghost use Rattle.httpdate.specs.Date.{unix_secs};
 ghost use Rattle.dispatch_room_board.specs.Boards.{IsHeardAt};
 ghost use Rattle.dispatch_room_board.specs.Members.{IsRead};
 
-use crate::answer_contents::{Found, Given, found_in};
+use crate::answer_contents::{Found, FromAnswer, found_in};
 use crate::board_errors::{BoardError, error_text};
 use crate::board_pages::{Page, Paint};
 use crate::board_tables::{Tabled, put_rows};
@@ -32,7 +32,7 @@ impl<'a> Renderer<'a> {
     ghost use Rattle.dispatch_room_board.specs.Pages.{Adds};
     ghost use Rattle.dispatch_room_board.specs.declared.boards.Reached.TheVariants.{All};
 
-    /// A sheet without lines.
+    /// A renderer of a board without lines.
     pub fn new(alloc: Global, heard: &'a [u8], colour: bool) -> Renderer<'a>
         ensures rest { result.rest.now ≡ heard.now }
         ensures page { (result.page.text.items ≡ []) × (result.page.colour ≡ colour) }
@@ -114,7 +114,7 @@ impl<'a> Renderer<'a> {
 
     // What the next answer gives. Where no answer can be read, nothing is taken, so none can be
     // read after it.
-    fn next<G: Given>(&mut self) -> Result<Found<G>, AllocError>
+    fn next<G: FromAnswer>(&mut self) -> Result<Found<G>, AllocError>
         ensures found { IfOk result (λ found. MatchResult found
             (IsNext G.gives self.old.rest.now self.new.rest.now)
             (Befalls G.gives self.old.rest.now self.new.rest.now)) }

@@ -14,7 +14,7 @@ pub struct Asker {
 }
 
 /// The bytes of all requests, one after another, of which the last asks that the connection is
-/// closed. A token has letters and only digits, so it can't end a field.
+/// closed. A token has only letters and digits, so it can't end a field.
 pub fn requests(alloc: Global, asker: &Asker) -> Result<String, AllocError>
     ensures { IfOk result (λ text. string_bytes text ≡
         requests asker.now.token asker.now.incident) }

@@ -34,8 +34,8 @@ Enrols lines = λ S g old new before after done.
     (IsClean g new → imported.HasImportedIn g old new lines before after done)
     × IfOk done (imported.IsPrinted lines before after)
 
--- The same once the fleet lasts in a list, and then it is kept where the room is. What the file of
--- a list holds no contract can say.
+-- The same once the fleet lasts in a list, and then the room's digest is kept. What the file of a
+-- list holds no contract can say.
 abbrev pub EnrolsKept : List FleetLine → List ℕ → Saying Done
 EnrolsKept lines text = λ S g old new before after done.
     (from to : FleetList SystemFile)
@@ -54,7 +54,7 @@ Lists = λ S g old new before after done. HasListed g old new before after done
 abbrev pub Changes : RoomChange → Saying (Unit {0})
 Changes change = λ S g old new before after done. Makes g old new change done × (after ≡ before)
 
--- The same once its text lasts in a list, and then it is kept where the room is. What the file of a
+-- The same once its text lasts in a list, and then the room's digest is kept. What the file of a
 -- list holds no contract can say.
 abbrev pub ChangesKept : RoomChange → List ℕ → Saying (Unit {0})
 ChangesKept change text = λ S g old new before after done.

@@ -1,5 +1,5 @@
--- An import that is kept in a list: where the room is, and the fleet, before it is enrolled, and
--- then where the room is after it.
+-- An import that is kept in a list: the room's digest, and the fleet, before it is enrolled, and
+-- then the digest after it.
 use Rattle.std.specs.List.{flat_map}
 use Rattle.std.specs.Prelude.{All, Err, IfOk, List, [], MatchResult, Ok, Option, Result, length, true, ℕ, ◌++◌, ◌<◌}
 use Rattle.std.specs.Prelude.{◌∷◌, ◌≡◌, ◌⊎◌}
@@ -65,17 +65,17 @@ module _ {F : Type 0} where
   abbrev pub IsUnshown : FleetList F → FleetList F → Failure → Type 0
   IsUnshown from to fault = ((fault ≡ Memory) ⊎ (fault ≡ Storage)) × (to ≡ from)
 
-  -- why where a room is was not kept: it can't be read, or the list failed
+  -- why the digest of a room was not kept: it can't be read, or the list failed
   abbrev pub IsUnplaced : FleetList F → FleetList F → Failure → Type 0
   IsUnplaced from to fault =
       IsUnshown from to fault ⊎ ((fault ≡ Journal) × (to.out.failed ≡ true))
 
-  -- why a text was not kept behind where a room is
+  -- why a text was not kept behind the digest of a room
   abbrev pub IsUnkept : FleetList F → FleetList F → List ℕ → Failure → Type 0
   IsUnkept from to text fault = IsUnshown from to fault ⊎ ((fault ≡ Journal) × LacksRows to text)
 
--- What comes of a change that came to something, once it was to be kept where the room is: one that
--- was made fails where that is not kept.
+-- How a change ends that has ended so, once the room's digest was to be kept: one that was made
+-- fails where that is not kept.
 abbrev pub ended : {T : Type 0} → Result T Failure → Result (Unit {0}) Failure → Result T Failure
 ended came (Ok kept) = came
 ended (Ok it) (Err fault) = Err fault
@@ -134,14 +134,14 @@ module _ {S : Type 0} (g : Ghosts S) where
       pub done_is : done ≡ Err fault
       pub why : IsUnkept from to text fault
 
-    -- it is kept where the room is, or not for this
+    -- the room's digest is kept, or not for this
     abbrev pub PlacesRoom : Store S → Store S → FleetList F → FleetList F
         → Result (Unit {0}) Failure → Type 0
     PlacesRoom old new from to kept = MatchResult kept
         (λ _. (head : Head) × ShowsHead old new head × KeepsHead contents lasting from to head)
         (IsUnplaced from to)
 
-    -- It is kept where the room is after a change that came to this, whether it was made or not.
+    -- The room's digest is kept after a change that ended so, whether it was made or not.
     pub record EndsKept {T : Type 0} (old new : Store S) (from to : FleetList F)
         (came done : Result T Failure) : Type 0 where
       pub stays : Stays g old new

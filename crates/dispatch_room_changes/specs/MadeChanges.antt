@@ -1,5 +1,5 @@
--- A change of a room that is kept in a list: where the room is, and the change, before it is made,
--- and then where the room is after it.
+-- A change of a room that is kept in a list: the room's digest, and the change, before it is made,
+-- and then the digest after it.
 use Rattle.std.specs.Prelude.{Err, List, Option, Result, ℕ, ◌≡◌, ◌⊎◌}
 use Rattle.sqlite.specs.Held.{Held}
 use Rattle.sqlite_trees.specs.declared.store.Store.{Ghosts}
@@ -24,13 +24,13 @@ module _ {S : Type 0} (g : Ghosts S) where
     pub why : IsUnkept from to text fault
 
   module _ {F : Type 0} (contents lasting : F → Option (List ℕ)) where
-    -- It was kept where the room is, and then this text.
+    -- The room's digest was kept, and then this text.
     pub record KeepsText (old new : Store S) (from to : FleetList F) (text : List ℕ) : Type 0 where
       pub head : Head
       pub shows : ShowsHead g old new head
       pub keeps : KeepsFleet contents lasting from to head text
 
-    -- it was kept where the room is after a change that came to this, and it was closed
+    -- the room's digest was kept after a change that ended so, and it was closed
     pub record EndsMade (old : Store S) (new : Held S) (from to : FleetList F)
         (came done : Result (Unit {0}) Failure) : Type 0 where
       pub closed : Store S
@@ -38,7 +38,7 @@ module _ {S : Type 0} (g : Ghosts S) where
       pub conn : closed.conn ≡ new
 
     -- The text of a change was kept; once it lasted, the change was made, or not for this; and then
-    -- it was kept where the room is.
+    -- the room's digest was kept.
     pub record KeepsAndMakes (old new : Store S) (from to : FleetList F) (change : RoomChange)
         (text : List ℕ) (done : Result (Unit {0}) Failure) : Type 0 where
       pub begun : Store S

@@ -8,7 +8,7 @@ use std::fs;
 use std::io::ErrorKind;
 use std::os::unix::fs::PermissionsExt;
 
-/// The bytes of a text file. Where it can't be read, it is explained why.
+/// The bytes of a text file. Explains why where it can't be read.
 pub fn read_text(host: Host<'_>, path: &str) -> Result<Vec<u8>, Failure>
     ensures { IfErr result (λ fault. (fault ≡ failure.Memory) ⊎ (fault ≡ failure.Input)) }
 {

@@ -55,7 +55,7 @@ fn import_by<O: Write>(
     host.in_file(RoomFile::Kept(file), enrolment, out)
 }
 
-/// The rows that a file of a fleet has, or it is explained why it has none.
+/// The rows that a file of a fleet has. Explains why where it has none.
 pub fn lines_in(sheet: Sheet<'_>) -> Result<Vec<FleetLine>, Failure>
     ensures fleet { IfOk result (λ lines. IsFleetText sheet.entry.text.now lines.items) }
     ensures none { IfErr result (GivesNoFleet sheet.entry.text.now) }

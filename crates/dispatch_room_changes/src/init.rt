@@ -46,7 +46,7 @@ fn init_by<O: Write>(
     host.in_file(RoomFile::New(file), creation, out)
 }
 
-/// The plan that a file gives, or it is explained why it gives none.
+/// The plan that a file gives. Explains why where it gives none.
 pub fn plan_in(sheet: Sheet<'_>) -> Result<PlanFile, Failure>
     ensures plan { IfOk result (IsPlanText sheet.entry.text.now) }
     ensures none { IfErr result (GivesNoPlan sheet.entry.text.now) }

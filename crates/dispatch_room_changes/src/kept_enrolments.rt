@@ -59,8 +59,8 @@ pub fn import_in<S: Alter + Drop, F: Lasting, O: Write>(
     Ok((done, room.close()))
 }
 
-// The fleet is kept in a list, and its good rows are enrolled in a room, and it is kept where that
-// is then.
+// The fleet is kept in a list, its good rows are enrolled in a room, and then the room's digest is
+// kept.
 fn keep_and_enrol<S: Alter, F: Lasting, O: Write>(
     alloc: Global,
     room: &mut Store<S>,
@@ -87,7 +87,7 @@ fn keep_and_enrol<S: Alter, F: Lasting, O: Write>(
     end_kept(fleet.explainer, room, list, came)
 }
 
-/// It is kept where a room is after a change that came to this.
+/// Keeps the digest of a room after a change that ended so.
 pub fn end_kept<S: Alter, F: Lasting, T: Drop>(
     explainer: Explainer<'_>,
     room: &mut Store<S>,
@@ -111,7 +111,7 @@ pub fn end_kept<S: Alter, F: Lasting, T: Drop>(
     }
 }
 
-// Keeps where a room is, which stays as it is.
+// Keeps the digest of a room, which stays as it is.
 fn keep_end<S: Alter, F: Lasting>(
     room: &mut Store<S>,
     list: &mut FleetList<F>,

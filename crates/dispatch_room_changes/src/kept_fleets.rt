@@ -37,7 +37,7 @@ impl<F> FleetList<F> {
     }
 }
 
-/// Keeps where a room is, and then the lines of a fleet, and makes all of it last.
+/// Keeps the digest of a room, and then the lines of a fleet, and makes all of it last.
 pub fn keep_fleet<F: Lasting>(
     list: &mut FleetList<F>,
     head: &Head,
@@ -60,7 +60,7 @@ pub fn keep_fleet<F: Lasting>(
     }
 }
 
-/// Keeps where a room is, and makes it last.
+/// Keeps the digest of a room, and makes it last.
 pub fn keep_place<F: Lasting>(list: &mut FleetList<F>, head: &Head) -> Result<(), Unkept>
     requires sound { list.old.out.failed ≡ false }
     requires digest { IsDigest head.now.digits }
@@ -88,7 +88,7 @@ fn make_last<F: Lasting>(list: &mut FleetList<F>) -> Result<(), Unkept>
     }
 }
 
-// Keeps where a room is. An entry has room for it: where not, the list is given up.
+// Keeps the digest of a room. An entry has room for it: where not, the list is given up.
 fn keep_head<F: Lasting>(list: &mut FleetList<F>, head: &Head) -> Result<(), Unkept>
     requires sound { list.old.out.failed ≡ false }
     requires digest { IsDigest head.now.digits }
@@ -108,7 +108,7 @@ fn keep_head<F: Lasting>(list: &mut FleetList<F>, head: &Head) -> Result<(), Unk
     }
 }
 
-// What a list says of where a room is.
+// The entry of a list that says the digest of a room.
 fn head_entry(head: &Head) -> Result<EntryText, Unkept>
     requires { IsDigest head.now.digits }
     ensures { IfOk result (λ entry. entry.text.items ≡ room_text head.now) }

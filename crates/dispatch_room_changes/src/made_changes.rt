@@ -42,7 +42,7 @@ pub fn make_kept_in<S: Alter + Drop, F: Lasting>(
     Ok(end_made(explainer, remade, list))
 }
 
-// It is kept where a room is that was opened again, and it is closed.
+// Keeps the digest of a room that was opened again, and closes it.
 fn end_made<S: Alter, F: Lasting>(
     explainer: Explainer<'_>,
     remade: Remade<S>,
@@ -62,7 +62,7 @@ fn end_made<S: Alter, F: Lasting>(
     (done, room.close())
 }
 
-// Keeps where a room is, and then a text, so that all of it lasts. The room stays as it is.
+// Keeps the digest of a room, and then a text, so that all of it lasts. The room stays as it is.
 fn keep_text<S: Alter, F: Lasting>(
     room: &mut Store<S>,
     list: &mut FleetList<F>,

@@ -122,8 +122,8 @@ const CHECK: CommandForm = CommandForm {
 const DIGEST: CommandForm = CommandForm {
     name: "digest",
     about: "Prints the digest of a room: SHA-256 of all its rows",
-    end: "A list of the room begins with it. Two rooms have one digest only where all rows are the \
-         same.\n\n\
+    end: "A journal of the room begins with it. Two rooms have one digest only where all rows are \
+         the same.\n\n\
          Example: dispatch_room digest copy.db",
     words: &[FILE, EXPLAIN],
 };
@@ -241,7 +241,7 @@ const REPLAY: CommandForm = CommandForm {
     name: "replay",
     about: "Does to a room what a journal says, from standard input, at its moments",
     end: "The room has to be as it was where the journal begins. Each answer's status has to be \
-         the recorded one; where it is another, or the list is none, the record is reported.\n\n\
+         the recorded one; where it is not, or the input is no journal, the record is reported.\n\n\
          Example: dispatch_room replay copy.db --until $(date -d '03:15' +%s) <room.list",
     words: &[
         FILE,
@@ -282,9 +282,9 @@ const REPLAY: CommandForm = CommandForm {
 
 const VERIFY: CommandForm = CommandForm {
     name: "verify",
-    about: "Reports how much a journal holds, or at which record it is none",
-    end: "In a list of version 2 each byte that changed is found, and each record that was lost or \
-         came twice. Its status is 0 where the list is whole.\n\n\
+    about: "Reports how much a journal holds, or the first record at which it is no journal",
+    end: "In a journal of version 2 each byte that changed is found, and each record that was lost \
+         or came twice. Its status is 0 where the journal is whole.\n\n\
          Example: dispatch_room verify room.list",
     words: &[
         Word {
@@ -300,7 +300,7 @@ const BOARD: CommandForm = CommandForm {
     name: "board",
     about: "Shows what a desk sees in a room that is served: queue, incidents, vehicles, points, \
          offers and loans",
-    end: "It only gets. A live board: watch -c -n 5 dispatch_room board .. --color always\n\n\
+    end: "It only reads. A live board: watch -c -n 5 dispatch_room board .. --color always\n\n\
          Example: dispatch_room board 127.0.0.1:8080 deskone1 --incident 1",
     words: &[
         Word {

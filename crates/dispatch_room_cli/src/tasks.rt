@@ -33,7 +33,7 @@ pub enum Task<'a> {
         file: &'a str,
         replay: Replay,
     },
-    /// How much a list holds is reported, or at which record it is none.
+    /// How much a list holds is reported, or the first record at which it is none.
     Verify {
         list: &'a str,
     },

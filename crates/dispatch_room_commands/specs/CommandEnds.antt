@@ -14,7 +14,7 @@ use Rattle.dispatch_room_cli.specs.declared.exit_status.Done.TheVariants.{InPart
 use Rattle.dispatch_room_cli.specs.declared.exit_status.Failure.{Failure}
 use Rattle.dispatch_room_cli.specs.declared.exit_status.Failure.TheVariants.{Memory, Network}
 
--- the words have a mistake: they neither ask for help nor want memory
+-- the words have a mistake: they don't ask for help, and memory was not refused
 abbrev pub is_mistake : ErrorKind → Bool
 is_mistake kind.DisplayHelp = false
 is_mistake kind.DisplayVersion = false

@@ -11,8 +11,8 @@ use Rattle.dispatch_room_cli.specs.declared.exit_status.Failure.{Failure}
 use Rattle.dispatch_room_cli.specs.declared.exit_status.Failure.TheVariants.{Network, Record}
 
 -- how many messages the list has
-abbrev pub records_text : ℕ → List ℕ
-records_text records = codes "verified " ++ decimal records ++ 10 ∷ []
+abbrev pub messages_text : ℕ → List ℕ
+messages_text messages = codes "verified " ++ decimal messages ++ 10 ∷ []
 
 -- when the first of them came, and the last
 abbrev pub span_text : Option Span → List ℕ
@@ -28,9 +28,10 @@ end_text false = codes "not ended\n"
 -- a line for each
 abbrev pub tally_text : Tally → Bool → List ℕ
 tally_text tally has_ended =
-    records_text tally.records ++ span_text tally.span ++ end_text has_ended
+    messages_text tally.messages ++ span_text tally.span ++ end_text has_ended
 
--- how the program fails by a flaw of a list: the message at which it is none, or a read that failed
+-- how the program fails by a flaw of a list: the message at which it is no list, or a read that
+-- failed
 abbrev pub fails_by : EntryFault → ℕ → Failure
 fails_by Cut number = Record number
 fails_by Foreign number = Record number

@@ -62,7 +62,7 @@ pub fn explain(explainer: Explainer<'_>, task: &Task<'_>, done: &Result<Done, Fa
 fn explain_replay(explainer: Explainer<'_>, file: &str, fault: Failure) {
     match fault {
         Failure::Record(number) => explainer.explain(format_args!(
-            "standard input: record {number} is not of a journal, or its message is none"
+            "standard input: record {number} is not of a journal, or holds no valid message"
         )),
         Failure::OtherRoom(number) => explainer.explain(format_args!(
             "standard input: at record {number} the journal goes on from another room than {file}"

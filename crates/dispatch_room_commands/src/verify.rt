@@ -1,4 +1,4 @@
-//! `verify`: how much a list holds, or at which record it is none.
+//! `verify`: how much a list holds, or the first record at which it is no list.
 ghost use Rattle.std.specs.Prelude.{◌≡◌, ◌≢◌, ◌⊎◌, ◌||◌, ◌==◌, Some, false, IfErr, IfOk, OnOk};
 ghost use Rattle.std.specs.Io.KnownBytes.{Appends};
 ghost use Rattle.dispatch_room_journal.specs.ReadSteps.{ends_well, left_in, most_rows};
@@ -21,7 +21,7 @@ use std::fs::File;
 use std::io::{ErrorKind, Write};
 
 /// Prints how many messages a list has, when the first came and the last, and whether the list
-/// ended well; or fails at the record at which it is none.
+/// ended well; or fails at the first record at which it is no list.
 pub fn verify_list<O: Write>(host: Host<'_>, path: &str, out: &mut O) -> Result<Done, Failure>
     ensures done { IfOk result (IsVerify (O.contents out.old) (O.contents out.new)) }
     ensures undone { IfErr result (FailsVerify (O.contents out.old) (O.contents out.new)) }
@@ -84,7 +84,7 @@ fn verify_in<R: Source, O: Write>(
     }
 }
 
-// Why a list is none, as the program reports it.
+// Why a text is no list, as the program reports it.
 fn failure_of(flaw: &Flaw) -> Failure
     ensures { result ≡ fails_by flaw.now.fault flaw.now.number }
 {
@@ -101,7 +101,7 @@ fn print_tally<O: Write>(tally: &Tally, has_ended: bool, out: &mut O) -> Result<
     ensures whole { IfOk result (λ done. done ≡ Whole) }
     ensures failed { IfErr result (λ fault. fault ≡ Network) }
 {
-    if writeln!(out, "verified {}", tally.records).is_err() {
+    if writeln!(out, "verified {}", tally.messages).is_err() {
         return Err(Failure::Network);
     }
     if let Some(span) = tally.span {

@@ -20,7 +20,7 @@ are_digits text = list_all is_ascii_digit text
 abbrev pub is_numeral : List ℕ → Bool
 is_numeral text = not (length text == 0) && are_digits text
 
--- the number of 32 bits that only digits write
+-- the number of 32 bits that a text of digits only writes
 abbrev pub number_of : List ℕ → Option ℕ
 number_of text = if is_numeral text
     && nat_lt (digits_value 10 text) (2 ^ 32) then Some (digits_value 10 text) else None
@@ -29,7 +29,7 @@ number_of text = if is_numeral text
 abbrev pub within : ℕ → ℕ → ℕ → Option ℕ
 within least greatest n = if nat_le least n && nat_le n greatest then Some n else None
 
--- the number of a range that only digits write
+-- the number of a range that a text of digits only writes
 abbrev pub whole_of : ℕ → ℕ → List ℕ → Option ℕ
 whole_of least greatest text = option_and_then (within least greatest) (number_of text)
 

@@ -13,7 +13,7 @@ pub(crate) fn text_at(row: &StringRecord, at: usize) -> &str
     row.get(at).unwrap_or("")
 }
 
-/// The number that a text writes in only digits: none where it writes none, or one past 32 bits.
+/// The number that a text writes in digits only: none where it writes none, or one past 32 bits.
 pub(crate) fn number(text: &str) -> Option<u32>
     ensures { result ≡ number_of text.now }
 {
@@ -23,7 +23,7 @@ pub(crate) fn number(text: &str) -> Option<u32>
     text.parse::<u32>().ok()
 }
 
-/// The number of a range that a text writes in only digits.
+/// The number of a range that a text writes in digits only.
 pub(crate) fn whole<const LEAST: u32, const GREATEST: u32>(
     text: &str,
 ) -> Option<Bounded<LEAST, GREATEST>>

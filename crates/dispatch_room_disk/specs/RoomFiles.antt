@@ -26,8 +26,8 @@ Saying T =
     (S : Type 0) → Ghosts S → Held S → Held S → Option (List ℕ) → Option (List ℕ)
     → Result T Failure → Type 0
 
--- What is said of a database, over any storage, in which there is nothing to be done, of what the
--- output held before and after, and of why.
+-- What is said of a database, over any storage, in which the work can't be done, of what the output
+-- held before and after, and of why.
 abbrev pub Refusing : Type 1
 Refusing =
     (S : Type 0) → Ghosts S → Held S → Option (List ℕ) → Option (List ℕ) → Failure → Type 0
@@ -76,8 +76,7 @@ module _ {D : Type 0} {g : Disk D} where
     pub said : says (FileStore D g) over_files conn closed before after (Err fault)
     pub copied : IsCopiedOut closed
 
-  -- the work came to something, of which it is said what holds, and then its file could not be
-  -- closed
+  -- the work succeeded or failed, what is said of it holds, and then its file could not be closed
   pub record IsLeftOpen {T : Type 0} (says : Saying T) (conn : Held (FileStore D g))
       (before after : Option (List ℕ)) (fault : Failure) : Type 0 where
     pub closed : Held (FileStore D g)
@@ -85,8 +84,8 @@ module _ {D : Type 0} {g : Disk D} where
     pub said : says (FileStore D g) over_files conn closed before after came
     pub unclosed : IsUnclosed closed fault
 
-  -- why the work was not done in this database: there was nothing to be done in it, or the work
-  -- failed, or its file could not be closed
+  -- why the work was not done in this database: it can't be done in it, or it failed, or its file
+  -- could not be closed
   abbrev pub IsUndone : {T : Type 0} → Saying T → Refusing → Held (FileStore D g)
       → Option (List ℕ) → Option (List ℕ) → Failure → Type 0
   IsUndone says refuses conn before after fault =

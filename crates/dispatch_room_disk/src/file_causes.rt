@@ -37,7 +37,7 @@ pub(crate) fn explain_unopened(
     }
 }
 
-/// Explains why there was nothing to be done in a file that was opened.
+/// Explains why the work can't be done in a file that was opened.
 pub(crate) fn explain_undone(explainer: Explainer<'_>, file: RoomFile<'_>, fault: Failure) {
     let path = file.path();
     match (file, fault) {

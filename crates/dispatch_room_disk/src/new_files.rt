@@ -35,7 +35,7 @@ pub fn make_file(rt: &HostRuntime, explainer: Explainer<'_>, path: &str) -> Resu
     begun
 }
 
-// Makes a file that its owner only reads and writes, where none is there; its log gets the same
+// Makes a file that only its owner reads and writes, where none is there; its log gets the same
 // mode. Why it can't be made is reported by what opens it.
 fn make_private(rt: &HostRuntime, path: &str) -> Result<(), Failure>
     ensures { IfErr result IsFileFault }
@@ -99,8 +99,8 @@ fn begin<D: Disk + Drop>(
     (made, pool.close())
 }
 
-// What beginning a database came to: files that hold one already are refused as `Corrupt`. Where it
-// failed, it is explained why.
+// What beginning a database came to: files that hold one already are refused as `Corrupt`. Explains
+// why where it failed.
 fn begun(explainer: Explainer<'_>, path: &str, created: Result<(), Error>) -> Result<(), Failure>
     ensures done { OnOk result (IfErr created (λ error. error ≡ Corrupt)) }
     ensures fault { IfErr result IsFileFault }

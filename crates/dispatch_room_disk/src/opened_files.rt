@@ -20,8 +20,7 @@ const CACHE_PAGES: usize = 4096;
 // for a millisecond and more, and costs less the more often each page was written.
 const LOG_PAGES: usize = 8192;
 
-/// The files of a room, and how the database keeps them. Where they can't be opened, it is
-/// explained why.
+/// The files of a room, and how the database keeps them. Explains why where they can't be opened.
 pub fn open_files<S: Start>(
     rt: &HostRuntime,
     explainer: Explainer<'_>,

@@ -50,8 +50,8 @@ pub trait RoomTask: Drop {
     // and after, and of what came of it.
     ghost says: { Self → Saying Self.Done };
 
-    // What holds of a database in which there is nothing to be done, of what the output held before
-    // and after, and of why.
+    // What holds of a database in which the work can't be done, of what the output held before and
+    // after, and of why.
     ghost refuses: { Self → Refusing };
 
     /// Does it in a database, and writes to the output what it reports.
@@ -69,8 +69,7 @@ pub trait RoomTask: Drop {
 }
 
 /// Does what is to be done in a room's file, and closes the file with all that was committed in it.
-/// Where the file can't be opened or closed, or there is nothing to be done in it, it is explained
-/// why.
+/// Explains why where the file can't be opened or closed, or the work can't be done in it.
 pub fn in_file<W: RoomTask, O: Write>(
     rt: &HostRuntime,
     explainer: Explainer<'_>,

@@ -34,4 +34,4 @@ pub record IsRun (status : ℕ) : Type 0 where
   pub new : ℕ → Bool → Finish
   pub served : Result ServeEnd Refusal
   pub is : IfOk served (IsDryRun old new)
-  pub told : status ≡ status_after (end_of served)
+  pub exits : status ≡ status_after (end_of served)

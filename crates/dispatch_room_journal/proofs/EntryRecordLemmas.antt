@@ -11,7 +11,7 @@ use Rattle.dispatch_room_journal.specs.RowRuns.{HeadIs}
 use Rattle.dispatch_room_journal.specs.EntryPrefixes.{IsLayout}
 use Rattle.dispatch_room_journal.proofs.EntryLemmas.{no_end_law, one_entry_law}
 use Rattle.dispatch_room_journal.proofs.NextEntryLemmas.{layout_of_room}
-use Rattle.dispatch_room_journal.specs.Chains.{is_silent}
+use Rattle.dispatch_room_journal.specs.Chains.{is_no_entry}
 use Rattle.dispatch_room_journal.specs.WholeRecords.{SaysEntry}
 
 pub nothing_left : (rest : List ℕ) → length rest ≡ 0 → rest ≡ []
@@ -32,25 +32,25 @@ begins_all body e is all = (is, all ∙ sym (append-nil (text_of e)))
 
 -- and the other way round
 pub entry_whole : (body : List ℕ) (layout : EntryLayout) (e : Entry) → IsLayout body layout e
-    → is_silent body ≡ false → SaysEntry body → layout.end ≡ length body
+    → is_no_entry body ≡ false → SaysEntry body → layout.end ≡ length body
 entry_whole body layout e is none (inl ends) = absurd (false≢true (sym none ∙ ends))
 entry_whole body layout e is none (inr (f, is_one, all)) =
     let same = (one_entry_law body e f (drop layout.end body) [] is.begins (begins_all body f is_one all)).0 in
     is.end ∙ ap (λ x. length (text_of x)) same ∙ sym (ap length all)
 
-pub no_part : (body : List ℕ) → IsPart body → is_silent body ≡ false → SaysEntry body → ⊥
+pub no_part : (body : List ℕ) → IsPart body → is_no_entry body ≡ false → SaysEntry body → ⊥
 no_part body part none (inl ends) = false≢true (sym none ∙ ends)
 no_part body part none (inr (f, is_one, all)) = (no_end_law body f [] (begins_all body f is_one all)).1 part
 
-pub no_foreign : (body : List ℕ) → IsForeign body → is_silent body ≡ false → SaysEntry body → ⊥
+pub no_foreign : (body : List ℕ) → IsForeign body → is_no_entry body ≡ false → SaysEntry body → ⊥
 no_foreign body foreign none (inl ends) = false≢true (sym none ∙ ends)
 no_foreign body foreign none (inr (f, is_one, all)) = (no_end_law body f [] (begins_all body f is_one all)).2 foreign
 
 -- what begins with no whole entry is none
-pub not_part : (body : List ℕ) → IsPart body → is_silent body ≡ false → IsTrue false ↔ SaysEntry body
+pub not_part : (body : List ℕ) → IsPart body → is_no_entry body ≡ false → IsTrue false ↔ SaysEntry body
 not_part body part none = (λ is. absurd (false≢true is), λ says. absurd (no_part body part none says))
 
-pub not_foreign : (body : List ℕ) → IsForeign body → is_silent body ≡ false → IsTrue false ↔ SaysEntry body
+pub not_foreign : (body : List ℕ) → IsForeign body → is_no_entry body ≡ false → IsTrue false ↔ SaysEntry body
 not_foreign body foreign none = (λ is. absurd (false≢true is), λ says. absurd (no_foreign body foreign none says))
 
 -- a record that is no whole entry is no head

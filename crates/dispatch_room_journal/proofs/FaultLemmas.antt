@@ -20,7 +20,7 @@ use Rattle.dispatch_room_journal.specs.declared.entry_reader.EntryFault.TheVaria
 use Rattle.dispatch_room_journal.specs.Entries.{Entry, message, IsEntry, text_of, texts_of, Begins}
 use Rattle.dispatch_room_journal.specs.EntryReadings.{SaysOf, FirstIs}
 use Rattle.dispatch_room_journal.specs.declared.replay_faults.ReplayFault.{ReplayFault}
-use Rattle.dispatch_room_journal.specs.declared.replay_faults.ReplayFault.TheVariants.{Bad, Differs, Another}
+use Rattle.dispatch_room_journal.specs.declared.replay_faults.ReplayFault.TheVariants.{Bad, Differs, OtherRoom}
 use Rattle.dispatch_room_journal.specs.declared.replay_faults.ReplayFault.TheVariants.{ReadFailed, WriteFailed}
 use Rattle.dispatch_room_journal.specs.declared.replay_faults.ReplayFault.TheVariants.{Unavailable}
 use Rattle.dispatch_room_journal.specs.declared.replay_faults.Stopped.{Stopped}
@@ -104,7 +104,7 @@ explains_more : (waits : Bool) (none full other whole : Type 0) (E F : Option Op
 explains_more waits none full other whole E F last Bad rest n f e x =
     bad_more waits none full other whole E F last rest n f e x
 explains_more waits none full other whole E F last Differs rest n f e x = x
-explains_more waits none full other whole E F last Another rest n f e x = (x.0, x.1, x.2, x.3, e x.1 x.2 x.4)
+explains_more waits none full other whole E F last OtherRoom rest n f e x = (x.0, x.1, x.2, x.3, e x.1 x.2 x.4)
 explains_more waits none full other whole E F last ReadFailed rest n f e x = tt
 explains_more waits none full other whole E F last WriteFailed rest n f e x = tt
 explains_more waits none full other whole E F last (Unavailable r) rest n f e x = tt
@@ -174,7 +174,7 @@ pub unless_after : (fault : ReplayFault) (A B C : Type 0) → (A → B) → Unle
     → Unless fault (A → C)
 unless_after Bad A B C first then = λ a. then (first a)
 unless_after Differs A B C first then = λ a. then (first a)
-unless_after Another A B C first then = λ a. then (first a)
+unless_after OtherRoom A B C first then = λ a. then (first a)
 unless_after ReadFailed A B C first then = λ a. then (first a)
 unless_after WriteFailed A B C first then = λ a. then (first a)
 unless_after (Unavailable r) A B C first then = tt
@@ -183,7 +183,7 @@ unless_after (Unavailable r) A B C first then = tt
 pub unless_known : (fault : ReplayFault) (P : Type 0) → P → Unless fault P
 unless_known Bad P x = x
 unless_known Differs P x = x
-unless_known Another P x = x
+unless_known OtherRoom P x = x
 unless_known ReadFailed P x = x
 unless_known WriteFailed P x = x
 unless_known (Unavailable r) P x = tt
@@ -195,8 +195,8 @@ stopped_kept s fault number P is x = subst (λ (t : Stopped). Unless t.fault P) 
 
 -- what holds where the room would have come to another digest
 pub unless_missed : (m : Miss) (fault : ReplayFault) (P : Type 0) → fault ≡ miss_fault m
-    → (m ≡ miss.Another → P) → Unless fault P
-unless_missed miss.Another fault P is x = subst (λ (f : ReplayFault). Unless f P) (sym is) (x refl)
+    → (m ≡ miss.OtherDigest → P) → Unless fault P
+unless_missed miss.OtherDigest fault P is x = subst (λ (f : ReplayFault). Unless f P) (sym is) (x refl)
 unless_missed (miss.Unavailable r) fault P is x = subst (λ (f : ReplayFault). Unless f P) (sym is) tt
 
 -- what is unavailable, whatever caused it

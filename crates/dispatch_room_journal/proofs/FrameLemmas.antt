@@ -138,7 +138,7 @@ module _ (step : Step) (setting : Setting) (digest_of : DigitsOf) (early late : 
     (before mid after held holds : Option (List ℕ)) (kept : List ℕ) (looked read_failed write_failed : Bool) (at : ℕ)
     (layout : EntryLayout) (next : Next) (is : next ≡ Message (record { at = at; layout = layout }))
     (old new : Progress)
-    (noted : new ≡ record old { records = min (old.records + 1) (2 ^ 64 - 1); is_open = false }) where
+    (noted : new ≡ record old { messages = min (old.messages + 1) (2 ^ 64 - 1); is_open = false }) where
   pub each_turn : NextIs digest_of early stood middle before mid looked None old.is_begun kept
       (Ok next)
       → EachIs step setting digest_of late middle stands mid after held holds at read_failed

@@ -5,7 +5,7 @@ use Rattle.std.proofs.lemmas.List.Elements.{All-head, All-tail}
 use Rattle.std.specs.List.{flat_map}
 use Rattle.dispatch_room_journal.specs.declared.read_progress.Reach.{Reach}
 use Rattle.dispatch_room_journal.specs.declared.read_progress.Reach.TheVariants.{Full, Leg}
-use Rattle.dispatch_room_journal.specs.Chains.{IsBody, chain_text, is_end, is_row, is_silent, last_check, next_check}
+use Rattle.dispatch_room_journal.specs.Chains.{IsBody, chain_text, is_end, is_no_entry, is_row, last_check, next_check}
 use Rattle.dispatch_room_journal.specs.Chains.{record_text, said_by}
 use Rattle.dispatch_room_journal.specs.RecordFronts.{after, body_in, comes_next, says, stops_at}
 use Rattle.dispatch_room_journal.specs.ChainLaws.{AreBodies}
@@ -21,7 +21,7 @@ or_true true row is = refl
 or_true false row is = is
 
 row_silent : (row : List ℕ) → IsRow row → said_by row ≡ []
-row_silent row is = let silent : is_silent row ≡ true = or_true (is_end row) (is_row row) is in rw silent refl
+row_silent row is = let silent : is_no_entry row ≡ true = or_true (is_end row) (is_row row) is in rw silent refl
 
 module _ (hash : List ℕ → List ℕ) (long : (text : List ℕ) → length (hash text) ≡ 64) where
   module _ (reach : Reach) (check : List ℕ) (has_ended : Bool) (body back : List ℕ) (is_one : IsBody body)

@@ -18,7 +18,8 @@ use Rattle.dispatch_room_journal.specs.declared.record_fronts.Front.TheVariants.
 use Rattle.dispatch_room_journal.specs.declared.record_fronts.Link.{Link}
 use Rattle.dispatch_room_journal.specs.declared.list_ends.ListEnd.{ListEnd}
 use Rattle.dispatch_room_journal.specs.declared.list_ends.ListEnd.TheVariants.{Plain, Chain}
-use Rattle.dispatch_room_journal.specs.Chains.{IsBody, chain_text, first_check, header, is_end, is_row, is_silent, last_check}
+use Rattle.dispatch_room_journal.specs.Chains.{IsBody, chain_text, first_check, header, is_end, is_no_entry, is_row}
+use Rattle.dispatch_room_journal.specs.Chains.{last_check}
 use Rattle.dispatch_room_journal.specs.Chains.{next_check}
 use Rattle.dispatch_room_journal.specs.Chains.{opening, record_text, shown_by, sha256_digits}
 use Rattle.dispatch_room_journal.specs.RecordFronts.{after, body_in, comes_next, front_of, number_in}
@@ -129,7 +130,7 @@ no_end : (ends row : Bool) → (ends || row) ≡ false → ends ≡ false
 no_end false row neither = refl
 no_end true row neither = absurd (false≢true (sym neither))
 
-pub never_end : (body : List ℕ) → is_silent body ≡ false → is_end body ≡ false
+pub never_end : (body : List ℕ) → is_no_entry body ≡ false → is_end body ≡ false
 never_end body says = no_end (is_end body) (is_row body) says
 
 -- what does not say that the list ended well always comes next
@@ -307,7 +308,7 @@ module _ (link : Link) (text body : List ℕ) (stands : StandsAt (Chain link) te
       )
 
 -- what a record holds that is an entry
-pub shown_entry : (body : List ℕ) → is_silent body ≡ false → shown_by body ≡ body
+pub shown_entry : (body : List ℕ) → is_no_entry body ≡ false → shown_by body ≡ body
 shown_entry body says = rw (never_end body says) refl
 
 -- what follows a list that is no chain

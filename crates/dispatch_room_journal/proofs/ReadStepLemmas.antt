@@ -16,7 +16,7 @@ use Rattle.dispatch_room_journal.specs.declared.read_progress.Mode.TheVariants.{
 use Rattle.dispatch_room_journal.specs.declared.read_progress.Step.TheVariants.{Moved, Passed}
 use Rattle.dispatch_room_journal.specs.declared.read_progress.Reach.{Reach}
 use Rattle.dispatch_room_journal.specs.declared.read_progress.Reach.TheVariants.{Full, Leg}
-use Rattle.dispatch_room_journal.specs.Chains.{is_end, is_row, is_silent, said_by, sha256_digits}
+use Rattle.dispatch_room_journal.specs.Chains.{is_end, is_no_entry, is_row, said_by, sha256_digits}
 use Rattle.dispatch_room_journal.specs.RecordFronts.{Stays, after, body_in, comes_next, front_of, says, stops_at}
 use Rattle.dispatch_room_journal.specs.ReadSteps.{StepIs, effort, last_of, left_of, rest_of, rows_at, rows_next}
 use Rattle.dispatch_room_journal.proofs.FrontLemmas.{body_stays}
@@ -87,7 +87,7 @@ module _ (reach : Reach) (link : Link) (kept : List ℕ) (size : ℕ) (check : L
           (ap (stops_at reach) (body_stays size kept more stays.0) ∙ goes)
           ∙ rw (body_stays size kept more stays.0, drop-append-le (HEADER + size) kept more stays.0) refl
 
-      said_moved : is_silent body ≡ false → (more : List ℕ)
+      said_moved : is_no_entry body ≡ false → (more : List ℕ)
           → left_of next_mode size (drop HEADER kept ++ more) ≡ rest_of (Chain reach link) (kept ++ more)
       said_moved says_some more =
           let rest = drop HEADER kept in
@@ -96,7 +96,7 @@ module _ (reach : Reach) (link : Link) (kept : List ℕ) (size : ℕ) (check : L
           rw (take-append-le size rest more long, drop-append-le size rest more long, split)
           (sym (whole_rest more ∙ rw says_some refl))
 
-      silent_moved : is_silent body ≡ true → (more : List ℕ)
+      silent_moved : is_no_entry body ≡ true → (more : List ℕ)
           → left_of next_mode 0 (drop (HEADER + size) kept ++ more) ≡ rest_of (Chain reach link) (kept ++ more)
       silent_moved silent more = sym (whole_rest more ∙ rw silent refl)
 
@@ -121,14 +121,14 @@ module _ (reach : Reach) (link : Link) (kept : List ℕ) (size : ℕ) (check : L
 
     -- the record that came next was taken
     module _ (new_mode : Mode) (new_vouched : ℕ) (new_kept : List ℕ) (mode : new_mode ≡ next_mode)
-        (said : is_silent body ≡ false → (new_kept ≡ drop HEADER kept) × (new_vouched ≡ size))
-        (silent : is_silent body ≡ true → (new_kept ≡ drop (HEADER + size) kept) × (new_vouched ≡ 0)) where
+        (said : is_no_entry body ≡ false → (new_kept ≡ drop HEADER kept) × (new_vouched ≡ size))
+        (silent : is_no_entry body ≡ true → (new_kept ≡ drop (HEADER + size) kept) × (new_vouched ≡ 0)) where
       -- it is no row
       pub took : length kept ≤ RECORD_ROOM → is_row body ≡ false
           → StepIs (Chain reach link) kept new_mode new_vouched new_kept Moved
-      took fits none = by_test (is_silent body) refl
+      took fits none = by_test (is_no_entry body) refl
         where
-          by_test : (test : Bool) → is_silent body ≡ test
+          by_test : (test : Bool) → is_no_entry body ≡ test
               → StepIs (Chain reach link) kept new_mode new_vouched new_kept Moved
           by_test false is =
               let now = said is in rw (mode, now.0, now.1) (said_moved (goes_on reach none) is, inl stays.1)

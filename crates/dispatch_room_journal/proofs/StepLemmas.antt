@@ -20,7 +20,7 @@ use Rattle.dispatch_room_journal.specs.EntryPrefixes.{IsLayout}
 use Rattle.dispatch_room_journal.specs.EntryReadings.{FirstIs, ReadsEntry}
 use Rattle.dispatch_room_journal.specs.declared.replay_faults.ReplayFault.{ReplayFault}
 use Rattle.dispatch_room_journal.specs.declared.replay_faults.ReplayFault.TheVariants.{Bad, Differs, Unavailable}
-use Rattle.dispatch_room_journal.specs.declared.journal_messages.Turned.TheVariants.{Played, LeftOut}
+use Rattle.dispatch_room_journal.specs.declared.journal_messages.MessageOutcome.TheVariants.{Played, LeftOut}
 use Rattle.dispatch_room_journal.specs.JournalRecords.{status_in}
 use Rattle.dispatch_room_journal.specs.ReplayedTurns.{Play, Turn, answered, caught_up, tried, left_out, timed, IsPlay}
 use Rattle.dispatch_room_journal.specs.ReplayedTurns.{AreBy, BeginsWith}
@@ -81,9 +81,9 @@ module _ (step : Step) (setting : Setting) (digest_of : DigitsOf) (trusted : Typ
   -- the room did not come to the digest of a head
   pub missed : (head : Head) (m : Miss) (fault : ReplayFault)
       → fault ≡ miss_fault m → IsMiss m → Stays trusted stood stands
-      → (m ≡ miss.Another → Misses step setting digest_of trusted stood stands at sent head)
+      → (m ≡ miss.OtherDigest → Misses step setting digest_of trusted stood stands at sent head)
       → PlaysTowards step setting digest_of trusted stood stands {A = Unit {0}} at sent head (Err fault)
-  missed head miss.Another fault is why stays misses = (stays, inr (is, misses refl))
+  missed head miss.OtherDigest fault is why stays misses = (stays, inr (is, misses refl))
   missed head (miss.Unavailable r) fault is (inl never) stays misses = absurd (cc)
   missed head (miss.Unavailable r) fault is (inr cause) stays misses =
       let same : r ≡ cause.0 = cc in (stays, inl (inr (cause.0, is ∙ ap Unavailable same, cause.2)))

@@ -22,8 +22,8 @@ use Rattle.dispatch_room_journal.specs.declared.next_entry.Next.TheVariants.{Hea
 use Rattle.dispatch_room_journal.specs.declared.replay_faults.ReplayFault.{ReplayFault}
 use Rattle.dispatch_room_journal.specs.declared.replay_faults.ReplayFault.TheVariants.{Bad, Unavailable}
 use Rattle.dispatch_room_journal.specs.declared.replay_faults.Stopped.{Stopped}
-use Rattle.dispatch_room_journal.specs.declared.journal_messages.Turned.{Turned}
-use Rattle.dispatch_room_journal.specs.declared.journal_messages.Turned.TheVariants.{Played, LeftOut, Last}
+use Rattle.dispatch_room_journal.specs.declared.journal_messages.MessageOutcome.{MessageOutcome}
+use Rattle.dispatch_room_journal.specs.declared.journal_messages.MessageOutcome.TheVariants.{Played, LeftOut, Last}
 use Rattle.dispatch_room_journal.specs.declared.replay_progress.Progress.{Progress}
 use Rattle.dispatch_room_journal.specs.ReplayedTurns.{Open, Play, Turn, compared, answered, caught_up, tried, left_out}
 use Rattle.dispatch_room_journal.specs.ReplayedTurns.{entries_in, entries_of, arrivals_of, bytes_of, has_message}
@@ -90,10 +90,10 @@ head_begins false us head x = (head, [], ap (λ l. l ++ compared head ∷ []) x)
 pub no_progress : (p : Progress) → Progresses p p []
 no_progress p us x = subst (λ l. IsProgress p l) (sym (append-nil us)) x
 
-pub new_progress : (p : Progress) → p ≡ record { records = 0; is_open = false; is_begun = false }
+pub new_progress : (p : Progress) → p ≡ record { messages = 0; is_open = false; is_begun = false }
     → IsProgress p []
 new_progress p is = record {
-  records = ap (λ q. q.records) is;
+  messages = ap (λ q. q.messages) is;
   opens = ap (λ q. q.is_open) is;
   begun = subst (λ b. StartsBy b []) (sym (ap (λ q. q.is_begun) is)) refl;
 }
@@ -101,7 +101,7 @@ new_progress p is = record {
 head_progress : (head : RoomHead) (old new : Progress)
     → new ≡ record old { is_open = false; is_begun = true } → Progresses old new (compared head ∷ [])
 head_progress head old new is us x = record {
-  records = ap (λ p. p.records) is ∙ x.records ∙ ap (λ n. min n (2 ^ 64 - 1)) (sym (counted us));
+  messages = ap (λ p. p.messages) is ∙ x.messages ∙ ap (λ n. min n (2 ^ 64 - 1)) (sym (counted us));
   opens = ap (λ p. p.is_open) is ∙ sym (ends_open-snoc us (compared head));
   begun =
       subst (λ b. StartsBy b (us ++ compared head ∷ [])) (sym (ap (λ p. p.is_begun) is))
@@ -114,11 +114,11 @@ head_progress head old new is us x = record {
 
 pub message_progress : (t : Turn) (left : Bool) (old new : Progress) → has_message t ≡ true
     → is_left_out t ≡ left → old.is_begun ≡ true
-    → new ≡ record old { records = min (old.records + 1) (2 ^ 64 - 1); is_open = left }
+    → new ≡ record old { messages = min (old.messages + 1) (2 ^ 64 - 1); is_open = left }
     → Progresses old new (t ∷ [])
 message_progress t left old new has is begun new_is us x = record {
-  records =
-      ap (λ p. p.records) new_is ∙ ap (λ n. min (n + 1) (2 ^ 64 - 1)) x.records ∙ stops (count_by has_message us)
+  messages =
+      ap (λ p. p.messages) new_is ∙ ap (λ n. min (n + 1) (2 ^ 64 - 1)) x.messages ∙ stops (count_by has_message us)
       ∙ ap (λ n. min n (2 ^ 64 - 1)) (sym counted);
   opens = ap (λ p. p.is_open) new_is ∙ sym is ∙ sym (ends_open-snoc us t);
   begun =
@@ -357,12 +357,12 @@ module _ (waits : Bool) (step : Step) (setting : Setting) (digest_of : DigitsOf)
   }
 
 -- what became of a message that is next: whether it is left out, and whether the replay goes on
-abbrev leaves : Turned → Bool
+abbrev leaves : MessageOutcome → Bool
 leaves Played = false
 leaves LeftOut = true
 leaves Last = true
 
-abbrev goes_on : Turned → Bool
+abbrev goes_on : MessageOutcome → Bool
 goes_on Played = true
 goes_on LeftOut = true
 goes_on Last = false
@@ -432,19 +432,20 @@ module _ (step : Step) (setting : Setting) (digest_of : DigitsOf) (early late : 
     left_passes sent t entry took none met =
         one_passes sent [] true t (one_by until at front.0 sent front.2 entry) took (λ _. none) (λ _. met)
 
-    pub takes_message : (turned : Turned) (r : Turned) → r ≡ turned
+    pub takes_message : (turned : MessageOutcome) (r : MessageOutcome) → r ≡ turned
         → MessageIs step setting digest_of late mid stands b c failed at (Ok r)
-        → new ≡ record old { records = min (old.records + 1) (2 ^ 64 - 1); is_open = leaves turned }
+        → new ≡ record old { messages = min (old.messages + 1) (2 ^ 64 - 1); is_open = leaves turned }
         → TakesTurn step setting digest_of late stood stands a c until IsReplayed old new failed
         (Ok (goes_on turned))
     takes_message turned r same y noted =
-        go turned (subst (λ (t : Turned). MessageIs step setting digest_of late mid stands b c failed at (Ok t)) same y)
+        go turned
+        (subst (λ (t : MessageOutcome). MessageIs step setting digest_of late mid stands b c failed at (Ok t)) same y)
         noted
       where
-        go : (turned : Turned) → MessageIs step setting digest_of late mid stands b c failed at
+        go : (turned : MessageOutcome) → MessageIs step setting digest_of late mid stands b c failed at
             (Ok turned)
             → new ≡ record old {
-              records = min (old.records + 1)
+              messages = min (old.messages + 1)
                   (2 ^ 64 - 1);
               is_open = leaves turned;
             }
@@ -596,9 +597,9 @@ module _ (step : Step) (setting : Setting) (digest_of : DigitsOf) (early late : 
     -- the turns of a replay that has stopped
     module _ (waits : Bool) (old : Progress) (progress : IsProgress old us) (fault : ReplayFault)
         (read_failed write_failed : Bool) (s : Stopped)
-        (is : s ≡ record { fault = fault; number = min (old.records + 1) (2 ^ 64 - 1) }) where
-      number : min (old.records + 1) (2 ^ 64 - 1) ≡ min (count_by has_message us + 1) (2 ^ 64 - 1)
-      number = omega (arith, progress.records)
+        (is : s ≡ record { fault = fault; number = min (old.messages + 1) (2 ^ 64 - 1) }) where
+      number : min (old.messages + 1) (2 ^ 64 - 1) ≡ min (count_by has_message us + 1) (2 ^ 64 - 1)
+      number = omega (arith, progress.messages)
 
       stops_after : (ts ≡ []) ⊎ ((p : Play) × (ts ≡ tried p ∷ [])) → All IsTurn ts
           → AreBy until (entries_of ts)
@@ -667,7 +668,7 @@ module _ (step : Step) (setting : Setting) (digest_of : DigitsOf) (trusted : Typ
     (Kind : Turn → Type 0) (us : List Turn) where
   pub exhausted : (waits : Bool) (old : Progress) (read_failed write_failed : Bool) (s : Stopped)
       → Passes step setting digest_of trusted stood stands a b until Kind us → IsProgress old us
-      → s ≡ record { fault = Bad; number = min (old.records + 1) (2 ^ 64 - 1) }
+      → s ≡ record { fault = Bad; number = min (old.messages + 1) (2 ^ 64 - 1) }
       → length us ≡ 2 ^ 64 - 1 → read_failed ≡ false → write_failed ≡ false
       → StopsAfter step setting digest_of trusted stood stands a until waits Kind read_failed
       write_failed s us []

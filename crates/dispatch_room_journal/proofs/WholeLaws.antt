@@ -21,7 +21,7 @@ use Rattle.dispatch_room_journal.specs.Entries.{Entry, room, message, answer, Is
 use Rattle.dispatch_room_journal.specs.JournalRecords.{status_in}
 use Rattle.dispatch_room_journal.proofs.EntryLemmas.{no_end_law, one_entry_law}
 use Rattle.dispatch_room_journal.specs.declared.replay_faults.ReplayFault.{ReplayFault}
-use Rattle.dispatch_room_journal.specs.declared.replay_faults.ReplayFault.TheVariants.{Bad, Differs, Another}
+use Rattle.dispatch_room_journal.specs.declared.replay_faults.ReplayFault.TheVariants.{Bad, Differs, OtherRoom}
 use Rattle.dispatch_room_journal.specs.declared.replay_faults.ReplayFault.TheVariants.{ReadFailed, WriteFailed}
 use Rattle.dispatch_room_journal.specs.declared.replay_faults.ReplayFault.TheVariants.{Unavailable}
 use Rattle.dispatch_room_journal.specs.declared.replay_faults.Stopped.{Stopped}
@@ -565,7 +565,7 @@ module _ (step : Step) (setting : Setting) (digest_of : DigitsOf) (terminals : L
           not_different step setting digest_of terminals mid after end vs last rest vs_turns vs_kinds vs_entries left
           done_turns.1 done_entries.1 more text Elsewhere (elsewhere mid first)
           why.0 why.1 why.2 why.3 why.4 why.5
-      excused Another why due =
+      excused OtherRoom why due =
           not_another step setting digest_of terminals mid after end vs last rest vs_turns vs_kinds vs_entries left
           done_turns.1 done_entries.1 more text Elsewhere (elsewhere mid first)
           why.1 why.2 why.0 why.3 why.4
@@ -610,13 +610,13 @@ module _ {M : Type 0} (step : Step) (digest_of : DigitsOf) (is_trusted : M → T
       → GivesThese step digest_of is_trusted stands setting terminals held then ts us until
   gives setting terminals held
       then after ts us vs turns kinds entries begun x split first until by ends old new read_failed (Ok done)
-      (ws, replayed, are, leads, records, opens) trust stood_for =
+      (ws, replayed, are, leads, messages, opens) trust stood_for =
       let these = done_are step setting digest_of terminals held after ts turns kinds entries begun x until
       (is_trusted new) (stands old) (stands new) trust stood_for us vs then split first by ends in
       let mine = these ws replayed are leads in (
         mine.1,
         opens ∙ ap ends_open mine.0,
-        records ∙ ap (λ (l : List Turn). min (count_by has_message l) (2 ^ 64 - 1)) mine.0,
+        messages ∙ ap (λ (l : List Turn). min (count_by has_message l) (2 ^ 64 - 1)) mine.0,
         λ others others_replayed others_are others_lead. (these others others_replayed others_are others_lead).0,
       )
   gives setting terminals held

@@ -81,10 +81,10 @@ module _ (step : Step) (setting : Setting) (digest_of : DigitsOf) (trusted : Typ
 module _ (step : Step) (setting : Setting) (digest_of : DigitsOf) (trusted : Type 0)
     (stood stands : List Terminal → Room → Type 0) (left held holds : Option (List ℕ)) where
   abbrev pub AnswersEach : Bool → Bool → Result ℕ Stopped → Type 0
-  AnswersEach read_failed write_failed (Ok records) =
+  AnswersEach read_failed write_failed (Ok messages) =
       (ts : List Turn) × All IsPlayed ts × AreTurns left None ts (EndsAt None)
       × LeadsDialogue step setting digest_of trusted stood stands ts
-      × (records ≡ min (count_by has_message ts) (2 ^ 64 - 1)) × Appends held holds (frames_of ts)
+      × (messages ≡ min (count_by has_message ts) (2 ^ 64 - 1)) × Appends held holds (frames_of ts)
   AnswersEach read_failed write_failed (Err stopped) =
       (ts last : List Turn) × StopsAfter step setting digest_of trusted stood stands left None false
       IsPlayed read_failed write_failed stopped ts last

@@ -47,12 +47,12 @@ abbrev pub row_line : List ℕ → List ℕ
 row_line body = drop 4 body
 
 -- a record that is no entry: one that says that the list ended well, and a row
-abbrev pub is_silent : List ℕ → Bool
-is_silent body = is_end body || is_row body
+abbrev pub is_no_entry : List ℕ → Bool
+is_no_entry body = is_end body || is_row body
 
 -- what a record says among the entries
 abbrev pub said_by : List ℕ → List ℕ
-said_by body = if is_silent body then [] else body
+said_by body = if is_no_entry body then [] else body
 
 -- what a record holds in plain: an entry or a row, itself
 abbrev pub shown_by : List ℕ → List ℕ

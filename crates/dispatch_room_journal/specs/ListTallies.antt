@@ -31,7 +31,7 @@ SpanIs (Some span) moments =
 
 -- so many messages came, from then to then
 pub record Tallies (tally : Tally) (moments : List ℕ) : Type 0 where
-  pub records : tally.records ≡ min (length moments) most_bytes
+  pub messages : tally.messages ≡ min (length moments) most_bytes
   pub span : SpanIs tally.span moments
 
 -- the text is entries, and these are their messages

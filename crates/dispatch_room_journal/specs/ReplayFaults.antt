@@ -11,7 +11,7 @@ use Rattle.dispatch_room_journal.specs.declared.entry_reader.EntryFault.{EntryFa
 use Rattle.dispatch_room_journal.specs.declared.entry_reader.EntryFault.TheVariants.{Cut, Foreign, Read}
 use Rattle.dispatch_room_journal.specs.Entries.{room, message, answer, Begins, IsPart, IsForeign}
 use Rattle.dispatch_room_journal.specs.declared.replay_faults.ReplayFault.{ReplayFault}
-use Rattle.dispatch_room_journal.specs.declared.replay_faults.ReplayFault.TheVariants.{Bad, Differs, Another}
+use Rattle.dispatch_room_journal.specs.declared.replay_faults.ReplayFault.TheVariants.{Bad, Differs, OtherRoom}
 use Rattle.dispatch_room_journal.specs.declared.replay_faults.ReplayFault.TheVariants.{ReadFailed, WriteFailed, Unavailable}
 use Rattle.dispatch_room_journal.specs.JournalRecords.{status_in}
 use Rattle.dispatch_room_journal.specs.ReplayedTurns.{Open, Play, Turn, tried}
@@ -80,7 +80,7 @@ module _ (waits : Bool) (none full : Type 0) (Elsewhere : Option Open → Head �
   Explains Differs rest =
       (p : Play) × (status : ℕ) × (more : List ℕ) × (last ≡ tried p ∷ [])
       × Begins rest (answer status) more × (¬ (status_in p.response ≡ decimal status))
-  Explains Another rest =
+  Explains OtherRoom rest =
       (last ≡ []) × (open_ : Option Open) × (head : Head) × IsHead waits rest open_ head
       × Elsewhere open_ head
   Explains ReadFailed rest = ⊤
@@ -92,14 +92,14 @@ module _ (read_failed write_failed : Bool) where
   abbrev pub IsDueTo : ReplayFault → Type 0
   IsDueTo Bad = (read_failed ≡ false) × (write_failed ≡ false)
   IsDueTo Differs = (read_failed ≡ false) × (write_failed ≡ false)
-  IsDueTo Another = (read_failed ≡ false) × (write_failed ≡ false)
+  IsDueTo OtherRoom = (read_failed ≡ false) × (write_failed ≡ false)
   IsDueTo ReadFailed = (read_failed ≡ true) × (write_failed ≡ false)
   IsDueTo WriteFailed = (read_failed ≡ false) × (write_failed ≡ true)
   IsDueTo (Unavailable r) = (read_failed ≡ false) × (write_failed ≡ false) × IsUnavailable r
 
--- how it is reported that a room did not come to a digest
+-- the fault that reports that a room did not come to a digest
 abbrev pub miss_fault : Miss → ReplayFault
-miss_fault miss.Another = Another
+miss_fault miss.OtherDigest = OtherRoom
 miss_fault (miss.Unavailable r) = Unavailable r
 
 -- why a message is not played: its bytes are none, or memory or storage fails

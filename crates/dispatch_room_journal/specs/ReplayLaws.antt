@@ -15,7 +15,7 @@ use Rattle.room_http.specs.Promises.{Promises}
 use Rattle.room_http.specs.Runs.{Exchange, IsRunOf}
 use Rattle.room_http.specs.Dialogues.{Timed}
 use Rattle.dispatch_room_journal.specs.declared.replay_faults.ReplayFault.{ReplayFault}
-use Rattle.dispatch_room_journal.specs.declared.replay_faults.ReplayFault.TheVariants.{Bad, Differs, Another}
+use Rattle.dispatch_room_journal.specs.declared.replay_faults.ReplayFault.TheVariants.{Bad, Differs, OtherRoom}
 use Rattle.dispatch_room_journal.specs.declared.replay_faults.ReplayFault.TheVariants.{ReadFailed, WriteFailed, Unavailable}
 use Rattle.dispatch_room_journal.specs.declared.replay_faults.Stopped.{Stopped}
 use Rattle.dispatch_room_journal.specs.declared.replayed_journal.Replayed.{Replayed}
@@ -84,7 +84,7 @@ IsTheRoom =
 abbrev pub IsExcused : Bool → List Turn → ReplayFault → Type 0
 IsExcused read_failed ts Bad = 2 ^ 64 - 1 ≤ length ts
 IsExcused read_failed ts Differs = ⊥
-IsExcused read_failed ts Another = ⊥
+IsExcused read_failed ts OtherRoom = ⊥
 IsExcused read_failed ts ReadFailed = read_failed ≡ true
 IsExcused read_failed ts WriteFailed = ⊥
 IsExcused read_failed ts (Unavailable r) = IsUnavailable r
@@ -103,7 +103,7 @@ module _ {M : Type 0} (step : Step) (digest_of : DigitsOf) (is_trusted : M → T
       → is_trusted new → stands old terminals held
       → MatchResult result
       (λ done. stands new terminals after × (done.is_open ≡ ends_open us)
-      × (done.records ≡ min (count_by has_message us) (2 ^ 64 - 1))
+      × (done.messages ≡ min (count_by has_message us) (2 ^ 64 - 1))
       × ((ws : List Turn) → All IsReplayed ws
       → AreTurns (Some (texts_of (entries_of ts))) until ws (EndsAt until)
       → LeadsDialogue step setting digest_of (is_trusted new) (stands old) (stands new) ws

@@ -12,11 +12,11 @@ use Rattle.dispatch_room_journal.specs.declared.entry_lines.EntryLine.{EntryLine
 use Rattle.dispatch_room_journal.specs.Entries.{Entry, room, message, answer, IsEntry, line_of, texts_of, Begins}
 use Rattle.dispatch_room_journal.specs.EntryPrefixes.{IsLayout}
 use Rattle.dispatch_room_journal.specs.declared.replay_faults.ReplayFault.{ReplayFault}
-use Rattle.dispatch_room_journal.specs.declared.replay_faults.ReplayFault.TheVariants.{Bad, Differs, Another}
+use Rattle.dispatch_room_journal.specs.declared.replay_faults.ReplayFault.TheVariants.{Bad, Differs, OtherRoom}
 use Rattle.dispatch_room_journal.specs.declared.next_entry.Next.{Next}
 use Rattle.dispatch_room_journal.specs.declared.next_entry.Next.TheVariants as next
-use Rattle.dispatch_room_journal.specs.declared.journal_messages.Turned.{Turned}
-use Rattle.dispatch_room_journal.specs.declared.journal_messages.Turned.TheVariants.{Played, LeftOut, Last}
+use Rattle.dispatch_room_journal.specs.declared.journal_messages.MessageOutcome.{MessageOutcome}
+use Rattle.dispatch_room_journal.specs.declared.journal_messages.MessageOutcome.TheVariants.{Played, LeftOut, Last}
 use Rattle.dispatch_room_journal.specs.JournalRecords.{status_in}
 use Rattle.dispatch_room_journal.specs.ReplayedTurns.{Open, Play, Turn, tried, timed, entries_in, entries_of}
 use Rattle.dispatch_room_journal.specs.ReplayedTurns.{has_message, is_left_out, ends_open, ends_unanswered, IsPlay}
@@ -81,7 +81,7 @@ module _ (step : Step) (setting : Setting) (digest_of : DigitsOf) (trusted : Typ
   -- this line is a head of another room than the message would lead to
   abbrev pub IsAstray : ℕ → List ℕ → EntryLine → ReplayFault → Type 0
   IsAstray at sent line fault =
-      (fault ≡ Another) × (head : Head) × (line ≡ line_of (room head))
+      (fault ≡ OtherRoom) × (head : Head) × (line ≡ line_of (room head))
       × LeadsElsewhere step setting digest_of trusted stood stands [] (Some (at, sent)) head
 
   -- a message is played for this line: it is a status, or a head to which the room has not come
@@ -123,7 +123,7 @@ module _ (step : Step) (setting : Setting) (digest_of : DigitsOf) (trusted : Typ
   abbrev pub PlaysTowards : {A : Type 0} → ℕ → List ℕ → Head → Result A ReplayFault → Type 0
   PlaysTowards at sent head (Ok done) = ComesTo at sent head
   PlaysTowards at sent head (Err fault) = Stays trusted stood stands
-      × (Refuses sent fault ⊎ ((fault ≡ Another) × Misses at sent head))
+      × (Refuses sent fault ⊎ ((fault ≡ OtherRoom) × Misses at sent head))
 
   -- What becomes of a message before this line: it takes the line's entry with it, or is left out.
   -- It is left out before no status, and before a head only where the room has the head's digest.
@@ -158,7 +158,7 @@ module _ (step : Step) (setting : Setting) (digest_of : DigitsOf) (trusted : Typ
         × BeginsWith after [] (HasItsHead digest_of trusted stood)
 
     -- What became of a message at this moment. Where it was the last one, nothing is left.
-    abbrev pub MessageIs : ℕ → Result Turned ReplayFault → Type 0
+    abbrev pub MessageIs : ℕ → Result MessageOutcome ReplayFault → Type 0
     MessageIs at (Ok Played) =
         (sent : List ℕ) × (e : Entry) × IsMark e × TurnOf at sent (e ∷ []) false
         × IsEntry (message at sent) × IsEntry e
@@ -199,7 +199,7 @@ module _ (digest_of : DigitsOf) (trusted : Type 0) (stood stands : List Terminal
 
 -- the progress is that of these turns
 pub record IsProgress (progress : Progress) (ts : List Turn) : Type 0 where
-  pub records : progress.records ≡ min (count_by has_message ts) (2 ^ 64 - 1)
+  pub messages : progress.messages ≡ min (count_by has_message ts) (2 ^ 64 - 1)
   pub opens : progress.is_open ≡ ends_open ts
   pub begun : StartsBy progress.is_begun ts
 

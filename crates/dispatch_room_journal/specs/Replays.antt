@@ -14,7 +14,7 @@ use Rattle.room_model.specs.declared.digests.Head.{Head}
 use Rattle.dispatch_room_journal.specs.Entries.{Begins}
 use Rattle.dispatch_room_journal.specs.Entries as entry
 use Rattle.dispatch_room_journal.specs.declared.replay_faults.ReplayFault.{ReplayFault}
-use Rattle.dispatch_room_journal.specs.declared.replay_faults.ReplayFault.TheVariants.{Bad, Differs, Another}
+use Rattle.dispatch_room_journal.specs.declared.replay_faults.ReplayFault.TheVariants.{Bad, Differs, OtherRoom}
 use Rattle.dispatch_room_journal.specs.declared.replay_faults.ReplayFault.TheVariants.{ReadFailed, WriteFailed, Unavailable}
 use Rattle.dispatch_room_journal.specs.declared.replay_faults.Stopped.{Stopped}
 use Rattle.dispatch_room_journal.specs.declared.replayed_journal.Replayed.{Replayed}
@@ -115,7 +115,7 @@ module _ (step : Step) (setting : Setting) (digest_of : DigitsOf) (trusted : Typ
   Replays read_failed (Ok done) =
       (ts : List Turn) × All IsReplayed ts × AreTurns left until ts (EndsAt until)
       × LeadsDialogue step setting digest_of trusted stood stands ts
-      × (done.records ≡ min (count_by has_message ts) (2 ^ 64 - 1)) × (done.is_open ≡ ends_open ts)
+      × (done.messages ≡ min (count_by has_message ts) (2 ^ 64 - 1)) × (done.is_open ≡ ends_open ts)
   Replays read_failed (Err stopped) =
       (ts last : List Turn) × StopsAfter true IsReplayed read_failed false stopped ts last
 
@@ -123,15 +123,15 @@ module _ (step : Step) (setting : Setting) (digest_of : DigitsOf) (trusted : Typ
 abbrev pub Unless : ReplayFault → Type 0 → Type 0
 Unless Bad P = P
 Unless Differs P = P
-Unless Another P = P
+Unless OtherRoom P = P
 Unless ReadFailed P = P
 Unless WriteFailed P = P
 Unless (Unavailable r) P = ⊤
 
 -- the same of a result
-abbrev pub UnlessOutOfMemory : {T : Type 0} → Result T ReplayFault → Type 0 → Type 0
-UnlessOutOfMemory (Ok value) P = P
-UnlessOutOfMemory (Err fault) P = Unless fault P
+abbrev pub UnlessUnavailable : {T : Type 0} → Result T ReplayFault → Type 0 → Type 0
+UnlessUnavailable (Ok value) P = P
+UnlessUnavailable (Err fault) P = Unless fault P
 
 -- the same of a replay
 abbrev pub UnlessStopped : {T : Type 0} → Result T Stopped → Type 0 → Type 0

@@ -12,13 +12,13 @@ use Rattle.dispatch_room_journal.specs.declared.record_fronts.Link.{Link}
 use Rattle.dispatch_room_journal.specs.declared.whole_records.ListForm.{ListForm}
 use Rattle.dispatch_room_journal.specs.declared.whole_records.ListForm.TheVariants.{Chain, New, Plain}
 use Rattle.dispatch_room_journal.specs.declared.whole_records.WholeChain.{WholeChain}
-use Rattle.dispatch_room_journal.specs.Chains.{chain_text, first_check, is_silent, opening, sha256_digits}
+use Rattle.dispatch_room_journal.specs.Chains.{chain_text, first_check, is_no_entry, opening, sha256_digits}
 use Rattle.dispatch_room_journal.specs.RecordFronts.{front_of}
 use Rattle.dispatch_room_journal.specs.RecordRuns.{Runs, first_link}
 
 -- a record is an entry, or says none
 abbrev pub SaysEntry : List ℕ → Type 0
-SaysEntry body = (is_silent body ≡ true) ⊎ ((e : Entry) × IsEntry e × (body ≡ text_of e))
+SaysEntry body = (is_no_entry body ≡ true) ⊎ ((e : Entry) × IsEntry e × (body ≡ text_of e))
 
 -- the text after a chain's first line begins with these records, and this rest follows them; and
 -- how far the chain has come after them

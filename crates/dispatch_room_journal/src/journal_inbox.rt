@@ -1,6 +1,6 @@
 //! The bytes of a journal that were read and that no entry has taken yet.
 ghost use Rattle.std.specs.Prelude.{◌≡◌, ◌+◌, ◌≤◌, ◌<◌, [], length, drop, take, min, vec_len, IfOk};
-ghost use Rattle.dispatch_room_journal.specs.JournalReads.{QueueView};
+ghost use Rattle.dispatch_room_journal.specs.JournalReads.{InboxBytes};
 ghost use Rattle.dispatch_room_journal.specs.declared.journal_inbox.TheConstants.{ENTRY_ROOM};
 ghost use Rattle.dispatch_room_journal.specs.Entries.{Entry, bytes_of};
 ghost use Rattle.dispatch_room_journal.specs.EntryPrefixes.{IsLayout};
@@ -26,7 +26,7 @@ pub struct JournalInbox {
 }
 
 impl Model for JournalInbox {
-    ghost Value = { QueueView };
+    ghost Value = { InboxBytes };
 
     ghost view = { λ inbox. record {
       kept = take inbox.len inbox.room.items;

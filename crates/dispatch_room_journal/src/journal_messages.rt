@@ -3,7 +3,7 @@ ghost use Rattle.std.specs.Prelude.{◌≡◌, ℕ, List, false};
 ghost use Rattle.std.specs.Io.KnownBytes.{prepend_known};
 ghost use Rattle.dispatch_room_journal.specs.Entries.{message};
 ghost use Rattle.dispatch_room_journal.specs.EntryPrefixes.{IsLayout};
-ghost use Rattle.dispatch_room_journal.specs.Replays.{UnlessOutOfMemory, digits_of};
+ghost use Rattle.dispatch_room_journal.specs.Replays.{UnlessUnavailable, digits_of};
 ghost use Rattle.dispatch_room_journal.specs.ReplaySteps.{MessageIs};
 
 use crate::entry_reader::read_entry;
@@ -18,12 +18,12 @@ use room_types::refusal_statuses::Refusal;
 
 /// What became of a message.
 #[derive(Clone, Copy)]
-pub enum Turned {
+pub enum MessageOutcome {
     /// It was played, with what followed it.
     Played,
     /// It has no status, and was left out.
     LeftOut,
-    /// So was it, and nothing follows it.
+    /// It was left out too, and nothing follows it.
     Last,
 }
 
@@ -35,7 +35,7 @@ pub fn replay_message<R: Source, M: Digested>(
     reader: &mut R,
     room: &mut M,
     entry: &MessageEntry,
-) -> Result<Turned, ReplayFault>
+) -> Result<MessageOutcome, ReplayFault>
     requires ready { M.is_ready room.old }
     requires sound { R.has_failed reader.old ≡ false }
     requires front { (sent : List ℕ) × IsLayout inbox.old.kept entry.now.layout
@@ -48,7 +48,7 @@ pub fn replay_message<R: Source, M: Digested>(
         (prepend_known inbox.old.kept (R.left reader.old))
         (prepend_known inbox.new.kept (R.left reader.new)) (R.has_failed reader.new)
         entry.now.at result }
-    ensures kept { M.is_trusted room.new → UnlessOutOfMemory result (M.is_kept room.old
+    ensures kept { M.is_trusted room.new → UnlessUnavailable result (M.is_kept room.old
         → M.is_kept room.new) }
 {
     let Ok(sent) = inbox.message(&entry.layout).to_vec(handler.alloc) else {
@@ -57,13 +57,13 @@ pub fn replay_message<R: Source, M: Digested>(
     inbox.remove(&entry.layout);
     match read_entry(inbox, reader) {
         Err(fault) => Err(read_fault(fault)),
-        Ok(None) => Ok(Turned::Last),
+        Ok(None) => Ok(MessageOutcome::Last),
         Ok(Some(next)) => match settle(handler, room, sent.as_slice(), entry.at, &next.line) {
             Ok(true) => {
                 inbox.remove(&next);
-                Ok(Turned::Played)
+                Ok(MessageOutcome::Played)
             }
-            Ok(false) => Ok(Turned::LeftOut),
+            Ok(false) => Ok(MessageOutcome::LeftOut),
             Err(fault) => Err(fault),
         },
     }

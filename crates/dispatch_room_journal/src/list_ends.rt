@@ -1,6 +1,6 @@
 //! How a list goes on.
 ghost use Rattle.std.specs.Prelude.{◌≡◌, ◌≤◌, [], false, true, is_err, length, OnOk};
-ghost use Rattle.dispatch_room_journal.specs.Chains.{IsBody, is_silent, row_body, said_by, shown_by};
+ghost use Rattle.dispatch_room_journal.specs.Chains.{IsBody, is_no_entry, row_body, said_by, shown_by};
 ghost use Rattle.dispatch_room_journal.specs.RowRuns.{PutsBody, PutsEnd, PutsEntry, PutsRow};
 ghost use Rattle.dispatch_room_journal.specs.RecordFronts.{comes_next};
 ghost use Rattle.dispatch_room_journal.specs.PlainTexts.{PutsKnown};
@@ -30,7 +30,7 @@ pub fn put_entry<W: Sink>(
 ) -> Result<(), WriteFailed>
     requires sound { W.has_failed writer.old ≡ false }
     requires is_one { IsBody entry.now }
-    requires says { is_silent entry.now ≡ false }
+    requires says { is_no_entry entry.now ≡ false }
     ensures put { PutsKnown end.old end.new (W.held writer.old) (W.held writer.new) entry.now
         result }
     ensures written { OnOk result

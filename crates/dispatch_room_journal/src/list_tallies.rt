@@ -16,12 +16,12 @@ pub struct Span {
 #[derive(Clone, Copy)]
 pub struct Tally {
     /// The number of its messages, which stops at the greatest of its type.
-    pub records: u64,
+    pub messages: u64,
     /// When they came: none where there is none.
     pub span: Option<Span>,
 }
 
-/// Where a list is none, and why.
+/// Where a text is no list, and why.
 #[derive(Clone, Copy)]
 pub struct Flaw {
     pub fault: EntryFault,
@@ -34,10 +34,10 @@ impl Tally {
 
     /// Nothing came yet.
     pub fn new() -> Tally
-        ensures { result ≡ record { records = 0; span = None } }
+        ensures { result ≡ record { messages = 0; span = None } }
     {
         Tally {
-            records: 0,
+            messages: 0,
             span: None,
         }
     }
@@ -48,7 +48,7 @@ impl Tally {
             → Tallies self.new (moments ++ moments_by line.now) }
     {
         if let EntryLine::Message { at, .. } = *line {
-            self.records = self.records.saturating_add(1);
+            self.messages = self.messages.saturating_add(1);
             let first = match self.span {
                 Some(span) => span.first,
                 None => at,
@@ -59,11 +59,11 @@ impl Tally {
 
     /// Where what came is followed by none.
     pub fn flaw(&self, fault: EntryFault) -> Flaw
-        ensures { result ≡ record { fault = fault; number = min (self.now.records + 1) u64.MAX } }
+        ensures { result ≡ record { fault = fault; number = min (self.now.messages + 1) u64.MAX } }
     {
         Flaw {
             fault,
-            number: self.records.saturating_add(1),
+            number: self.messages.saturating_add(1),
         }
     }
 }

@@ -2,7 +2,7 @@
 ghost use Rattle.std.specs.Prelude.{◌≡◌, ◌↔◌, false, IsTrue};
 ghost use Rattle.std.specs.Io.KnownBytes.{prepend_known};
 ghost use Rattle.dispatch_room_journal.specs.ReplayFaults.{read_fault};
-ghost use Rattle.dispatch_room_journal.specs.Replays.{UnlessOutOfMemory, digits_of};
+ghost use Rattle.dispatch_room_journal.specs.Replays.{UnlessUnavailable, digits_of};
 ghost use Rattle.dispatch_room_journal.specs.ReplaySteps.{NextIs};
 ghost use Rattle.dispatch_room_journal.specs.ReplayedTurns.{IsAfter};
 
@@ -71,7 +71,7 @@ pub fn next_entry<R: Source, M: Digested>(
         (M.stands room.old) (M.stands room.new) (prepend_known inbox.old.kept (R.left reader.old))
         (prepend_known inbox.new.kept (R.left reader.new)) (R.has_failed reader.new) until.now
         is_begun inbox.new.kept result }
-    ensures kept { M.is_trusted room.new → UnlessOutOfMemory result (M.is_kept room.old
+    ensures kept { M.is_trusted room.new → UnlessUnavailable result (M.is_kept room.old
         → M.is_kept room.new) }
 {
     match read_entry(inbox, reader) {
@@ -83,7 +83,7 @@ pub fn next_entry<R: Source, M: Digested>(
                     inbox.remove(&layout);
                     Ok(Next::Head)
                 }
-                Ok(false) => Err(ReplayFault::Another),
+                Ok(false) => Err(ReplayFault::OtherRoom),
                 Err(fault) => Err(fault),
             },
             EntryLine::Message { at, .. } => {

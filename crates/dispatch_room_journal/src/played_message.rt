@@ -8,7 +8,7 @@ ghost use Rattle.room_http_messages.specs.Layouts.{Shows};
 ghost use Rattle.room_http_messages.specs.Messages.{WholeMessage, HasMessage};
 ghost use Rattle.dispatch_room_journal.specs.ReplayFaults.{IsNoMessage, IsUnavailableFault, miss_fault};
 ghost use Rattle.dispatch_room_journal.specs.JournalRecords.{status_in};
-ghost use Rattle.dispatch_room_journal.specs.Replays.{IsHeadOf, UnlessOutOfMemory, digits_of};
+ghost use Rattle.dispatch_room_journal.specs.Replays.{IsHeadOf, UnlessUnavailable, digits_of};
 ghost use Rattle.dispatch_room_journal.specs.ReplaySteps.{Plays, PlaysTowards};
 
 use crate::answer_statuses::status_in;
@@ -62,7 +62,7 @@ pub fn play<M: Room>(
     ensures trusted { M.is_trusted room.new → M.is_trusted room.old }
     ensures plays { Plays M.step handler.now.setting (M.is_trusted room.new) (M.stands room.old)
         (M.stands room.new) at sent.now result }
-    ensures kept { M.is_trusted room.new → UnlessOutOfMemory result (M.is_kept room.old
+    ensures kept { M.is_trusted room.new → UnlessUnavailable result (M.is_kept room.old
         → M.is_kept room.new) }
 {
     let Some(message) = message_in(sent) else {
@@ -101,7 +101,7 @@ pub fn play_towards<M: Digested>(
     ensures plays { PlaysTowards M.step handler.now.setting
         (digits_of M.digest_of (M.zone room.old)) (M.is_trusted room.new)
         (M.stands room.old) (M.stands room.new) at sent.now head.now result }
-    ensures kept { M.is_trusted room.new → UnlessOutOfMemory result (M.is_kept room.old
+    ensures kept { M.is_trusted room.new → UnlessUnavailable result (M.is_kept room.old
         → M.is_kept room.new) }
 {
     let Some(message) = message_in(sent) else {
@@ -125,12 +125,12 @@ pub fn play_towards<M: Digested>(
     }
 }
 
-// How it is reported that a room did not come to a digest.
+// The fault that reports that a room did not come to a digest.
 fn fault_of(miss: Miss) -> ReplayFault
     ensures { result ≡ miss_fault miss }
 {
     match miss {
-        Miss::Another => ReplayFault::Another,
+        Miss::OtherDigest => ReplayFault::OtherRoom,
         Miss::Unavailable(refusal) => ReplayFault::Unavailable(refusal),
     }
 }
@@ -154,7 +154,7 @@ pub fn is_at<M: Digested>(room: &mut M, head: &Head) -> Result<bool, ReplayFault
         (room_then : Held) → M.stands room.old terminals room_then
         → (IsTrue is ↔ IsHeadOf (digits_of M.digest_of (M.zone room.old)) head.now
         terminals room_then)) }
-    ensures kept { M.is_trusted room.new → UnlessOutOfMemory result (M.is_kept room.old
+    ensures kept { M.is_trusted room.new → UnlessUnavailable result (M.is_kept room.old
         → M.is_kept room.new) }
     ensures unavailable { IfErr result IsUnavailableFault }
 {

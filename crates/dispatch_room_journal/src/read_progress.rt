@@ -18,7 +18,7 @@ pub enum Reach {
 pub enum Mode {
     /// Nothing of it was looked at.
     Fresh(Reach),
-    /// It is no chain, and says itself.
+    /// It is no chain: its own bytes are its entries.
     Plain(Reach),
     /// It is a chain, and has come so far.
     Chain(Reach, Link),

@@ -1,6 +1,6 @@
 //! Steps in a list that was read so far.
 ghost use Rattle.std.specs.Prelude.{◌≡◌, ◌≤◌, ◌<◌, ◌+◌, ◌-◌, ◌++◌, [], ℕ, List, length, drop, take, true, false};
-ghost use Rattle.dispatch_room_journal.specs.Chains.{is_end, is_silent};
+ghost use Rattle.dispatch_room_journal.specs.Chains.{is_end, is_no_entry};
 ghost use Rattle.dispatch_room_journal.specs.RecordFronts.{body_in};
 ghost use Rattle.dispatch_room_journal.specs.ReadSteps.{EndIs, StepIs, last_of, left_of, reach_of, rest_of, rows_by, rows_next};
 ghost use Rattle.dispatch_room_journal.specs.declared.record_headers.TheConstants.{HEADER};
@@ -8,7 +8,7 @@ ghost use Rattle.dispatch_room_journal.specs.declared.read_progress.Mode.TheVari
 
 use crate::read_progress::{Mode, Reach, Reel, Step};
 use crate::record_fronts::{
-    FIRST_LINK, Front, Link, OPENING, body_of, is_end, is_row, is_silent, look_at,
+    FIRST_LINK, Front, Link, OPENING, body_of, is_end, is_no_entry, is_row, look_at,
 };
 use crate::record_headers::{CHECK_DIGITS, HEADER};
 use crate::record_inbox::RecordInbox;
@@ -85,16 +85,16 @@ impl Reel {
           check = check;
           has_ended = is_end (body_in size self.old.inbox);
         }) }
-        ensures says { is_silent (body_in size self.old.inbox) ≡ false
+        ensures says { is_no_entry (body_in size self.old.inbox) ≡ false
             → (self.new.inbox ≡ drop HEADER self.old.inbox) × (self.new.vouched ≡ size) }
-        ensures silent { is_silent (body_in size self.old.inbox) ≡ true
+        ensures no_entry { is_no_entry (body_in size self.old.inbox) ≡ true
             → (self.new.inbox ≡ drop (HEADER + size) self.old.inbox) × (self.new.vouched ≡ 0) }
         ensures shorter { HEADER + length self.new.inbox ≤ length self.old.inbox }
     {
         let body = body_of(self.inbox.bytes(), size);
-        let (has_ended, is_silent) = (is_end(body), is_silent(body));
+        let (has_ended, is_no_entry) = (is_end(body), is_no_entry(body));
         self.mode = Mode::Chain(reach, Link { check, has_ended });
-        if is_silent {
+        if is_no_entry {
             self.inbox.remove(HEADER + size);
         } else {
             self.inbox.remove(HEADER);

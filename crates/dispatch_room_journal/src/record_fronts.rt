@@ -1,7 +1,7 @@
 //! What is at the front of the bytes of a chain.
 ghost use Rattle.std.specs.Prelude.{◌≡◌, ◌≤◌, ◌+◌, ◌-◌, length, take};
 ghost use Rattle.std.specs.Str.{bytes_eq};
-ghost use Rattle.dispatch_room_journal.specs.Chains.{is_end, is_whole_line, is_row, is_silent, next_check, sha256_digits};
+ghost use Rattle.dispatch_room_journal.specs.Chains.{is_end, is_whole_line, is_row, is_no_entry, next_check, sha256_digits};
 ghost use Rattle.dispatch_room_journal.specs.RecordFronts.{Stays, body_in, comes_next, front_of};
 ghost use Rattle.dispatch_room_journal.specs.RecordFronts.{number_in, sized_front, whole_front};
 ghost use Rattle.dispatch_room_journal.specs.declared.record_headers.TheConstants.{HEADER};
@@ -73,8 +73,8 @@ pub fn is_row(body: &[u8]) -> bool
 }
 
 /// Whether a record is no entry: it says that the list ended well, or is a row.
-pub fn is_silent(body: &[u8]) -> bool
-    ensures { result ≡ is_silent body.now }
+pub fn is_no_entry(body: &[u8]) -> bool
+    ensures { result ≡ is_no_entry body.now }
 {
     is_end(body) || is_row(body)
 }

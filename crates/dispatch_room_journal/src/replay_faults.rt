@@ -10,7 +10,7 @@ pub enum ReplayFault {
     /// A message is answered with another status than the journal gives.
     Differs,
     /// The journal goes on at another room.
-    Another,
+    OtherRoom,
     /// A read failed.
     ReadFailed,
     /// A write failed, or took nothing.

@@ -3,7 +3,7 @@ ghost use Rattle.std.specs.Prelude.{◌≡◌};
 ghost use Rattle.std.specs.Prelude.{◌≤◌, length};
 ghost use Rattle.room_http_messages.specs.declared.limits.TheConstants.{INBOX_ROOM};
 ghost use Rattle.dispatch_room_journal.specs.declared.entry_lines.EntryLine.TheVariants.{Answer, Room};
-ghost use Rattle.dispatch_room_journal.specs.Replays.{UnlessOutOfMemory, digits_of};
+ghost use Rattle.dispatch_room_journal.specs.Replays.{UnlessUnavailable, digits_of};
 ghost use Rattle.dispatch_room_journal.specs.ReplaySteps.{Settles};
 
 use crate::entry_lines::EntryLine;
@@ -29,7 +29,7 @@ fn play_answered<M: Digested>(
     ensures turn { Settles M.step handler.now.setting (digits_of M.digest_of (M.zone room.old))
         (M.is_trusted room.new)
         (M.stands room.old) (M.stands room.new) at sent.now (Answer status) result }
-    ensures kept { M.is_trusted room.new → UnlessOutOfMemory result (M.is_kept room.old
+    ensures kept { M.is_trusted room.new → UnlessUnavailable result (M.is_kept room.old
         → M.is_kept room.new) }
 {
     match play(handler, room, sent, at) {
@@ -62,7 +62,7 @@ fn replay_unanswered<M: Digested>(
     ensures turn { Settles M.step handler.now.setting (digits_of M.digest_of (M.zone room.old))
         (M.is_trusted room.new)
         (M.stands room.old) (M.stands room.new) at sent.now (Room head.now) result }
-    ensures kept { M.is_trusted room.new → UnlessOutOfMemory result (M.is_kept room.old
+    ensures kept { M.is_trusted room.new → UnlessUnavailable result (M.is_kept room.old
         → M.is_kept room.new) }
 {
     match is_at(room, head) {
@@ -92,7 +92,7 @@ pub fn settle<M: Digested>(
     ensures turn { Settles M.step handler.now.setting (digits_of M.digest_of (M.zone room.old))
         (M.is_trusted room.new)
         (M.stands room.old) (M.stands room.new) at sent.now line.now result }
-    ensures kept { M.is_trusted room.new → UnlessOutOfMemory result (M.is_kept room.old
+    ensures kept { M.is_trusted room.new → UnlessUnavailable result (M.is_kept room.old
         → M.is_kept room.new) }
 {
     match line {

@@ -5,7 +5,7 @@ ghost use Rattle.std.specs.Prelude.{◌≡◌, ◌+◌, min, true, false};
 #[derive(Clone, Copy)]
 pub struct Progress {
     /// The number of the messages, which stops at the greatest of its type.
-    pub records: u64,
+    pub messages: u64,
     /// Whether the last entry is a message that was left out.
     pub is_open: bool,
     /// Whether a head came.
@@ -15,10 +15,10 @@ pub struct Progress {
 impl Progress {
     /// Nothing came yet.
     pub fn new() -> Progress
-        ensures { result ≡ record { records = 0; is_open = false; is_begun = false } }
+        ensures { result ≡ record { messages = 0; is_open = false; is_begun = false } }
     {
         Progress {
-            records: 0,
+            messages: 0,
             is_open: false,
             is_begun: false,
         }
@@ -35,11 +35,11 @@ impl Progress {
     /// A message came.
     pub fn note_message(&mut self, is_left_out: bool)
         ensures { self.new ≡ record self.old {
-          records = min (self.old.records + 1) u64.MAX;
+          messages = min (self.old.messages + 1) u64.MAX;
           is_open = is_left_out;
         } }
     {
-        self.records = self.records.saturating_add(1);
+        self.messages = self.messages.saturating_add(1);
         self.is_open = is_left_out;
     }
 }

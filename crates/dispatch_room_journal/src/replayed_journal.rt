@@ -3,12 +3,12 @@ ghost use Rattle.std.specs.Prelude.{◌≡◌, ◌+◌, [], false, min};
 ghost use Rattle.std.specs.Io.KnownBytes.{prepend_known};
 ghost use Rattle.room_types.specs.declared.refusal_statuses.Refusal.TheVariants.{Memory};
 ghost use Rattle.dispatch_room_journal.specs.declared.replay_faults.ReplayFault.TheVariants.{Unavailable};
-ghost use Rattle.dispatch_room_journal.specs.Replays.{Replays, UnlessStopped, UnlessOutOfMemory, digits_of};
+ghost use Rattle.dispatch_room_journal.specs.Replays.{Replays, UnlessStopped, UnlessUnavailable, digits_of};
 ghost use Rattle.dispatch_room_journal.specs.ReplaySteps.{TakesTurn};
 ghost use Rattle.dispatch_room_journal.specs.ReplayedTurns.{IsReplayed};
 
 use crate::journal_inbox::JournalInbox;
-use crate::journal_messages::{Turned, replay_message};
+use crate::journal_messages::{MessageOutcome, replay_message};
 use crate::next_entry::{Next, next_entry};
 use crate::replay_faults::{ReplayFault, Stopped};
 use crate::replay_progress::Progress;
@@ -24,7 +24,7 @@ use std::alloc::Global;
 #[derive(Clone, Copy)]
 pub struct Replayed {
     /// The number of its messages, which stops at the greatest of its type.
-    pub records: u64,
+    pub messages: u64,
     /// Whether the last of them has no status, and was left out.
     pub is_open: bool,
 }
@@ -112,7 +112,7 @@ fn replay_turn<R: Source, M: Digested>(
         (prepend_known inbox.old.kept (R.left reader.old))
         (prepend_known inbox.new.kept (R.left reader.new)) until.now IsReplayed progress.old
         progress.new (R.has_failed reader.new) result }
-    ensures kept { M.is_trusted room.new → UnlessOutOfMemory result (M.is_kept room.old
+    ensures kept { M.is_trusted room.new → UnlessUnavailable result (M.is_kept room.old
         → M.is_kept room.new) }
 {
     match next_entry(inbox, reader, room, until, progress.is_begun) {
@@ -126,15 +126,15 @@ fn replay_turn<R: Source, M: Digested>(
             Next::Message(entry) => {
                 match replay_message(handler, inbox, reader, room, entry) {
                     Err(fault) => Err(fault),
-                    Ok(Turned::Played) => {
+                    Ok(MessageOutcome::Played) => {
                         progress.note_message(false);
                         Ok(true)
                     }
-                    Ok(Turned::LeftOut) => {
+                    Ok(MessageOutcome::LeftOut) => {
                         progress.note_message(true);
                         Ok(true)
                     }
-                    Ok(Turned::Last) => {
+                    Ok(MessageOutcome::Last) => {
                         progress.note_message(true);
                         Ok(false)
                     }
@@ -147,12 +147,12 @@ fn replay_turn<R: Source, M: Digested>(
 // What was replayed.
 fn done(progress: &Progress) -> Replayed
     ensures { result ≡ record {
-      records = progress.now.records;
+      messages = progress.now.messages;
       is_open = progress.now.is_open;
     } }
 {
     Replayed {
-        records: progress.records,
+        messages: progress.messages,
         is_open: progress.is_open,
     }
 }
@@ -171,11 +171,11 @@ pub fn memory() -> Stopped
 pub fn stopped(fault: ReplayFault, progress: &Progress) -> Stopped
     ensures { result ≡ record {
       fault = fault;
-      number = min (progress.now.records + 1) u64.MAX;
+      number = min (progress.now.messages + 1) u64.MAX;
     } }
 {
     Stopped {
         fault,
-        number: progress.records.saturating_add(1),
+        number: progress.messages.saturating_add(1),
     }
 }

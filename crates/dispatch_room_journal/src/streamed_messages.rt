@@ -4,7 +4,7 @@ ghost use Rattle.std.specs.Io.KnownBytes.{prepend_known};
 ghost use Rattle.dispatch_room_journal.specs.Entries.{message};
 ghost use Rattle.dispatch_room_journal.specs.EntryPrefixes.{IsLayout};
 ghost use Rattle.dispatch_room_journal.specs.AnswerFrames.{AnswersEach, AnswersTurn, EachIs, FollowIs};
-ghost use Rattle.dispatch_room_journal.specs.Replays.{UnlessStopped, UnlessOutOfMemory, digits_of};
+ghost use Rattle.dispatch_room_journal.specs.Replays.{UnlessStopped, UnlessUnavailable, digits_of};
 
 use crate::answer_frames::put_frame;
 use crate::entry_lines::EntryLine;
@@ -73,7 +73,7 @@ fn answer_message<R: Source, W: Sink, M: Digested>(
         (prepend_known inbox.old.kept (R.left reader.old))
         (prepend_known inbox.new.kept (R.left reader.new)) (W.held writer.old) (W.held writer.new)
         entry.now.at (R.has_failed reader.new) (W.has_failed writer.new) result }
-    ensures kept { M.is_trusted room.new → UnlessOutOfMemory result (M.is_kept room.old
+    ensures kept { M.is_trusted room.new → UnlessUnavailable result (M.is_kept room.old
         → M.is_kept room.new) }
 {
     match play(handler, room, inbox.message(&entry.layout), entry.at) {
@@ -111,7 +111,7 @@ fn answer_turn<R: Source, W: Sink, M: Digested>(
         (prepend_known inbox.old.kept (R.left reader.old))
         (prepend_known inbox.new.kept (R.left reader.new)) (W.held writer.old) (W.held writer.new)
         progress.old progress.new (R.has_failed reader.new) (W.has_failed writer.new) result }
-    ensures kept { M.is_trusted room.new → UnlessOutOfMemory result (M.is_kept room.old
+    ensures kept { M.is_trusted room.new → UnlessUnavailable result (M.is_kept room.old
         → M.is_kept room.new) }
 {
     match next_entry(inbox, reader, room, &None, progress.is_begun) {
@@ -161,7 +161,7 @@ fn answer_turns<R: Source, W: Sink, M: Digested>(
     'turns: for _turn in 0..u64::MAX {
         match answer_turn(handler, inbox, reader, writer, room, &mut progress) {
             Ok(true) => {}
-            Ok(false) => return Ok(progress.records),
+            Ok(false) => return Ok(progress.messages),
             Err(fault) => return Err(stopped(fault, &progress)),
         }
     }

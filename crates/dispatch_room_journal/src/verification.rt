@@ -7,7 +7,7 @@ use crate::journal_inbox::JournalInbox;
 use crate::list_tallies::{Flaw, Tally};
 use room_http_messages::sources::Source;
 
-/// What a list holds, read by an inbox that is new; or where it is none.
+/// What a list holds, read by an inbox that is new; or where it is no list.
 pub fn verify<R: Source>(inbox: &mut JournalInbox, list: &mut R) -> Result<Tally, Flaw>
     requires sound { R.has_failed list.old ≡ false }
     requires kept { inbox.old.kept ≡ [] }

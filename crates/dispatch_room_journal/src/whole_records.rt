@@ -9,7 +9,9 @@ ghost use Rattle.dispatch_room_journal.specs.declared.record_inbox.TheConstants.
 
 use crate::entry_prefixes::{self, EntryLayout, EntryPrefix};
 use crate::entry_reader::EntryFault;
-use crate::record_fronts::{FIRST_LINK, Front, Link, OPENING, body_of, is_end, is_silent, look_at};
+use crate::record_fronts::{
+    FIRST_LINK, Front, Link, OPENING, body_of, is_end, is_no_entry, look_at,
+};
 use crate::record_headers::HEADER;
 use crate::record_inbox::RecordInbox;
 use room_http_messages::sources::Source;
@@ -27,7 +29,7 @@ pub struct WholeChain {
 fn says_entry(body: &[u8]) -> bool
     ensures { IsTrue result ↔ SaysEntry body.now }
 {
-    if is_silent(body) {
+    if is_no_entry(body) {
         return true;
     }
     match entry_prefixes::look_at(body) {
@@ -132,7 +134,7 @@ fn fill_line<R: Source>(inbox: &mut RecordInbox, reader: &mut R) -> Result<bool,
     Ok(true)
 }
 
-// Whether all these bytes are those with which the line begins with which a chain begins.
+// Whether all these bytes are the first bytes of a chain's opening line.
 fn begin_line(bytes: &[u8]) -> bool
     requires { length bytes.now ≤ 7 }
     ensures { result ≡ bytes_eq (take (length bytes.now) opening) bytes.now }

@@ -7,14 +7,17 @@ use Rattle.room_model.specs.declared.digests.Head.{Head}
 use Rattle.room_store.specs.declared.store.Store.{Store}
 use Rattle.dispatch_room_journal.specs.ReplayFaults.{IsUnavailableFault}
 use Rattle.dispatch_room_journal.specs.declared.replay_faults.ReplayFault.{ReplayFault}
-use Rattle.dispatch_room_lists.specs.ListedRows.{AreRowsIn, EnrolsSome, FindsHead, IsElsewhere, IsUnfollowed}
+use Rattle.dispatch_room_lists.specs.ListedRows.{AreRowsIn, EnrolsSome, FindsHead, IsElsewhere, IsNoChange, IsNoPlan}
+use Rattle.dispatch_room_lists.specs.ListedRows.{IsUnfollowed}
+use Rattle.dispatch_room_lists.specs.RoomChanges.{IsNoTerminals}
 use Rattle.dispatch_room_lists.specs.StoodRooms.{Stays}
 
--- a result that is none holds nothing else
-pub if_none : {T E : Type 0} (found : Result (Option T) E) (P : Type 0) → P → IfOk found (λ it. IfNone it P)
-if_none (Ok (Some x)) P holds = tt
-if_none (Ok None) P holds = holds
-if_none (Err e) P holds = tt
+-- a text that is no plan's, and that of no change of terminals, is no change's
+pub no_change : {T E : Type 0} (found : Result (Option T) E) (text : List ℕ) → IsNoPlan text
+    → IfOk found (λ it. IfNone it (IsNoTerminals text)) → IfOk found (λ it. IfNone it (IsNoChange text))
+no_change (Ok (Some x)) text no_plan no_terminals = tt
+no_change (Ok None) text no_plan no_terminals = record { no_plan = no_plan; no_terminals = no_terminals }
+no_change (Err e) text no_plan no_terminals = tt
 
 -- a store that was not looked at
 pub stays_same : {S : Type 0} (g : Ghosts S) (store : Store S) → Stays g store store

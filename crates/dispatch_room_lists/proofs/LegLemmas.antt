@@ -27,7 +27,7 @@ use Rattle.room_tables_schema.specs.FileConnections.{IsClean}
 module _ {S : Type 0} (g : Ghosts S) (how : How) where
   pub first_leg : (first : Waypoint S) (last : Store S) (holds : Option (List ℕ)) (read_failed write_failed : Bool)
       (came : Result Replayed Stopped) → IsLeg g how first last holds read_failed write_failed came
-      → (ends : EndsLeg g how first last holds read_failed write_failed first.records came)
+      → (ends : EndsLeg g how first last holds read_failed write_failed first.messages came)
       × (length ends.earlier + 1 ≡ 1)
   first_leg first last holds read_failed write_failed came is =
       (record { at = first; earlier = []; are = refl; is = is; before_is = refl }, refl)
@@ -59,12 +59,12 @@ module _ {S : Type 0} (g : Ghosts S) (how : How) where
       → FollowsBy g stood now.store rows behind true
       → (IsClean g now.store.conn → IsClean g stood.conn)
       → IsSetting now.store.plan.zone how.history now.setting
-      → now.records ≡ sum_of before replayed.records
+      → now.messages ≡ sum_of before replayed.messages
       → IsLeg g how now last holds reads writes came
-      → (more : EndsLeg g how first last holds reads writes now.records came)
+      → (more : EndsLeg g how first last holds reads writes now.messages came)
       × (length more.earlier + 1 ≡ count + 1)
   next_leg first stood before replayed now rows behind last holds read_failed write_failed reads writes whole came count
-      ends well many between clean set records is = (
+      ends well many between clean set messages is = (
         record {
           at = now;
           earlier = ends.at ∷ ends.earlier;
@@ -79,7 +79,7 @@ module _ {S : Type 0} (g : Ghosts S) (how : How) where
               between = between;
               is_set = set;
               clean = clean;
-              records = records ∙ ap (λ n. sum_of n replayed.records) (sym ends.before_is);
+              messages = messages ∙ ap (λ n. sum_of n replayed.messages) (sym ends.before_is);
             },
           );
           is = is;

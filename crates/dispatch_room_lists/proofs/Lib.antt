@@ -2,3 +2,4 @@ pub mod DueLemmas
 pub mod FollowLemmas
 pub mod LegLemmas
 pub mod RefusalLemmas
+pub mod TerminalTextLemmas

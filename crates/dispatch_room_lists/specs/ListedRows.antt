@@ -20,9 +20,9 @@ use Rattle.dispatch_room_cli.specs.declared.exit_status.Failure.{Failure}
 use Rattle.dispatch_room_cli.specs.declared.exit_status.Failure.TheVariants as failure
 use Rattle.dispatch_room_journal.specs.ReplayFaults.{IsUnavailableFault}
 use Rattle.dispatch_room_journal.specs.declared.replay_faults.ReplayFault.{ReplayFault}
-use Rattle.dispatch_room_journal.specs.declared.replay_faults.ReplayFault.TheVariants.{Another, Bad, Unavailable}
+use Rattle.dispatch_room_journal.specs.declared.replay_faults.ReplayFault.TheVariants.{Bad, OtherRoom, Unavailable}
 use Rattle.dispatch_room_tasks.specs.RowOutcomes.{good_rows}
-use Rattle.dispatch_room_lists.specs.RoomChanges.{IsTextOf, LosesRoom, Remakes}
+use Rattle.dispatch_room_lists.specs.RoomChanges.{IsNoTerminals, IsTextOf, LosesRoom, Remakes}
 use Rattle.dispatch_room_lists.specs.StoodRooms.{Stays, digits_in}
 use Rattle.dispatch_room_lists.specs.declared.listed_changes.ListedChange.{ListedChange}
 use Rattle.dispatch_room_lists.specs.declared.listed_changes.ListedChange.TheVariants.{Change, Fleet}
@@ -43,11 +43,15 @@ IsListed text (Change change) = IsTextOf change text
 abbrev pub IsNoPlan : List ℕ → Type 0
 IsNoPlan text = ExplainsPlan text plan.Input ⊎ ((row : ℕ) × ExplainsPlan text (plan.Row row))
 
--- A text is no file's: it is no table under the names of a fleet, and no plan's. Whether it is a
--- list of terminals is said where it is read as one.
+-- a text is no change's: it is no plan's, and that of no change of terminals
+pub record IsNoChange (text : List ℕ) : Type 0 where
+  pub no_plan : IsNoPlan text
+  pub no_terminals : IsNoTerminals text
+
+-- a text is no file's: it is no table under the names of a fleet, and no change's
 pub record IsNoFile (text : List ℕ) : Type 0 where
   pub no_fleet : ExplainsFleet text fleet.Input
-  pub no_plan : IsNoPlan text
+  pub no_change : IsNoChange text
 
 -- ---- a fleet's rows
 module _ (digits : DigitsOf) (head : Head) (rows : List FleetRow) (terminals : List Terminal)
@@ -124,12 +128,12 @@ module _ {S : Type 0} (g : Ghosts S) (old new : Store S) where
   IsUnread fault = IsUnavailableFault fault × Stays g old new
 
 -- ---- a change that is no fleet
--- How it is reported that a change was not made: memory or storage failed; or else the room does
--- not allow it, so the list is that of another room.
+-- The fault that reports that a change was not made: memory or storage failed; or else the room
+-- does not allow it, so the list is that of another room.
 abbrev pub unmade_fault : Failure → ReplayFault
 unmade_fault failure.Memory = Unavailable refusal.Memory
 unmade_fault failure.Storage = Unavailable refusal.Storage
-unmade_fault other = Another
+unmade_fault other = OtherRoom
 
 module _ {S : Type 0} (g : Ghosts S) (old new : Store S) (change : RoomChange) (head : Head) where
   -- The room has another digest, and the change is made.

@@ -35,13 +35,13 @@ pub record Waypoint (S : Type 0) : Type 0 where
   pub setting : Setting
   pub left : Option (List ℕ)
   pub held : Option (List ℕ)
-  pub records : ℕ
+  pub messages : ℕ
 
 -- where the first leg of a list begins
 abbrev pub begins_leg : {S : Type 0} → Store S → Setting → Option (List ℕ) → Option (List ℕ)
     → Waypoint S
 begins_leg store setting list held =
-    record { store = store; setting = setting; left = list; held = held; records = 0 }
+    record { store = store; setting = setting; left = list; held = held; messages = 0 }
 
 -- what is left of the leg of a list that is read next, by what is left of its source
 abbrev pub left_of : {R : Type 0} → (R → Option (List ℕ)) → Unchained R → Option (List ℕ)
@@ -49,7 +49,7 @@ left_of left list = left_in list.reel.mode list.reel.vouched list.reel.inbox (le
 
 -- how many messages were answered, or why it stopped
 abbrev pub count_in : Result Replayed Stopped → Result ℕ Stopped
-count_in (Ok replayed) = Ok replayed.records
+count_in (Ok replayed) = Ok replayed.messages
 count_in (Err stopped) = Err stopped
 
 -- so many messages and so many more: the number stops at the greatest of its type
@@ -59,7 +59,7 @@ sum_of before more = min (before + more) (2 ^ 64 - 1)
 -- what a replay comes to whose last leg came to this, behind so many messages
 abbrev pub in_all : ℕ → Result Replayed Stopped → Result Replayed Stopped
 in_all before (Ok replayed) =
-    Ok (record { records = sum_of before replayed.records; is_open = replayed.is_open })
+    Ok (record { messages = sum_of before replayed.messages; is_open = replayed.is_open })
 in_all before (Err stopped) =
     Err (record { fault = stopped.fault; number = sum_of before stopped.number })
 
@@ -136,7 +136,7 @@ module _ {S : Type 0} (g : Ghosts S) where
       pub between : FollowsBy last now.store rows behind true
       pub is_set : IsSetting now.store.plan.zone how.history now.setting
       pub clean : IsClean g now.store.conn → IsClean g last.conn
-      pub records : now.records ≡ sum_of at.records replayed.records
+      pub messages : now.messages ≡ sum_of at.messages replayed.messages
 
     -- these legs were passed, the last of them first
     abbrev pub ArePassed : List (Waypoint S) → Waypoint S → Waypoint S → Type 0
@@ -151,7 +151,7 @@ module _ {S : Type 0} (g : Ghosts S) where
       pub earlier : List (Waypoint S)
       pub are : ArePassed earlier first at
       pub is : IsLeg at last holds read_failed write_failed came
-      pub before_is : at.records ≡ before
+      pub before_is : at.messages ≡ before
 
     -- Behind a leg that was replayed whole the rows could not be read, or not followed.
     pub record StopsBetween (first : Waypoint S) (last : Store S) (holds : Option (List ℕ))
@@ -165,7 +165,7 @@ module _ {S : Type 0} (g : Ghosts S) where
       pub why : StopsBehind (λ rows which. ⊤) read_failed stood last fault
       pub failed : result ≡ Err (record {
         fault = fault;
-        number = sum_of (sum_of before replayed.records) 1;
+        number = sum_of (sum_of before replayed.messages) 1;
       })
 
     -- A list was replayed leg by leg: so its last leg came to it, or it stopped between two. Where

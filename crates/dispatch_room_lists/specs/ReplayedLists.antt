@@ -26,7 +26,7 @@ use Rattle.room_tables_schema.specs.FileConnections.{IsClean}
 abbrev pub failure_at : ReplayFault → ℕ → Failure
 failure_at replay.Bad number = Record number
 failure_at replay.Differs number = Differs number
-failure_at replay.Another number = OtherRoom number
+failure_at replay.OtherRoom number = OtherRoom number
 failure_at replay.ReadFailed number = Network
 failure_at replay.WriteFailed number = Network
 failure_at (replay.Unavailable refusal) number = refused refusal
@@ -38,7 +38,7 @@ failure_of stopped = failure_at stopped.fault stopped.number
 abbrev pub IsPrinted : Result Replayed Stopped → Option (List ℕ) → Option (List ℕ)
     → Result Done Failure → Type 0
 IsPrinted (Ok replayed) before after (Ok done) =
-    Appends before after (codes "replayed " ++ (decimal replayed.records ++ codes "\n"))
+    Appends before after (codes "replayed " ++ (decimal replayed.messages ++ codes "\n"))
     × (done ≡ Whole)
 IsPrinted (Ok replayed) before after (Err fault) = fault ≡ Network
 IsPrinted (Err stopped) before after (Ok done) = ⊥
@@ -46,7 +46,7 @@ IsPrinted (Err stopped) before after (Err fault) = fault ≡ failure_of stopped
 
 -- how the program ends by how answering each message did
 abbrev pub EndsAs : Result ℕ Stopped → Result Done Failure → Type 0
-EndsAs (Ok records) done = done ≡ Ok Whole
+EndsAs (Ok messages) done = done ≡ Ok Whole
 EndsAs (Err stopped) done = done ≡ Err (failure_of stopped)
 
 -- What is done with a list in a store that is first this and then that, first in this setting, and

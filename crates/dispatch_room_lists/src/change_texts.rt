@@ -1,7 +1,9 @@
 //! The text by which a list has a change of a room.
-ghost use Rattle.std.specs.Prelude.{◌≡◌, ◌++◌, flat_map, unwrap_or, IfNone, IfOk, IfSome, OnOk, []};
+ghost use Rattle.std.specs.Prelude.{◌≡◌, ◌++◌, flat_map, unwrap_or, IfNone, IfOk, IfSome, MatchOption, OnOk, []};
 ghost use Rattle.std.specs.Prelude.{string_bytes};
-ghost use Rattle.dispatch_room_lists.specs.ListedRows.{IsNoPlan};
+ghost use Rattle.dispatch_room_lists.specs.ListedRows.{IsNoChange};
+ghost use Rattle.dispatch_room_lists.specs.RoomChanges.{AddsLine, AreNoLines, AreReadAs, IsEntry};
+ghost use Rattle.dispatch_room_lists.specs.RoomChanges.{IsNoEntry, IsNoTerminals, IsOfNoOne};
 ghost use Rattle.dispatch_room_lists.specs.RoomChanges.{IsTextOf, line_of, terminal_line};
 ghost use Rattle.dispatch_room_lists.specs.RoomChanges.{terminals_text};
 
@@ -58,7 +60,7 @@ fn push_line(text: &mut String, who: &Who, token: &str) -> Result<(), AllocError
 /// The change whose text this is; none where it is no change's.
 pub fn change_of(alloc: Global, text: &[u8]) -> Result<Option<RoomChange>, AllocError>
     ensures change { IfOk result (λ found. IfSome found (λ change. IsTextOf change text.now)) }
-    ensures none { IfOk result (λ found. IfNone found (IsNoPlan text.now)) }
+    ensures none { IfOk result (λ found. IfNone found (IsNoChange text.now)) }
 {
     match read_plan(alloc, text) {
         Ok(file) => Ok(Some(RoomChange::Plan(file))),
@@ -70,7 +72,8 @@ pub fn change_of(alloc: Global, text: &[u8]) -> Result<Option<RoomChange>, Alloc
 
 // The change of terminals whose text these bytes are.
 fn change_of_terminals(alloc: Global, bytes: &[u8]) -> Result<Option<RoomChange>, AllocError>
-    ensures { IfOk result (λ found. IfSome found (λ change. IsTextOf change bytes.now)) }
+    ensures change { IfOk result (λ found. IfSome found (λ change. IsTextOf change bytes.now)) }
+    ensures none { IfOk result (λ found. IfNone found (IsNoTerminals bytes.now)) }
 {
     match str::from_utf8(bytes) {
         Ok(text) => terminals_of(alloc, text),
@@ -80,30 +83,23 @@ fn change_of_terminals(alloc: Global, bytes: &[u8]) -> Result<Option<RoomChange>
 
 // The change of terminals whose text this is.
 fn terminals_of(alloc: Global, text: &str) -> Result<Option<RoomChange>, AllocError>
-    ensures { IfOk result (λ found. IfSome found (λ change. IsTextOf change text.now)) }
+    ensures change { IfOk result (λ found. IfSome found (λ change. IsTextOf change text.now)) }
+    ensures none { IfOk result (λ found. IfNone found (IsNoTerminals text.now)) }
 {
     let Some(lines) = text.strip_prefix(HEADER) else {
         return Ok(None);
     };
     match withdrawn_in(lines) {
-        Some(change) => of_one(alloc, text, change),
+        Some(who) => Ok(Some(RoomChange::Token(TokenChange { who, token: None }))),
         None => of_all(alloc, text, lines),
     }
 }
 
-fn of_one(alloc: Global, text: &str, change: TokenChange) -> Result<Option<RoomChange>, AllocError>
-    ensures { IfOk result (λ found. IfSome found (λ change. IsTextOf change text.now)) }
-{
-    let its_text = token_text(alloc, &change)?;
-    if its_text.as_slice() == text.as_bytes() {
-        Ok(Some(RoomChange::Token(change)))
-    } else {
-        Ok(None)
-    }
-}
-
+// The list of terminals whose text this is, with these lines under its header.
 fn of_all(alloc: Global, text: &str, lines: &str) -> Result<Option<RoomChange>, AllocError>
-    ensures { IfOk result (λ found. IfSome found (λ change. IsTextOf change text.now)) }
+    requires { text.now ≡ terminals_text lines.now }
+    ensures change { IfOk result (λ found. IfSome found (λ change. IsTextOf change text.now)) }
+    ensures none { IfOk result (λ found. IfNone found (AreNoLines lines.now)) }
 {
     let listed = listed_in(alloc, lines)?;
     let its_text = terminals_text(alloc, listed.as_slice())?;
@@ -114,18 +110,40 @@ fn of_all(alloc: Global, text: &str, lines: &str) -> Result<Option<RoomChange>, 
     }
 }
 
-// One who has no token, named by the only line; whose line that is exactly, its text says.
-fn withdrawn_in(lines: &str) -> Option<TokenChange> {
-    let who = who_of(lines.strip_suffix(",\n")?)?;
-    Some(TokenChange { who, token: None })
+// One who has no token, named by the only line.
+fn withdrawn_in(lines: &str) -> Option<Who>
+    ensures { MatchOption result (IsOfNoOne lines.now) (λ who. lines.now ≡ terminal_line who []) }
+{
+    who_of(lines.strip_suffix(",\n")?)
 }
 
-// The terminals of lines, without lines of another form; that there are none, their text says.
-fn listed_in(alloc: Global, lines: &str) -> Result<Vec<Terminal>, AllocError> {
-    lines.split('\n').filter_map(terminal_in).collect(alloc)
+// The terminals of lines, without lines of another form. The caller compares the text, so there
+// were none.
+fn listed_in(alloc: Global, lines: &str) -> Result<Vec<Terminal>, AllocError>
+    ensures { IfOk result (λ found. AreReadAs lines.now found.items) }
+{
+    let mut listed = Vec::new(alloc);
+    let mut rest = lines;
+    while let Some((line, below)) = rest.split_once('\n') {
+        read_line(&mut listed, line)?;
+        rest = below;
+    }
+    Ok(listed)
 }
 
-fn terminal_in(line: &str) -> Option<Terminal> {
+// Adds the terminal of a line, if it has one.
+fn read_line(listed: &mut Vec<Terminal>, line: &str) -> Result<(), AllocError>
+    ensures { OnOk result (AddsLine line.now listed.old.items listed.new.items) }
+{
+    match terminal_in(line) {
+        Some(terminal) => listed.extend_from_slice(&[terminal]),
+        None => Ok(()),
+    }
+}
+
+fn terminal_in(line: &str) -> Option<Terminal>
+    ensures { MatchOption result (IsNoEntry line.now) (IsEntry line.now) }
+{
     let (who, token) = line.split_once(',')?;
     Some(Terminal {
         token: Token::parse(token)?,

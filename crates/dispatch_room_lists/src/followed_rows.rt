@@ -151,13 +151,13 @@ fn followed_by<S: Alter>(remade: Remade<S>, history: bool) -> (Result<(), Replay
     (done, Stage { room, setting })
 }
 
-// How it is reported that a change was not made.
+// The fault that reports that a change was not made.
 fn unmade_fault(failure: Failure) -> ReplayFault
     ensures { result ≡ unmade_fault failure }
 {
     match failure {
         Failure::Memory => ReplayFault::Unavailable(Refusal::Memory),
         Failure::Storage => ReplayFault::Unavailable(Refusal::Storage),
-        _ => ReplayFault::Another,
+        _ => ReplayFault::OtherRoom,
     }
 }

@@ -46,7 +46,7 @@ impl<'a, R: Source> Source for Noted<'a, R> {
     }
 }
 
-/// What a replay comes to that has come to this in a room. Where the list may be open and has ended
+/// How a replay ends whose last step in a room ended so. Where the list may be open and has ended
 /// within a record, that is left out, and it is reported how much was replayed. Then the digest of
 /// the room is printed, where it is wanted. Where each message is answered, nothing more is
 /// printed.

@@ -78,7 +78,7 @@ pub fn replay_legs<S: Alter + Drop, R: Source, O: Write, E: Write>(
             Ok(false) => return Ok((in_all(before, came), room_of(stage))),
             Err(fault) => return Ok((stopped_behind(fault, before, &replayed), room_of(stage))),
         }
-        before = before.saturating_add(replayed.records);
+        before = before.saturating_add(replayed.messages);
         came = replay_leg(course, list, &mut stage, out);
     }
     Ok((in_all(before, came), room_of(stage)))
@@ -97,7 +97,7 @@ fn in_all(before: u64, came: Result<Replayed, Stopped>) -> Result<Replayed, Stop
 {
     match came {
         Ok(replayed) => Ok(Replayed {
-            records: before.saturating_add(replayed.records),
+            messages: before.saturating_add(replayed.messages),
             is_open: replayed.is_open,
         }),
         Err(stopped) => Err(Stopped {
@@ -111,13 +111,13 @@ fn in_all(before: u64, came: Result<Replayed, Stopped>) -> Result<Replayed, Stop
 fn stopped_behind(fault: ReplayFault, before: u64, replayed: &Replayed) -> Result<Replayed, Stopped>
     ensures { result ≡ Err (record {
       fault = fault;
-      number = sum_of (sum_of before replayed.now.records) 1;
+      number = sum_of (sum_of before replayed.now.messages) 1;
     }) }
 {
-    let records = before.saturating_add(replayed.records);
+    let messages = before.saturating_add(replayed.messages);
     Err(Stopped {
         fault,
-        number: records.saturating_add(1),
+        number: messages.saturating_add(1),
     })
 }
 
@@ -138,7 +138,7 @@ fn replay_leg<S: Alter, R: Source, O: Write>(
           setting = stage.old.setting;
           left = R.left list.old;
           held = O.contents out.old.inner;
-          records = before;
+          messages = before;
         })
         stage.new.room (O.contents out.new.inner) (R.has_failed list.new) out.new.failed result }
 {
@@ -150,8 +150,8 @@ fn replay_leg<S: Alter, R: Source, O: Write>(
     }
     out.begin();
     match answer_each(course.alloc, list, out, room, &setting) {
-        Ok(records) => Ok(Replayed {
-            records,
+        Ok(messages) => Ok(Replayed {
+            messages,
             is_open: false,
         }),
         Err(stopped) => Err(stopped),

@@ -118,7 +118,7 @@ fn print_replayed<O: Write, E: Write>(
     if replayed.is_open {
         let _ = writeln!(err, "the last record has no status, and was left out");
     }
-    match writeln!(out, "replayed {}", replayed.records) {
+    match writeln!(out, "replayed {}", replayed.messages) {
         Ok(()) => Ok(Done::Whole),
         Err(_) => Err(Failure::Network),
     }
@@ -131,7 +131,7 @@ fn failure_of(stopped: &Stopped) -> Failure
     match stopped.fault {
         ReplayFault::Bad => Failure::Record(stopped.number),
         ReplayFault::Differs => Failure::Differs(stopped.number),
-        ReplayFault::Another => Failure::OtherRoom(stopped.number),
+        ReplayFault::OtherRoom => Failure::OtherRoom(stopped.number),
         ReplayFault::ReadFailed | ReplayFault::WriteFailed => Failure::Network,
         ReplayFault::Unavailable(refusal) => refused(refusal),
     }

@@ -11,7 +11,7 @@ use Rattle.room_model.specs.declared.digests.Version.TheVariants.{First, Second}
 use Rattle.dispatch_room_journal.specs.Entries.{Entry, IsEntry, answer, head_words, line_of, line_text, message}
 use Rattle.dispatch_room_journal.specs.Entries.{rest_of, room, text_of}
 use Rattle.dispatch_room_journal.proofs.WritingLemmas.{entry_fits}
-use Rattle.dispatch_room_journal.specs.Chains.{IsBody, is_silent}
+use Rattle.dispatch_room_journal.specs.Chains.{IsBody, is_no_entry}
 use Rattle.dispatch_room_serving.specs.Journals.{PutsKept, known_by, known_where}
 use Rattle.dispatch_room_serving.specs.declared.journals.Journal.{Journal}
 use Rattle.dispatch_room_serving.specs.KeptChanges.{is_kept, kept_of}
@@ -80,13 +80,13 @@ entry_body entry (e, is, same) = (
 )
 
 head_says : (version : Version) (digits : List ℕ)
-    → is_silent ((head_words version ++ digits) ++ 10 ∷ []) ≡ false
+    → is_no_entry ((head_words version ++ digits) ++ 10 ∷ []) ≡ false
 head_says First digits = refl
 head_says Second digits = refl
 
 -- and none of those that are no entries
 pub entry_says : (entry : List ℕ) → ((e : Entry) × IsEntry e × (entry ≡ text_of e))
-    → is_silent entry ≡ false
-entry_says entry (room head, is, same) = ap is_silent same ∙ head_says head.version head.digits
-entry_says entry (message at bytes, is, same) = ap is_silent same
-entry_says entry (answer status, is, same) = ap is_silent same
+    → is_no_entry entry ≡ false
+entry_says entry (room head, is, same) = ap is_no_entry same ∙ head_says head.version head.digits
+entry_says entry (message at bytes, is, same) = ap is_no_entry same
+entry_says entry (answer status, is, same) = ap is_no_entry same

@@ -167,7 +167,7 @@ module _ {S : Type 0} (g : Ghosts S) (setting : Setting) (terminals : List Termi
     pub after : IsRoom g last terminals (room_by (together dialogues) room)
     pub promises : Promises terminals (together dialogues) room
 
--- where a observer keeps so much of a message at its moment, and of an answer
+-- where an observer keeps so much of a message at its moment, and of an answer
 module _ {S : Type 0} (g : Ghosts S) (setting : Setting) (came_text : ℕ → List ℕ → List ℕ)
     (response_text : List ℕ → List ℕ) where
   -- It was served as one connection is, from where serving stood, and observed. The observer fails

@@ -49,7 +49,7 @@ module _ {S : Type 0} (g : Ghosts S) where
       → IsRoom g old terminals room
       → IsHeadOf (digits_of digest_of old.plan.zone) head terminals room)
 
-  -- where a observer wants the digest of the room's rows, or doesn't, and what it keeps of it
+  -- where an observer wants the digest of the room's rows, or doesn't, and what it keeps of it
   module _ (wants : Bool) (begun_text : Head → List ℕ) where
     -- what it keeps where serving begins: where it doesn't want the digest, nothing
     pub record IsHead (old new : Store S) (text : List ℕ) : Type 0 where
@@ -66,7 +66,7 @@ module _ {S : Type 0} (g : Ghosts S) where
         ⊎ ((text front : List ℕ) × IsHead old new text × IsFront front text
         × Appends kept keeps front)
 
-    -- the watcher was given where the room begins, or serving does not begin
+    -- the observer was given where the room begins, or serving does not begin
     abbrev pub Announces : Store S → Store S → Option (List ℕ) → Option (List ℕ)
         → Result (Unit {0}) Failure → Type 0
     Announces old new kept keeps (Ok stated) =

@@ -45,7 +45,7 @@ pub struct OpenedList {
 /// Opens the file of a journal behind its last whole record, and keeps others from writing it. One
 /// that is not there is made, for its owner only, and an empty one begins as a chain. What a crash
 /// cut off is taken away, and reported. What stands in the file then lasts, and so does its name.
-/// Where the file can't be opened, or is no journal, it is explained why.
+/// Explains why where the file can't be opened, or is no journal.
 pub fn open_journal<E: Write>(
     rt: &HostRuntime,
     explainer: Explainer<'_>,
@@ -95,7 +95,7 @@ struct WholeList {
     end: Option<ListEnd>,
 }
 
-// What of a file is whole records, or it is explained why that is unknown.
+// What of a file is whole records. Explains why where that is unknown.
 fn whole_list(
     alloc: Global,
     explainer: Explainer<'_>,
@@ -234,7 +234,7 @@ fn folder_of(rt: &HostRuntime, path: &str) -> Result<File, Error> {
     File::open(rt, folder.as_str())
 }
 
-// How many bytes of what a reader gives are whole records, or it is explained why that is unknown.
+// How many bytes of what a reader gives are whole records. Explains why where that is unknown.
 fn whole_in<R: Source>(
     alloc: Global,
     explainer: Explainer<'_>,
@@ -316,7 +316,7 @@ pub trait Lasting: Write {
     ghost known: { (file : Self) → is_some (Self.contents file) ≡ is_known };
 }
 
-/// A file of the system. Where it can't be written, it is explained why.
+/// A file of the system. It explains why where it can't be written.
 #[derive(Drop)]
 pub struct SystemFile<'a> {
     file: &'a File,

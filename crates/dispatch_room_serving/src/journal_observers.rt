@@ -1,4 +1,4 @@
-//! Who watches over a room that is served.
+//! Observers of a room that is served.
 ghost use Rattle.std.specs.Prelude.{◌≡◌, ◌||◌, ℕ, List, Bool, is_err};
 ghost use Rattle.room_http.specs.KeptMessages.{KeepsAll};
 ghost use Rattle.dispatch_room_journal.specs.Entries.{IsDigest};

@@ -1,4 +1,4 @@
-//! Who watches over what is served: a log, and perhaps a journal.
+//! An observer of what is served: a log, and perhaps a journal.
 ghost use Rattle.std.specs.Prelude.{◌≡◌, ◌||◌, [], OnOk, is_err, is_some, true};
 ghost use Rattle.room_http.specs.Arrivals.{IsBounded};
 ghost use Rattle.room_http.specs.KeptMessages.{KeepsAll, came_of, response_of};

@@ -104,7 +104,7 @@ pub fn serve_in<S: Alter + Drop, P: Callers, C: Clock, N: JournalObserver>(
     }
 }
 
-// Hands the watcher the room where it begins, lets the callers begin, and serves so many calls.
+// Hands the observer the room where it begins, lets the callers begin, and serves so many calls.
 fn begin_and_serve<S: Alter, P: Callers, C: Clock, N: JournalObserver>(
     handler: &Handler,
     callers: &mut P,
@@ -149,7 +149,7 @@ fn begin_and_serve<S: Alter, P: Callers, C: Clock, N: JournalObserver>(
     }
 }
 
-// Hands the watcher the digest of the room at which it begins, if it wants to know.
+// Hands the observer the digest of the room at which it begins, if it wants to know.
 fn announce<S: Alter, N: JournalObserver>(
     room: &mut Store<S>,
     journal_observer: &mut N,

@@ -27,7 +27,7 @@ use Rattle.room_store_check_tables.specs.HeldRooms.{IsPlanOf}
 use Rattle.room_store_writes.specs.Configurations.{config_of}
 use Rattle.room_store_writes.specs.NewRoom.{put_all}
 use Rattle.dispatch_room_tasks.specs.ReplacedTerminals.{AreFree, KeepsRoom, Replaces, is_kept, is_listed, is_second}
-use Rattle.dispatch_room_tasks.specs.ReplacedTerminals.{kept_beside, no_row, nobody, replaced_by, row_fault}
+use Rattle.dispatch_room_tasks.specs.ReplacedTerminals.{kept_beside, no_row, replaced_by, row_fault, unknown_fault}
 use Rattle.room_store_writes.specs.TerminalHolders.{has_token, is_token_of, may_have, same_who}
 use Rattle.dispatch_room_tasks.specs.declared.replacement_faults.RowFault.{RowFault}
 use Rattle.dispatch_room_tasks.specs.declared.replacement_faults.RowFault.TheVariants.{SecondToken, TokenTaken}
@@ -204,7 +204,7 @@ module _ (r : Room) (ts listed : List Terminal) (are : AreTerminals r ts) where
       (partly : IsPartly earlier now) (free : row_fault r.plan ts listed earlier t ≡ None) where
     parts : (may_have r.plan ts t.who ≡ true) × (is_kept listed ts t.token ≡ false)
         × (has_token t.token earlier ≡ false) × (is_second earlier t.who ≡ false)
-    parts = clear _ _ _ _ (nobody t.who) free
+    parts = clear _ _ _ _ (unknown_fault t.who) free
 
     is_new : terminal_at t.token now ≡ None
     is_new = partly.absent t.token (none_kept listed ts t.token parts.1) parts.2

@@ -46,7 +46,7 @@ failure_of Memory = failure.Memory
 failure_of Storage = failure.Storage
 
 -- ---- the terminals afterwards
--- a list names who
+-- a list names a user
 abbrev pub is_listed : List Terminal → Who → Bool
 is_listed listed who = list_any (λ t. same_who t.who who) listed
 
@@ -69,20 +69,20 @@ is_second earlier (Desk d) = false
 is_second earlier (Position p) = false
 is_second earlier (Crew c) = is_listed earlier (Crew c)
 
--- why who may have no terminal
-abbrev pub nobody : Who → RowFault
-nobody (Desk d) = NoDivision
-nobody (Position p) = NoVehicle
-nobody (Crew c) = NoVehicle
+-- why a user may have no terminal
+abbrev pub unknown_fault : Who → RowFault
+unknown_fault (Desk d) = NoDivision
+unknown_fault (Position p) = NoVehicle
+unknown_fault (Crew c) = NoVehicle
 
--- Why a row is refused beside the rows before it: who may have no terminal, a terminal that stays
--- or a row before has the token, or a row before gives the crew one.
+-- Why a row is refused beside the rows before it: a user who may have no terminal, a terminal that
+-- stays or a row before has the token, or a row before gives the crew one.
 abbrev pub row_fault : List Area → List Terminal → List Terminal → List Terminal → Terminal
     → Option RowFault
 row_fault areas ts listed earlier t =
     cond (may_have areas ts t.who)
     (cond (is_kept listed ts t.token || has_token t.token earlier) (Some TokenTaken)
-    (cond (is_second earlier t.who) (Some SecondToken) None)) (Some (nobody t.who))
+    (cond (is_second earlier t.who) (Some SecondToken) None)) (Some (unknown_fault t.who))
 
 -- stands where a list has no row
 abbrev pub no_row : Terminal

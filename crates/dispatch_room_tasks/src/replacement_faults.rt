@@ -5,7 +5,7 @@ ghost use Rattle.std.specs.Prelude.{◌≡◌, length, MatchOption};
 ghost use Rattle.room_tables_schema.specs.DatabaseFaults.{fault_of};
 ghost use Rattle.room_store_writes.specs.TerminalHolders.{is_token_of};
 ghost use Rattle.dispatch_room_tasks.specs.declared.replacement_faults.ReplaceFault.TheVariants as why;
-ghost use Rattle.dispatch_room_tasks.specs.ReplacedTerminals.{AreFree, IsFirstFault, failure_of, is_kept, is_listed, is_second, lack_of, nobody, row_fault};
+ghost use Rattle.dispatch_room_tasks.specs.ReplacedTerminals.{AreFree, IsFirstFault, failure_of, is_kept, is_listed, is_second, lack_of, row_fault, unknown_fault};
 
 use dispatch_room_cli::exit_status::Failure;
 use room_place::plans::Plan;
@@ -110,7 +110,7 @@ fn row_fault(
         ≡ row_fault plan.now.areas terminals.now listed.now earlier.now row.now }
 {
     if !may_have(plan, terminals, &row.who) {
-        Some(nobody(&row.who))
+        Some(unknown_fault(&row.who))
     } else if is_kept(listed, terminals, &row.token) || has_token(earlier, &row.token) {
         Some(RowFault::TokenTaken)
     } else if is_second(earlier, &row.who) {
@@ -120,9 +120,9 @@ fn row_fault(
     }
 }
 
-// Why who may have no terminal.
-fn nobody(who: &Who) -> RowFault
-    ensures { result ≡ nobody who.now }
+// Why a user may have no terminal.
+fn unknown_fault(who: &Who) -> RowFault
+    ensures { result ≡ unknown_fault who.now }
 {
     match who {
         Who::Desk(_) => RowFault::NoDivision,
@@ -147,7 +147,7 @@ fn is_second(earlier: &[Terminal], who: &Who) -> bool
     }
 }
 
-/// Whether a list names who.
+/// Whether a list names a user.
 pub(crate) fn is_listed(listed: &[Terminal], who: &Who) -> bool
     ensures { result ≡ is_listed listed.now who.now }
 {

@@ -102,7 +102,7 @@ abbrev pub keeps_questions_by : Option Journal → Bool
 keeps_questions_by None = true
 keeps_questions_by (Some journal) = journal.keeps_questions
 
--- how a service is watched over: whether it has a journal, and which, and whether a log is written
+-- how a service is observed: whether it has a journal, and which, and whether a log is written
 abbrev pub watch_of : Bool → Service → Watch
 watch_of has_journal service = record {
   has_journal = has_journal;

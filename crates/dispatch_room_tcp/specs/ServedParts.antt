@@ -34,8 +34,8 @@ abbrev pub EndsAs : Bool → Result Done Failure → Result Done Failure → Typ
 EndsAs has_journal served result = (result ≡ served)
     ⊎ (IsOk served × (has_journal ≡ true) × (result ≡ Err failure.Journal))
 
--- how a part is watched over: whether there is a journal, and then whether each message lasts
--- before the room acts on it, and whether questions are kept too; and whether a log is written
+-- how a part is observed: whether there is a journal, and then whether each message lasts before
+-- the room acts on it, and whether questions are kept too; and whether a log is written
 pub record Watch : Type 0 where
   pub has_journal : Bool
   pub is_synced : Bool
@@ -50,7 +50,7 @@ PartJournal = Journal (WrittenFile SystemFile × ListEnd)
 abbrev pub puts_end : WrittenFile SystemFile × ListEnd → WrittenFile SystemFile × ListEnd → Type 0
 puts_end old new = PutsEnd old.1 new.1 None None
 
--- a log that is written or not, and a journal or none, are as a part is watched over
+-- a log that is written or not, and a journal or none, are as a part is observed
 pub record AreOf (watch : Watch) (logs : Bool) (journal : Option PartJournal) : Type 0 where
   pub logged : logs ≡ watch.logs
   pub kept : is_some journal ≡ watch.has_journal

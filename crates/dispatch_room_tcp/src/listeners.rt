@@ -101,8 +101,8 @@ pub struct TcpAddress<'a> {
 }
 
 impl<'a> TcpAddress<'a> {
-    /// An address at which nobody listens yet, and how long its connections are waited for. Where
-    /// nobody can listen there, it is explained why.
+    /// An address at which nobody listens yet, and how long its connections are waited for. It
+    /// explains why where nobody can listen there.
     pub fn new(
         rt: &'a HostRuntime,
         explainer: Explainer<'a>,

@@ -14,7 +14,7 @@ ghost use Rattle.dispatch_room_tcp.specs.ServedParts.{EndsAs, IsPart, OpensNoPar
 
 use crate::hosts::Host;
 use crate::listeners::{Listener, TcpAddress};
-use crate::tcp_callers::Heard;
+use crate::tcp_callers::TcpCallers;
 use crate::tcp_doors::TcpDoor;
 use dispatch_room_cli::exit_status::{Done, Failure};
 use dispatch_room_cli::failure_causes::Explainer;
@@ -241,7 +241,7 @@ fn serve_listened<S: Alter + Drop, L: Listener, O: Write, E: Write>(
     ensures unopened { OnErr result ((O.contents out.new ≡ O.contents out.old)
         ⊎ PrintsStart (L.is_listening listener) (O.contents out.old) (O.contents out.new)) }
 {
-    let mut callers = Heard::new(listener, out);
+    let mut callers = TcpCallers::new(listener, out);
     let mut clock = MachineClock::new(run.host.rt);
     let came = serve_parts(conn, run, list, &mut callers, &mut clock, err);
     let listener = callers.into_listener();

@@ -14,19 +14,19 @@ use std::io::Write;
 /// Those who call where something listens. That they may is said on an output, and each is parted
 /// from.
 #[derive(Drop)]
-pub struct Heard<'a, L, O> {
+pub struct TcpCallers<'a, L, O> {
     listener: L,
     out: &'a mut O,
 }
 
-impl<'a, L: Listener, O: Write> Heard<'a, L, O> {
+impl<'a, L: Listener, O: Write> TcpCallers<'a, L, O> {
     /// Those who call where this listens.
-    pub fn new(listener: L, out: &'a mut O) -> Heard<'a, L, O>
+    pub fn new(listener: L, out: &'a mut O) -> TcpCallers<'a, L, O>
         ensures listener { result.listener ≡ listener }
         ensures out { result.out.now ≡ out.old }
         ensures same_reference { result.out.ghost_name ≡ out.entry.ghost_name }
     {
-        Heard { listener, out }
+        TcpCallers { listener, out }
     }
 
     /// What listened for them.
@@ -38,7 +38,7 @@ impl<'a, L: Listener, O: Write> Heard<'a, L, O> {
     }
 }
 
-impl<'a, L: Listener, O: Write> Callers for Heard<'a, L, O> {
+impl<'a, L: Listener, O: Write> Callers for TcpCallers<'a, L, O> {
     type Reader = L::Reader;
 
     type Writer = L::Writer;

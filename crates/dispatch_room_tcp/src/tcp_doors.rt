@@ -30,8 +30,8 @@ pub struct TcpDoor<'a> {
 }
 
 impl<'a> TcpDoor<'a> {
-    /// A door at which nobody waits yet, for the room of a file. Where nobody can listen there, it
-    /// is explained why, and where the file lies no more at its name, that it does not.
+    /// A door at which nobody waits yet, for the room of a file. It explains why where nobody can
+    /// listen there, and that the file lies no more at its name where it does not.
     pub fn new(
         host: Host<'a>,
         file: &'a str,

@@ -84,11 +84,11 @@ are_short d at s in_order (Some n) =
     ∙ short_at d at n (unplanned s) (row_at pair_cmp point_key s.points (d, n))
     (row_key pair_cmp point_key pairs_total exact_pair s.points (d, n))
 
--- an eligible vehicle is marked as the room marks it
-pub marked : (d at : ℕ) (i : Incident) (r : Room) (short : List Point) (v : Vehicle)
+-- an eligible vehicle breaks cover where the room says so
+pub breaks_alike : (d at : ℕ) (i : Incident) (r : Room) (short : List Point) (v : Vehicle)
     → AreShort d at r short → is_eligible d at v ≡ true
     → proposal_by d i short v ≡ proposal_of d i at r v
-marked d at i r short v short_so eligible =
+breaks_alike d at i r short v short_so eligible =
     ap (λ (b : Bool). record (proposal_of d i at r v) { breaks = b })
     (short_so v.post ∙ ap (λ (b : Bool). b && breaks_post d at r v.post) (sym eligible))
 
@@ -99,7 +99,7 @@ unfolding candidates
 candidates_so d at i k s short short_so =
     map_among (proposal_by d i short) (proposal_of d i at (unplanned s)) (filter (is_candidate d at k) s.vehicles)
     (λ v among.
-    marked d at i (unplanned s) short v short_so
+    breaks_alike d at i (unplanned s) short v short_so
     (left_true (is_eligible d at v) (same_kind v.kind k) (among_filter (is_candidate d at k) s.vehicles v among).1))
 
 -- ---- a list of what is made of rows that pass

@@ -13,10 +13,10 @@ use Rattle.room_place.specs.Choice.{Among}
 use Rattle.room_types.specs.KeyedRows.{put_row}
 use Rattle.room_types.specs.declared.tables.Incident.{Incident}
 use Rattle.room_alloc.specs.Nearness.{nearness_cmp, whole}
-use Rattle.room_alloc.specs.ProposalOrder.{exact_nearness}
+use Rattle.room_alloc.specs.NearnessOrder.{exact_nearness}
 use Rattle.room_alloc.specs.Rings.{AreByRing, IsByRing, IsSearched, nearness_of}
-use Rattle.room_alloc.specs.declared.proposal_order.Candidate.{Candidate}
-use Rattle.room_alloc.specs.declared.proposal_order.Nearness.{Nearness}
+use Rattle.room_alloc.specs.declared.nearness.Candidate.{Candidate}
+use Rattle.room_alloc.specs.declared.nearness.Nearness.{Nearness}
 
 -- ---- what is in the set after a put
 pub put_in : (q : List Nearness) (x e : Nearness) → Among e (put_row nearness_cmp whole q x)

@@ -28,9 +28,10 @@ use Rattle.room_model.specs.Proposals.{candidates, is_before, proposal_cmp, prop
 use Rattle.room_model.specs.Queries.{is_eligible}
 use Rattle.room_model.specs.Room.{IsInOrder}
 use Rattle.room_alloc.specs.Candidates.{AreShort, is_candidate, proposal_by, unplanned}
-use Rattle.room_alloc.specs.Rings.{AreApart, AreOfKind, ArePlaced, IsPlaced, candidate_of, candidates_round, is_marked}
+use Rattle.room_alloc.specs.Rings.{AreApart, AreOfKind, ArePlaced, IsPlaced, candidate_of, candidates_round}
+use Rattle.room_alloc.specs.Rings.{is_breaking}
 use Rattle.room_alloc.specs.Rings.{proposal_at}
-use Rattle.room_alloc.specs.declared.proposal_order.Candidate.{Candidate}
+use Rattle.room_alloc.specs.declared.nearness.Candidate.{Candidate}
 use Rattle.room_alloc.proofs.CandidateLaws.{candidates_so}
 use Rattle.room_alloc.proofs.FirstLaws.{among_either, among_left, among_right, first_then, same_first}
 
@@ -139,8 +140,8 @@ covered_first x y e f =
     (ordering_then (nat_cmp x.distance y.distance) (callsign_cmp x.callsign y.callsign)))) f
 
 module _ (i : Incident) where
-  abbrev marked : Bool → List Candidate → List Proposal
-  marked b xs = map (proposal_at i) (filter (is_marked b) xs)
+  abbrev images : Bool → List Candidate → List Proposal
+  images b xs = map (proposal_at i) (filter (is_breaking b) xs)
 
   -- the proposals of a mark, of one candidate more
   module _ (x : Candidate) (us ws : List Candidate) where
@@ -173,59 +174,60 @@ module _ (i : Incident) where
     both_count true n e = omega (arith, e)
     both_count false n e = omega (arith, e)
 
-  keeping : (xs : List Candidate) (y : Proposal) → Among y (marked false xs) → y.breaks ≡ false
+  keeping : (xs : List Candidate) (y : Proposal) → Among y (images false xs) → y.breaks ≡ false
   keeping [] y h = absurd h
   keeping (x ∷ xs) y h =
-      all_keeping x (filter (is_marked false) xs) (filter (is_marked true) xs) x.breaks y (keeping xs y) refl h
+      all_keeping x (filter (is_breaking false) xs) (filter (is_breaking true) xs) x.breaks y (keeping xs y) refl h
 
-  breaking : (xs : List Candidate) (y : Proposal) → Among y (marked true xs) → y.breaks ≡ true
+  breaking : (xs : List Candidate) (y : Proposal) → Among y (images true xs) → y.breaks ≡ true
   breaking [] y h = absurd h
   breaking (x ∷ xs) y h =
-      all_breaking x (filter (is_marked false) xs) (filter (is_marked true) xs) x.breaks y (breaking xs y) refl h
+      all_breaking x (filter (is_breaking false) xs) (filter (is_breaking true) xs) x.breaks y (breaking xs y) refl h
 
   either : (xs : List Candidate) (y : Proposal) → Among y (map (proposal_at i) xs)
-      → Among y (marked false xs) ⊎ Among y (marked true xs)
+      → Among y (images false xs) ⊎ Among y (images true xs)
   either [] y h = absurd h
   either (x ∷ xs) y h = elim h [
     | inl e ↦
-        subst (λ z. Among z (marked false (x ∷ xs)) ⊎ Among z (marked true (x ∷ xs))) (sym e)
-        (itself x (filter (is_marked false) xs) (filter (is_marked true) xs) x.breaks)
-    | inr g ↦ one_of_both x (filter (is_marked false) xs) (filter (is_marked true) xs) x.breaks y (either xs y g)
+        subst (λ z. Among z (images false (x ∷ xs)) ⊎ Among z (images true (x ∷ xs))) (sym e)
+        (itself x (filter (is_breaking false) xs) (filter (is_breaking true) xs) x.breaks)
+    | inr g ↦ one_of_both x (filter (is_breaking false) xs) (filter (is_breaking true) xs) x.breaks y (either xs y g)
   ]
 
-  images_among : (b : Bool) (xs : List Candidate) (y : Proposal) → Among y (marked b xs)
+  images_among : (b : Bool) (xs : List Candidate) (y : Proposal) → Among y (images b xs)
       → Among y (map (proposal_at i) xs)
   images_among b [] y h = absurd h
   images_among b (x ∷ xs) y h =
-      (elim (is_marked b x) as (λ (m : Bool).
-      Among y (map (proposal_at i) (cond m (x ∷ filter (is_marked b) xs) (filter (is_marked b) xs)))
+      (elim (is_breaking b x) as (λ (m : Bool).
+      Among y (map (proposal_at i) (cond m (x ∷ filter (is_breaking b) xs) (filter (is_breaking b) xs)))
       → Among y (map (proposal_at i) (x ∷ xs))) [
         | true ↦ λ g. elim g [ inl e ↦ inl e | inr f ↦ inr (images_among b xs y f) ]
         | false ↦ λ g. inr (images_among b xs y g)
       ]) h
 
   count_both : (xs : List Candidate)
-      → length (marked false xs) + length (marked true xs) ≡ length (map (proposal_at i) xs)
+      → length (images false xs) + length (images true xs) ≡ length (map (proposal_at i) xs)
   count_both [] = refl
   count_both (x ∷ xs) =
-      both_count x (filter (is_marked false) xs) (filter (is_marked true) xs) x.breaks (length (map (proposal_at i) xs))
+      both_count x (filter (is_breaking false) xs) (filter (is_breaking true) xs) x.breaks
+      (length (map (proposal_at i) xs))
       (count_both xs)
 
   -- the first few that don't break cover, and then as many of the others as are left
   pub first_of_both : (n : ℕ) (xs : List Candidate) (ps qs : List Proposal)
-      → AreFirst is_before n None (marked false xs) ps
-      → AreFirst is_before (n - length ps) None (marked true xs) qs
+      → AreFirst is_before n None (images false xs) ps
+      → AreFirst is_before (n - length ps) None (images true xs) qs
       → AreFirst is_before n None (map (proposal_at i) xs) (ps ++ qs)
   first_of_both n xs ps qs h g =
-      same_first is_before apart steps n (marked false xs ++ marked true xs) (map (proposal_at i) xs) (ps ++ qs)
+      same_first is_before apart steps n (images false xs ++ images true xs) (map (proposal_at i) xs) (ps ++ qs)
       (λ y a.
-      elim (among_either (marked false xs) (marked true xs) y a)
+      elim (among_either (images false xs) (images true xs) y a)
       [ inl b ↦ images_among false xs y b | inr b ↦ images_among true xs y b ])
       (λ y a.
       elim (either xs y a) [
-        | inl b ↦ among_left (marked false xs) (marked true xs) y b
-        | inr b ↦ among_right (marked false xs) (marked true xs) y b
+        | inl b ↦ among_left (images false xs) (images true xs) y b
+        | inr b ↦ among_right (images false xs) (images true xs) y b
       ])
-      (length-append (marked false xs) (marked true xs) ∙ count_both xs)
-      (first_then is_before apart steps n (marked false xs) (marked true xs) ps qs
+      (length-append (images false xs) (images true xs) ∙ count_both xs)
+      (first_then is_before apart steps n (images false xs) (images true xs) ps qs
       (λ x y a b. covered_first x y (keeping xs x a) (breaking xs y b)) h g)

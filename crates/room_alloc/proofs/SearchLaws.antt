@@ -20,11 +20,11 @@ use Rattle.room_types.specs.Texts.{Callsign}
 use Rattle.room_types.specs.declared.codes.Kind.{Kind}
 use Rattle.room_types.specs.declared.tables.Incident.{Incident}
 use Rattle.room_alloc.specs.Nearness.{is_nearer, nearness_cmp, proposal_with, whole}
-use Rattle.room_alloc.specs.ProposalOrder.{nearness_total}
-use Rattle.room_alloc.specs.Rings.{AreApart, AreOfKind, ArePlaced, IsSearched, is_below, is_enough, is_marked}
+use Rattle.room_alloc.specs.NearnessOrder.{nearness_total}
+use Rattle.room_alloc.specs.Rings.{AreApart, AreOfKind, ArePlaced, IsSearched, is_below, is_breaking, is_enough}
 use Rattle.room_alloc.specs.Rings.{nearness_of, proposal_at}
-use Rattle.room_alloc.specs.declared.proposal_order.Candidate.{Candidate}
-use Rattle.room_alloc.specs.declared.proposal_order.Nearness.{Nearness}
+use Rattle.room_alloc.specs.declared.nearness.Candidate.{Candidate}
+use Rattle.room_alloc.specs.declared.nearness.Nearness.{Nearness}
 use Rattle.room_alloc.proofs.FirstLaws.{first_of_set}
 
 -- ---- the order by nearness
@@ -117,22 +117,22 @@ distinct i (x ∷ xs) h = (not_below i x xs h.0, distinct i xs h.1)
 
 search_first : (n : ℕ) (b : Bool) (i : Incident) (xs : List Candidate) (found : List Nearness)
     → ArePlaced i xs → AreApart xs → IsKeyed nearness_cmp whole found
-    → IsSearched n i (filter (is_marked b) xs) found
-    → AreFirst is_nearer n None (map (nearness_of i) (filter (is_marked b) xs)) (take n found)
+    → IsSearched n i (filter (is_breaking b) xs) found
+    → AreFirst is_nearer n None (map (nearness_of i) (filter (is_breaking b) xs)) (take n found)
 search_first n b i xs found placed separate in_order s =
-    let marked = filter (is_marked b) xs in
-    let past = λ (y : Nearness) (h : Among y (map (nearness_of i) marked)). let m = found_of i marked y h in
+    let breaking = filter (is_breaking b) xs in
+    let past = λ (y : Nearness) (h : Among y (map (nearness_of i) breaking)). let m = found_of i breaking y h in
     (elim (s.there m.candidate
     m.there) as (λ _. Among y found ⊎ ((n ≤ length found) × AreBefore is_nearer (take n found) y)) [
       | inl g ↦ inl (subst (λ z. Among z found) (sym m.same) g)
       | inr g ↦ inr (enough_before n g.ring found y in_order
-          (let far = (placed m.candidate (among_filter (is_marked b) xs m.candidate m.there).0).1 in
+          (let far = (placed m.candidate (among_filter (is_breaking b) xs m.candidate m.there).0).1 in
           let floor = floors g.ring m.candidate.ring g.later in
           let same = ap (λ (z : Nearness). z.distance) m.same in
           omega (arith, far, floor, same)) g.enough)
     ]) in
-    first_of_set is_nearer apart steps n (map (nearness_of i) marked) found
-    (distinct i marked (keyed_filter callsign_cmp name_of callsigns_total (is_marked b) xs separate))
+    first_of_set is_nearer apart steps n (map (nearness_of i) breaking) found
+    (distinct i breaking (keyed_filter callsign_cmp name_of callsigns_total (is_breaking b) xs separate))
     (rising found in_order) s.only past (elim (cases_lt (length found) n) [
       | inl short ↦ inr (λ y h. elim (past y h) [ inl g ↦ g | inr g ↦ absurd (let le = g.0 in omega (arith, le)) ])
       | inr long ↦ inl long
@@ -197,7 +197,7 @@ by_nearness : (b : Bool) (k : Kind) (x y : Nearness)
 by_nearness true k x y = refl
 by_nearness false k x y = refl
 
-mark_of : (b : Bool) (c : Candidate) → is_marked b c ≡ true → c.breaks ≡ b
+mark_of : (b : Bool) (c : Candidate) → is_breaking b c ≡ true → c.breaks ≡ b
 mark_of true c e = e
 mark_of false c e = falses c.breaks e
   where
@@ -217,20 +217,20 @@ map_map g f [] = refl
 map_map g f (x ∷ xs) = ap (λ zs. g (f x) ∷ zs) (map_map g f xs)
 
 as_proposals : (b : Bool) (k : Kind) (i : Incident) (xs : List Candidate) → AreOfKind k xs
-    → map (proposal_with b k) (map (nearness_of i) (filter (is_marked b) xs))
-    ≡ map (proposal_at i) (filter (is_marked b) xs)
+    → map (proposal_with b k) (map (nearness_of i) (filter (is_breaking b) xs))
+    ≡ map (proposal_at i) (filter (is_breaking b) xs)
 as_proposals b k i xs kinds =
-    map_map (proposal_with b k) (nearness_of i) (filter (is_marked b) xs)
-    ∙ map_among (λ c. proposal_with b k (nearness_of i c)) (proposal_at i) (filter (is_marked b) xs)
-    (λ c among. let m = among_filter (is_marked b) xs c among in as_proposal b k i c (mark_of b c m.1) (kinds c m.0))
+    map_map (proposal_with b k) (nearness_of i) (filter (is_breaking b) xs)
+    ∙ map_among (λ c. proposal_with b k (nearness_of i c)) (proposal_at i) (filter (is_breaking b) xs)
+    (λ c among. let m = among_filter (is_breaking b) xs c among in as_proposal b k i c (mark_of b c m.1) (kinds c m.0))
 
 pub nearest_first : (n : ℕ) (b : Bool) (k : Kind) (i : Incident) (xs : List Candidate)
     (found : List Nearness) → ArePlaced i xs → AreOfKind k xs → AreApart xs
-    → IsKeyed nearness_cmp whole found → IsSearched n i (filter (is_marked b) xs) found
-    → AreFirst is_before n None (map (proposal_at i) (filter (is_marked b) xs))
+    → IsKeyed nearness_cmp whole found → IsSearched n i (filter (is_breaking b) xs) found
+    → AreFirst is_before n None (map (proposal_at i) (filter (is_breaking b) xs))
     (map (proposal_with b k) (take n found))
 nearest_first n b k i xs found placed kinds separate in_order s =
     subst (λ ps. AreFirst is_before n None ps (map (proposal_with b k) (take n found))) (as_proposals b k i xs kinds)
     (first_images (proposal_with b k) is_before is_nearer (by_nearness b k) n
-    (map (nearness_of i) (filter (is_marked b) xs)) (take n found)
+    (map (nearness_of i) (filter (is_breaking b) xs)) (take n found)
     (search_first n b i xs found placed separate in_order s))

@@ -5,7 +5,7 @@ use Rattle.std.specs.declared.cmp.Ordering.{Ordering}
 use Rattle.room_types.specs.Keys.{callsign_cmp}
 use Rattle.room_types.specs.declared.answers.Proposal.{Proposal}
 use Rattle.room_types.specs.declared.codes.Kind.{Kind}
-use Rattle.room_alloc.specs.declared.proposal_order.Nearness.{Nearness}
+use Rattle.room_alloc.specs.declared.nearness.Nearness.{Nearness}
 
 -- the nearer, and then by callsign
 abbrev pub nearness_cmp : Nearness → Nearness → Ordering

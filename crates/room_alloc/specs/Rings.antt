@@ -11,8 +11,8 @@ use Rattle.room_types.specs.declared.tables.Incident.{Incident}
 use Rattle.room_types.specs.declared.tables.Point.{Point}
 use Rattle.room_types.specs.declared.tables.Vehicle.{Vehicle}
 use Rattle.room_alloc.specs.Candidates.{has_point, is_candidate}
-use Rattle.room_alloc.specs.declared.proposal_order.Candidate.{Candidate}
-use Rattle.room_alloc.specs.declared.proposal_order.Nearness.{Nearness}
+use Rattle.room_alloc.specs.declared.nearness.Candidate.{Candidate}
+use Rattle.room_alloc.specs.declared.nearness.Nearness.{Nearness}
 
 -- ---- candidates
 abbrev pub candidate_of : ℕ → Incident → List Point → Vehicle → Candidate
@@ -42,9 +42,9 @@ proposal_at i c = record {
 }
 
 -- the candidate breaks cover, or does not
-abbrev pub is_marked : Bool → Candidate → Bool
-is_marked true c = c.breaks
-is_marked false c = not c.breaks
+abbrev pub is_breaking : Bool → Candidate → Bool
+is_breaking true c = c.breaks
+is_breaking false c = not c.breaks
 
 -- the ring is one that a search comes to, and the candidate no nearer than the ring's floor
 abbrev pub IsPlaced : Incident → Candidate → Type 0

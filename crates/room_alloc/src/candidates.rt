@@ -13,8 +13,8 @@ use room_types::slices::Slice;
 use room_types::tables::{Point, Vehicle};
 use std::alloc::Global;
 
-/// The points that have no more holders than they want: their holders break cover. The one
-/// refusal is `Memory`.
+/// The points that have no more holders than they need: their holders break cover. The one refusal
+/// is `Memory`.
 pub(crate) fn short_points(alloc: Global, slice: &Slice, at: Moment) -> Result<Rows<Point>, Refusal>
     ensures ok { IfOk result (λ short.
         AreShort slice.now.division at (unplanned slice.now.rows) short) }

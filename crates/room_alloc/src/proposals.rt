@@ -14,7 +14,7 @@ ghost use Rattle.room_alloc.specs.ProposalAnswers.{AreForIncident};
 ghost use Rattle.room_alloc.specs.Rings.{AreApart, AreOfKind, ArePlaced, proposal_at};
 
 use crate::candidates::short_points;
-use crate::proposal_order::Candidate;
+use crate::nearness::Candidate;
 use crate::ring_search::{candidates_round, nearest};
 use room_incident::active_incidents::active;
 use room_incident::served_needs::lack;

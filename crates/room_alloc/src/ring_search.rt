@@ -10,10 +10,10 @@ ghost use Rattle.room_types.specs.KeyedRows.{IsKeyed};
 ghost use Rattle.room_types.specs.declared.refusal_statuses.Refusal.TheVariants.{Memory};
 ghost use Rattle.room_model.specs.Proposals.{is_before};
 ghost use Rattle.room_alloc.specs.Nearness.{nearness_cmp, proposal_with, whole};
-ghost use Rattle.room_alloc.specs.Rings.{AreApart, AreByRing, AreOfKind, ArePlaced, IsByRing, IsPlaced, IsSearched, candidate_of, candidates_round, is_enough, is_marked, nearness_of, proposal_at};
+ghost use Rattle.room_alloc.specs.Rings.{AreApart, AreByRing, AreOfKind, ArePlaced, IsByRing, IsPlaced, IsSearched, candidate_of, candidates_round, is_breaking, is_enough, nearness_of, proposal_at};
 
 use crate::candidates::{has_point, is_candidate};
-use crate::proposal_order::{Candidate, Nearness};
+use crate::nearness::{Candidate, Nearness};
 use room_place::grid_cells::{cell_of, ring_floor, ring_of};
 use room_place::places::{Place, distance};
 use room_types::answers::{Listed, Proposal};
@@ -90,7 +90,7 @@ pub(crate) fn nearest(
     requires apart { AreApart candidates.now }
     ensures ok { IfOk result (λ few.
         AreFirst is_before count None
-        (map (proposal_at incident.now) (filter (is_marked breaks) candidates.now)) few) }
+        (map (proposal_at incident.now) (filter (is_breaking breaks) candidates.now)) few) }
     ensures memory { IfErr result (λ refusal. refusal ≡ Memory) }
 {
     let by_ring = by_ring(alloc, candidates, breaks)?;
@@ -99,37 +99,39 @@ pub(crate) fn nearest(
     Ok(few)
 }
 
-// The candidates of a mark, in the order of their rings.
+// The candidates that break cover, or those that don't, in the order of their rings.
 fn by_ring(
     alloc: Global,
     candidates: &[Candidate],
     breaks: bool,
 ) -> Result<Vec<Candidate>, AllocError>
-    ensures { IfOk result (λ all. AreByRing (filter (is_marked breaks) candidates.now) all.items) }
+    ensures { IfOk result
+        (λ all. AreByRing (filter (is_breaking breaks) candidates.now) all.items) }
 {
-    let mut all = marked(alloc, candidates, breaks)?;
+    let mut all = breaking(alloc, candidates, breaks)?;
     all.sort_unstable_by_key(|candidate| candidate.ring);
     Ok(all)
 }
 
-fn marked(
+fn breaking(
     alloc: Global,
     candidates: &[Candidate],
     breaks: bool,
 ) -> Result<Vec<Candidate>, AllocError>
-    ensures { IfOk result (λ marked. marked.items ≡ filter (is_marked breaks) candidates.now) }
+    ensures { IfOk result
+        (λ breaking. breaking.items ≡ filter (is_breaking breaks) candidates.now) }
 {
-    let mut marked = Vec::new(alloc);
+    let mut breaking = Vec::new(alloc);
     for candidate in candidates {
-        if is_marked(candidate, breaks) {
-            marked.push(*candidate)?;
+        if is_breaking(candidate, breaks) {
+            breaking.push(*candidate)?;
         }
     }
-    Ok(marked)
+    Ok(breaking)
 }
 
-fn is_marked(candidate: &Candidate, breaks: bool) -> bool
-    ensures { result ≡ is_marked breaks candidate.now }
+fn is_breaking(candidate: &Candidate, breaks: bool) -> bool
+    ensures { result ≡ is_breaking breaks candidate.now }
 {
     if breaks {
         candidate.breaks

@@ -18,7 +18,7 @@ use room_types::refusal_statuses::Refusal;
 use room_types::tables::{Assignment, Vehicle};
 use std::alloc::Global;
 
-/// What a vehicle is sent to: its assignment, its post and its status.
+/// A vehicle's order, its post and its status.
 pub fn decide_order(alloc: Global, vehicle: &Vehicle, assignment: Option<Assignment>) -> Decision
     ensures { Ok result ≡ order_of (Some vehicle.now) assignment }
 {

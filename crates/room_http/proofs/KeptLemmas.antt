@@ -1,4 +1,4 @@
--- Lemmas on what a observer keeps.
+-- Lemmas on what an observer keeps.
 use Rattle.std.proofs.Common.{◌≡◌, ◌∙◌, ◌≤◌, ap, sym, refl, inl, inr, ℕ, List, [], ◌∷◌, ◌++◌, map, append-nil}
 use Rattle.std.proofs.Common.{append_assoc, Bool, false, Option, Some, None, Result, Ok, Err, All}
 use Rattle.std.proofs.lemmas.List.{map-append}

@@ -1,4 +1,3 @@
-pub mod NoFloats
 pub mod Sending
 pub mod HeadLines
 pub mod Dates

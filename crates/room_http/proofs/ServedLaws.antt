@@ -373,7 +373,7 @@ module _ (setting : Setting) (old : Sides) (new : Finish) (was_kept trusted has_
       → step ≡ machine → Kept
   promised step budget end is same = kept budget end (subst (λ (s : Step). ServeHere s budget end) same is)
 
-  -- with what a observer kept of the same course
+  -- with what an observer kept of the same course
   pub one_course : (keeps : Course → Type 0) (step : Step) (budget : ℕ) (end : ServeEnd)
       → ServeHere step budget end → keeps course
       → OneCourse

@@ -12,7 +12,7 @@ use Rattle.room_model.specs.Digests.{DigitsOf, IsHeadOf, IsMiss}
 use Rattle.room_model.specs.Rooms.{Step}
 use Rattle.room_model.specs.declared.digests.Head.{Head}
 use Rattle.room_model.specs.declared.digests.Miss.{Miss}
-use Rattle.room_model.specs.declared.digests.Miss.TheVariants.{Another}
+use Rattle.room_model.specs.declared.digests.Miss.TheVariants.{OtherDigest}
 
 -- after this arrival the room would have another digest than that of this head
 abbrev pub LeadsToAnother : Step → Setting → DigitsOf → List Terminal → Room → Timed → Head → Type 0
@@ -36,7 +36,7 @@ pub record RepliesTowards {M A : Type 0} (step : Step) (digits_of : DigitsOf)
       → (after : Room) × IsReplyTo step setting terminals room (o, at) after bytes.items
       × IsHeadOf digits_of head terminals after × stands new terminals after)
       (λ miss. stands new terminals room
-      × (miss ≡ Another → (¬ (IsHeadOf digits_of head terminals room)) → (o : Arrival)
+      × (miss ≡ OtherDigest → (¬ (IsHeadOf digits_of head terminals room)) → (o : Arrival)
       → IsShown request o → LeadsToAnother step setting digits_of terminals room (o, at) head))
   pub kept : is_trusted new → is_kept old
-      → MatchResult result (λ _. is_kept new) (λ miss. miss ≡ Another → is_kept new)
+      → MatchResult result (λ _. is_kept new) (λ miss. miss ≡ OtherDigest → is_kept new)

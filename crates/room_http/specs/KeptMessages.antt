@@ -1,4 +1,4 @@
--- What a observer keeps of what is served.
+-- What an observer keeps of what is served.
 use Rattle.std.specs.Prelude.{◌≡◌, ◌⊎◌, ◌<◌, ◌≤◌, ⊤, ℕ, List, [], ◌∷◌, ◌++◌, map, Option, Some, None, Result, Ok, Err}
 use Rattle.std.specs.Io.KnownBytes.{Appends}
 use Rattle.std.specs.List.{concat}
@@ -92,7 +92,7 @@ module _ (step : Step) (setting : Setting) where
         trusted → (terminals : List Terminal) (room : Room) → stood terminals room
         → (after : Room) × AreReplies terminals room outs answers after × stands terminals after
 
--- what a observer keeps of a message at its moment, and of an answer
+-- what an observer keeps of a message at its moment, and of an answer
 module _ (came : ℕ → List ℕ → List ℕ) (response : List ℕ → List ℕ) where
   -- what is kept of an arrival at its moment as it comes: a message's bytes as they came, and
   -- nothing of what is refused
@@ -142,7 +142,8 @@ module _ (came : ℕ → List ℕ → List ℕ) (response : List ℕ → List �
 
   -- So much is kept and was written of an arrival with which serving ended so: of one on which the
   -- room has not acted, or has, with this answer. Less than that was to be kept, only where serving
-  -- ended since it could not be. What was kept of the room still is, but where it wanted something.
+  -- ended since it could not be. What was kept of the room still is, unless memory or storage
+  -- failed.
   abbrev pub IsBegun : ServeEnd → Type 0 → Type 0 → (List ℕ → Type 0) → Timed → List ℕ → List ℕ
       → Type 0
   IsBegun end lasts unmoved moved x tail wrote =

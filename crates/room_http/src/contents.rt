@@ -4,7 +4,7 @@ ghost use Rattle.room_http.specs.Objects.{Sends};
 ghost use Rattle.room_http.specs.Contents.{answer_json, assignment_json, call_json, callsign_or_empty, content, entry_json, history_json, incident_json, json_of, loan_json, offer_json, point_json, proposal_json, refusal_json, times_json, times_line_json, turn_json, vehicle_json};
 
 use crate::json::ToJson;
-use crate::objects::{begin, end, member, pair, single};
+use crate::objects::{End, Member, write_object};
 use room_types::answers::{
     Answer, Entry, History, IncidentLine, PointLine, Proposal, Times, TimesLine, VehicleLine,
 };
@@ -14,45 +14,58 @@ use room_types::tables::{Assignment, Call, Loan, Offer, Turn};
 use serde::{Described, Serialize, Serializer};
 use std::alloc::{AllocError, Global};
 
+// Sends an object whose members are these, each with its name and its value.
+macro_rules! object {
+    ($out:expr, { $($members:tt)* }) => { write_object($out, &members!($($members)*)) };
+}
+
+macro_rules! members {
+    () => { End };
+    ($name:literal: $value:expr $(, $($more:tt)*)?) => {
+        Member($name, $value, members!($($($more)*)?))
+    };
+}
+
 impl ToJson for Answer {
     ghost json = { answer_json };
 
     fn write_json<S: Serializer>(&self, out: &mut S) -> Result<(), S::Error> {
         match self {
             Answer::Called(division, incident, linked) => {
-                begin(out, 3)?;
-                member(out, "division", division)?;
-                member(out, "incident", incident)?;
-                member(out, "linked", linked)?;
-                end(out)
+                object!(out, {
+                    "division": division,
+                    "incident": incident,
+                    "linked": linked,
+                })
             }
-            Answer::Incidents(lines) => single(out, "incidents", lines),
-            Answer::Proposals(proposals) => single(out, "proposals", proposals),
+            Answer::Incidents(lines) => object!(out, { "incidents": lines }),
+            Answer::Proposals(proposals) => object!(out, { "proposals": proposals }),
             Answer::Incident(history) => history.write_json(out),
-            Answer::Mobilised(order, callsign) => pair(out, "order", order, "vehicle", callsign),
-            Answer::Done => single(out, "done", &true),
-            Answer::Vehicles(lines) => single(out, "vehicles", lines),
-            Answer::Queue(entries) => single(out, "queue", entries),
-            Answer::Points(lines) => single(out, "points", lines),
-            Answer::Loans(loans) => single(out, "loans", loans),
-            Answer::Offers(offers) => single(out, "offers", offers),
+            Answer::Mobilised(order, callsign) =>
+                object!(out, { "order": order, "vehicle": callsign }),
+            Answer::Done => object!(out, { "done": &true }),
+            Answer::Vehicles(lines) => object!(out, { "vehicles": lines }),
+            Answer::Queue(entries) => object!(out, { "queue": entries }),
+            Answer::Points(lines) => object!(out, { "points": lines }),
+            Answer::Loans(loans) => object!(out, { "loans": loans }),
+            Answer::Offers(offers) => object!(out, { "offers": offers }),
             Answer::Times(times) => times.write_json(out),
             Answer::Order(assignment, post, status) => {
-                begin(out, 3)?;
-                member(out, "order", assignment)?;
-                member(out, "post", post)?;
-                member(out, "status", status)?;
-                end(out)
+                object!(out, {
+                    "order": assignment,
+                    "post": post,
+                    "status": status,
+                })
             }
             Answer::Reported(number, outcome, status) => {
-                begin(out, 3)?;
-                member(out, "number", number)?;
-                member(out, "outcome", outcome)?;
-                member(out, "status", status)?;
-                end(out)
+                object!(out, {
+                    "number": number,
+                    "outcome": outcome,
+                    "status": status,
+                })
             }
-            Answer::LastReport(number, order) => pair(out, "number", number, "order", order),
-            Answer::LastSerial(serial) => single(out, "serial", serial),
+            Answer::LastReport(number, order) => object!(out, { "number": number, "order": order }),
+            Answer::LastSerial(serial) => object!(out, { "serial": serial }),
         }
     }
 }
@@ -62,10 +75,10 @@ impl ToJson for Refusal {
 
     fn write_json<S: Serializer>(&self, out: &mut S) -> Result<(), S::Error> {
         let (name, number) = (self.name(), self.number());
-        begin(out, 2)?;
-        member(out, "error", &name)?;
-        member(out, "number", &number)?;
-        end(out)
+        object!(out, {
+            "error": &name,
+            "number": &number,
+        })
     }
 }
 
@@ -73,15 +86,15 @@ impl ToJson for IncidentLine {
     ghost json = { incident_json };
 
     fn write_json<S: Serializer>(&self, out: &mut S) -> Result<(), S::Error> {
-        begin(out, 7)?;
-        member(out, "calls", &self.calls)?;
-        member(out, "class", &self.class)?;
-        member(out, "lack", &self.lack)?;
-        member(out, "needs", &self.needs)?;
-        member(out, "number", &self.number)?;
-        member(out, "opened", &self.opened)?;
-        member(out, "place", &self.place)?;
-        end(out)
+        object!(out, {
+            "calls": &self.calls,
+            "class": &self.class,
+            "lack": &self.lack,
+            "needs": &self.needs,
+            "number": &self.number,
+            "opened": &self.opened,
+            "place": &self.place,
+        })
     }
 }
 
@@ -89,12 +102,12 @@ impl ToJson for Proposal {
     ghost json = { proposal_json };
 
     fn write_json<S: Serializer>(&self, out: &mut S) -> Result<(), S::Error> {
-        begin(out, 4)?;
-        member(out, "breaks", &self.breaks)?;
-        member(out, "distance", &self.distance)?;
-        member(out, "kind", &self.kind)?;
-        member(out, "vehicle", &self.callsign)?;
-        end(out)
+        object!(out, {
+            "breaks": &self.breaks,
+            "distance": &self.distance,
+            "kind": &self.kind,
+            "vehicle": &self.callsign,
+        })
     }
 }
 
@@ -102,16 +115,16 @@ impl ToJson for VehicleLine {
     ghost json = { vehicle_json };
 
     fn write_json<S: Serializer>(&self, out: &mut S) -> Result<(), S::Error> {
-        begin(out, 8)?;
-        member(out, "home", &self.home)?;
-        member(out, "incident", &self.incident)?;
-        member(out, "kind", &self.kind)?;
-        member(out, "place", &self.place)?;
-        member(out, "post", &self.post)?;
-        member(out, "shift_end", &self.shift_end)?;
-        member(out, "status", &self.status)?;
-        member(out, "vehicle", &self.callsign)?;
-        end(out)
+        object!(out, {
+            "home": &self.home,
+            "incident": &self.incident,
+            "kind": &self.kind,
+            "place": &self.place,
+            "post": &self.post,
+            "shift_end": &self.shift_end,
+            "status": &self.status,
+            "vehicle": &self.callsign,
+        })
     }
 }
 
@@ -130,12 +143,12 @@ impl ToJson for Entry {
 
     fn write_json<S: Serializer>(&self, out: &mut S) -> Result<(), S::Error> {
         let vehicle = callsign_or_empty(&self.callsign);
-        begin(out, 4)?;
-        member(out, "number", &self.number)?;
-        member(out, "rank", &self.rank)?;
-        member(out, "since", &self.since)?;
-        member(out, "vehicle", &vehicle)?;
-        end(out)
+        object!(out, {
+            "number": &self.number,
+            "rank": &self.rank,
+            "since": &self.since,
+            "vehicle": &vehicle,
+        })
     }
 }
 
@@ -143,12 +156,12 @@ impl ToJson for PointLine {
     ghost json = { point_json };
 
     fn write_json<S: Serializer>(&self, out: &mut S) -> Result<(), S::Error> {
-        begin(out, 4)?;
-        member(out, "cover", &self.cover)?;
-        member(out, "held", &self.held)?;
-        member(out, "number", &self.number)?;
-        member(out, "place", &self.place)?;
-        end(out)
+        object!(out, {
+            "cover": &self.cover,
+            "held": &self.held,
+            "number": &self.number,
+            "place": &self.place,
+        })
     }
 }
 
@@ -156,14 +169,14 @@ impl ToJson for Loan {
     ghost json = { loan_json };
 
     fn write_json<S: Serializer>(&self, out: &mut S) -> Result<(), S::Error> {
-        begin(out, 6)?;
-        member(out, "borrower", &self.borrower)?;
-        member(out, "lender", &self.lender)?;
-        member(out, "recalled", &self.recalled)?;
-        member(out, "since", &self.since)?;
-        member(out, "until", &self.until)?;
-        member(out, "vehicle", &self.callsign)?;
-        end(out)
+        object!(out, {
+            "borrower": &self.borrower,
+            "lender": &self.lender,
+            "recalled": &self.recalled,
+            "since": &self.since,
+            "until": &self.until,
+            "vehicle": &self.callsign,
+        })
     }
 }
 
@@ -171,13 +184,13 @@ impl ToJson for Offer {
     ghost json = { offer_json };
 
     fn write_json<S: Serializer>(&self, out: &mut S) -> Result<(), S::Error> {
-        begin(out, 5)?;
-        member(out, "borrower", &self.borrower)?;
-        member(out, "lender", &self.lender)?;
-        member(out, "since", &self.since)?;
-        member(out, "until", &self.until)?;
-        member(out, "vehicle", &self.callsign)?;
-        end(out)
+        object!(out, {
+            "borrower": &self.borrower,
+            "lender": &self.lender,
+            "since": &self.since,
+            "until": &self.until,
+            "vehicle": &self.callsign,
+        })
     }
 }
 
@@ -185,11 +198,11 @@ impl ToJson for TimesLine {
     ghost json = { times_line_json };
 
     fn write_json<S: Serializer>(&self, out: &mut S) -> Result<(), S::Error> {
-        begin(out, 3)?;
-        member(out, "activation", &self.activation)?;
-        member(out, "number", &self.number)?;
-        member(out, "opened", &self.opened)?;
-        end(out)
+        object!(out, {
+            "activation": &self.activation,
+            "number": &self.number,
+            "opened": &self.opened,
+        })
     }
 }
 
@@ -197,13 +210,13 @@ impl ToJson for Times {
     ghost json = { times_json };
 
     fn write_json<S: Serializer>(&self, out: &mut S) -> Result<(), S::Error> {
-        begin(out, 5)?;
-        member(out, "activated", &self.activated)?;
-        member(out, "from", &self.from)?;
-        member(out, "incidents", &self.lines)?;
-        member(out, "to", &self.to)?;
-        member(out, "within", &self.within)?;
-        end(out)
+        object!(out, {
+            "activated": &self.activated,
+            "from": &self.from,
+            "incidents": &self.lines,
+            "to": &self.to,
+            "within": &self.within,
+        })
     }
 }
 
@@ -211,13 +224,13 @@ impl ToJson for Assignment {
     ghost json = { assignment_json };
 
     fn write_json<S: Serializer>(&self, out: &mut S) -> Result<(), S::Error> {
-        begin(out, 5)?;
-        member(out, "class", &self.class)?;
-        member(out, "division", &self.division)?;
-        member(out, "incident", &self.incident)?;
-        member(out, "order", &self.order)?;
-        member(out, "place", &self.place)?;
-        end(out)
+        object!(out, {
+            "class": &self.class,
+            "division": &self.division,
+            "incident": &self.incident,
+            "order": &self.order,
+            "place": &self.place,
+        })
     }
 }
 
@@ -225,16 +238,16 @@ impl ToJson for Call {
     ghost json = { call_json };
 
     fn write_json<S: Serializer>(&self, out: &mut S) -> Result<(), S::Error> {
-        begin(out, 8)?;
-        member(out, "class", &self.class)?;
-        member(out, "linked", &self.linked)?;
-        member(out, "moment", &self.at)?;
-        member(out, "needs", &self.needs)?;
-        member(out, "note", &self.note)?;
-        member(out, "place", &self.place)?;
-        member(out, "position", &self.position)?;
-        member(out, "serial", &self.serial)?;
-        end(out)
+        object!(out, {
+            "class": &self.class,
+            "linked": &self.linked,
+            "moment": &self.at,
+            "needs": &self.needs,
+            "note": &self.note,
+            "place": &self.place,
+            "position": &self.position,
+            "serial": &self.serial,
+        })
     }
 }
 
@@ -242,18 +255,18 @@ impl ToJson for Turn {
     ghost json = { turn_json };
 
     fn write_json<S: Serializer>(&self, out: &mut S) -> Result<(), S::Error> {
-        begin(out, 10)?;
-        member(out, "acknowledged", &self.acknowledged)?;
-        member(out, "ended", &self.ended)?;
-        member(out, "hospital", &self.hospital)?;
-        member(out, "kind", &self.kind)?;
-        member(out, "left", &self.left)?;
-        member(out, "order", &self.order)?;
-        member(out, "ordered", &self.ordered)?;
-        member(out, "scene", &self.scene)?;
-        member(out, "stood_down", &self.stood_down)?;
-        member(out, "vehicle", &self.callsign)?;
-        end(out)
+        object!(out, {
+            "acknowledged": &self.acknowledged,
+            "ended": &self.ended,
+            "hospital": &self.hospital,
+            "kind": &self.kind,
+            "left": &self.left,
+            "order": &self.order,
+            "ordered": &self.ordered,
+            "scene": &self.scene,
+            "stood_down": &self.stood_down,
+            "vehicle": &self.callsign,
+        })
     }
 }
 
@@ -262,19 +275,19 @@ impl ToJson for History {
 
     fn write_json<S: Serializer>(&self, out: &mut S) -> Result<(), S::Error> {
         let incident = &self.incident;
-        begin(out, 11)?;
-        member(out, "calls", &self.calls)?;
-        member(out, "class", &incident.class)?;
-        member(out, "first_order", &incident.first_order)?;
-        member(out, "into", &incident.state.merged_into())?;
-        member(out, "needs", &incident.needs)?;
-        member(out, "number", &incident.number)?;
-        member(out, "opened", &incident.opened)?;
-        member(out, "place", &incident.place)?;
-        member(out, "served", &self.served)?;
-        member(out, "state", &incident.state.number())?;
-        member(out, "turns", &self.turns)?;
-        end(out)
+        object!(out, {
+            "calls": &self.calls,
+            "class": &incident.class,
+            "first_order": &incident.first_order,
+            "into": &incident.state.merged_into(),
+            "needs": &incident.needs,
+            "number": &incident.number,
+            "opened": &incident.opened,
+            "place": &incident.place,
+            "served": &self.served,
+            "state": &incident.state.number(),
+            "turns": &self.turns,
+        })
     }
 }
 

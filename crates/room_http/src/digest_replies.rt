@@ -30,7 +30,7 @@ pub fn reply_towards<M: Digested>(
     let (head_only, closing) = (arrived.head_only(), arrived.is_closing());
     let message = match arrived {
         Arrived::Message { message, .. } => message,
-        Arrived::Refused { .. } => return Err(Miss::Another),
+        Arrived::Refused { .. } => return Err(Miss::OtherDigest),
     };
     let mut asker = None;
     match event_of(handler, room, message, at, &mut asker) {
@@ -39,6 +39,6 @@ pub fn reply_towards<M: Digested>(
         }),
         Err(Refusal::Memory) => Err(Miss::Unavailable(Refusal::Memory)),
         Err(Refusal::Storage) => Err(Miss::Unavailable(Refusal::Storage)),
-        Err(_) => Err(Miss::Another),
+        Err(_) => Err(Miss::OtherDigest),
     }
 }

@@ -1,64 +1,71 @@
 //! JSON objects, sent member by member.
+#![tactic(auto, unfolding(crate::specs::Objects::Sends, crate::specs::Objects::SendsRest))]
+
 ghost use Rattle.std.specs.Prelude.{◌≡◌, OnOk};
-ghost use Rattle.serde.specs.Event.{Log};
-ghost use Rattle.serde_json.specs.Data.{Members, no_members, member as one_more, object};
+ghost use Rattle.serde_json.specs.Data.{Members, no_members, member, object};
 ghost use Rattle.serde_json.specs.Events.{members_len};
-ghost use Rattle.room_http.specs.Objects.{Sends, SendsRest};
+ghost use Rattle.room_http.specs.Objects.{AreCountable, Sends, SendsRest};
 
 use crate::json::ToJson;
 use serde::Serializer;
 
-/// Begins an object that gets so many members.
-#[tactic(auto, unfolding(crate::specs::Objects::Sends, crate::specs::Objects::SendsRest))]
-pub fn begin<S: Serializer>(out: &mut S, count: usize) -> Result<(), S::Error>
-    ensures { OnOk result ((ms : Members) (end : Log) → members_len ms ≡ count
-        → SendsRest ms (S.written out.new) end → Sends (object ms) (S.written out.old) end) }
-{
-    out.begin_map(Some(count))
+/// Members of an object, in their order.
+pub trait ToMembers {
+    // The names and values.
+    ghost members: { Self → Members };
+
+    /// How many members there are.
+    fn count(&self) -> usize
+        requires { AreCountable (members self.now) }
+        ensures { result ≡ members_len (members self.now) };
+
+    /// Sends the members and the end of the object.
+    fn write_members<S: Serializer>(&self, out: &mut S) -> Result<(), S::Error>
+        ensures { OnOk result
+            (SendsRest (members self.now) (S.written out.old) (S.written out.new)) };
 }
 
-/// Sends a member of the object that is begun.
-#[tactic(auto, unfolding(crate::specs::Objects::Sends, crate::specs::Objects::SendsRest))]
-pub fn member<S: Serializer, T: ToJson>(out: &mut S, name: &str, value: &T) -> Result<(), S::Error>
-    ensures { OnOk result ((ms : Members) (end : Log) → SendsRest ms (S.written out.new) end
-        → SendsRest (one_more name.now (T.json value.now) ms) (S.written out.old) end) }
-{
-    out.key(name)?;
-    value.write_json(out)
+/// No more members.
+#[derive(Clone, Copy)]
+pub struct End;
+
+impl ToMembers for End {
+    ghost members = { λ _. no_members };
+
+    fn count(&self) -> usize {
+        0
+    }
+
+    fn write_members<S: Serializer>(&self, out: &mut S) -> Result<(), S::Error> {
+        out.end_map()
+    }
 }
 
-/// Ends the object.
-#[tactic(auto, unfolding(crate::specs::Objects::SendsRest))]
-pub fn end<S: Serializer>(out: &mut S) -> Result<(), S::Error>
-    ensures { OnOk result (SendsRest no_members (S.written out.old) (S.written out.new)) }
-{
-    out.end_map()
+/// A member, by its name and its value, and those after it.
+#[derive(Drop)]
+pub struct Member<'a, T, M>(pub &'a str, pub &'a T, pub M);
+
+impl<T: ToJson, M: ToMembers> ToMembers for Member<'_, T, M> {
+    ghost members = { λ it. member it.0.now (T.json it.1.now) (M.members it.2) };
+
+    fn count(&self) -> usize {
+        1 + self.2.count()
+    }
+
+    fn write_members<S: Serializer>(&self, out: &mut S) -> Result<(), S::Error> {
+        let Member(name, value, more) = self;
+        out.key(name)?;
+        value.write_json(out)?;
+        more.write_members(out)
+    }
 }
 
-/// An object of one member.
-pub fn single<S: Serializer, T: ToJson>(out: &mut S, name: &str, value: &T) -> Result<(), S::Error>
-    ensures { OnOk result (Sends (object (one_more name.now (T.json value.now) no_members))
-        (S.written out.old) (S.written out.new)) }
+/// Sends an object with these members.
+pub fn write_object<S: Serializer, M: ToMembers>(out: &mut S, members: &M) -> Result<(), S::Error>
+    requires { AreCountable (M.members members.now) }
+    ensures { OnOk result
+        (Sends (object (M.members members.now)) (S.written out.old) (S.written out.new)) }
 {
-    begin(out, 1)?;
-    member(out, name, value)?;
-    end(out)
-}
-
-/// An object of two members.
-pub fn pair<S: Serializer, T: ToJson, U: ToJson>(
-    out: &mut S,
-    first: &str,
-    value: &T,
-    second: &str,
-    other: &U,
-) -> Result<(), S::Error>
-    ensures { OnOk result (Sends (object (one_more first.now (T.json value.now)
-        (one_more second.now (U.json other.now) no_members)))
-        (S.written out.old) (S.written out.new)) }
-{
-    begin(out, 2)?;
-    member(out, first, value)?;
-    member(out, second, other)?;
-    end(out)
+    out.begin_map(Some(members.count()))?;
+    members.write_members(out)
 }

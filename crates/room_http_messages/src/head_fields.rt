@@ -39,7 +39,7 @@ impl Found {
         }
     }
 
-    /// Where the value is, if one field only has the name.
+    /// Where the value is, if only one field has the name.
     pub fn only(self) -> Option<Span>
         ensures value { (buf : List ℕ) (values : List (List ℕ)) → FoundIs buf values self
             → option_map (span_bytes buf) result ≡ only_value values }

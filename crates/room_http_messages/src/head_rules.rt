@@ -13,8 +13,8 @@ use room_types::refusal_statuses::Refusal;
 /// What stands for every number above the limit of a body.
 const TOO_LONG: usize = BODY_LIMIT + 1;
 
-/// The number that only digits write, or `TOO_LONG` where it is above the limit of a body. So any
-/// number of digits is read.
+/// The number that a text of digits only writes, or `TOO_LONG` where it is above the limit of a
+/// body. So any number of digits is read.
 fn numeral(value: &[u8]) -> Option<usize>
     ensures { MatchOption result (is_numeral value.now ≡ false)
         (λ n. (is_numeral value.now ≡ true) × (n ≡ min (digits_value 10 value.now) TOO_LONG)) }

@@ -1,5 +1,5 @@
 -- That what a request asks for is of its target's role.
-use Rattle.std.proofs.Common.{◌≡◌, ◌&&◌, ◌≤◌, ℕ, List, Bool, true, false, refl}
+use Rattle.std.proofs.Common.{◌≡◌, ◌&&◌, ◌≤◌, ℕ, List, Bool, true, false, refl, arith}
 use Rattle.std.specs.Prelude.{if◌then◌else◌, Option, None, Some, IfSome, option_and_then, option_map}
 use Rattle.std.proofs.lemmas.Bool.{and_parts}
 use borrow.Author.Tests.{leb-true}
@@ -15,7 +15,7 @@ use Rattle.room_http_requests.specs.declared.request_table.Target.TheVariants as
 use Rattle.room_model.specs.Events.{IsNumbered}
 use Rattle.room_model.specs.Room.{Room}
 use Rattle.room_model.specs.Step.{is_crews, is_desks, is_for, is_positions}
-use Rattle.room_http_requests.specs.RequestTable.{is_known, is_of, request_by, role_of}
+use Rattle.room_http_requests.specs.RequestTable.{ask_without_body, is_known, is_of, or_posted, request_by, role_of}
 use Rattle.room_http_requests.specs.Bodies.{and_then, call_form, exactly, duty, lend, merge, mobilise, needs_change}
 use Rattle.room_http_requests.specs.Bodies.{point_form, ask_with_body, press, standby}
 use Rattle.room_http_requests.specs.BodyFields.{fields_of, has_members, number_at, number_in}
@@ -151,22 +151,20 @@ fields_role : (t : Target) (fields : Option Data)
 fields_role t None = tt
 fields_role t (Some fields) = posted_is t fields
 
+-- what is asked for without a body
+read_is : (t : Target) (given : Request) → ask_without_body t ≡ Some given → IsRequestOf t given
+read_is t given asked = grind arith
+
 request_is : (t : Target) (body : List ℕ) → IfSome (request_by t body) (IsRequestOf t)
 unfolding request_by
-request_is target.Incidents body = (refl, tt)
-request_is (target.Incident n) body = (refl, tt)
-request_is (target.Propose n) body = (refl, tt)
-request_is target.Vehicles body = (refl, tt)
-request_is target.Queue body = (refl, tt)
-request_is target.Points body = (refl, tt)
-request_is target.Loans body = (refl, tt)
-request_is target.Offers body = (refl, tt)
-request_is (target.Times day) body = tt
-request_is target.Order body = (refl, tt)
-request_is target.Last body = (refl, tt)
-request_is t body =
-    some_map (IsRequestOf t) (option_and_then (ask_with_body t) (fields_of body)) request.Ask
-    (fields_role t (fields_of body))
+request_is t body = by (ask_without_body t) (read_is t)
+  where
+    by : (read : Option Request) → ((given : Request) → read ≡ Some given → IsRequestOf t given)
+        → IfSome (or_posted read t body) (IsRequestOf t)
+    by None is =
+        some_map (IsRequestOf t) (option_and_then (ask_with_body t) (fields_of body)) request.Ask
+        (fields_role t (fields_of body))
+    by (Some given) is = is given refl
 
 -- what is asked is of its target's role
 pub asked_is : (t : Target) (body : List ℕ) (a : Ask) → request_by t body ≡ Some (request.Ask a)

@@ -1,14 +1,12 @@
 -- What a request names, found step by step.
-use Rattle.std.proofs.Common.{◌≡◌, ◌∙◌, ap, sym, refl, Bool, true, false, ◌||◌, List, ℕ}
-use Rattle.std.specs.Prelude.{IfSome, if◌then◌else◌, not, Option, None, Some, Result, Ok, Err, option_and_then}
-use Rattle.std.specs.Prelude.{option_map}
-use Rattle.room_types.specs.Texts.{Callsign}
+use Rattle.std.proofs.Common.{◌≡◌, ◌∙◌, ap, sym, refl, arith, Bool, true, false, ◌||◌, List, ℕ}
+use Rattle.std.specs.Prelude.{if◌then◌else◌, not, Option, None, Some, Result, Ok, Err, option_map}
 use Rattle.room_types.specs.declared.refusal_statuses.Allow.{Allow}
 use Rattle.room_types.specs.declared.refusal_statuses.Refusal.{Refusal}
 use Rattle.room_types.specs.declared.refusal_statuses.Refusal.TheVariants.{NoPath, WrongMethod}
 use Rattle.room_types.specs.KeyedRows.{keep}
-use Rattle.room_http_time.specs.Dates.{day_of}
-use Rattle.room_http_requests.specs.Parameters.{callsign_of, number_of, point_number_of, segment_at, text_of}
+use Rattle.room_http_time.specs.Dates.{Date, day_of}
+use Rattle.room_http_requests.specs.Parameters.{segment_at, text_of}
 use Rattle.room_http_requests.specs.RequestTable.{allow_of, is_of_history, named_by, path_of}
 use Rattle.room_http_requests.specs.Routes.{is_allowed, is_served, path_at, routed, target_of}
 use Rattle.room_http_requests.specs.declared.request_table.Path.{Path}
@@ -16,50 +14,15 @@ use Rattle.room_http_requests.specs.declared.request_table.Path.TheVariants as p
 use Rattle.room_http_requests.specs.declared.request_table.Target.{Target}
 use Rattle.room_http_requests.specs.declared.request_table.Target.TheVariants as target
 
--- what is made of a parameter is of the path
-made_of : {A : Type 0} (make : A → Target) (p : Path) (found : Option A)
-    → ((x : A) → path_of (make x) ≡ p) → IfSome (option_map make found) (λ t. path_of t ≡ p)
-made_of make p None all = tt
-made_of make p (Some x) all = all x
-
-cleared_of : (callsign : Option Callsign) (number : Option ℕ)
-    → IfSome (option_and_then (λ c. option_and_then (λ n. Some (target.Clear c n)) number) callsign)
-    (λ t. path_of t ≡ path.Clear)
-cleared_of None number = tt
-cleared_of (Some c) None = tt
-cleared_of (Some c) (Some n) = refl
+-- what a day names is of the path of times
+day_named : (day : Option Date) (t : Target) → option_map target.Times day ≡ Some t
+    → path_of t ≡ path.Times
+day_named day t named = grind arith
 
 -- what a target of a path names is of the path
-named_of : (p : Path) (text : List ℕ) → IfSome (named_by p text) (λ t. path_of t ≡ p)
-named_of path.Call text = refl
-named_of path.Incidents text = refl
-named_of path.Incident text = made_of target.Incident path.Incident (number_of (segment_at 2 text)) (λ n. refl)
-named_of path.Propose text = made_of target.Propose path.Propose (number_of (segment_at 2 text)) (λ n. refl)
-named_of path.Mobilise text = made_of target.Mobilise path.Mobilise (number_of (segment_at 2 text)) (λ n. refl)
-named_of path.Needs text = made_of target.Needs path.Needs (number_of (segment_at 2 text)) (λ n. refl)
-named_of path.Merge text = made_of target.Merge path.Merge (number_of (segment_at 2 text)) (λ n. refl)
-named_of path.Close text = made_of target.Close path.Close (number_of (segment_at 2 text)) (λ n. refl)
-named_of path.Vehicles text = refl
-named_of path.StandDown text = made_of target.StandDown path.StandDown (callsign_of (segment_at 2 text)) (λ c. refl)
-named_of path.Standby text = made_of target.Standby path.Standby (callsign_of (segment_at 2 text)) (λ c. refl)
-named_of path.Duty text = made_of target.Duty path.Duty (callsign_of (segment_at 2 text)) (λ c. refl)
-named_of path.Off text = made_of target.Off path.Off (callsign_of (segment_at 2 text)) (λ c. refl)
-named_of path.Lend text = made_of target.Lend path.Lend (callsign_of (segment_at 2 text)) (λ c. refl)
-named_of path.Withdraw text = made_of target.Withdraw path.Withdraw (callsign_of (segment_at 2 text)) (λ c. refl)
-named_of path.Decline text = made_of target.Decline path.Decline (callsign_of (segment_at 2 text)) (λ c. refl)
-named_of path.Accept text = made_of target.Accept path.Accept (callsign_of (segment_at 2 text)) (λ c. refl)
-named_of path.Recall text = made_of target.Recall path.Recall (callsign_of (segment_at 2 text)) (λ c. refl)
-named_of path.GiveBack text = made_of target.GiveBack path.GiveBack (callsign_of (segment_at 2 text)) (λ c. refl)
-named_of path.Queue text = refl
-named_of path.Clear text = cleared_of (callsign_of (segment_at 2 text)) (number_of (segment_at 3 text))
-named_of path.Points text = refl
-named_of path.SetPoint text = made_of target.SetPoint path.SetPoint (point_number_of (segment_at 2 text)) (λ n. refl)
-named_of path.Loans text = refl
-named_of path.Offers text = refl
-named_of path.Times text = made_of target.Times path.Times (day_of (segment_at 2 text)) (λ d. refl)
-named_of path.Order text = refl
-named_of path.Report text = refl
-named_of path.Last text = refl
+named_of : (p : Path) (text : List ℕ) (t : Target) → named_by p text ≡ Some t → path_of t ≡ p
+named_of path.Times text t named = day_named (day_of (segment_at 2 text)) t named
+named_of p text t named = grind arith
 
 -- what is no text names nothing
 pub no_text : (history : Bool) (method bytes : List ℕ) → text_of bytes ≡ None
@@ -74,10 +37,10 @@ unfolding target_of
 no_path history method bytes text is none = rw (is, none) refl
 
 -- a path of history is none where that is not served
-unserved : (p : Path) (found : Option Target) → IfSome found (λ t. path_of t ≡ p)
+unserved : (p : Path) (found : Option Target) → ((t : Target) → found ≡ Some t → path_of t ≡ p)
     → is_of_history p ≡ true → keep (is_served false) found ≡ None
 unserved p None of old = refl
-unserved p (Some t) of old = rw (of, old) refl
+unserved p (Some t) of old = rw (of t refl, old) refl
 
 pub no_history : (method bytes text : List ℕ) (p : Path) → text_of bytes ≡ Some text
     → path_at text ≡ Some p → is_of_history p ≡ true → Err NoPath ≡ routed false method bytes
@@ -101,7 +64,7 @@ routed_to : (history : Bool) (method bytes text : List ℕ) (p : Path) (t : Targ
     → routed history method bytes ≡ chosen t (allow_of p) (is_allowed (allow_of p) method)
 unfolding target_of
 routed_to history method bytes text p t is found named served =
-    let of : path_of t ≡ p = rw named at (named_of p text) in
+    let of = named_of p text t named in
     rw (is, found, named, of, served) (ap (λ q. chosen t (allow_of q) (is_allowed (allow_of q) method)) of)
 
 -- by a method that the path takes, and by another

@@ -1,13 +1,36 @@
--- Which targets name which paths, in examples: each path with its parameters, and targets that miss
--- them narrowly.
-use Rattle.std.specs.Prelude.{Bool, ◌≡◌, ℕ, List, [], ◌∷◌, codes, map, Some, None, Result, Ok, Err}
+-- Which targets name which paths: each path by a target that fills its pattern, and in examples what
+-- targets name, and targets that miss a path narrowly.
+use Rattle.std.specs.Prelude.{Bool, true, ◌≡◌, ℕ, List, [], ◌∷◌, ◌++◌, bytes_eq, codes, if◌then◌else◌, map, option_map}
+use Rattle.std.specs.Prelude.{Some, None, Result, Ok, Err}
+use Rattle.std.specs.List.{list_any, slice_split}
 use Rattle.room_types.specs.declared.refusal_statuses.Allow.TheVariants.{GetHead, Post}
 use Rattle.room_types.specs.declared.refusal_statuses.Refusal.{Refusal}
 use Rattle.room_types.specs.declared.refusal_statuses.Refusal.TheVariants.{NoPath, WrongMethod}
 use Rattle.room_http_time.specs.Dates.{Date}
+use Rattle.room_http_requests.specs.Parameters.{is_slash}
+use Rattle.room_http_requests.specs.RequestTable.{path_of, pattern_of}
 use Rattle.room_http_requests.specs.Routes.{routed, target_of}
+use Rattle.room_http_requests.specs.declared.request_table.Path.{Path}
 use Rattle.room_http_requests.specs.declared.request_table.Target.{Target}
 use Rattle.room_http_requests.specs.declared.request_table.Target.TheVariants as target
+
+-- a value for a parameter of a pattern; every other segment is itself
+abbrev pub value_for : List ℕ → List ℕ
+value_for segment =
+    if bytes_eq segment (codes "{n}") then codes "1"
+    else if bytes_eq segment (codes "{c}") then codes "A1"
+    else if bytes_eq segment (codes "{day}") then codes "2024-02-29"
+    else segment
+
+-- segments with slashes between them
+abbrev pub joined : List (List ℕ) → List ℕ
+joined [] = []
+joined (segment ∷ []) = segment
+joined (segment ∷ more) = segment ++ 47 ∷ joined more
+
+-- a target of a path: its pattern, with a value in the place of each parameter
+abbrev pub filled : Path → List ℕ
+filled path = joined (map value_for (slice_split is_slash (pattern_of path)))
 
 abbrev pub date : ℕ → ℕ → ℕ → Date
 date year month day = record { year = year; month = month; day = day }
@@ -165,6 +188,14 @@ history_requests =
 abbrev pub Name : List (List ℕ × Target) → Type 0
 Name examples =
     map (λ example. target_of example.0) examples ≡ map (λ example. Some example.1) examples
+
+-- each of these paths is found by a target that fills its pattern
+abbrev pub AreFound : List Path → Type 0
+AreFound paths = map (λ path. option_map path_of (target_of (filled path))) paths ≡ map Some paths
+
+-- the path is one of these, by its pattern
+abbrev pub IsListed : List Path → Path → Type 0
+IsListed paths path = list_any (bytes_eq (pattern_of path)) (map pattern_of paths) ≡ true
 
 -- none of the targets names anything
 abbrev pub NameNothing : List (List ℕ) → Type 0

@@ -1,6 +1,6 @@
 //! What holds of paths and asks. A law is the contract of a function that does nothing.
 
-ghost use Rattle.room_http_requests.specs.TargetExamples.{AreRouted, Name, NameNothing, history_requests, incident_names, other_names, requests, stray_days, stray_incidents, stray_numbers, stray_paths, stray_points, stray_vehicles, vehicle_names};
+ghost use Rattle.room_http_requests.specs.TargetExamples.{AreFound, AreRouted, IsListed, Name, NameNothing, history_requests, incident_names, other_names, requests, stray_days, stray_incidents, stray_numbers, stray_paths, stray_points, stray_vehicles, vehicle_names};
 ghost use Rattle.std.specs.Prelude.{◌≡◌, ℕ, ℤ, List, Some, true, false, Err, IfSome};
 ghost use Rattle.room_types.specs.declared.refusal_statuses.Refusal.TheVariants.{NoPath};
 ghost use Rattle.room_http_requests.specs.RequestTable.{is_known, is_of, is_of_history, path_of};
@@ -9,13 +9,18 @@ ghost use Rattle.room_http_requests.specs.Routes.{routed, target_of};
 ghost use Rattle.room_types.specs.declared.asks.Ask.{Ask};
 ghost use Rattle.room_types.specs.declared.asks.Who.{Who};
 ghost use Rattle.room_http_time.specs.Dates.{Date};
+ghost use Rattle.room_http_requests.specs.declared.request_table.Path.{Path};
 ghost use Rattle.room_http_requests.specs.declared.request_table.Target.{Target};
+ghost use Rattle.room_http_requests.specs.declared.request_table.TheConstants.{PATHS};
 ghost use Rattle.room_model.specs.Events.{IsNumbered};
 ghost use Rattle.room_model.specs.Room.{Room};
 ghost use Rattle.room_model.specs.Step.{is_for};
 
-/// Each path is found by its targets.
+/// All paths are in the table, and each is found by a target that fills its pattern. What targets
+/// name is shown in examples.
 pub fn targets_name_paths()
+    ensures listed { (path : Path) → IsListed PATHS path }
+    ensures found { AreFound PATHS }
     ensures incidents { Name incident_names }
     ensures vehicles { Name vehicle_names }
     ensures others { Name other_names }

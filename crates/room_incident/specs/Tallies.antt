@@ -1,4 +1,4 @@
--- How many calls and turns are of one of a division's incidents, counted by their only numbers.
+-- How many calls and turns are of one of a division's incidents, counted by their numbers only.
 use Rattle.std.specs.Ordering.{is_eq}
 use Rattle.std.specs.Prelude.{Bool, List, filter, length, map, ℕ, ◌&&◌, ◌==◌, ◌≡◌}
 use Rattle.room_types.specs.Codes.{same_kind}

@@ -7,7 +7,7 @@ use Rattle.room_model.specs.Room.{Room}
 use Rattle.room_model.specs.Rooms.{IsUnavailable}
 use Rattle.room_model.specs.declared.digests.Head.{Head}
 use Rattle.room_model.specs.declared.digests.Miss.{Miss}
-use Rattle.room_model.specs.declared.digests.Miss.TheVariants.{Another, Unavailable}
+use Rattle.room_model.specs.declared.digests.Miss.TheVariants.{OtherDigest, Unavailable}
 use Rattle.room_model.specs.declared.digests.Version.{Version}
 
 -- the digests of a room's rows, with its terminals, in digits, one of each version
@@ -25,4 +25,4 @@ IsHeadOf digits_of head terminals room = digits_of head.version terminals room �
 
 -- it would come to another one, or memory or storage fails
 abbrev pub IsMiss : Miss → Type 0
-IsMiss miss = (miss ≡ Another) ⊎ ((r : Refusal) × (miss ≡ Unavailable r) × IsUnavailable r)
+IsMiss miss = (miss ≡ OtherDigest) ⊎ ((r : Refusal) × (miss ≡ Unavailable r) × IsUnavailable r)

@@ -1,4 +1,4 @@
--- A division's share, by only what it is handed.
+-- A division's share, computed only from what it is handed.
 use Rattle.std.specs.Prelude.{List, None, Option, Result, Some, [], true, ℕ, ◌++◌, ◌∷◌}
 use Rattle.room_types.specs.KeyedRows.{drop_row}
 use Rattle.room_types.specs.Keys.{callsign_cmp, vehicle_key}

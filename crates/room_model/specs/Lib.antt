@@ -14,7 +14,7 @@ pub mod Run
 pub mod Shares
 -- what an event hands to a division
 pub mod Crossing
--- what becomes of a division by only what it is handed
+-- what becomes of a division, computed only from what it is handed
 pub mod Isolation
 -- ---- what the other laws speak of
 -- what always holds of a room

@@ -9,7 +9,7 @@ ghost use Rattle.room_model.specs.Room.{Room as Held};
 ghost use Rattle.room_model.specs.Step.{IsAddressed};
 ghost use Rattle.room_model.specs.Digests.{IsHeadOf, IsMiss, digits_of};
 ghost use Rattle.room_model.specs.Rooms.{IsUnavailable};
-ghost use Rattle.room_model.specs.declared.digests.Miss.TheVariants.{Another};
+ghost use Rattle.room_model.specs.declared.digests.Miss.TheVariants.{OtherDigest};
 ghost use Rattle.room_model.specs.declared.digests.Version.{Version as Which};
 
 use crate::rooms::Room;
@@ -39,7 +39,7 @@ pub struct Head {
 #[derive(Clone, Copy)]
 pub enum Miss {
     /// It would have come to another one.
-    Another,
+    OtherDigest,
     /// Memory was refused, or storage failed.
     Unavailable(Refusal),
 }
@@ -94,7 +94,7 @@ pub trait Digested: Room {
             → Self.stands self.new terminals (Self.step event.now room).0
             × IsHeadOf (digits_of digest_of (Self.zone self.old)) head.now terminals
             (Self.step event.now room).0) }
-        ensures another { Self.is_trusted self.new → IfErr result (λ e. e ≡ Another
+        ensures another { Self.is_trusted self.new → IfErr result (λ e. e ≡ OtherDigest
             → (terminals : List Terminal) (room : Held) → Self.stands self.old terminals room
             → IsAddressed event.now room
             → ¬ (IsHeadOf (digits_of digest_of (Self.zone self.old)) head.now terminals
@@ -104,7 +104,7 @@ pub trait Digested: Room {
             → Self.stands self.old terminals room → Self.stands self.new terminals room) }
         ensures kept { Self.is_trusted self.new
             → MatchResult result (λ _. Self.is_kept self.new)
-            (λ e. e ≡ Another → Self.is_kept self.new) }
+            (λ e. e ≡ OtherDigest → Self.is_kept self.new) }
         ensures left { Self.is_trusted self.new → OnErr result (Self.is_kept self.old
             → (terminals : List Terminal) (room : Held) → Self.stands self.old terminals room
             → IsAddressed event.now room

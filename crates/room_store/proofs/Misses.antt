@@ -12,18 +12,18 @@ use Rattle.room_model.specs.declared.digests.Head.{Head}
 use Rattle.room_model.specs.declared.digests.Miss.TheVariants as miss
 use Rattle.room_store_file.specs.DigestChanges.{Reaches}
 use Rattle.room_store_file.specs.declared.digest_changes.Undone.{Undone}
-use Rattle.room_store_file.specs.declared.digest_changes.Undone.TheVariants.{Another, Unavailable}
+use Rattle.room_store_file.specs.declared.digest_changes.Undone.TheVariants.{OtherDigest, Unavailable}
 use Rattle.room_store.specs.StoreFaults.{miss_of}
 
 -- what is reported of changes that were undone
 pub miss_is : (undone : Undone) → IsMiss (miss_of undone)
-miss_is Another = inl refl
+miss_is OtherDigest = inl refl
 miss_is (Unavailable Memory) = inr (_, refl, inl refl)
 miss_is (Unavailable Storage) = inr (_, refl, inr refl)
 
 -- another digest is reported where it was found
-pub another_reported : (undone : Undone) → miss_of undone ≡ miss.Another → undone ≡ Another
-another_reported Another is = refl
+pub another_reported : (undone : Undone) → miss_of undone ≡ miss.OtherDigest → undone ≡ OtherDigest
+another_reported OtherDigest is = refl
 another_reported (Unavailable fault) is = absurd (cc)
 
 -- a stop leaves the room after the changes

@@ -16,11 +16,11 @@ use Rattle.room_types.specs.declared.changes.Change.{Change}
 use Rattle.room_types.specs.declared.decisions.Decision.{Decision}
 use Rattle.room_types.specs.declared.refusal_statuses.Refusal.{Refusal}
 use Rattle.room_types.specs.declared.refusal_statuses.Refusal.TheVariants as refusal
-use Rattle.room_store.specs.EventDecisions.{in_parts, unless_out_of_memory}
+use Rattle.room_store.specs.EventDecisions.{in_parts, unless_unavailable}
 use Rattle.room_store.specs.StoreFaults.{refusal_of}
 
 -- what is so of a decision and of a refusal is so of what is decided
-pub says : (r : Result Decision Refusal) (P : Verdict → Type 0) → P r → IfOk (unless_out_of_memory r) P
+pub says : (r : Result Decision Refusal) (P : Verdict → Type 0) → P r → IfOk (unless_unavailable r) P
 says (Ok x) P p = p
 says (Err refusal.Memory) P p = tt
 says (Err refusal.Storage) P p = tt
@@ -28,7 +28,7 @@ says (Err e) P p = p
 
 -- it is the machine's where the code decides as the machine
 pub machines : (r : Result Decision Refusal)
-    → IfOk (unless_out_of_memory r) (λ x. (verdict : Verdict) → Decides verdict r → x ≡ verdict)
+    → IfOk (unless_unavailable r) (λ x. (verdict : Verdict) → Decides verdict r → x ≡ verdict)
 machines (Ok x) = λ verdict is. sym is
 machines (Err refusal.Memory) = tt
 machines (Err refusal.Storage) = tt
@@ -36,23 +36,23 @@ machines (Err e) =
     λ verdict decides. ⊎_elim (λ is. sym is) (λ m. let no : e ≡ refusal.Memory = m.0 in absurd (cc)) decides
 
 -- a read that failed decides nothing
-unsaid_of : (f : Fault) (P : Verdict → Type 0) → IfOk (unless_out_of_memory (Err (refusal_of f))) P
+unsaid_of : (f : Fault) (P : Verdict → Type 0) → IfOk (unless_unavailable (Err (refusal_of f))) P
 unsaid_of fault.Memory P = tt
 unsaid_of fault.Storage P = tt
 
-failed_of : (f : Fault) → IsErr (unless_out_of_memory (Err (refusal_of f)))
+failed_of : (f : Fault) → IsErr (unless_unavailable (Err (refusal_of f)))
 failed_of fault.Memory = refl
 failed_of fault.Storage = refl
 
 module _ (f : Fault) {e : Refusal} (is : e ≡ refusal_of f) where
-  pub unsaid : (P : Verdict → Type 0) → IfOk (unless_out_of_memory (Err e)) P
-  unsaid P = subst (λ x. IfOk (unless_out_of_memory (Err x)) P) (sym is) (unsaid_of f P)
+  pub unsaid : (P : Verdict → Type 0) → IfOk (unless_unavailable (Err e)) P
+  unsaid P = subst (λ x. IfOk (unless_unavailable (Err x)) P) (sym is) (unsaid_of f P)
 
-  pub failed : IsErr (unless_out_of_memory (Err e))
-  failed = subst (λ x. IsErr (unless_out_of_memory (Err x))) (sym is) (failed_of f)
+  pub failed : IsErr (unless_unavailable (Err e))
+  failed = subst (λ x. IsErr (unless_unavailable (Err x))) (sym is) (failed_of f)
 
 -- what nothing is decided for is unavailable
-pub unavailable_is : (r : Result Decision Refusal) (e : Refusal) → unless_out_of_memory r ≡ Err e → IsUnavailable e
+pub unavailable_is : (r : Result Decision Refusal) (e : Refusal) → unless_unavailable r ≡ Err e → IsUnavailable e
 unavailable_is (Ok x) e is = absurd (cc)
 unavailable_is (Err refusal.Memory) e is = let same : e ≡ refusal.Memory = cc in inl same
 unavailable_is (Err refusal.Storage) e is = let same : e ≡ refusal.Storage = cc in inr same

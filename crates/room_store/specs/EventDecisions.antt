@@ -9,12 +9,12 @@ use Rattle.room_types.specs.declared.refusal_statuses.Refusal.TheVariants as ref
 
 -- The decision or the refusal, which is to be the machine's. Where memory or storage fails,
 -- nothing is decided.
-abbrev pub unless_out_of_memory : Result Decision Refusal → Result Verdict Refusal
-unless_out_of_memory (Err refusal.Memory) = Err refusal.Memory
-unless_out_of_memory (Err refusal.Storage) = Err refusal.Storage
-unless_out_of_memory decision = Ok decision
+abbrev pub unless_unavailable : Result Decision Refusal → Result Verdict Refusal
+unless_unavailable (Err refusal.Memory) = Err refusal.Memory
+unless_unavailable (Err refusal.Storage) = Err refusal.Storage
+unless_unavailable decision = Ok decision
 
 -- what is decided, as changes and an answer
 abbrev pub in_parts : Result Verdict Refusal → Result (List Change × Result Answer Refusal) Refusal
 in_parts (Ok decided) = Ok (changes_of decided, answer_of decided)
-in_parts (Err want) = Err want
+in_parts (Err why) = Err why

@@ -12,7 +12,7 @@ abbrev pub refusal_of : Fault → Refusal
 refusal_of Memory = refusal.Memory
 refusal_of Storage = refusal.Storage
 
--- how it is reported that changes were undone which were to lead to a digest
+-- the miss that reports that changes were undone which were to lead to a digest
 abbrev pub miss_of : Undone → Miss
-miss_of undone.Another = miss.Another
+miss_of undone.OtherDigest = miss.OtherDigest
 miss_of (undone.Unavailable fault) = miss.Unavailable (refusal_of fault)

@@ -17,7 +17,7 @@ ghost use Rattle.room_tables.specs.RoomsInTables.{Configuration, Stands};
 ghost use Rattle.room_store_writes.specs.Transactions.{Commits, LeavesOnErr};
 ghost use Rattle.room_store_cache.specs.Cache.{IsCacheOf};
 ghost use Rattle.room_store.specs.ActedEvents.{IsFor};
-ghost use Rattle.room_store.specs.EventDecisions.{in_parts, unless_out_of_memory};
+ghost use Rattle.room_store.specs.EventDecisions.{in_parts, unless_unavailable};
 
 use crate::event_decisions::decide;
 use crate::store_faults::refusal_of;
@@ -138,7 +138,7 @@ fn parts(
     alloc: Global,
     decision: Result<Decision, Refusal>,
 ) -> Result<(Listed<Change>, Result<Answer, Refusal>), Refusal>
-    ensures { result ≡ in_parts (unless_out_of_memory decision) }
+    ensures { result ≡ in_parts (unless_unavailable decision) }
 {
     match decision {
         Ok(Decision { changes, answer }) => Ok((changes, Ok(answer))),

@@ -10,7 +10,7 @@ ghost use Rattle.room_types.specs.declared.refusal_statuses.Refusal.TheVariants.
 ghost use Rattle.room_model.specs.Room.{Room};
 ghost use Rattle.room_model.specs.Step.{answer_to, room_after};
 ghost use Rattle.room_model.specs.Digests.{IsMiss};
-ghost use Rattle.room_model.specs.declared.digests.Miss.TheVariants.{Another};
+ghost use Rattle.room_model.specs.declared.digests.Miss.TheVariants.{OtherDigest};
 ghost use Rattle.room_tables.specs.RoomsInTables.{Configuration, Stands};
 ghost use Rattle.room_store_writes.specs.Transactions.{Commits, LeavesOnErr};
 ghost use Rattle.room_store_cache.specs.Cache.{IsCacheOf};
@@ -66,7 +66,7 @@ impl<S: Alter> Store<S> {
             config room
             → IsHeadAfter event.now config.zone config.terminals room head.now) }
         ensures another { IsClean S.Store self.new.conn
-            → IfErr result (λ miss. miss ≡ Another → (config : Configuration) (room : Room)
+            → IfErr result (λ miss. miss ≡ OtherDigest → (config : Configuration) (room : Room)
             → IsFor (state S.Store self.old.conn).now.trees self.old.plan self.old.cache event.now
             config room
             → ¬ (IsHeadAfter event.now config.zone config.terminals room head.now)) }
@@ -103,12 +103,12 @@ impl<S: Alter> Store<S> {
     }
 }
 
-// How it is reported that changes were undone.
+// The miss that reports that changes were undone.
 fn miss_of(undone: Undone) -> Miss
     ensures { result ≡ miss_of undone }
 {
     match undone {
-        Undone::Another => Miss::Another,
+        Undone::OtherDigest => Miss::OtherDigest,
         Undone::Unavailable(fault) => Miss::Unavailable(refusal_of(fault)),
     }
 }

@@ -13,7 +13,7 @@ ghost use Rattle.room_model.specs.RoomAgreements.{IsWellFormed};
 ghost use Rattle.room_tables.specs.RoomsInTables.{Configuration};
 ghost use Rattle.room_tables.specs.FoundRows.{Finds};
 ghost use Rattle.room_store.specs.ActedEvents.{IsFor};
-ghost use Rattle.room_store.specs.EventDecisions.{unless_out_of_memory};
+ghost use Rattle.room_store.specs.EventDecisions.{unless_unavailable};
 ghost use Rattle.room_store_cache.specs.Cache.{HasFleetOf, IsCacheOf};
 ghost use Rattle.room_store_reads.specs.CrewParts.{HasVehicle};
 ghost use Rattle.room_store_reads.specs.Partitions.{AreKnown};
@@ -53,14 +53,14 @@ pub(crate) fn decide<S: Alter>(
     requires room { HasRoomSchema S.Store conn.old }
     requires open { IsTrue cache.old.fleet.is_known → StandsOpen S.Store conn.old }
     ensures decided { IsClean S.Store conn.new
-        → IfOk (unless_out_of_memory result) (λ x. (config : Configuration) (room : Room)
+        → IfOk (unless_unavailable result) (λ x. (config : Configuration) (room : Room)
         → IsFor (state S.Store conn.old).now.trees plan.now cache.old event.now config room
         → x ≡ decided event.now room) }
     ensures cache { IsClean S.Store conn.new
-        → IfOk (unless_out_of_memory result) (λ _. (config : Configuration) (room : Room)
+        → IfOk (unless_unavailable result) (λ _. (config : Configuration) (room : Room)
         → IsFor (state S.Store conn.old).now.trees plan.now cache.old event.now config room
         → IsCacheOf cache.new room) }
-    ensures reads { ReadsOnly S.Store conn.old conn.new (unless_out_of_memory result) }
+    ensures reads { ReadsOnly S.Store conn.old conn.new (unless_unavailable result) }
 {
     match cache.fleet.fill(alloc, conn) {
         Ok(()) => {}
@@ -100,13 +100,13 @@ fn for_desk<S: Alter>(
 ) -> Result<Decision, Refusal>
     requires room { HasRoomSchema S.Store conn.old }
     requires open { StandsOpen S.Store conn.old }
-    ensures decided { Finds S.Store conn.old conn.new (unless_out_of_memory result) (λ room x.
+    ensures decided { Finds S.Store conn.old conn.new (unless_unavailable result) (λ room x.
         IsWellFormed room → room.plan ≡ plan.now.areas → AreKnown cache.old room
         → x ≡ desk_asks division event.now.ask event.now.at room) }
-    ensures known { Finds S.Store conn.old conn.new (unless_out_of_memory result) (λ room _.
+    ensures known { Finds S.Store conn.old conn.new (unless_unavailable result) (λ room _.
         IsWellFormed room → AreKnown cache.old room → AreKnown cache.new room) }
     ensures fleet { cache.new.fleet ≡ cache.old.fleet }
-    ensures reads { ReadsOnly S.Store conn.old conn.new (unless_out_of_memory result) }
+    ensures reads { ReadsOnly S.Store conn.old conn.new (unless_unavailable result) }
 {
     let slice = match load_working(alloc, conn, division, &event.ask, event.at, cache) {
         Ok(slice) => slice,
@@ -128,12 +128,12 @@ fn for_crew<S: Alter>(
 ) -> Result<Decision, Refusal>
     requires room { HasRoomSchema S.Store conn.old }
     requires open { StandsOpen S.Store conn.old }
-    ensures decided { Finds S.Store conn.old conn.new (unless_out_of_memory result) (λ room x.
+    ensures decided { Finds S.Store conn.old conn.new (unless_unavailable result) (λ room x.
         IsWellFormed room → HasFleetOf fleet.old room
         → x ≡ crew_asks callsign.now ask.now at room) }
-    ensures known { Finds S.Store conn.old conn.new (unless_out_of_memory result) (λ room _.
+    ensures known { Finds S.Store conn.old conn.new (unless_unavailable result) (λ room _.
         HasFleetOf fleet.old room → HasFleetOf fleet.new room) }
-    ensures reads { ReadsOnly S.Store conn.old conn.new (unless_out_of_memory result) }
+    ensures reads { ReadsOnly S.Store conn.old conn.new (unless_unavailable result) }
 {
     let Some(vehicle) = fleet.get().vehicles.get(callsign).copied() else {
         return Err(Refusal::Storage);
@@ -160,12 +160,12 @@ fn for_report<S: Alter>(
 ) -> Result<Decision, Refusal>
     requires room { HasRoomSchema S.Store conn.old }
     requires open { StandsOpen S.Store conn.old }
-    ensures decided { Finds S.Store conn.old conn.new (unless_out_of_memory result) (λ room x.
+    ensures decided { Finds S.Store conn.old conn.new (unless_unavailable result) (λ room x.
         IsWellFormed room → HasFleetOf fleet.old room → HasVehicle vehicle.now room
         → x ≡ take_report vehicle.now.callsign press.now at room) }
-    ensures known { Finds S.Store conn.old conn.new (unless_out_of_memory result) (λ room _.
+    ensures known { Finds S.Store conn.old conn.new (unless_unavailable result) (λ room _.
         HasFleetOf fleet.old room → HasFleetOf fleet.new room) }
-    ensures reads { ReadsOnly S.Store conn.old conn.new (unless_out_of_memory result) }
+    ensures reads { ReadsOnly S.Store conn.old conn.new (unless_unavailable result) }
 {
     let found = match load_report(conn, vehicle, press.number) {
         Ok(found) => found,
@@ -194,15 +194,15 @@ fn for_call<S: Alter>(
     ask: &Ask,
 ) -> Result<Decision, Refusal>
     requires room { HasRoomSchema S.Store conn.old }
-    ensures decided { Finds S.Store conn.old conn.new (unless_out_of_memory result) (λ room x.
+    ensures decided { Finds S.Store conn.old conn.new (unless_unavailable result) (λ room x.
         (position at : ℕ) (form : FormModel) → IsWellFormed room → room.plan ≡ plan.now.areas
         → call.now ≡ new_call position form at → ask.now ≡ CallAsk form
         → HasFleetOf cache.old.fleet room → IsCacheOf cache.old room
         → x ≡ take_call call.now room) }
-    ensures cache { Finds S.Store conn.old conn.new (unless_out_of_memory result) (λ room _.
+    ensures cache { Finds S.Store conn.old conn.new (unless_unavailable result) (λ room _.
         IsWellFormed room → HasFleetOf cache.old.fleet room → IsCacheOf cache.old room
         → IsCacheOf cache.new room) }
-    ensures reads { ReadsOnly S.Store conn.old conn.new (unless_out_of_memory result) }
+    ensures reads { ReadsOnly S.Store conn.old conn.new (unless_unavailable result) }
 {
     let found = match row_at::<Call, S>(conn, &(call.position, call.serial)) {
         Ok(found) => found,
@@ -230,9 +230,9 @@ fn for_last<S: Alter>(
     position: PositionNumber,
 ) -> Result<Decision, Refusal>
     requires room { HasRoomSchema S.Store conn.old }
-    ensures decided { Finds S.Store conn.old conn.new (unless_out_of_memory result) (λ room x.
+    ensures decided { Finds S.Store conn.old conn.new (unless_unavailable result) (λ room x.
         x ≡ show_last_serial position room) }
-    ensures reads { ReadsOnly S.Store conn.old conn.new (unless_out_of_memory result) }
+    ensures reads { ReadsOnly S.Store conn.old conn.new (unless_unavailable result) }
 {
     match last_serial(conn, position) {
         Ok(serial) => Ok(decide_last_serial(alloc, serial)),

@@ -15,7 +15,7 @@ ghost use Rattle.room_model.specs.RoomAgreements.{IsWellFormed};
 ghost use Rattle.room_tables_schema.specs.FileConnections.{HasRoomSchema, IsClean};
 ghost use Rattle.room_model.specs.Digests.{IsMiss};
 ghost use Rattle.room_model.specs.Rooms.{IsUnavailable, who_at};
-ghost use Rattle.room_model.specs.declared.digests.Miss.TheVariants.{Another};
+ghost use Rattle.room_model.specs.declared.digests.Miss.TheVariants.{OtherDigest};
 ghost use Rattle.room_tables.specs.RoomsInTables.{Stands};
 ghost use Rattle.room_store_writes.specs.Transactions.{IsSettled, Leaves, LeavesOnErr};
 ghost use Rattle.room_store_cache.specs.Cache.{KnowsNothing};
@@ -227,12 +227,12 @@ impl<S: Alter> Store<S> {
             → IsRoom S.Store self.new terminals (room_after event.now room)
             × IsHeadAfter event.now self.old.plan.zone terminals room head.now) }
         ensures another { IsClean S.Store self.new.conn
-            → IfErr result (λ miss. miss ≡ Another → (terminals : List Known) (room : Room)
+            → IfErr result (λ miss. miss ≡ OtherDigest → (terminals : List Known) (room : Room)
             → IsRoom S.Store self.old terminals room → IsAddressed event.now room
             → ¬ (IsHeadAfter event.now self.old.plan.zone terminals room head.now)) }
         ensures settled { IsClean S.Store self.new.conn
             → MatchResult result (λ _. IsSettled (state S.Store self.new.conn))
-            (λ miss. miss ≡ Another → IsSettled (state S.Store self.new.conn)) }
+            (λ miss. miss ≡ OtherDigest → IsSettled (state S.Store self.new.conn)) }
         ensures err { LeavesOnErr S.Store self.old.conn self.new.conn result }
         ensures unavailable { IfErr result IsMiss }
         // What a stop leaves is what it left before, or the room after the event.
@@ -258,8 +258,8 @@ impl<S: Alter> Store<S> {
     // What is reported for a miss once the file was tested: `Storage` where it is shut.
     fn after_test(&self, miss: Miss) -> Miss
         ensures missed { IsMiss miss → IsMiss result }
-        ensures same { result ≡ Another → miss ≡ Another }
-        ensures sound { result ≡ Another → IsTrue self.now.is_sound }
+        ensures same { result ≡ OtherDigest → miss ≡ OtherDigest }
+        ensures sound { result ≡ OtherDigest → IsTrue self.now.is_sound }
     {
         if self.is_sound {
             miss

@@ -2,7 +2,7 @@
 pub mod RecentIncidents
 -- the keys of entries distinguish them
 pub mod EntryKeys
--- which boards are of a room
+-- which queue views are of a room
 pub mod QueueViews
 -- which incident views are of a room
 pub mod IncidentViews

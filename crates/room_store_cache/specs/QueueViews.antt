@@ -1,4 +1,4 @@
--- Which boards are of a room.
+-- Which queue views are of a room.
 use Rattle.std.specs.Prelude.{All, Bool, List, filter, not, ℕ, ◌&&◌, ◌==◌, ◌≡◌}
 use Rattle.room_types.specs.Codes.{is_active, is_normal}
 use Rattle.room_types.specs.declared.tables.Incident.{Incident}

@@ -106,7 +106,7 @@ pub record HasConfiguration (trees : Trees) (areas : List Area) (zone : List ℕ
   pub terminals_are : StandsFor trees terminals_table terminal_row terminals
 
 -- The next of some reads in a transaction: one where all before it went well, and none where not.
--- `Is` holds of the tables where it went well, and `Fails` where storage is given of it.
+-- `Is` holds of the tables where it went well, and `Fails` where storage is reported for it.
 pub record ReadsNext {S : Type 0} (g : Ghosts S) (old new : Held S)
     (before after : Result (Unit {0}) Fault) (Is : Trees → Type 0)
     (Fails : State → State → Type 0) : Type 0 where

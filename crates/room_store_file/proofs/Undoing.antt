@@ -4,14 +4,14 @@ use Rattle.std.specs.Prelude.{IfErr}
 use Rattle.sqlite.specs.declared.error.Error.{Error}
 use Rattle.room_tables_schema.specs.DatabaseFaults.{fault_of}
 use Rattle.room_store_file.specs.declared.digest_changes.Undone.{Undone}
-use Rattle.room_store_file.specs.declared.digest_changes.Undone.TheVariants.{Another, Unavailable}
+use Rattle.room_store_file.specs.declared.digest_changes.Undone.TheVariants.{OtherDigest, Unavailable}
 
 -- that there is another digest is reported where it was found
 pub another_reported : {T U : Type 0} (result : Result T Undone) (done : Result U Undone) (P : Type 0)
     → IfErr result (λ e. (done ≡ Err e) ⊎ ((cause : Error) × (e ≡ Unavailable (fault_of cause))))
-    → IfErr done (λ e. e ≡ Another → P) → IfErr result (λ e. e ≡ Another → P)
+    → IfErr done (λ e. e ≡ OtherDigest → P) → IfErr result (λ e. e ≡ OtherDigest → P)
 another_reported (Ok x) done P why found = tt
 another_reported (Err e) (Ok y) P (inl is) found = absurd (cc)
 another_reported (Err e) (Err d) P (inl is) found = λ another. let same : d ≡ e = cc in found (same ∙ another)
 another_reported (Err e) done P (inr caused) found =
-    λ another. let never : Unavailable (fault_of caused.0) ≡ Another = sym caused.1 ∙ another in absurd (cc)
+    λ another. let never : Unavailable (fault_of caused.0) ≡ OtherDigest = sym caused.1 ∙ another in absurd (cc)

@@ -10,5 +10,5 @@ pub mod DigestChanges
 pub mod ExaminedFile
 -- what a file holds that is opened
 pub mod OpenedFile
--- why storage is reported of it
+-- why storage is reported for it
 pub mod OpeningCauses

@@ -98,7 +98,7 @@ Becomes Unindexed old new = KeepsRows room_tables old new
 Becomes First old new = IsMoved old new
 Becomes FirstUnindexed old new = IsMoved old new
 
--- what a stop may leave then: nothing else where nothing lacks
+-- what a stop may leave then: nothing else where they lack nothing
 abbrev pub MayBecome : Tables → Trees → Trees → Type 0
 MayBecome Whole old new = ⊥
 MayBecome Unindexed old new = Becomes Unindexed old new
@@ -114,7 +114,7 @@ StandsBy FirstUnindexed = StandsInFirst
 abbrev pub HoldsBy : Tables → Trees → Type 0
 HoldsBy tables trees = Holds (StandsBy tables trees)
 
--- Why what they lack was not made: nothing lacks of a room's own, and of its tables without their
+-- Why what they lack was not made: a room's own lack nothing, and of its tables without their
 -- indexes a statement failed. Of those of the first version no cause is known here.
 abbrev pub FailsToMake : {S : Type 0} → Ghosts S → Tables → Held S → Held S → Fault → Type 0
 FailsToMake {S} g Whole old new fault = ⊥

@@ -10,7 +10,7 @@ ghost use Rattle.room_tables_schema.specs.DatabaseFaults.{fault_of};
 ghost use Rattle.room_tables_schema.specs.Outcomes.{CommitsNothing};
 ghost use Rattle.room_store_writes.specs.Transactions.{Commits, MakesAll, LeavesOnErr, StandsSettled};
 ghost use Rattle.room_store_file.specs.DigestChanges.{Misses, Reaches};
-ghost use Rattle.room_store_file.specs.declared.digest_changes.Undone.TheVariants.{Another, Unavailable};
+ghost use Rattle.room_store_file.specs.declared.digest_changes.Undone.TheVariants.{OtherDigest, Unavailable};
 
 use crate::room_digest::digest_inside;
 use room_model::digests::Head;
@@ -23,7 +23,7 @@ use sqlite::{Alter, Connection, Error, Transaction};
 #[derive(Clone, Copy)]
 pub enum Undone {
     /// The room comes to another digest by them.
-    Another,
+    OtherDigest,
     /// Memory was refused, or storage failed.
     Unavailable(Fault),
 }
@@ -61,7 +61,7 @@ pub fn write_towards<S: Alter>(
         → OnOk result (Reaches changes.now head.now (state S.Store conn.old).now.trees
         (state S.Store conn.new).now.trees) }
     ensures another { IsClean S.Store conn.new
-        → IfErr result (λ e. e ≡ Another
+        → IfErr result (λ e. e ≡ OtherDigest
         → Misses changes.now head.now (state S.Store conn.old).now.trees) }
     ensures err { LeavesOnErr S.Store conn.old conn.new result }
     ensures ended { conn.new.in_transaction ≡ false }
@@ -87,7 +87,7 @@ fn make_towards<S: Alter>(
         × Reaches changes.now head.now (state S.Store tx.old.conn.now).now.trees
         (state S.Store tx.new.conn.now).now.trees) }
     ensures another { IsClean S.Store tx.new.conn.now
-        → IfErr result (λ e. e ≡ Another
+        → IfErr result (λ e. e ≡ OtherDigest
         → Misses changes.now head.now (state S.Store tx.old.conn.now).now.trees) }
     ensures commits { CommitsNothing S.Store tx.old.conn.now tx.new.conn.now }
 {
@@ -96,7 +96,7 @@ fn make_towards<S: Alter>(
     if is_written(&hash, &head.digits) {
         Ok(())
     } else {
-        Err(Undone::Another)
+        Err(Undone::OtherDigest)
     }
 }
 

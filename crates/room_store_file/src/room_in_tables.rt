@@ -1,4 +1,4 @@
-//! A file's tables taken as a room. Where nothing lacks they are only looked at. Else what they
+//! A file's tables taken as a room. Where they lack nothing they are only looked at. Else what they
 //! lack is made, and all is read and judged, in one transaction: it is committed where they hold a
 //! well-formed room, and undone where they don't.
 ghost use Rattle.std.specs.Prelude.{◌≡◌, ◌⊎◌, Err, Ok, cond, false, IsOk, IsTrue, IfErr, IfOk, OnErr, OnOk};

@@ -20,7 +20,7 @@ use Rattle.room_model.proofs.KeptCalls.{row_stays}
 use Rattle.room_model.proofs.VehicleRows.{put_here}
 use Rattle.room_model.specs.FleetRows.{AreTerminals, terminal_at, terminal_key, token_cmp}
 use Rattle.room_model.specs.Room.{Room}
-use Rattle.room_store_writes.specs.TerminalChanges.{fault_in, fault_to_take, nobody}
+use Rattle.room_store_writes.specs.TerminalChanges.{fault_in, fault_to_take, unknown_fault}
 use Rattle.room_store_writes.specs.TerminalHolders.{has_terminal, has_token, is_token_of, may_have, same_who}
 use Rattle.room_store_writes.specs.TerminalHolders.{terminals_by, with_token, without}
 use Rattle.room_store_writes.specs.declared.change_faults.ChangeFault.{ChangeFault}
@@ -222,7 +222,7 @@ module _ (r : Room) (ts : List Terminal) (are : AreTerminals r ts) where
   pub fit : (who : Who) (token : Option Token) → fault_in r.plan ts who token ≡ None
       → AreTerminals r (terminals_by who token ts)
   fit who (Some k) h =
-      let both = fine (may_have r.plan ts who) (has_token k ts) (nobody who) TokenTaken h in
+      let both = fine (may_have r.plan ts who) (has_token k ts) (unknown_fault who) TokenTaken h in
       given_fit who k both.0 (none_of_token k ts both.1)
   fit (Desk d) None h = taken_fit (Desk d) (λ c. refl)
   fit (Position p) None h = taken_fit (Position p) (λ c. refl)
@@ -232,7 +232,7 @@ module _ (r : Room) (ts : List Terminal) (are : AreTerminals r ts) where
       → fault_in r.plan ts who token ≡ None → same_who who other ≡ false
       → terminal_at k ts ≡ named k other → terminal_at k (terminals_by who token ts) ≡ named k other
   others_stay who other (Some new) k h apart e =
-      let both = fine (may_have r.plan ts who) (has_token new ts) (nobody who) TokenTaken h in
+      let both = fine (may_have r.plan ts who) (has_token new ts) (unknown_fault who) TokenTaken h in
       stays_with ts who are.keyed new other k (none_of_token new ts both.1) apart e
   others_stay who other None k h apart e = is_there ts who are.keyed k other apart e
 

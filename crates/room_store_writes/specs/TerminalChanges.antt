@@ -22,16 +22,17 @@ abbrev pub change_fault_of : Fault → ChangeFault
 change_fault_of fault.Memory = Memory
 change_fault_of fault.Storage = Storage
 
--- how it is reported that who may have no terminal
-abbrev pub nobody : Who → ChangeFault
-nobody (Desk d) = NoDivision
-nobody (Position p) = NoVehicle
-nobody (Crew c) = NoVehicle
+-- the fault of a user who may have no terminal
+abbrev pub unknown_fault : Who → ChangeFault
+unknown_fault (Desk d) = NoDivision
+unknown_fault (Position p) = NoVehicle
+unknown_fault (Crew c) = NoVehicle
 
--- a token is given to who may have a terminal, and it is none's
+-- a token is given to a user who may have a terminal, and it is none's
 abbrev pub fault_to_give : List Area → List Terminal → Who → Token → Option ChangeFault
 fault_to_give areas ts who k =
-    cond (may_have areas ts who) (cond (has_token k ts) (Some TokenTaken) None) (Some (nobody who))
+    cond (may_have areas ts who) (cond (has_token k ts) (Some TokenTaken) None)
+    (Some (unknown_fault who))
 
 -- a terminal is taken from a desk or a position that has one; a vehicle's crew always has one
 abbrev pub fault_to_take : List Terminal → Who → Option ChangeFault
@@ -39,12 +40,12 @@ fault_to_take ts (Desk d) = cond (has_terminal (Desk d) ts) None (Some NoTermina
 fault_to_take ts (Position p) = cond (has_terminal (Position p) ts) None (Some NoTerminal)
 fault_to_take ts (Crew c) = Some CrewsTerminal
 
--- why who may not have only this token, or none
+-- why a user may not have only this token, or none
 abbrev pub fault_in : List Area → List Terminal → Who → Option Token → Option ChangeFault
 fault_in areas ts who (Some k) = fault_to_give areas ts who k
 fault_in areas ts who None = fault_to_take ts who
 
--- the configuration once this who has only this token, or none
+-- the configuration once this user has only this token, or none
 abbrev pub config_by : Who → Option Token → Configuration → Configuration
 config_by who token config = record config { terminals = terminals_by who token config.terminals }
 

@@ -33,12 +33,12 @@ same_who (Crew c) who = is_crew c who
 abbrev pub without : Who → List Terminal → List Terminal
 without who ts = filter (λ t. not (same_who who t.who)) ts
 
--- all others', and one of this who with this token
+-- all others', and one of this user with this token
 abbrev pub with_token : Who → Token → List Terminal → List Terminal
 with_token who k ts =
     put_row token_cmp terminal_key (without who ts) (record { token = k; who = who })
 
--- the terminals once this who has only this token, or none
+-- the terminals once this user has only this token, or none
 abbrev pub terminals_by : Who → Option Token → List Terminal → List Terminal
 terminals_by who None ts = without who ts
 terminals_by who (Some k) ts = with_token who k ts

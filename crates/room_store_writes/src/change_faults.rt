@@ -1,7 +1,7 @@
 //! Whether one's terminals may be changed so.
 ghost use Rattle.std.specs.Prelude.{◌≡◌};
 ghost use Rattle.room_tables_schema.specs.DatabaseFaults.{fault_of};
-ghost use Rattle.room_store_writes.specs.TerminalChanges.{change_fault_of, fault_in, fault_to_give, fault_to_take, nobody};
+ghost use Rattle.room_store_writes.specs.TerminalChanges.{change_fault_of, fault_in, fault_to_give, fault_to_take, unknown_fault};
 
 use crate::terminal_holders::{has_terminal, has_token, may_have};
 use room_place::plans::Plan;
@@ -57,7 +57,7 @@ impl From<Error> for ChangeFault {
     }
 }
 
-/// Why who may not have only this token, or none; nothing where it may.
+/// Why a user may not have only this token, or none; nothing where it may.
 pub fn fault_in(plan: &Plan, terminals: &[Terminal], change: &TokenChange) -> Option<ChangeFault>
     ensures { result ≡ fault_in plan.now.areas terminals.now change.now.who change.now.token }
 {
@@ -76,7 +76,7 @@ fn fault_to_give(
     ensures { result ≡ fault_to_give plan.now.areas terminals.now who.now token.now }
 {
     if !may_have(plan, terminals, who) {
-        Some(nobody(who))
+        Some(unknown_fault(who))
     } else if has_token(terminals, token) {
         Some(ChangeFault::TokenTaken)
     } else {
@@ -94,9 +94,9 @@ fn fault_to_take(terminals: &[Terminal], who: &Who) -> Option<ChangeFault>
     }
 }
 
-// Why who may have none that may not.
-fn nobody(who: &Who) -> ChangeFault
-    ensures { result ≡ nobody who.now }
+// Why a user may have no terminal.
+fn unknown_fault(who: &Who) -> ChangeFault
+    ensures { result ≡ unknown_fault who.now }
 {
     match who {
         Who::Desk(_) => ChangeFault::NoDivision,

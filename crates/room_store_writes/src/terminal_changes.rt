@@ -21,7 +21,7 @@ use room_types::fleet::Terminal;
 use sqlite::{Alter, Connection, Transaction};
 use std::alloc::Global;
 
-/// Gives who only this token, or none, in one transaction; all other terminals and all rows of
+/// Gives a user only this token, or none, in one transaction; all other terminals and all rows of
 /// other tables stay. A fault leaves the room as it was. What a stop may leave is what it could
 /// before, or the room with the terminals afterwards.
 pub fn change<S: Alter>(
@@ -103,7 +103,7 @@ fn find_fault<S: Alter>(
     }
 }
 
-// Drops all terminals of who, and puts one with this token.
+// Drops all terminals of a user, and puts one with this token.
 fn replace<S: Alter>(tx: &mut Transaction<'_, S>, change: &TokenChange) -> Result<(), Fault>
     requires inside { MayWrite S.Store tx.old.conn.now }
     ensures same_reference { tx.new.conn.ghost_name ≡ tx.old.conn.ghost_name }

@@ -8,8 +8,8 @@ use room_types::asks::Who;
 use room_types::fleet::Terminal;
 use room_types::token::Token;
 
-/// Whether who may have a terminal beside these. A vehicle that is enrolled has a crew's terminal,
-/// and no other crew has one.
+/// Whether a user may have a terminal beside these. A vehicle that is enrolled has a crew's
+/// terminal, and no other crew has one.
 pub fn may_have(plan: &Plan, terminals: &[Terminal], who: &Who) -> bool
     ensures { result ≡ may_have plan.now.areas terminals.now who.now }
 {
@@ -20,7 +20,7 @@ pub fn may_have(plan: &Plan, terminals: &[Terminal], who: &Who) -> bool
     }
 }
 
-/// Whether one of these terminals is of who.
+/// Whether one of these terminals is of a user.
 pub fn has_terminal(terminals: &[Terminal], who: &Who) -> bool
     ensures { result ≡ has_terminal who.now terminals.now }
 {

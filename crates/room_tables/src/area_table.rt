@@ -13,7 +13,7 @@ ghost use Rattle.room_tables_rows.specs.declared.area_sql.TheConstants.{ALL_AREA
 ghost use Rattle.room_tables.specs.Failures.{AreNoPlan, ExplainsWhy, ExplainsWhyUnwritten, IfStorage};
 ghost use Rattle.room_tables.specs.FoundRows.{Finds};
 
-use crate::change_statements::run;
+use crate::statement_runs::run;
 use room_place::plans::Area;
 use room_tables_rows::area_sql::{ALL_AREAS, PUT_AREA, area_columns};
 use room_tables_rows::column_values::Stored;

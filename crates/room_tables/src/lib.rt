@@ -9,7 +9,6 @@
 pub mod area_table;
 pub mod assignment_table;
 pub mod call_table;
-mod change_statements;
 pub mod connection_lemmas;
 pub mod division_table;
 pub mod incident_table;
@@ -23,6 +22,7 @@ pub mod room_table;
 pub mod row_changes;
 pub mod row_streams;
 pub mod rowids;
+mod statement_runs;
 pub mod table_loads;
 pub mod terminal_table;
 pub mod turn_table;

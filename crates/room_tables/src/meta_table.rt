@@ -14,7 +14,7 @@ ghost use Rattle.room_tables_rows.specs.Writes.{Changes, Renews};
 ghost use Rattle.room_tables_rows.specs.declared.meta_sql.TheConstants.{ALL_META, PUT_META};
 ghost use Rattle.room_tables.specs.Failures.{AreNotJustOne, ExplainsWhy, ExplainsWhyUnwritten, IfStorage};
 
-use crate::change_statements::run;
+use crate::statement_runs::run;
 use room_tables_rows::meta_sql::{
     ALL_META, FIRST_VERSION, PUT_META, has_version, meta_columns, zone_of,
 };

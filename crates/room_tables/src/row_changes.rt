@@ -12,9 +12,9 @@ ghost use Rattle.room_types.specs.declared.changes.Change.TheVariants.{Settle};
 ghost use Rattle.room_tables_rows.specs.Writes.{Makes};
 
 use self::WritePlan::{Inserting, Overwriting, Settling, Statement};
-use crate::change_statements::run;
 use crate::loaded_rows::row_of;
 use crate::room_table::Table;
+use crate::statement_runs::run;
 use room_place::plans::DivisionNumber;
 use room_tables_rows::assignment_sql::{DROP_ASSIGNMENT, INSERT_ASSIGNMENT, PUT_ASSIGNMENT};
 use room_tables_rows::call_sql::{INSERT_CALL, PUT_CALL};

@@ -16,8 +16,8 @@ ghost use Rattle.room_tables_rows.specs.declared.terminal_sql.TheConstants.{ALL_
 ghost use Rattle.room_tables.specs.Failures.{AreMoreThanOne, AreNoRows, ExplainsWhy, ExplainsWhyUnwritten, IfStorage};
 ghost use Rattle.room_tables.specs.FoundRows.{FindsInConfiguration};
 
-use crate::change_statements::run;
 use crate::loaded_rows::find;
+use crate::statement_runs::run;
 use room_tables_rows::column_values::{Field, Stored};
 use room_tables_rows::terminal_sql::{ALL_TERMINALS, PUT_TERMINAL, TERMINAL_AT, terminal_columns};
 use room_tables_schema::database_faults::Fault;

@@ -1,4 +1,4 @@
--- The tables stand for only one house and room.
+-- The tables stand for only one configuration and room.
 use Rattle.std.proofs.Common.{◌≡◌, [], ◌∷◌}
 use Rattle.sqlite_trees.specs.Tree.{Trees}
 use Rattle.room_tables_schema.proofs.TypedTables.{stands_for_one}

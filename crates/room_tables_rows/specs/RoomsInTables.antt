@@ -53,7 +53,8 @@ pub record Configuration : Type 0 where
   pub zone : List ℕ
   pub terminals : List Terminal
 
--- The tables, which give this version, stand for this house and this room. No index is looked at.
+-- The tables, which give this version, stand for this configuration and this room. No index is
+-- looked at.
 pub record StandsIn (version : ℕ) (trees : Trees) (config : Configuration)
     (room : Room) : Type 0 where
   pub meta : StandsFor trees meta_table (version_row version) (config.zone ∷ [])

@@ -40,7 +40,7 @@ pub fn rows_are_faithful()
     ensures offers { IsFaithful callsign_cmp offer_key offer_row (1 ∷ []) }
 {}
 
-/// Tables stand for only one house and one room.
+/// Tables stand for only one configuration and one room.
 pub fn tables_stand_for_one_room()
     ensures config { (trees : Trees) (config other : Configuration) (room another : Room)
         → Stands trees config room → Stands trees other another → config ≡ other }

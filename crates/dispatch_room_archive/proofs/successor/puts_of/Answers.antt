@@ -25,19 +25,19 @@ returns c plan =
     let from_calls : List Change = map PutCall (filter (λ c. not (is_call_over since r c)) r.calls) ++ from_vehicles in
     let from_incidents : List Change = map PutIncident (filter (λ i. not (is_over since r i)) r.incidents)
     ++ from_calls in
-    let last = c.put_left-4.new.changes.items in
+    let last = c.put_kept-4.new.changes.items in
     and_then c.new-changes.result.items c.put_all.new.changes.items last (map PutDivision r.divisions) from_incidents
     (c.in_ok-put_all.ensures)
-    (and_then c.put_all.new.changes.items c.put_left.new.changes.items last
-    (map PutIncident (filter (λ i. not (is_over since r i)) r.incidents)) from_calls (c.in_ok-put_left.ensures plan)
-    (and_then c.put_left.new.changes.items c.put_left-2.new.changes.items last
-    (map PutCall (filter (λ c. not (is_call_over since r c)) r.calls)) from_vehicles (c.in_ok-put_left-2.ensures plan)
-    (and_then c.put_left-2.new.changes.items c.put_all-2.new.changes.items last (map PutVehicle r.vehicles) from_turns
+    (and_then c.put_all.new.changes.items c.put_kept.new.changes.items last
+    (map PutIncident (filter (λ i. not (is_over since r i)) r.incidents)) from_calls (c.in_ok-put_kept.ensures plan)
+    (and_then c.put_kept.new.changes.items c.put_kept-2.new.changes.items last
+    (map PutCall (filter (λ c. not (is_call_over since r c)) r.calls)) from_vehicles (c.in_ok-put_kept-2.ensures plan)
+    (and_then c.put_kept-2.new.changes.items c.put_all-2.new.changes.items last (map PutVehicle r.vehicles) from_turns
     (c.in_ok-put_all-2.ensures)
-    (and_then c.put_all-2.new.changes.items c.put_left-3.new.changes.items last
+    (and_then c.put_all-2.new.changes.items c.put_kept-3.new.changes.items last
     (map PutTurn (filter (λ t. not (is_turn_over since r t)) r.turns)) from_assignments
-    (c.in_ok-put_left-3.ensures plan)
-    (and_then c.put_left-3.new.changes.items c.put_all-3.new.changes.items last (map PutAssignment r.assignments)
+    (c.in_ok-put_kept-3.ensures plan)
+    (and_then c.put_kept-3.new.changes.items c.put_all-3.new.changes.items last (map PutAssignment r.assignments)
     from_points (c.in_ok-put_all-3.ensures)
     (and_then c.put_all-3.new.changes.items c.put_all-4.new.changes.items last (map PutPoint r.points) from_loans
     (c.in_ok-put_all-4.ensures)
@@ -45,5 +45,5 @@ returns c plan =
     (c.in_ok-put_all-5.ensures)
     (and_then c.put_all-5.new.changes.items c.put_all-6.new.changes.items last (map PutOffer r.offers) from_reports
     (c.in_ok-put_all-6.ensures)
-    (c.in_ok-put_left-4.ensures plan)))))))))
+    (c.in_ok-put_kept-4.ensures plan)))))))))
     ∙ ap (λ xs. xs ++ (map PutDivision r.divisions ++ from_incidents)) c.new-changes.ensures.items

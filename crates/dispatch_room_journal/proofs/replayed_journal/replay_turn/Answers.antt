@@ -1,5 +1,5 @@
 use Rattle.std.proofs.Common.{refl, [], ◌∷◌, true}
-use Rattle.dispatch_room_journal.specs.declared.journal_messages.Turned.TheVariants.{Played, LeftOut, Last}
+use Rattle.dispatch_room_journal.specs.declared.journal_messages.MessageOutcome.TheVariants.{Played, LeftOut, Last}
 use Rattle.dispatch_room_journal.specs.ReplayedTurns.{compared, IsReplayed}
 use Rattle.dispatch_room_journal.proofs.FaultLemmas.{unless_after}
 use Rattle.dispatch_room_journal.proofs.TurnLemmas.{no_progress, passes_none, next_stops, head_turn, takes_message}

@@ -54,7 +54,7 @@ returns-in-Ok-false-clause-replay g c =
       x.0,
       x.1,
       x.2,
-      ap (λ r. r.records) c.done.ensures ∙ progress.records,
+      ap (λ r. r.messages) c.done.ensures ∙ progress.messages,
       ap (λ r. r.is_open) c.done.ensures ∙ progress.opens,
     )
 
@@ -65,7 +65,7 @@ returns-in-Err-clause-replay g c =
     let stops = stopped _ _ _ _ _ c.replay_turn.ensures.trusted _ _ _ going.0 turn.0 _ _ _ IsReplayed going.1 true
     c.turns.progress going.2 c.in-Err.fault _ _ _
     (c.stopped.ensures
-    ∙ ap (λ (p : Progress). record { fault = c.in-Err.fault; number = min (p.records + 1) (2 ^ 64 - 1) }) turn.2)
+    ∙ ap (λ (p : Progress). record { fault = c.in-Err.fault; number = min (p.messages + 1) (2 ^ 64 - 1) }) turn.2)
     turn.1 in
     (going.0, turn.0, stops)
 

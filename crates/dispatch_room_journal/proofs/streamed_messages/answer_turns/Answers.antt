@@ -59,7 +59,7 @@ returns-in-Ok-false-clause-answers g c =
     let progress = turn.2 going.0 going.2 in
     let x = ended _ _ _ _ _ c.answer_turn.ensures.trusted _ _ _ going.0 turn.0 _ _ _ IsPlayed going.1 _ _ turn.1
     (turn.4 c.in-Ok-false.field-0-test) progress in
-    (going.0 ++ turn.0, x.0, x.1, x.2, progress.records, frames_more _ _ _ going.0 turn.0 going.3 turn.5)
+    (going.0 ++ turn.0, x.0, x.1, x.2, progress.messages, frames_more _ _ _ going.0 turn.0 going.3 turn.5)
 
 pub returns-in-Err-clause-answers : goal.returns-in-Err-clause-answers
 returns-in-Err-clause-answers g c =
@@ -68,7 +68,7 @@ returns-in-Err-clause-answers g c =
     let stops = stopped _ _ _ _ _ c.answer_turn.ensures.trusted _ _ _ going.0 turn.0 _ _ _ IsPlayed going.1 false
     c.turns.progress going.2 c.in-Err.fault _ _ _
     (c.stopped.ensures
-    ∙ ap (λ (p : Progress). record { fault = c.in-Err.fault; number = min (p.records + 1) (2 ^ 64 - 1) }) turn.2)
+    ∙ ap (λ (p : Progress). record { fault = c.in-Err.fault; number = min (p.messages + 1) (2 ^ 64 - 1) }) turn.2)
     turn.1 in
     (going.0, turn.0, stops, (turn.3, turn.4, Appends-more _ _ _ (frames_of going.0) turn.3 going.3 turn.5))
 

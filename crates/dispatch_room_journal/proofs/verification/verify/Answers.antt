@@ -13,7 +13,7 @@ entries-init g c = record {
     [],
     rw (c.requires.kept, c.requires.taken) (nothing_taken _),
     refl,
-    rw c.new-tally.ensures (record { records = refl; span = refl }),
+    rw c.new-tally.ensures (record { messages = refl; span = refl }),
   );
   sound = c.requires.sound;
 }
@@ -63,7 +63,7 @@ returns-in-Err g c = λ text known.
       (taken.1.are_entries, follows.2),
       ends_as _ taken.0 follows.0 c.in-Err.fault (failed_by _ _ _ _ c.in-Err.fault read.says)
           (read.first follows.0 follows.1),
-      omega (arith, taken.3.records),
+      omega (arith, taken.3.messages),
     )
 
 pub returns : goal.returns
@@ -75,5 +75,5 @@ returns g c = λ text known.
       follows.0,
       (taken.1.are_entries, follows.2),
       inr (omega (arith, taken.2)),
-      omega (arith, taken.3.records),
+      omega (arith, taken.3.messages),
     )

@@ -2,7 +2,7 @@ use Rattle.std.proofs.Common.{ap, subst, sym, ◌∙◌, ◌-◌, ◌≡◌, Non
 use Rattle.std.specs.Prelude.{filter}
 use Rattle.room_place.specs.Choice.{AreFirst}
 use Rattle.room_model.specs.Proposals.{is_before}
-use Rattle.room_alloc.specs.Rings.{is_marked, proposal_at}
+use Rattle.room_alloc.specs.Rings.{is_breaking, proposal_at}
 use Rattle.room_alloc.proofs.RoundLaws.{first_of_both}
 use Rattle.room_alloc.proofs.proposals.first_of_both.Goals as goal
 
@@ -15,5 +15,5 @@ returns-clause-ok c =
     c.saturating_sub-left.ensures ∙ ap (λ n. c.args.count - n) c.len.ensures in
     subst (AreFirst is_before c.args.count None (map (proposal_at i) xs)) (sym c.in_ok-append.ensures)
     (first_of_both i c.args.count xs c.in_ok-few.few c.in_ok-others.others c.in_ok-few.ensures.ok
-    (subst (λ n. AreFirst is_before n None (map (proposal_at i) (filter (is_marked true) xs)) c.in_ok-others.others)
+    (subst (λ n. AreFirst is_before n None (map (proposal_at i) (filter (is_breaking true) xs)) c.in_ok-others.others)
     left c.in_ok-others.ensures.ok))

@@ -1,8 +1,8 @@
 use Rattle.std.proofs.Common.{map, take}
 use Rattle.room_place.specs.Choice.{Among}
 use Rattle.room_alloc.specs.Rings.{nearness_of}
-use Rattle.room_alloc.specs.declared.proposal_order.Candidate.{Candidate}
-use Rattle.room_alloc.specs.declared.proposal_order.Nearness.{Nearness}
+use Rattle.room_alloc.specs.declared.nearness.Candidate.{Candidate}
+use Rattle.room_alloc.specs.declared.nearness.Nearness.{Nearness}
 use Rattle.room_alloc.proofs.ring_search.search.Given as goal
 
 abbrev pub invariant-loop-candidate : goal.invariant-loop-candidate

@@ -12,7 +12,7 @@ use Rattle.room_model.specs.Digests.{DigitsOf, IsHeadOf, digits_of}
 use Rattle.room_model.specs.Rooms.{Step}
 use Rattle.room_model.specs.declared.digests.Head.{Head}
 use Rattle.room_model.specs.declared.digests.Miss.{Miss}
-use Rattle.room_model.specs.declared.digests.Miss.TheVariants.{Another}
+use Rattle.room_model.specs.declared.digests.Miss.TheVariants.{OtherDigest}
 use Rattle.room_http.specs.declared.arrivals.Arrived.{Arrived}
 use Rattle.room_http.specs.declared.arrivals.Arrived.TheVariants.{Message, Refused}
 use Rattle.room_http.specs.Arrivals.{Arrival, IsShown, message, refused}
@@ -45,9 +45,9 @@ finds setting terminals arrived given bytes at found (refused s other) is shown 
 
 -- what the room did with it is reported
 says : {A N D R S Y : Type 0} {B X : Vec ℕ A → Type 0} (r : Result (Vec ℕ A) Miss)
-    → IfOk r B → OnOk r D → IfErr r (λ e. e ≡ Another → N) → OnErr r R
+    → IfOk r B → OnOk r D → IfErr r (λ e. e ≡ OtherDigest → N) → OnErr r R
     → ((bytes : Vec ℕ A) → B bytes → D → X bytes) → (R → S) → (N → Y)
-    → MatchResult r X (λ e. S × (e ≡ Another → Y))
+    → MatchResult r X (λ e. S × (e ≡ OtherDigest → Y))
 says (Ok bytes) b d n s x stays y = x bytes b d
 says (Err e) b d n s x stays y = (stays s, λ is. y (n is))
 

@@ -4,7 +4,7 @@ use Rattle.room_model.specs.Calls.{take_call}
 use Rattle.room_tables_schema.proofs.ReadLaws.{and, but, ends_any, fails, looked, succeeds}
 use Rattle.room_store.proofs.CallReads.{answered_again, is_new, nowhere, placed_in}
 use Rattle.room_store.proofs.Unavailable.{all_known, failed, machines, says, still_known, unsaid}
-use Rattle.room_store.specs.EventDecisions.{unless_out_of_memory}
+use Rattle.room_store.specs.EventDecisions.{unless_unavailable}
 use Rattle.room_tables.proofs.RoomReads.{kept}
 use Rattle.room_tables_schema.specs.FileConnections.{IsClean}
 use Rattle.room_store.proofs.event_decisions.for_call.Goals as goal
@@ -21,7 +21,7 @@ returns-in-Some-clause-cache g c clean = says c.decide_repeated_call.result _ (Î
 
 pub returns-in-Some-clause-reads : goal.returns-in-Some-clause-reads
 returns-in-Some-clause-reads g c =
-    ends_any (unless_out_of_memory c.decide_repeated_call.result) (looked c.in-Ok.ensures.reads)
+    ends_any (unless_unavailable c.decide_repeated_call.result) (looked c.in-Ok.ensures.reads)
 
 pub returns-in_default-division_of-clause-decided : goal.returns-in_default-division_of-clause-decided
 returns-in_default-division_of-clause-decided g c clean config room h _ _ _ formed planned made ask _ _ =
@@ -38,7 +38,7 @@ pub returns-clause-decided : goal.returns-clause-decided
 returns-clause-decided g c clean =
     let first : IsClean g.S.Store c.row_at.new.conn = omega
     (arith, c.load_working.ensures.reads.survives.clean) in
-    IfOk-weaker (unless_out_of_memory c.decide_call-decision.result) _ _
+    IfOk-weaker (unless_unavailable c.decide_call-decision.result) _ _
     (Î» x answered config room h position at form formed planned made ask fleet is.
     let call = c.args.call.now in
     let areas = c.args.plan.now.areas in
@@ -66,7 +66,7 @@ returns-clause-cache g c clean =
 
 pub returns-clause-reads : goal.returns-clause-reads
 returns-clause-reads g c =
-    ends_any (unless_out_of_memory c.decide_call-decision.result)
+    ends_any (unless_unavailable c.decide_call-decision.result)
     (and (looked c.in-Ok.ensures.reads) c.in-Ok-load_working.ensures.reads)
 
 pub returns-in-Err-clause-decided : goal.returns-in-Err-clause-decided

@@ -6,7 +6,7 @@ use Rattle.room_model.specs.Queries.{assignment_at, vehicle_at}
 use Rattle.room_tables_schema.proofs.ReadLaws.{begins, lacks_memory, succeeds}
 use Rattle.room_store_cache.specs.declared.fleets.FleetRows.{FleetRows}
 use Rattle.room_store_reads.proofs.CrewReads.{found_here}
-use Rattle.room_store.specs.EventDecisions.{unless_out_of_memory}
+use Rattle.room_store.specs.EventDecisions.{unless_unavailable}
 use Rattle.room_store.proofs.event_decisions.for_crew.Goals as goal
 
 pub returns-in-Order-clause-decided : goal.returns-in-Order-clause-decided
@@ -27,7 +27,7 @@ returns-in-Order-clause-decided g c clean config room h formed fleet =
 
 pub returns-in-Report-clause-decided : goal.returns-in-Report-clause-decided
 returns-in-Report-clause-decided g c clean =
-    IfOk-weaker (unless_out_of_memory c.for_report.result) _ _ (λ x answered config room h formed fleet.
+    IfOk-weaker (unless_unavailable c.for_report.result) _ _ (λ x answered config room h formed fleet.
     let k = c.args.callsign.now in
     let there : row_at callsign_cmp vehicle_key room.vehicles k
     ≡ Some c.in-Some.vehicle =

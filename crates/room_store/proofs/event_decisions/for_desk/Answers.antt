@@ -3,12 +3,12 @@ use Rattle.std.proofs.lemmas.Result.{IfOk-weaker}
 use Rattle.room_model.specs.Step.{desk_asks}
 use Rattle.room_tables_schema.proofs.ReadLaws.{ends_any, fails, looked}
 use Rattle.room_store.proofs.Unavailable.{failed, machines, says, unsaid}
-use Rattle.room_store.specs.EventDecisions.{unless_out_of_memory}
+use Rattle.room_store.specs.EventDecisions.{unless_unavailable}
 use Rattle.room_store.proofs.event_decisions.for_desk.Goals as goal
 
 pub returns-clause-decided : goal.returns-clause-decided
 returns-clause-decided g c clean =
-    IfOk-weaker (unless_out_of_memory c.decide_desk-decision.result) _ _
+    IfOk-weaker (unless_unavailable c.decide_desk-decision.result) _ _
     (λ x answered config room h formed planned known.
     let rows = c.in-Ok.ensures.rows clean config room h formed.order known in
     let decides = rw c.in-Ok.ensures.division at c.decide_desk-decision.ensures.decides room formed planned in
@@ -21,7 +21,7 @@ returns-clause-known g c clean =
     (λ config room h formed known. c.in-Ok.ensures.known clean config room h formed.order known)
 
 pub returns-clause-reads : goal.returns-clause-reads
-returns-clause-reads g c = ends_any (unless_out_of_memory c.decide_desk-decision.result) (looked c.in-Ok.ensures.reads)
+returns-clause-reads g c = ends_any (unless_unavailable c.decide_desk-decision.result) (looked c.in-Ok.ensures.reads)
 
 pub returns-in-Err-clause-decided : goal.returns-in-Err-clause-decided
 returns-in-Err-clause-decided g c clean = unsaid c.in-Err.fault c.refusal_of.ensures _

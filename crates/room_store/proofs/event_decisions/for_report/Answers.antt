@@ -10,7 +10,7 @@ use Rattle.room_model.specs.RoomSlices.{AreCrewRows}
 use Rattle.room_tables_schema.proofs.ReadLaws.{and, but, ends_any, fails, lacks_memory, looked}
 use Rattle.room_tables.proofs.RoomReads.{kept}
 use Rattle.room_store.proofs.Unavailable.{failed, machines, says, unsaid}
-use Rattle.room_store.specs.EventDecisions.{unless_out_of_memory}
+use Rattle.room_store.specs.EventDecisions.{unless_unavailable}
 use Rattle.room_store.proofs.event_decisions.for_report.Goals as goal
 
 pub load_crew-requires-clause-open : goal.load_crew-requires-clause-open
@@ -25,7 +25,7 @@ returns-in-Some-clause-decided g c clean = says c.decide_repeated_report.result 
 pub returns-in-Some-build-clause-decided : goal.returns-in-Some-build-clause-decided
 unfolding kept_report
 returns-in-Some-build-clause-decided g c clean =
-    IfOk-weaker (unless_out_of_memory c.decide_report.result) _ _ (λ x is config room h formed fleet there.
+    IfOk-weaker (unless_unavailable c.decide_report.result) _ _ (λ x is config room h formed fleet there.
     let first = state g.S.Store c.args.conn.now in
     let second = state g.S.Store c.load_report.new.conn in
     let clean_second : HasCleanDisk second = omega (arith, c.load_crew.ensures.reads.survives.clean) in
@@ -59,7 +59,7 @@ returns-in-Err-clause-reads g c = fails (failed c.in-Err.fault c.refusal_of.ensu
 
 pub returns-in-Some-clause-reads : goal.returns-in-Some-clause-reads
 returns-in-Some-clause-reads g c =
-    ends_any (unless_out_of_memory c.decide_repeated_report.result) (looked c.in-Ok.ensures.reads)
+    ends_any (unless_unavailable c.decide_repeated_report.result) (looked c.in-Ok.ensures.reads)
 
 pub returns-in-Err-load_crew-clause-reads : goal.returns-in-Err-load_crew-clause-reads
 returns-in-Err-load_crew-clause-reads g c =
@@ -68,7 +68,7 @@ returns-in-Err-load_crew-clause-reads g c =
 
 pub returns-in-Some-build-clause-reads : goal.returns-in-Some-build-clause-reads
 returns-in-Some-build-clause-reads g c =
-    ends_any (unless_out_of_memory c.decide_report.result)
+    ends_any (unless_unavailable c.decide_report.result)
     (and (looked c.in-Ok.ensures.reads) c.in-Ok-load_crew.ensures.reads)
 
 pub returns-in-None-clause-reads : goal.returns-in-None-clause-reads

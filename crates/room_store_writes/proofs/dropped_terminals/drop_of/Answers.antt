@@ -1,4 +1,4 @@
--- The statement chooses the terminals of who.
+-- The statement chooses the terminals of a user.
 use Rattle.std.proofs.lemmas.Result.{on_ok_weaker}
 use Rattle.room_store_writes.proofs.DropLaws.{drops_crew, drops_desk, drops_position}
 use Rattle.room_store_writes.proofs.dropped_terminals.drop_of.Goals as goal

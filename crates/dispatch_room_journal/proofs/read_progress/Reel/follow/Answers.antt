@@ -59,7 +59,7 @@ returns-then-not-is_row-clause-step c =
     let none = ap is_row (sym body) ∙ sym c.is_row.ensures ∙ c.if-not-is_row.true in
     rw c.requires.chain
     (took c.args.reach c.args.link.now kept c.in-Whole.size c.in-Whole.check whole c.take.new.self.mode
-    c.take.new.self.vouched c.take.new.self.inbox c.take.ensures.mode c.take.ensures.says c.take.ensures.silent
+    c.take.new.self.vouched c.take.new.self.inbox c.take.ensures.mode c.take.ensures.says c.take.ensures.no_entry
     (omega (arith, ap length c.bytes.ensures.value, c.bytes.ensures.fits)) none)
 
 pub returns-then-not-is_row-clause-rows : goal.returns-then-not-is_row-clause-rows
@@ -82,7 +82,7 @@ returns-in-Full-clause-step c =
     let took = c.take-in-Full in
     rw c.requires.chain
     (passed c.args.reach c.args.link.now kept c.in-Whole.size c.in-Whole.check whole took.new.self.mode
-    took.new.self.vouched took.new.self.inbox took.ensures.mode took.ensures.says took.ensures.silent
+    took.new.self.vouched took.new.self.inbox took.ensures.mode took.ensures.says took.ensures.no_entry
     (ap (λ r. stops_at r (body_in c.in-Whole.size kept)) c.in-Full.is) row)
 
 pub returns-in-Full-clause-rows : goal.returns-in-Full-clause-rows

@@ -2,7 +2,7 @@ use Rattle.std.proofs.Common.{Err, Ok, Result, ◌≡◌}
 use Rattle.std.proofs.lemmas.Result.{on_err_weaker}
 use Rattle.std.specs.Prelude.{MatchResult}
 use Rattle.room_tables_schema.proofs.ReadLaws.{any_err}
-use Rattle.room_model.specs.declared.digests.Miss.TheVariants.{Another}
+use Rattle.room_model.specs.declared.digests.Miss.TheVariants.{OtherDigest}
 use Rattle.room_store.proofs.KnownLaws.{knows_nothing}
 use Rattle.room_store.proofs.StoreLaws.{acted_left, err_both, room_left, settled_kept}
 use Rattle.room_store.proofs.store_digest.StoreDigested.act_towards.Goals as goal
@@ -23,7 +23,7 @@ returns-clause-same g c clean =
 
 pub returns-clause-kept : goal.returns-clause-kept
 returns-clause-kept g c clean =
-    both (λ m. m ≡ Another) c.act_towards.result
+    both (λ m. m ≡ OtherDigest) c.act_towards.result
     (settled_kept g.S.Store c.act_towards.new.self (g.met.S.Store.settled c.act_towards.new.self.conn.store))
     (c.act_towards.ensures.settled clean)
 
