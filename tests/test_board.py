@@ -14,7 +14,7 @@ from room import (PATIENT, PROGRAM, TestCase, ask, call, dump, free_port, made, 
                   serving)
 
 FLEET = ['A1,1,1,TQ303804,crewofa1', 'A3,1,1,TQ300801,crewofa3', 'C1,1,2,TQ300800,crewofc1']
-FOREIGN = 'not reached: what came is no answer of a room'
+FOREIGN = "not reached: the answer is not a room's"
 # The last moment of a room: a shift or a loan with this end is not over while a test waits.
 LAST = 4102444799
 
@@ -322,7 +322,7 @@ Turns: 3
     def test_what_became_of_an_incident(self):
         for members, shown in [({'state': 0}, 'active'), ({'state': 1}, 'closed'),
                                ({'state': 2, 'into': 2147483647}, 'merged into 2147483647'),
-                               ({'state': 3}, 'of another kind')]:
+                               ({'state': 3}, 'unknown')]:
             status, out, _ = self.incident(history(number=2147483647, **members))
             self.check(shown, (status, out.split('\n')[1]), (0, f'Incident 2147483647: {shown}'))
 

@@ -165,8 +165,9 @@ class Waits(ServedTestCase):
         for words, idle in [((), IDLE), (('--idle', '20'), 0.02), (('--idle', '2000'), 2)]:
             port = self.served('--patience', '60', *words)
             seconds = self.silence(port)
-            self.check(f'{words}: it is closed after {seconds:.2f} s', 0.9 * idle < seconds < 50,
-                       True)
+            # (where the host takes the processor, a timer of the system may be some ticks early)
+            self.check(f'{words}: it is closed after {seconds:.3f} s',
+                       idle - 0.01 < seconds < 50, True)
             self.end()
 
     def silence(self, port):

@@ -73,8 +73,8 @@ ADDRESSES = [
     ('127.0.0.1', 'no port'), ('::1', 'no port'), ('[::1]', 'no port'), ('', 'no port'),
     ('127.0.0.1:', 'no port'), ('127.0.0.1:http', 'no port'),
     ('127.0.0.1:80000', 'port above 65535'), (':80000', 'port above 65535'),
-    ('localhost:8080', 'an address in numbers is expected'),
-    ('[::1%lo]:80', 'an address in numbers is expected'),
+    ('localhost:8080', 'no name or zone is taken: write 127.0.0.1 or [::1]'),
+    ('[::1%lo]:80', 'no name or zone is taken: write 127.0.0.1 or [::1]'),
     ('0.0.0.0:8080', 'other machines reach it'), ('[::]:80', 'other machines reach it'),
 ]
 
@@ -177,7 +177,7 @@ class Rooms(ErrorCase):
 
     def test_a_folder(self):
         self.check_error('init', ['init', self.folder, PLAN], 3, 'storage',
-                         f'{self.folder} is no regular file, or has more than one name')
+                         f'{self.folder} is no regular file, or has a second hard link')
         self.check_error('check', ['check', self.folder], 3, 'storage',
                          f'{self.folder}: {os_words(errno.EISDIR)}')
 
@@ -195,11 +195,12 @@ class Rooms(ErrorCase):
     def test_two_names(self):
         os.link(self.room, self.other)
         self.check_error('two names', ['check', self.room], 3, 'storage',
-                         f'{self.room} is no regular file, or has more than one name')
+                         f'{self.room} is no regular file, or has a second hard link')
 
     def test_no_database(self):
         for text, status, named, cause in [
-                ('', 1, 'refused: file', f'{self.other} is no room: none was begun in it'),
+                ('', 1, 'refused: file',
+                 f'{self.other} is no room: it is empty, or `init` was stopped'),
                 ('no database' * 100, 3, 'storage',
                  f'{self.other}: file is not a database that obeys its schema')]:
             self.other.write_text(text)

@@ -117,7 +117,7 @@ def refusals_on_page():
 
 def members_written():
     """The members that the code writes of each struct in an answer."""
-    text = specs('room_http/src/contents.rt')
+    text = specs('room_http/src/answer_json.rt')
     found = re.findall(r'^impl ToJson for (\w+) \{(.*?)^\}', text, re.M | re.S)
     return {name: re.findall(r'^ +"(\w+)": &', own, re.M) for name, own in found
             if name not in ('Answer', 'Refusal')}

@@ -18,7 +18,7 @@ MEMBER = re.compile(r'\(codes "(\w+)", (.*?)\)(?=\s*∷|\s*$)', re.S)
 
 
 def definitions():
-    return sources.crate('room_http/specs/Contents.antt')
+    return sources.crate('room_http/specs/AnswerJson.antt')
 
 
 def type_of(words, known):

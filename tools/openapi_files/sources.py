@@ -62,8 +62,10 @@ def variants(place, name):
 
 
 def names_of(kind):
-    """The names by which the values of an enum are sent."""
-    return re.findall(rf'{kind}::\w+ => "(\w+)"', crate('room_types/src/codes.rt'))
+    """The names by which the values of an enum are sent or answered."""
+    text = crate('room_types/src/codes.rt')
+    sent = re.findall(rf'"(\w+)" => Some\({kind}::\w+\)', text)
+    return sent or re.findall(rf'{kind}::\w+ => "(\w+)"', text)
 
 
 def numbers_of(kind):

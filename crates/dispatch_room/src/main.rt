@@ -3,29 +3,52 @@
 //! over a room's file.
 #![tactic(auto)]
 
+ghost use Rattle.std.specs.Prelude.{◌≡◌, ◌≤◌, ◌<◌, ◌⊎◌, IfErr, IfOk, Err, length, map, string_bytes};
+ghost use Rattle.dispatch_room_cli.specs.ExitStatus.{status_after};
+ghost use Rattle.dispatch_room_cli.specs.declared.exit_status.Failure.TheVariants.{Memory};
+ghost use Rattle.dispatch_room_commands.specs.DoneTasks.{IsCommand};
+ghost use Rattle.dispatch_room_dry_run.specs.DryRunEnds.{IsRun};
+
 use dispatch_room_cli::exit_status::{Failure, end};
 use dispatch_room_commands::commands::{USAGE, command};
 use dispatch_room_dry_run::standard_streams::run;
+use std::io::Write;
 use std::process::ExitCode;
 use std::{env, io};
 
 fn main(rt: HostRuntime) -> ExitCode {
-    let status = match arguments(&rt) {
-        Ok(words) if words.len() <= 1 => run(&rt),
-        Ok(words) => command(
-            &rt,
-            rt.alloc(),
-            words.as_slice(),
-            &mut rt.stdout(),
-            &mut rt.stderr(),
-        ),
+    let words = arguments(&rt);
+    let status = program(&rt, &words, &mut rt.stdout(), &mut rt.stderr());
+    ExitCode::from(status)
+}
+
+// The program, and its exit status: the dry run, or what the words ask for. The program's name is
+// the first of them.
+fn program<O: Write, E: Write>(
+    rt: &HostRuntime,
+    words: &io::Result<Vec<String>>,
+    out: &mut O,
+    err: &mut E,
+) -> u8
+    ensures none { IfOk words.now (λ words. length words.items ≤ 1 → IsRun result) }
+    ensures asked { IfOk words.now (λ words. 1 < length words.items
+        → IsCommand (map string_bytes words.items) (O.contents out.old) (O.contents out.new)
+        result) }
+    ensures unread { IfErr words.now (λ _.
+        (result ≡ USAGE) ⊎ (result ≡ status_after (Err Memory))) }
+{
+    match words {
+        Ok(words) if words.len() <= 1 => run(rt),
+        Ok(words) => command(rt, rt.alloc(), words.as_slice(), out, err),
         Err(error) if error.kind() == io::ErrorKind::InvalidData => {
-            let _ = eprintln!(rt; "error: invalid UTF-8 was detected in one or more arguments");
+            let _ = writeln!(
+                err,
+                "error: invalid UTF-8 was detected in one or more arguments"
+            );
             USAGE
         }
-        Err(_) => end(Err(Failure::Memory), &mut rt.stderr()),
-    };
-    ExitCode::from(status)
+        Err(_) => end(Err(Failure::Memory), err),
+    }
 }
 
 // The words of the command line, the program's name first.

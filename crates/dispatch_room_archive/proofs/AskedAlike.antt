@@ -7,7 +7,7 @@ use Rattle.room_place.specs.Choice.{Among, first, least}
 use Rattle.room_place.specs.declared.places.Place.{Place}
 use Rattle.room_types.specs.Codes.{is_active, is_merged, is_normal}
 use Rattle.room_types.specs.Keys.{call_key, incident_key, numbered_cmp, pair_cmp, report_key, same_callsign, turn_key}
-use Rattle.room_types.specs.Orders.{numbered_total, pairs_total}
+use Rattle.room_types.specs.KeyLemmas.{numbered_total, pairs_total}
 use Rattle.room_types.specs.Slices.{IsActive}
 use Rattle.room_types.specs.Texts.{Callsign}
 use Rattle.room_types.specs.declared.codes.Kind.{Kind}

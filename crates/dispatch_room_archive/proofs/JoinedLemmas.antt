@@ -13,7 +13,7 @@ use Rattle.std.specs.declared.cmp.Ordering.TheVariants.{Equal, Greater, Less}
 use Rattle.room_types.proofs.KeyedLaws.{keyed_put, row_below, row_put}
 use Rattle.room_types.specs.KeyedRows.{IsBelowAll, IsKeyed, put_row, row_at}
 use Rattle.room_types.specs.Keys.{incident_key, pair_cmp}
-use Rattle.room_types.specs.Orders.{exact_pair, pairs_total}
+use Rattle.room_types.specs.KeyLemmas.{exact_pair, pairs_total}
 use Rattle.room_types.specs.declared.tables.Incident.{Incident}
 use Rattle.room_model.proofs.Tests.{is_equal}
 use Rattle.dispatch_room_tasks.proofs.PutRows.{put_each}

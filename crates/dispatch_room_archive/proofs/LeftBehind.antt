@@ -7,7 +7,7 @@ use Rattle.room_place.specs.Choice.{Among}
 use Rattle.room_types.specs.KeyedRows.{keep, row_at}
 use Rattle.room_types.specs.Codes.{is_active}
 use Rattle.room_types.specs.Keys.{call_key, callsign_cmp, incident_key, numbered_cmp, pair_cmp, report_key, vehicle_key}
-use Rattle.room_types.specs.Orders.{exact_pair, pairs_total}
+use Rattle.room_types.specs.KeyLemmas.{exact_pair, pairs_total}
 use Rattle.room_types.specs.declared.tables.Call.{Call}
 use Rattle.room_types.specs.declared.tables.Incident.{Incident}
 use Rattle.room_types.specs.declared.tables.Report.{Report}
@@ -16,8 +16,9 @@ use Rattle.room_model.proofs.Tests.{among_filter, both_true, left_true, or_right
 use Rattle.room_model.specs.Queries.{greatest_serial, incident_of, kept_call, kept_report, last_serial, vehicle_at}
 use Rattle.room_model.specs.Room.{Room}
 use Rattle.room_model.specs.RoomAgreements.{IsWellFormed, ReportAgrees}
+use Rattle.room_store_check_rows.specs.HistoryChecks.{is_last_report}
 use Rattle.dispatch_room_archive.specs.Continuation.{IsOver, IsSettled, IsSuccessor, StaysBehind}
-use Rattle.dispatch_room_archive.specs.Successor.{has_recent_call, incident_stays_behind, is_last_report, is_over}
+use Rattle.dispatch_room_archive.specs.Successor.{has_recent_call, incident_stays_behind, is_over}
 use Rattle.dispatch_room_archive.specs.Successor.{is_recent}
 use Rattle.dispatch_room_archive.specs.Successor.{is_settled, left_behind, renewed}
 

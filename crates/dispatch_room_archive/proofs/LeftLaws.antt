@@ -6,7 +6,7 @@ use Rattle.room_place.specs.Choice.{Among}
 use Rattle.room_place.specs.declared.plans.Area.{Area}
 use Rattle.room_types.specs.KeyedRows.{keep}
 use Rattle.room_types.specs.Keys.{call_key, incident_key, numbered_cmp, pair_cmp, report_key}
-use Rattle.room_types.specs.Orders.{numbered_total, pairs_total}
+use Rattle.room_types.specs.KeyLemmas.{numbered_total, pairs_total}
 use Rattle.room_types.specs.declared.changes.Change.{Change}
 use Rattle.room_types.specs.declared.slices.DivisionRows.{DivisionRows}
 use Rattle.room_types.specs.declared.tables.Call.{Call}
@@ -16,9 +16,10 @@ use Rattle.room_model.proofs.Tests.{row_among}
 use Rattle.room_model.specs.Queries.{incident_of, kept_call, kept_report, vehicle_at}
 use Rattle.room_model.specs.Room.{IsInOrder, Room}
 use Rattle.room_model.specs.RoomSlices.{room_of}
+use Rattle.room_store_check_rows.specs.HistoryChecks.{is_last_report}
 use Rattle.dispatch_room_archive.proofs.RowsLeft.{kept_is}
 use Rattle.dispatch_room_archive.specs.Composition.{puts}
-use Rattle.dispatch_room_archive.specs.Successor.{call_stays_behind, incident_stays_behind, is_last_report, is_over}
+use Rattle.dispatch_room_archive.specs.Successor.{call_stays_behind, incident_stays_behind, is_over}
 use Rattle.dispatch_room_archive.specs.Successor.{is_settled, renewed}
 use Rattle.dispatch_room_archive.specs.Successor.{report_stays_behind}
 use Rattle.dispatch_room_archive.specs.Leftovers.{is_call_over, is_report_over, puts_kept}

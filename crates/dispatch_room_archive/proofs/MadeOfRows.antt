@@ -5,8 +5,8 @@ use Rattle.std.specs.Ordering.{nat_cmp}
 use Rattle.std.specs.Prelude.{List, [], map, refl, ◌++◌, ◌∷◌, ◌≡◌}
 use Rattle.room_types.specs.Keys.{assignment_key, call_key, callsign_cmp, division_key, incident_key, loan_key}
 use Rattle.room_types.specs.Keys.{numbered_cmp, offer_key, pair_cmp, point_key, report_key, turn_key, vehicle_key}
-use Rattle.room_types.specs.Orders.{callsigns_total, exact_callsigns, exact_number, exact_numbered, exact_pair}
-use Rattle.room_types.specs.Orders.{numbered_total, pairs_total}
+use Rattle.room_types.specs.KeyLemmas.{callsigns_total, exact_callsigns, exact_number, exact_numbered, exact_pair}
+use Rattle.room_types.specs.KeyLemmas.{numbered_total, pairs_total}
 use Rattle.room_types.specs.declared.changes.Change.{Change}
 use Rattle.room_types.specs.declared.changes.Change.TheVariants.{PutAssignment, PutCall, PutDivision, PutIncident}
 use Rattle.room_types.specs.declared.changes.Change.TheVariants.{PutLoan, PutOffer, PutPoint, PutReport, PutTurn}

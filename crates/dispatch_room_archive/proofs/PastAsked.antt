@@ -5,7 +5,7 @@ use Rattle.std.specs.Prelude.{not, refl, true, ℕ, ℤ, ◌<◌, ◌==◌, ◌�
 use Rattle.room_place.specs.Plans.{division_of}
 use Rattle.room_types.specs.KeyedRows.{keep, put_row, row_at}
 use Rattle.room_types.specs.Keys.{callsign_cmp, numbered_cmp, report_key, vehicle_key}
-use Rattle.room_types.specs.Orders.{callsigns_total, exact_callsigns}
+use Rattle.room_types.specs.KeyLemmas.{callsigns_total, exact_callsigns}
 use Rattle.room_types.specs.Texts.{Callsign}
 use Rattle.room_types.specs.declared.asks.Ask.{Ask}
 use Rattle.room_types.specs.declared.asks.CallForm.{CallForm}

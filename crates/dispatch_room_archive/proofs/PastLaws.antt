@@ -11,7 +11,8 @@ use Rattle.room_types.specs.declared.tables.Incident.{Incident}
 use Rattle.room_types.specs.declared.tables.Report.{Report}
 use Rattle.room_model.specs.Queries.{incident_of, last_serial, vehicle_at}
 use Rattle.room_model.specs.RoomSlices.{room_of}
-use Rattle.dispatch_room_archive.specs.Successor.{has_recent_call, incident_stays_behind, is_last_report, is_over}
+use Rattle.room_store_check_rows.specs.HistoryChecks.{is_last_report}
+use Rattle.dispatch_room_archive.specs.Successor.{has_recent_call, incident_stays_behind, is_over}
 use Rattle.dispatch_room_archive.specs.Successor.{is_settled}
 use Rattle.dispatch_room_archive.proofs.RowsLeft.{kept_is}
 use Rattle.dispatch_room_archive.specs.CalledIncidents.{AreCalled}

@@ -3,7 +3,7 @@ use Rattle.std.proofs.Common.{ap, eqb-true, sym, ◌∙◌}
 use Rattle.std.specs.Prelude.{Bool, None, Option, Some, cond, false, filter_map, nat_lt, not, refl, true, ℕ, ◌&&◌, ◌++◌}
 use Rattle.std.specs.Prelude.{◌==◌, ◌||◌, ◌≡◌}
 use Rattle.room_types.specs.Codes.{is_active, is_mobilised, is_normal}
-use Rattle.room_types.specs.declared.answers.Entry.{Entry}
+use Rattle.room_types.specs.declared.answers.QueueEntry.{QueueEntry}
 use Rattle.room_types.specs.declared.codes.Kind.{Kind}
 use Rattle.room_types.specs.declared.codes.Kind.TheVariants.{Ambulance, Car, Support}
 use Rattle.room_types.specs.declared.tables.Incident.{Incident}
@@ -16,20 +16,21 @@ use Rattle.room_model.specs.Queue.{entries, exception, overdue, shift_over, slow
 use Rattle.room_model.specs.Queue.{uncovered, unread, unread_turn, unserved}
 use Rattle.room_model.specs.Room.{Room}
 use Rattle.room_model.specs.RoomAgreements.{IsWellFormed}
-use Rattle.dispatch_room_archive.proofs.AskedAlike.{active_among, filter_map_passing, found_stays, incident_same, open_turn_same}
+use Rattle.dispatch_room_archive.proofs.AskedAlike.{active_among, filter_map_passing, found_stays, incident_same}
+use Rattle.dispatch_room_archive.proofs.AskedAlike.{open_turn_same}
 use Rattle.dispatch_room_archive.proofs.AskedAlike.{report_settled, served_same}
 use Rattle.dispatch_room_archive.proofs.LeftBehind.{from_left, from_not, not_true}
 use Rattle.dispatch_room_archive.specs.Continuation.{StaysBehind}
 use Rattle.dispatch_room_archive.specs.Successor.{Behind, without}
 
 -- what is not active is not unserved
-idle_none : (mine active more : Bool) (e : Entry) → active ≡ false
+idle_none : (mine active more : Bool) (e : QueueEntry) → active ≡ false
     → cond (mine && (active && more)) (Some e) None ≡ None
 idle_none true active more e f = ap (λ (b : Bool). cond (b && more) (Some e) None) f
 idle_none false active more e f = refl
 
 -- what is settled is no exception
-settled_none : (mine cleared normal : Bool) (e : Entry) → cleared || normal ≡ true
+settled_none : (mine cleared normal : Bool) (e : QueueEntry) → cleared || normal ≡ true
     → cond (mine && (not normal && not cleared)) (Some e) None ≡ None
 settled_none true true true e f = refl
 settled_none true true false e f = refl
@@ -67,7 +68,7 @@ module _ (since : ℕ) (b : Behind) (r : Room) (w : IsWellFormed r) (h : StaysBe
 
   unread_same : filter_map (unread d at new) r.vehicles ≡ filter_map (unread d at r) r.vehicles
   unread_same =
-      ap (λ (f : Vehicle → Option Entry). filter_map f r.vehicles)
+      ap (λ (f : Vehicle → Option QueueEntry). filter_map f r.vehicles)
       (λ j v.
       cond (v.holder == d && is_mobilised v.status) (unread_turn at v (open_turn_same since b r w h d v.callsign j))
       None)

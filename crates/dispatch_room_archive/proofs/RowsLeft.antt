@@ -7,7 +7,7 @@ use Rattle.std.specs.declared.cmp.Ordering.{Ordering}
 use Rattle.room_types.proofs.KeyedLaws.{row_filter}
 use Rattle.room_types.specs.KeyedRows.{IsKeyed, keep, row_at}
 use Rattle.room_types.specs.Keys.{call_key, incident_key, numbered_cmp, pair_cmp, report_key, turn_key}
-use Rattle.room_types.specs.Orders.{exact_numbered, exact_pair, numbered_total, pairs_total}
+use Rattle.room_types.specs.KeyLemmas.{exact_numbered, exact_pair, numbered_total, pairs_total}
 use Rattle.room_types.specs.Texts.{Callsign}
 use Rattle.room_model.proofs.Tests.{row_key}
 use Rattle.room_model.specs.Room.{IsInOrder, Room}

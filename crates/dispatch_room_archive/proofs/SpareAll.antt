@@ -9,7 +9,7 @@ use Rattle.room_place.specs.declared.places.Place.{Place}
 use Rattle.room_types.specs.KeyedRows.{keep, row_at}
 use Rattle.room_types.specs.Codes.{is_active}
 use Rattle.room_types.specs.Keys.{division_key, incident_key, numbered_cmp, pair_cmp, report_key}
-use Rattle.room_types.specs.Orders.{exact_pair, pairs_total}
+use Rattle.room_types.specs.KeyLemmas.{exact_pair, pairs_total}
 use Rattle.room_types.specs.Slices.{IsActive}
 use Rattle.room_types.specs.Texts.{Callsign}
 use Rattle.room_types.specs.declared.asks.Ask.{Ask}

@@ -9,7 +9,8 @@ use Rattle.room_types.specs.declared.tables.Report.{Report}
 use Rattle.room_types.specs.declared.tables.Turn.{Turn}
 use Rattle.room_model.specs.Queries.{vehicle_at}
 use Rattle.room_model.specs.Room.{Room}
-use Rattle.dispatch_room_archive.specs.Successor.{incident_stays_behind, is_last_report, is_over, is_settled}
+use Rattle.room_store_check_rows.specs.HistoryChecks.{is_last_report}
+use Rattle.dispatch_room_archive.specs.Successor.{incident_stays_behind, is_over, is_settled}
 
 -- calls and turns stay behind with their incident
 abbrev pub is_call_over : ℕ → Room → Call → Bool

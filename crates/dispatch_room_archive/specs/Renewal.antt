@@ -163,8 +163,8 @@ renewed_text changes =
     (length (filter puts_turn changes)) (length (filter puts_report changes))
 
 -- it is written, unless the output fails
-abbrev pub IsPrinted : List Change → Option (List ℕ) → Option (List ℕ) → Result Done Failure
+abbrev pub PrintsRenewed : List Change → Option (List ℕ) → Option (List ℕ) → Result Done Failure
     → Type 0
-IsPrinted changes before after (Ok done) =
+PrintsRenewed changes before after (Ok done) =
     Appends before after (renewed_text changes) × (done ≡ Whole)
-IsPrinted changes before after (Err failure) = failure ≡ Network
+PrintsRenewed changes before after (Err failure) = failure ≡ Network

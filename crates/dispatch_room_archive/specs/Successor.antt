@@ -9,9 +9,9 @@ use Rattle.room_types.specs.Texts.{Callsign}
 use Rattle.room_types.specs.declared.tables.Call.{Call}
 use Rattle.room_types.specs.declared.tables.Incident.{Incident}
 use Rattle.room_types.specs.declared.tables.Report.{Report}
-use Rattle.room_types.specs.declared.tables.Vehicle.{Vehicle}
 use Rattle.room_model.specs.Queries.{incident_of, kept_call, kept_report, last_serial, vehicle_at}
 use Rattle.room_model.specs.Room.{Room}
+use Rattle.room_store_check_rows.specs.HistoryChecks.{is_last_report}
 
 -- ---- what stays behind
 -- whether an incident stays behind, by division and number; a call, by position and serial; a
@@ -35,11 +35,6 @@ has_recent_call since r i = list_any
 abbrev pub is_over : ℕ → Room → Incident → Bool
 is_over since r i =
     not (is_active i.state) && (nat_lt i.opened since && not (has_recent_call since r i))
-
--- the number is that of the vehicle's last report
-abbrev pub is_last_report : ℕ → Option Vehicle → Bool
-is_last_report n None = false
-is_last_report n (Some v) = v.last_report == n
 
 -- a report from before then, which waits for nobody's eye
 abbrev pub is_settled : ℕ → Report → Bool

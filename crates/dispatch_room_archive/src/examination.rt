@@ -8,7 +8,7 @@ ghost use Rattle.dispatch_room_cli.specs.declared.exit_status.Done.TheVariants.{
 ghost use Rattle.dispatch_room_cli.specs.declared.exit_status.Failure.TheVariants.{File, Network};
 ghost use Rattle.dispatch_room_archive.specs.Examination.{
   HasChecked,
-  IsPrinted,
+  PrintsSummary,
   calls_text,
   failure_of,
   fleet_text,
@@ -37,7 +37,7 @@ pub fn check_in<S: Alter + Drop, O: Write>(
     requires outside { conn.in_transaction ≡ false }
     ensures checked { HasChecked S.Store conn result.1 (O.contents out.old) (O.contents out.new)
         result.0 }
-    ensures printed { OnOk result.0 (IsPrinted (O.contents out.old) (O.contents out.new)) }
+    ensures printed { OnOk result.0 (PrintsSummary (O.contents out.old) (O.contents out.new)) }
     ensures nothing { WritesNothing (state S.Store conn) (state S.Store result.1) }
 {
     let done = match examine(alloc, &mut conn) {

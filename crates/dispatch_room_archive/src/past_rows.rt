@@ -1,18 +1,19 @@
 //! What of a room is over since a moment.
-ghost use Rattle.std.specs.Prelude.{◌≡◌, ◌&&◌, IfOk, List, nat_lt, not, option_copied};
+ghost use Rattle.std.specs.Prelude.{◌≡◌, ◌&&◌, IfOk, List, nat_lt, not};
 ghost use Rattle.room_place.specs.declared.plans.Area.{Area};
 ghost use Rattle.room_types.specs.Codes.{is_active, is_normal};
 ghost use Rattle.room_model.specs.RoomSlices.{room_of};
-ghost use Rattle.dispatch_room_archive.specs.Successor.{incident_stays_behind, is_last_report, is_over, is_settled};
+ghost use Rattle.dispatch_room_archive.specs.Successor.{incident_stays_behind, is_over, is_settled};
 ghost use Rattle.dispatch_room_archive.specs.CalledIncidents.{AreCalled};
 ghost use Rattle.dispatch_room_archive.specs.Leftovers.{is_report_over};
 
 use crate::called_incidents::Called;
 use room_place::plans::DivisionNumber;
+use room_store_check_rows::history_checks::is_last;
 use room_types::codes::Outcome;
 use room_types::numbers::{Moment, Number};
 use room_types::slices::DivisionRows;
-use room_types::tables::{Incident, Report, Vehicle};
+use room_types::tables::{Incident, Report};
 use std::alloc::{AllocError, Global};
 
 /// The rows of a room, and what decides which of them stay behind when it is renewed since a
@@ -64,7 +65,7 @@ impl<'a> Past<'a> {
         ensures { (plan : List Area) → result
             ≡ is_report_over self.now.since (room_of plan self.now.rows.now) report.now }
     {
-        let is_last = is_last(report, self.rows.vehicles.get(&report.callsign));
+        let is_last = is_last(report, &self.rows.vehicles);
         is_settled(report, self.since) && !is_last
     }
 }
@@ -88,14 +89,4 @@ fn is_normal(outcome: Outcome) -> bool
     ensures { result ≡ is_normal outcome }
 {
     matches!(outcome, Outcome::Normal)
-}
-
-// Whether a report is the last of its vehicle.
-fn is_last(report: &Report, vehicle: Option<&Vehicle>) -> bool
-    ensures { result ≡ is_last_report report.now.number (option_copied vehicle.entry) }
-{
-    match vehicle {
-        Some(vehicle) => vehicle.last_report.get() == report.number.get(),
-        None => false,
-    }
 }

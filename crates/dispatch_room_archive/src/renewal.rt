@@ -12,7 +12,7 @@ ghost use Rattle.dispatch_room_archive.specs.Renewal.{
   IsLeftSince,
   IsMomentOf,
   IsNoStart,
-  IsPrinted,
+  PrintsRenewed,
   IsStart,
   LeavesNone,
   puts_call,
@@ -169,7 +169,7 @@ pub fn begin_in<S: Alter + Drop, O: Write>(
 ) -> TaskResult<Done, S>
     requires outside { conn.in_transaction ≡ false }
     ensures begun { IfOk result (λ worked. IsBegun S.Store conn worked.1 left.now) }
-    ensures printed { IfOk result (λ worked. IsPrinted left.now.changes.items
+    ensures printed { IfOk result (λ worked. PrintsRenewed left.now.changes.items
         (O.contents out.old) (O.contents out.new) worked.0) }
     ensures fault { IfErr result (ExplainsUnmade (state S.Store conn).now.schema) }
     ensures unprinted { OnErr result (O.contents out.new ≡ O.contents out.old) }
@@ -189,7 +189,7 @@ pub fn begin_in<S: Alter + Drop, O: Write>(
 
 // Prints how much of what happened a new room has that is made by these changes.
 fn print_renewed<O: Write>(changes: &[Change], out: &mut O) -> Result<Done, Failure>
-    ensures { IsPrinted changes.now (O.contents out.old) (O.contents out.new) result }
+    ensures { PrintsRenewed changes.now (O.contents out.old) (O.contents out.new) result }
 {
     let incidents = count_incidents(changes);
     let calls = count_calls(changes);

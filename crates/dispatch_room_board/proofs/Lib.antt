@@ -1,4 +1,3 @@
-pub mod Numerals
 pub mod Widths
 pub mod Announced
 pub mod RowLists

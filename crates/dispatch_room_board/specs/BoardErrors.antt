@@ -26,6 +26,6 @@ IsErrorIn d other = ⊥
 -- what is said in place of the table of a title
 unfoldable pub error_text : List ℕ → BoardError → List ℕ
 error_text title Unheard = title ++ codes ": not reached: no whole answer came"
-error_text title Foreign = title ++ codes ": not reached: what came is no answer of a room"
+error_text title Foreign = title ++ codes ": not reached: the answer is not a room's"
 error_text title (Refused number name) =
     title ++ codes ": refused: " ++ decimal number ++ codes " " ++ name.text

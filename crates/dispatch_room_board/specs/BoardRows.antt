@@ -1,7 +1,7 @@
 -- What the rows of the answers say: each field is what the member of its name says.
 use Rattle.std.specs.Prelude.{codes}
 use Rattle.serde_json.specs.Data.{Data}
-use Rattle.room_types.specs.declared.answers.Entry.{Entry}
+use Rattle.room_types.specs.declared.answers.QueueEntry.{QueueEntry}
 use Rattle.room_types.specs.declared.answers.IncidentLine.{IncidentLine}
 use Rattle.room_types.specs.declared.answers.Proposal.{Proposal}
 use Rattle.room_types.specs.declared.answers.VehicleLine.{VehicleLine}
@@ -12,7 +12,7 @@ use Rattle.dispatch_room_board.specs.Members.{HasMember, IsBool, IsByte, IsCalls
 use Rattle.dispatch_room_board.specs.Members.{IsKind, IsMoment, IsNeed, IsNeeds, IsNumber, IsOrNull, IsPlace, IsPoint}
 use Rattle.dispatch_room_board.specs.Members.{IsStatus, IsVehicle, IsWhole, IsWord}
 
-pub record IsEntry (d : Data) (row : Entry) : Type 0 where
+pub record IsEntry (d : Data) (row : QueueEntry) : Type 0 where
   pub rank : HasMember IsByte (codes "rank") d row.rank
   pub since : HasMember IsMoment (codes "since") d row.since
   pub number : HasMember IsWord (codes "number") d row.number

@@ -1,7 +1,7 @@
 -- The tables of a board, and what stands in their rows.
 use Rattle.std.specs.Prelude.{◌≡◌, ◌≤◌, ℕ, ◌+◌, ◌-◌, List, [], ◌∷◌, ◌++◌, length, codes, decimal, nat_le, nat_lt, ◌==◌}
 use Rattle.std.specs.Prelude.{if◌then◌else◌, Bool, true, false, Option, None, Some}
-use Rattle.room_types.specs.declared.answers.Entry.{Entry}
+use Rattle.room_types.specs.declared.answers.QueueEntry.{QueueEntry}
 use Rattle.room_types.specs.declared.answers.IncidentLine.{IncidentLine}
 use Rattle.room_types.specs.declared.answers.PointLine.{PointLine}
 use Rattle.room_types.specs.declared.answers.Proposal.{Proposal}
@@ -88,7 +88,7 @@ matter_of rank =
     else if rank == 6 then codes "shift is over"
     else if rank == 7 then codes "point short of cover"
     else if rank == 8 then codes "offer not answered"
-    else codes "of another kind"
+    else codes "unknown"
 
 -- what its number is of: of nothing where a shift is over
 abbrev pub subject_of : ℕ → ℕ → List ℕ
@@ -111,7 +111,7 @@ abbrev pub callsign_of : Option (List ℕ) → List ℕ
 callsign_of None = []
 callsign_of (Some callsign) = callsign
 
-abbrev pub entry_table : Table Entry
+abbrev pub entry_table : Table QueueEntry
 entry_table = record {
   name = codes "queue";
   title = codes "Queue";

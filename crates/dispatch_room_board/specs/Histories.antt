@@ -60,7 +60,7 @@ pub record IsHistory (d : Data) (history : History) : Type 0 where
 -- ---- what is shown
 -- the incident that one was merged into, where there is one
 abbrev pub merged_text : Option ℕ → List ℕ
-merged_text None = codes "of another kind"
+merged_text None = codes "unknown"
 merged_text (Some into) = named_text (codes "merged into") into
 
 -- what became of an incident whose state has a number

@@ -31,7 +31,7 @@ pub const LONGEST: u32 = 35_999_999;
 /// The longest time after an order that is shown for its turn, which is 9:59:59.
 pub const LONGEST_TURN: u32 = 35_999;
 
-/// How long a moment is past.
+/// How long a moment is past; 0 where it lies ahead.
 pub fn since(moment: Moment, now: Moment) -> BoardCell<'static>
     ensures { text_of result ≡ since_text now moment }
 {

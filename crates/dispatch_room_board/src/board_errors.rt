@@ -75,7 +75,7 @@ pub fn refusal_in(value: &Value) -> Option<BoardError>
     }
 }
 
-/// What is said in place of the table of a title.
+/// The line that is shown in place of the table of a title.
 pub fn error_text(
     alloc: Global,
     title: &str,
@@ -86,7 +86,7 @@ pub fn error_text(
     match board_error {
         BoardError::Unheard => format!(in alloc; "{title}: not reached: no whole answer came"),
         BoardError::Foreign => {
-            format!(in alloc; "{title}: not reached: what came is no answer of a room")
+            format!(in alloc; "{title}: not reached: the answer is not a room's")
         }
         BoardError::Refused(number, name) => {
             let name = name.text.as_str();

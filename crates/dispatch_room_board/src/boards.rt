@@ -5,11 +5,11 @@ ghost use Rattle.dispatch_room_board.specs.Boards.{IsBoard, IsEmpty, reached_wit
 use crate::board_errors::BoardError;
 use crate::board_pages::Page;
 use crate::renderer::Renderer;
-use room_types::answers::{Entry, IncidentLine, PointLine, VehicleLine};
+use room_types::answers::{IncidentLine, PointLine, QueueEntry, VehicleLine};
 use room_types::tables::{Loan, Offer};
 use std::alloc::{AllocError, Global};
 
-/// How much of a board could be reached, the worst that befell it.
+/// How much of a board could be reached: the worst of its parts.
 #[derive(Clone, Copy)]
 pub enum Reached {
     /// All of it.
@@ -32,7 +32,7 @@ impl Reached {
     }
 }
 
-/// A board: what it says, in lines, and how much could be reached.
+/// A board: its lines, and how much could be reached.
 #[derive(Drop)]
 pub struct Board {
     pub page: Page,
@@ -55,7 +55,7 @@ fn put_all(renderer: &mut Renderer<'_>, named: bool) -> Result<(), AllocError>
         (record { page = renderer.new.page; reached = renderer.new.reached })) }
 {
     renderer.put_moment()?;
-    renderer.put_table::<Entry>()?;
+    renderer.put_table::<QueueEntry>()?;
     renderer.put_table::<IncidentLine>()?;
     renderer.put_incident(named)?;
     renderer.put_table::<VehicleLine>()?;

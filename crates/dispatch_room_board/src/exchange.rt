@@ -1,4 +1,4 @@
-//! What is said to a room, and what is heard of it.
+//! The requests of a board sent to a room, and its answers received.
 ghost use Rattle.std.specs.Prelude.{◌≡◌, ◌<◌, ◌≤◌, ◌+◌, ℕ, List, Option, IfErr, IfOk, OnOk, false, true, length};
 ghost use Rattle.std.specs.Io.KnownBytes.{Consumes, IsAtEnd};
 ghost use Rattle.room_http_messages.specs.Streams.{WritesAll};
@@ -11,14 +11,14 @@ use room_http_messages::sources::Source;
 use std::alloc::{AllocError, Global};
 
 /// How many bytes are read of a room at most: 16 MiB, some hundred times what a large room says.
-pub const MOST: usize = 16_777_216;
+pub const MOST_HEARD: usize = 16_777_216;
 
 // How many bytes one read takes at most: what a room's inbox has, so that to the reader of a socket
 // each read is one between two messages, which may wait until the turn is over.
 pub const PIECE: usize = INBOX_ROOM;
 
 /// Asks: the requests are written and nothing else, or the first bytes of them before a write
-/// failed. Gives whether all were written.
+/// failed. Returns whether all were written.
 pub fn send<W: Sink>(alloc: Global, asker: &Asker, writer: &mut W) -> Result<bool, AllocError>
     requires { W.has_failed writer.old ≡ false }
     ensures { IfOk result (Sends W.held W.has_failed writer.old writer.new
@@ -28,18 +28,18 @@ pub fn send<W: Sink>(alloc: Global, asker: &Asker, writer: &mut W) -> Result<boo
     Ok(write_all(writer, text.as_bytes()).is_ok())
 }
 
-/// Hears all bytes to the end of the stream, or those before a read failed; at most `MOST` and
-/// what the read that passes it gives.
+/// Hears all bytes to the end of the stream, or those before a read failed; at most `MOST_HEARD`
+/// and what the read that passes it gives.
 pub fn hear<R: Source>(alloc: Global, reader: &mut R) -> Result<Vec<u8>, AllocError>
     ensures heard { IfOk result (λ heard.
         Consumes (R.left reader.old) (R.left reader.new) heard.items) }
-    ensures all { IfOk result (λ heard. length heard.items < MOST
+    ensures all { IfOk result (λ heard. length heard.items < MOST_HEARD
         → R.has_failed reader.new ≡ false → IsAtEnd (R.left reader.new)) }
-    ensures most { IfOk result (λ heard. length heard.items < MOST + PIECE) }
+    ensures most { IfOk result (λ heard. length heard.items < MOST_HEARD + PIECE) }
 {
     let mut heard = Vec::new(alloc);
     let mut piece = [0; PIECE];
-    'reads: while heard.len() < MOST {
+    'reads: while heard.len() < MOST_HEARD {
         if !hear_more(reader, &mut piece, &mut heard)? {
             return Ok(heard);
         }
@@ -47,8 +47,8 @@ pub fn hear<R: Source>(alloc: Global, reader: &mut R) -> Result<Vec<u8>, AllocEr
     Ok(heard)
 }
 
-// Hears what one read gives, after what was heard from a start on. Gives whether more may come:
-// none does where the read failed, or found the end.
+// Hears what one read gives, behind what was heard before. Returns whether more may come: none does
+// where the read failed, or found the end.
 #[tactic(auto, using(crate::proofs::Heard::consumes_more))]
 fn hear_more<R: Source>(
     reader: &mut R,

@@ -1,20 +1,22 @@
 //! The answers in what was heard, one after another.
-ghost use Rattle.std.specs.Prelude.{◌≡◌, codes, map, min, MatchOption, MatchResult, true, false};
-ghost use Rattle.std.specs.Str.Parse.{digits_value};
+ghost use Rattle.std.specs.Prelude.{codes, map, MatchResult};
 ghost use Rattle.httparse.specs.Spans.{header_bytes};
 ghost use Rattle.room_http_messages.specs.HeadFields.{AreWithin, values_of};
-ghost use Rattle.room_http_messages.specs.Rules.{is_numeral};
 ghost use Rattle.dispatch_room_board.specs.Members.{IsRead};
 ghost use Rattle.dispatch_room_board.specs.HeardAnswers.{Announces, IsDateOf, IsDated, IsMessage, IsNoMessage};
 
 use crate::board_errors::BoardError;
-use crate::exchange::{MOST, PIECE};
+use crate::exchange::{MOST_HEARD, PIECE};
 use httparse::Status;
 use httparse::spans::{EMPTY_HEADER_SPAN, HeaderSpan, Span, parse_response};
 use httpdate::HttpDate;
 use room_http_messages::head_fields::find_field;
+use room_http_messages::head_rules::numeral;
 use room_http_messages::limits::FIELD_LIMIT;
 use room_types::numbers::Moment;
+
+/// Stands for every length above what is ever read.
+const TOO_LONG: usize = MOST_HEARD + PIECE;
 
 /// An answer, as it came.
 #[derive(Clone, Copy)]
@@ -67,27 +69,9 @@ fn length_in(bytes: &[u8], fields: &[HeaderSpan]) -> Option<usize>
         (map (header_bytes bytes.now) fields.now))) result }
 {
     match find_field(bytes, fields, b"content-length").only() {
-        Some(value) => numeral(value.of(bytes)),
+        Some(value) => numeral(value.of(bytes), TOO_LONG),
         None => None,
     }
-}
-
-/// What stands for every length that is more than is ever read.
-const TOO_LONG: usize = MOST + PIECE;
-
-// The number that a text of digits only writes, or `TOO_LONG` where it is above what is ever read.
-fn numeral(value: &[u8]) -> Option<usize>
-    ensures { MatchOption result (is_numeral value.now ≡ false)
-        (λ n. (is_numeral value.now ≡ true) × (n ≡ min (digits_value 10 value.now) TOO_LONG)) }
-{
-    let mut number = 0;
-    for digit in value {
-        if !digit.is_ascii_digit() {
-            return None;
-        }
-        number = (number * 10 + usize::from(*digit - b'0')).min(TOO_LONG);
-    }
-    if value.is_empty() { None } else { Some(number) }
 }
 
 // The moment of the only Date field.

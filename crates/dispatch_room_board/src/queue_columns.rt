@@ -11,22 +11,22 @@ use crate::board_tables::{TableLayout, Tabled};
 use crate::cell_layout::Column;
 use crate::cell_layout::Column::{Left, Right};
 use crate::json_members::{FromJson, member};
-use room_types::answers::Entry;
+use room_types::answers::QueueEntry;
 use room_types::callsign::Callsign;
 use room_types::numbers::Moment;
 use serde_json::Value;
 use std::alloc::{AllocError, Global};
 
-impl FromJson for Entry {
+impl FromJson for QueueEntry {
     ghost says = { IsEntry };
 
-    fn from_json(value: &Value) -> Option<Entry> {
+    fn from_json(value: &Value) -> Option<QueueEntry> {
         let members = member(value, "rank")
             .zip(member(value, "since"))
             .zip(member(value, "number"))
             .zip(member::<About>(value, "vehicle"));
         match members {
-            Some((((rank, since), number), about)) => Some(Entry {
+            Some((((rank, since), number), about)) => Some(QueueEntry {
                 rank,
                 since,
                 number,
@@ -63,7 +63,7 @@ impl FromJson for About {
 // The columns of the queue.
 const QUEUE: [Column; 4] = [Left(24), Left(19), Left(8), Right(10)];
 
-impl Tabled for Entry {
+impl Tabled for QueueEntry {
     ghost table = { entry_table };
 
     fn layout() -> TableLayout {
@@ -103,7 +103,7 @@ fn matter(rank: u8) -> &'static str
         6 => "shift is over",
         7 => "point short of cover",
         8 => "offer not answered",
-        _ => "of another kind",
+        _ => "unknown",
     }
 }
 

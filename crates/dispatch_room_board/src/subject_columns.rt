@@ -126,6 +126,6 @@ fn state(number: u8, into: Option<Number>) -> BoardCell<'static>
         (0, _) => BoardCell::Text("active"),
         (1, _) => BoardCell::Text("closed"),
         (_, Some(into)) => BoardCell::Named("merged into", into.get()),
-        (_, None) => BoardCell::Text("of another kind"),
+        (_, None) => BoardCell::Text("unknown"),
     }
 }

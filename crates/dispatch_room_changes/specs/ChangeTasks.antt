@@ -1,5 +1,5 @@
 -- What each command that changes a room as a file says does in its database, over any storage.
-use Rattle.std.specs.Prelude.{IfOk, List, None, ℕ, ◌≡◌, ◌⊎◌}
+use Rattle.std.specs.Prelude.{IfOk, List, None, false, ℕ, ◌≡◌, ◌⊎◌}
 use Rattle.sqlite.specs.Held.{state}
 use Rattle.dispatch_room_disk.specs.RoomFiles.{Refusing, Saying}
 use Rattle.dispatch_room_cli.specs.declared.exit_status.Done.{Done}
@@ -10,6 +10,7 @@ use Rattle.dispatch_room_tasks.specs.OpenedRoom.{HoldsNone, IsUnopened}
 use Rattle.dispatch_room_changes.specs.MadeChanges.{MakesKeptIn, OpensNoneKept}
 use Rattle.dispatch_room_changes.specs.KeptImports.{ImportsKeptIn}
 use Rattle.dispatch_room_changes.specs.declared.kept_fleets.FleetList.{FleetList}
+use Rattle.dispatch_room_journal.specs.declared.list_ends.ListEnd.{ListEnd}
 use Rattle.dispatch_room_lists.specs.RoomChanges.{Makes}
 use Rattle.dispatch_room_lists.specs.declared.room_changes.RoomChange.{RoomChange}
 use Rattle.dispatch_room_serving.specs.declared.journal_files.SystemFile.{SystemFile}
@@ -21,7 +22,7 @@ use Rattle.room_tables_schema.specs.FileConnections.{IsClean}
 -- the room of a plan is created, and reported
 abbrev pub Creates : PlanFile → Saying Done
 Creates plan = λ S g old new before after done.
-    created.IsCreated g old new plan × created.IsPrinted plan before after done
+    created.IsCreated g old new plan × created.PrintsCreated plan before after done
 
 -- or none is, for this, and nothing is printed
 abbrev pub CreatesNone : PlanFile → Refusing
@@ -32,13 +33,17 @@ CreatesNone plan = λ S g conn before after fault.
 abbrev pub Enrols : List FleetLine → Saying Done
 Enrols lines = λ S g old new before after done.
     (IsClean g new → imported.HasImportedIn g old new lines before after done)
-    × IfOk done (imported.IsPrinted lines before after)
+    × IfOk done (imported.PrintsFates lines before after)
 
--- The same once the fleet lasts in a list, and then the room's digest is kept. What the file of a
--- list holds no contract can say.
-abbrev pub EnrolsKept : List FleetLine → List ℕ → Saying Done
-EnrolsKept lines text = λ S g old new before after done.
-    (from to : FleetList SystemFile)
+-- a list that goes on here, and to which no write failed
+abbrev pub GoesOnAt : ListEnd → FleetList SystemFile → Type 0
+GoesOnAt end list = (list.end ≡ end) × (list.out.failed ≡ false)
+
+-- The same once the fleet lasts in a list that goes on here, and then the room's digest is kept.
+-- What the file of a list holds no contract can say.
+abbrev pub EnrolsKept : ListEnd → List FleetLine → List ℕ → Saying Done
+EnrolsKept end lines text = λ S g old new before after done.
+    (from to : FleetList SystemFile) × GoesOnAt end from
     × ImportsKeptIn g (λ _. None) (λ _. None) old new from to lines text before after done
 
 -- or memory fails, or no room is opened, and nothing is printed
@@ -54,18 +59,18 @@ Lists = λ S g old new before after done. HasListed g old new before after done
 abbrev pub Changes : RoomChange → Saying (Unit {0})
 Changes change = λ S g old new before after done. Makes g old new change done × (after ≡ before)
 
--- The same once its text lasts in a list, and then the room's digest is kept. What the file of a
--- list holds no contract can say.
-abbrev pub ChangesKept : RoomChange → List ℕ → Saying (Unit {0})
-ChangesKept change text = λ S g old new before after done.
-    ((from to : FleetList SystemFile)
+-- The same once its text lasts in a list that goes on here, and then the room's digest is kept.
+-- What the file of a list holds no contract can say.
+abbrev pub ChangesKept : ListEnd → RoomChange → List ℕ → Saying (Unit {0})
+ChangesKept end change text = λ S g old new before after done.
+    ((from to : FleetList SystemFile) × GoesOnAt end from
     × MakesKeptIn g (λ _. None) (λ _. None) old new from to change text done) × (after ≡ before)
 
 -- or no room is opened for it, or none is again once the text was kept, and nothing is printed
-abbrev pub LosesKeptRoom : RoomChange → List ℕ → Refusing
-LosesKeptRoom change text = λ S g conn before after fault.
-    OpensNoneKept g {F = SystemFile} (λ _. None) (λ _. None) conn change text fault
-    × (after ≡ before)
+abbrev pub LosesKeptRoom : ListEnd → RoomChange → List ℕ → Refusing
+LosesKeptRoom end change text = λ S g conn before after fault.
+    ((from : FleetList SystemFile) × GoesOnAt end from
+    × OpensNoneKept g (λ _. None) (λ _. None) conn from change text fault) × (after ≡ before)
 
 -- or the file holds no room, for this, and nothing is printed
 abbrev pub HoldsNoRoom : Refusing

@@ -22,6 +22,8 @@ use Rattle.dispatch_room_changes.specs.ChangeTasks.{Changes, ChangesKept, Create
 use Rattle.dispatch_room_changes.specs.ChangeTasks.{Enrols, EnrolsKept, EnrolsNone, HoldsNoRoom}
 use Rattle.dispatch_room_changes.specs.ChangeTasks.{Lists, LosesKeptRoom}
 use Rattle.dispatch_room_changes.specs.TerminalFiles.{AreGiven, GivesNoFleet, GivesNoPlan, GivesNone}
+use Rattle.dispatch_room_journal.specs.declared.list_ends.ListEnd.TheVariants.{Chain}
+use Rattle.dispatch_room_journal.specs.declared.record_fronts.Link.{Link}
 use Rattle.dispatch_room_lists.specs.RoomChanges.{IsTextOf}
 use Rattle.dispatch_room_lists.specs.declared.room_changes.RoomChange.{RoomChange}
 use Rattle.dispatch_room_lists.specs.declared.room_changes.RoomChange.TheVariants as change
@@ -37,18 +39,18 @@ abbrev pub reissue_of : Who → Option Token → RoomChange
 reissue_of who token = change.Token (record { who = who; token = token })
 
 -- A change was made in a room's file, by what the output held before and after. Where there is a
--- list for it, its text was kept there before.
+-- list for it, its text was kept there before, which goes on as a chain.
 abbrev pub IsMade : Option (List ℕ) → Option (List ℕ) → Bool → RoomChange → Type 0
 IsMade before after false change = IsDoneInFile (Changes change) before after tt
-IsMade before after true change =
-    (text : List ℕ) × IsTextOf change text × IsDoneInFile (ChangesKept change text) before after tt
+IsMade before after true change = (text : List ℕ) × IsTextOf change text × ((link : Link)
+    × IsDoneInFile (ChangesKept (Chain link) change text) before after tt)
 
--- the list for a change can't be opened, for memory or for itself, and nothing is said
+-- the list for a change can't be opened, for memory or for itself, and nothing is printed
 abbrev pub HasNoList : Option (List ℕ) → Option (List ℕ) → Failure → Type 0
 HasNoList before after fault =
     ((fault ≡ failure.Memory) ⊎ (fault ≡ failure.Journal)) × (after ≡ before)
 
--- a file can't be read, or there is no memory for it, and nothing is said
+-- a file can't be read, or there is no memory for it, and nothing is printed
 abbrev pub HasNoText : Option (List ℕ) → Option (List ℕ) → Failure → Type 0
 HasNoText before after fault =
     ((fault ≡ failure.Memory) ⊎ (fault ≡ failure.Input)) × (after ≡ before)
@@ -58,8 +60,9 @@ abbrev pub IsUnmade : Option (List ℕ) → Option (List ℕ) → Failure → Bo
 IsUnmade before after fault false change =
     IsUndoneInFile (Changes change) HoldsNoRoom before after fault
 IsUnmade before after fault true change = HasNoList before after fault
-    ⊎ ((text : List ℕ) × IsTextOf change text
-    × IsUndoneInFile (ChangesKept change text) (LosesKeptRoom change text) before after fault)
+    ⊎ ((text : List ℕ) × IsTextOf change text × ((link : Link)
+    × IsUndoneInFile (ChangesKept (Chain link) change text)
+    (LosesKeptRoom (Chain link) change text) before after fault))
 
 -- by what the output held before, what it holds after, and how much is done
 module _ (before after : Option (List ℕ)) (done : Done) where
@@ -96,10 +99,10 @@ module _ (before after : Option (List ℕ)) (done : Done) where
   abbrev pub IsImport : Type 0
   IsImport = (text : List ℕ) × IsImportOf text
 
-  -- they were kept in a list, and enrolled
+  -- they were kept in a list, which goes on as a chain, and enrolled
   abbrev pub IsKeptImportOf : List ℕ → Type 0
-  IsKeptImportOf text = (lines : List FleetLine) × IsFleetText text lines
-      × IsDoneInFile (EnrolsKept lines text) before after done
+  IsKeptImportOf text = (lines : List FleetLine) × IsFleetText text lines × ((link : Link)
+      × IsDoneInFile (EnrolsKept (Chain link) lines text) before after done)
 
   abbrev pub IsKeptImport : Type 0
   IsKeptImport = (text : List ℕ) × IsKeptImportOf text
@@ -146,7 +149,7 @@ module _ (before after : Option (List ℕ)) (fault : Failure) where
       ⊎ ((fault ≡ failure.Network)
       × ((between : Option (List ℕ)) × IsMade before between kept change))
 
-  -- no room was created: this text gives no plan, and nothing is said; or this became of the file
+  -- no room was created: this text gives no plan, and nothing is printed; or this became of the file
   abbrev pub FailsInitOf : List ℕ → Type 0
   FailsInitOf text = (GivesNoPlan text fault × (after ≡ before))
       ⊎ ((plan : PlanFile) × IsPlanText text plan
@@ -160,7 +163,7 @@ module _ (before after : Option (List ℕ)) (fault : Failure) where
   abbrev pub FailsReplanBy : Bool → PlanFile → Type 0
   FailsReplanBy kept plan = FailsChange kept (change.Plan plan)
 
-  -- no room got a plan: this text gives none, and nothing is said; or by its plan it failed
+  -- no room got a plan: this text gives none, and nothing is printed; or by its plan it failed
   abbrev pub FailsReplanOf : Bool → List ℕ → Type 0
   FailsReplanOf kept text = (GivesNoPlan text fault × (after ≡ before))
       ⊎ ((plan : PlanFile) × IsPlanText text plan × FailsReplanBy kept plan)
@@ -168,8 +171,8 @@ module _ (before after : Option (List ℕ)) (fault : Failure) where
   abbrev pub FailsReplan : Bool → Type 0
   FailsReplan kept = HasNoText before after fault ⊎ ((text : List ℕ) × FailsReplanOf kept text)
 
-  -- no fleet was enrolled whole: this text gives none, and nothing is said; or this became of the
-  -- file, by its rows
+  -- no fleet was enrolled whole: this text gives none, and nothing is printed; or this became of
+  -- the file, by its rows
   abbrev pub FailsImportOf : List ℕ → Type 0
   FailsImportOf text = (GivesNoFleet text fault × (after ≡ before))
       ⊎ ((lines : List FleetLine) × IsFleetText text lines
@@ -182,27 +185,28 @@ module _ (before after : Option (List ℕ)) (fault : Failure) where
   abbrev pub FailsKeptImportOf : List ℕ → Type 0
   FailsKeptImportOf text = (GivesNoFleet text fault × (after ≡ before))
       ⊎ HasNoList before after fault
-      ⊎ ((lines : List FleetLine) × IsFleetText text lines
-      × IsUndoneInFile (EnrolsKept lines text) EnrolsNone before after fault)
+      ⊎ ((lines : List FleetLine) × IsFleetText text lines × ((link : Link)
+      × IsUndoneInFile (EnrolsKept (Chain link) lines text) EnrolsNone before after fault))
 
   abbrev pub FailsKeptImport : Type 0
   FailsKeptImport = HasNoText before after fault ⊎ ((text : List ℕ) × FailsKeptImportOf text)
 
   -- the system gives no random token, or there is no memory for the text of a change, and nothing
-  -- is said; or with some token it failed, or with none where none was to be given
+  -- is printed; or with some token it failed, or with none where none was to be given
   abbrev pub FailsReissue : Bool → Who → Bool → Type 0
   FailsReissue kept who has_token =
       ((after ≡ before) × ((fault ≡ failure.Memory) ⊎ (fault ≡ failure.Storage)))
       ⊎ ((token : Option Token) × (is_some token ≡ has_token)
       × FailsChange kept (reissue_of who token))
 
-  -- the terminals of a list were not set: there is no memory for its text, and nothing is said; or
-  -- it failed
+  -- the terminals of a list were not set: there is no memory for its text, and nothing is printed;
+  -- or it failed
   abbrev pub FailsSettingBy : Bool → Vec Terminal Global → Type 0
   FailsSettingBy kept listed = ((after ≡ before) × (fault ≡ failure.Memory))
       ⊎ FailsChange kept (change.Terminals listed)
 
-  -- no terminals were set: this text gives none, and nothing is said; or by its terminals it failed
+  -- no terminals were set: this text gives none, and nothing is printed; or by its terminals it
+  -- failed
   abbrev pub FailsSettingOf : Bool → List ℕ → Type 0
   FailsSettingOf kept text = (GivesNone text fault × (after ≡ before))
       ⊎ ((listed : Vec Terminal Global) × AreGiven text listed.items × FailsSettingBy kept listed)

@@ -24,7 +24,7 @@ use Rattle.dispatch_room_journal.specs.declared.list_ends.ListEnd.{ListEnd}
 use Rattle.dispatch_room_journal.specs.declared.list_ends.ListEnd.TheVariants.{Plain}
 use Rattle.dispatch_room_journal.specs.declared.row_runs.TheConstants.{ROW_ROOM}
 use Rattle.dispatch_room_changes.specs.declared.kept_fleets.FleetList.{FleetList}
-use Rattle.dispatch_room_tasks.specs.Enrolment.{HasImported, IsPrinted}
+use Rattle.dispatch_room_tasks.specs.Enrolment.{HasImported, PrintsFates}
 use Rattle.dispatch_room_tasks.specs.OpenedRoom.{OpensRoom}
 use Rattle.dispatch_room_lists.specs.StoodRooms.{Stays, digits_in}
 use Rattle.room_tables_schema.specs.FileConnections.{IsClean}
@@ -122,7 +122,7 @@ module _ {S : Type 0} (g : Ghosts S) where
     pub imported : IsClean g new.conn → (terminals : List Terminal) (room : Room)
         → IsRoom g old terminals room
         → HasImported g old new lines before after came terminals room
-    pub printed : IfOk came (IsPrinted lines before after)
+    pub printed : IfOk came (PrintsFates lines before after)
 
   module _ {F : Type 0} (contents lasting : F → Option (List ℕ)) where
     -- nothing was enrolled: memory, storage or the list fails

@@ -60,15 +60,15 @@ module _ {S : Type 0} (g : Ghosts S) where
       pub conn : closed.conn ≡ new
 
     -- or no room was opened, or, once the text was kept, none was opened again
-    pub record LosesKept (old : Held S) (change : RoomChange) (text : List ℕ) (fault : Failure)
-        : Type 0 where
+    pub record LosesKept (old : Held S) (from : FleetList F) (change : RoomChange) (text : List ℕ)
+        (fault : Failure) : Type 0 where
       pub opened : Store S
       pub begun : Store S
       pub opens : IsClean g opened.conn → OpensRoom g old opened
-      pub from : FleetList F
       pub to : FleetList F
       pub keeps : KeepsText opened begun from to text
       pub loses : LosesRoom g begun change fault
 
-    abbrev pub OpensNoneKept : Held S → RoomChange → List ℕ → Failure → Type 0
-    OpensNoneKept old change text fault = IsUnopened g old fault ⊎ LosesKept old change text fault
+    abbrev pub OpensNoneKept : Held S → FleetList F → RoomChange → List ℕ → Failure → Type 0
+    OpensNoneKept old from change text fault =
+        IsUnopened g old fault ⊎ LosesKept old from change text fault

@@ -18,7 +18,7 @@ use sqlite::{Alter, Connection};
 use std::alloc::Global;
 use std::io::Write;
 
-/// Creates the room of a plan in a file that has nothing, and says how much it has, also where the
+/// Creates the room of a plan in a file that has nothing, and prints what it has, also where the
 /// file can't be closed afterwards. A file that it makes is private to its owner.
 pub fn init<O: Write>(host: Host<'_>, file: &str, plan: &str, out: &mut O) -> Result<Done, Failure>
     ensures done { IfOk result (IsInit (O.contents out.old) (O.contents out.new)) }

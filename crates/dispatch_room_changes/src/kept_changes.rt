@@ -27,10 +27,10 @@ pub struct ChangedFile<'a> {
     pub list: Option<&'a str>,
 }
 
-/// Makes a change in the room of a file. Where there is a list for it, its text lasts there before,
-/// behind the digest of the room as it is, and before that of the room as it is then; where it
-/// can't be kept, nothing is changed, and where only the last digest can't be, the change stays,
-/// and the next start keeps the same.
+/// Makes a change in the room of a file. If a list is given, it first keeps the change's text, on
+/// the disk, between the digest of the room before the change and that of the room after it. Where
+/// the text can't be kept, nothing is changed; where only the last digest can't be, the change
+/// stays, and the next start keeps that digest.
 pub fn make_in_file<O: Write, E: Write>(
     host: Host<'_>,
     place: ChangedFile<'_>,
@@ -105,9 +105,10 @@ struct KeptMaking<'a> {
 impl<'a> RoomTask for KeptMaking<'a> {
     type Done = ();
 
-    ghost says = { λ work. ChangesKept work.change.now work.text.now };
+    ghost says = { λ work. ChangesKept work.opened.now.end work.change.now work.text.now };
 
-    ghost refuses = { λ work. LosesKeptRoom work.change.now work.text.now };
+    ghost refuses = { λ work.
+        LosesKeptRoom work.opened.now.end work.change.now work.text.now };
 
     fn run<S: Alter + Drop, O: Write>(
         self,

@@ -103,7 +103,7 @@ pub fn end_kept<S: Alter, F: Lasting, T: Drop>(
         Ok(()) => came,
         Err(fault) => match came {
             Ok(_) => {
-                explainer.explain("the change is made, and the next start keeps where the room is");
+                explainer.explain("the change is made; the next start writes the digest after it");
                 Err(fault)
             }
             Err(first) => Err(first),

@@ -1,6 +1,8 @@
 //! `import` with a list: a fleet is kept in the list of a room, and then enrolled.
 ghost use Rattle.std.specs.Prelude.{◌≡◌, ◌⊎◌, IfErr, IfOk};
 ghost use Rattle.dispatch_room_cli.specs.declared.exit_status.Failure.TheVariants as failure;
+ghost use Rattle.dispatch_room_journal.specs.declared.list_ends.ListEnd.TheVariants.{Chain};
+ghost use Rattle.dispatch_room_journal.specs.declared.record_fronts.Link.{Link};
 ghost use Rattle.dispatch_room_changes.specs.DoneChanges.{FailsKeptImport, FailsKeptImportOf};
 ghost use Rattle.dispatch_room_changes.specs.DoneChanges.{IsKeptImport, IsKeptImportOf};
 ghost use Rattle.dispatch_room_changes.specs.ChangeTasks.{EnrolsKept, EnrolsNone};
@@ -20,9 +22,9 @@ use sqlite::{Alter, Connection};
 use std::alloc::Global;
 use std::io::Write;
 
-/// Enrols a fleet as `import` does, once it lasts in a list: behind the digest of the room as it
-/// is, and before that of the room as it is then. Where the fleet can't be kept, nothing is
-/// enrolled; where only the last digest can't be, the rows stay, and the next start keeps the same.
+/// Enrols a fleet as `import` does, once it lasts in a list: between the digest of the room before
+/// and that of the room after. Where the fleet can't be kept, nothing is enrolled; where only the
+/// last digest can't be, the rows stay, and the next start keeps that digest.
 pub fn import_kept<'a, O: Write, E: Write>(
     host: Host<'a>,
     file: &str,
@@ -70,7 +72,8 @@ fn import_kept_by<'a, O: Write, E: Write>(
 
 /// The list at a path, which goes on as a chain: else it has no room for rows.
 pub fn opened_list<E: Write>(host: Host<'_>, path: &str, err: &mut E) -> Result<OpenedList, Failure>
-    ensures { IfErr result (λ fault. (fault ≡ failure.Memory) ⊎ (fault ≡ failure.Journal)) }
+    ensures chain { IfOk result (λ opened. (link : Link) × (opened.end ≡ Chain link)) }
+    ensures fault { IfErr result (λ fault. (fault ≡ failure.Memory) ⊎ (fault ≡ failure.Journal)) }
 {
     let opened = host.open_journal(path, err)?;
     match opened.end {
@@ -96,7 +99,8 @@ struct KeptEnrolment<'a> {
 impl<'a> RoomTask for KeptEnrolment<'a> {
     type Done = Done;
 
-    ghost says = { λ work. EnrolsKept work.fleet.lines.now work.fleet.sheet.text.now };
+    ghost says = { λ work.
+        EnrolsKept work.opened.now.end work.fleet.lines.now work.fleet.sheet.text.now };
 
     ghost refuses = { λ _. EnrolsNone };
 

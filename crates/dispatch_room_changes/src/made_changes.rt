@@ -30,8 +30,8 @@ pub fn make_kept_in<S: Alter + Drop, F: Lasting>(
     requires sound { list.old.out.failed ≡ false }
     ensures made { IfOk result (λ worked. MakesKeptIn S.Store F.contents F.lasting conn worked.1
         list.old list.new change.now text.now worked.0) }
-    ensures fault { IfErr result (OpensNoneKept S.Store F.contents F.lasting conn change.now
-        text.now) }
+    ensures fault { IfErr result (OpensNoneKept S.Store F.contents F.lasting conn list.old
+        change.now text.now) }
 {
     let (mut room, _) = open_room(alloc, conn)?;
     match keep_text(&mut room, list, text) {

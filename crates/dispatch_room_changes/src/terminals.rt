@@ -49,13 +49,13 @@ pub fn terminals<O: Write, E: Write>(
 {
     match wanted {
         Terminals::List => host.in_file(RoomFile::Kept(place.file), Listing, out),
-        Terminals::New(who) => give(host, place, who, out, err),
+        Terminals::New(who) => give_token(host, place, who, out, err),
         Terminals::Revoke(who) => revoke(host, place, who, out, err),
     }
 }
 
-// Gives one a new token, and then prints it.
-fn give<O: Write, E: Write>(
+// Gives a user a new token, and then prints it.
+fn give_token<O: Write, E: Write>(
     host: Host<'_>,
     place: ChangedFile<'_>,
     who: Who,
@@ -79,7 +79,7 @@ fn give<O: Write, E: Write>(
     }
 }
 
-// Takes one's terminal away. A vehicle's crew always has one, so it gets a token that is not
+// Takes a user's terminal away. A vehicle's crew always has one, so it gets a token that is not
 // printed.
 fn revoke<O: Write, E: Write>(
     host: Host<'_>,
@@ -94,14 +94,14 @@ fn revoke<O: Write, E: Write>(
         fault (is_some place.entry.list) who (is_a_crew who)) }
 {
     if is_a_crew(&who) {
-        return silence(host, place, who, out, err);
+        return revoke_crew(host, place, who, out, err);
     }
     let change = TokenChange { who, token: None };
-    withdraw(host, place, change, out, err)
+    revoke_by(host, place, change, out, err)
 }
 
-// Gives one a token that is not printed.
-fn silence<O: Write, E: Write>(
+// Gives a user a token that is not printed.
+fn revoke_crew<O: Write, E: Write>(
     host: Host<'_>,
     place: ChangedFile<'_>,
     who: Who,
@@ -118,7 +118,7 @@ fn silence<O: Write, E: Write>(
         who,
         token: Some(token),
     };
-    withdraw(host, place, change, out, err)
+    revoke_by(host, place, change, out, err)
 }
 
 fn is_a_crew(who: &Who) -> bool
@@ -127,8 +127,8 @@ fn is_a_crew(who: &Who) -> bool
     matches!(who, Who::Crew(_))
 }
 
-// Gives one a token that is not printed, or none, and reports it.
-fn withdraw<O: Write, E: Write>(
+// Gives a user a token that is not printed, or none, and reports it.
+fn revoke_by<O: Write, E: Write>(
     host: Host<'_>,
     place: ChangedFile<'_>,
     change: TokenChange,
@@ -147,7 +147,7 @@ fn withdraw<O: Write, E: Write>(
     }
 }
 
-// Gives one only a token, or none, and prints nothing yet.
+// Leaves a user only this token, or none, and prints nothing yet.
 fn reissue<O: Write, E: Write>(
     host: Host<'_>,
     place: ChangedFile<'_>,

@@ -1,2 +1,5 @@
 pub mod TerminalNameLemmas
 pub mod DatabaseNameLemmas
+pub mod BuilderLemmas
+pub mod MatchLemmas
+pub mod ExplainLemmas

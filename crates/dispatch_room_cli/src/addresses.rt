@@ -40,7 +40,7 @@ impl fmt::Display for AddressFault {
         f.write_str(match self {
             AddressFault::NoPort => "no port",
             AddressFault::HighPort => "port above 65535",
-            AddressFault::NoNumbers => "an address in numbers is expected",
+            AddressFault::NoNumbers => "no name or zone is taken: write 127.0.0.1 or [::1]",
             AddressFault::Elsewhere => "other machines reach it",
         })
     }

@@ -1,10 +1,18 @@
-//! What reads the words of a command line.
+//! Reads the words of a command line as a task.
 
-ghost use Rattle.std.specs.Prelude.{◌≡◌, codes, IfOk, List, MatchResult, ℕ};
-ghost use Rattle.clap.specs.declared.parser.matches.ArgMatches.{ArgMatches as Given};
-ghost use Rattle.dispatch_room_cli.specs.AskedTasks.{Has, IsAmiss, IsAsked, IsCommand};
-ghost use Rattle.dispatch_room_cli.specs.AskedTasks.{IsJournal, IsList, IsNamed, IsOver};
-ghost use Rattle.dispatch_room_cli.specs.Tasks.{IsServedHere};
+ghost use Rattle.std.specs.Prelude.{◌≡◌, codes, IfOk, List, map, MatchBool, MatchOption};
+ghost use Rattle.std.specs.Prelude.{MatchResult, option_map, ℕ};
+ghost use Rattle.std.specs.String.{string_bytes};
+ghost use Rattle.clap.specs.Words.{first_of};
+ghost use Rattle.dispatch_room_cli.specs.AskedTasks.{Has, HasNoNumber, HasNumber, IsAddress};
+ghost use Rattle.dispatch_room_cli.specs.AskedTasks.{IsAmiss, IsAsked, IsColor, IsCount, IsFlag};
+ghost use Rattle.dispatch_room_cli.specs.AskedTasks.{IsJournal, IsLimit, IsList, IsMatched};
+ghost use Rattle.dispatch_room_cli.specs.AskedTasks.{IsNamed, IsOver, IsRead, IsReplay};
+ghost use Rattle.dispatch_room_cli.specs.AskedTasks.{IsService, given_in};
+ghost use Rattle.dispatch_room_cli.specs.Addresses.{IsLoopback};
+ghost use Rattle.dispatch_room_cli.specs.CommandForms.{IsProgram};
+ghost use Rattle.dispatch_room_cli.specs.ExplainedFailures.{Explains};
+ghost use Rattle.dispatch_room_cli.specs.Tasks.{IsHere, IsServedHere};
 ghost use Rattle.dispatch_room_cli.specs.declared.argument_parser.Mistake.TheVariants.{NoCommand};
 ghost use Rattle.dispatch_room_cli.specs.declared.argument_parser.Mistake.TheVariants.{TwoChanges};
 
@@ -20,14 +28,15 @@ use room_types::asks::Who;
 use room_types::numbers::{Moment, Number};
 use std::alloc::Global;
 use std::fmt;
+use std::net::SocketAddr;
 
 /// The version of the program, whose first number is that of the rooms that it keeps.
 pub const VERSION: &str = "2.0";
 
-// The option by which a failure is explained, also where standard error is no terminal.
+// The option that explains failures, also where standard error is no terminal.
 const EXPLAIN: &str = "--explain";
 
-// What is said of an address that is not one of this machine only.
+// Printed for an address that other machines reach.
 const NOT_LOOPBACK: &str = "a room is served at an address of this machine only, as \
      127.0.0.1:8080 or [::1]:8080: it speaks plain HTTP, and a token is all that a terminal shows; \
      terminals on other machines come by a proxy with TLS";
@@ -52,7 +61,7 @@ enum Mistake<'a> {
         one: &'a str,
         other: &'a str,
     },
-    /// A change of terminals would be kept, and there is none.
+    /// `--journal` is given, and nothing that changes terminals.
     NoChange,
     /// A journal would have the name of a file that the room's database uses.
     OfDatabase {
@@ -86,7 +95,7 @@ impl<'a> fmt::Display for Mistake<'a> {
             }
             Mistake::Nobody { option, who } => write!(
                 f,
-                "invalid value '{who}' for '--{option} <WHO>': it is desk:1 to desk:9, \
+                "invalid value '{who}' for '--{option} <WHO>': expected desk:1 to desk:9, \
                  position:1 to position:99, or crew: and a callsign"
             ),
             Mistake::OfDatabase { list, file } => write!(
@@ -110,18 +119,25 @@ impl<'a> fmt::Display for Mistake<'a> {
 /// machines reach.
 pub fn read<'a>(alloc: Global, words: &'a [String]) -> Result<Task<'a>, Error>
     ensures served_here { IfOk result IsServedHere }
+    ensures asked { IfOk result (IsRead (map string_bytes words.entry.now)) }
 {
-    let mut program = program(alloc, VERSION)?;
-    task(alloc, &mut program, words)
+    let mut command = program(alloc, VERSION)?;
+    task(alloc, &mut command, words)
 }
 
 /// Whether the words ask that a failure be explained. Behind `--` they name files.
-pub fn explains(words: &[String]) -> bool {
+pub fn explains(words: &[String]) -> bool
+    ensures { MatchBool result
+        (Explains (map string_bytes words.now))
+        (¬ Explains (map string_bytes words.now)) }
+{
     for word in words {
-        match word.as_str() {
-            EXPLAIN => return true,
-            "--" => return false,
-            _ => {}
+        let word = word.as_str();
+        if word == EXPLAIN {
+            return true;
+        }
+        if word == "--" {
+            return false;
         }
     }
     false
@@ -129,29 +145,38 @@ pub fn explains(words: &[String]) -> bool {
 
 fn task<'a>(
     alloc: Global,
-    program: &mut Command<'a>,
+    command: &mut Command<'a>,
     words: &'a [String],
 ) -> Result<Task<'a>, Error>
-    ensures { IfOk result IsServedHere }
+    requires { IsProgram command.old }
+    ensures served_here { IfOk result IsServedHere }
+    ensures asked { IfOk result (IsRead (map string_bytes words.entry.now)) }
 {
-    let read = task_of(&program.try_get_matches_from_mut(words)?);
-    match read {
+    let matches = command.try_get_matches_from_mut(words)?;
+    match task_of(&matches) {
         Ok(task) => Ok(task),
         Err(mistake) => {
             let mistake_text = format!(in alloc; "{mistake}")?;
-            Err(program.error(mistake.kind(), mistake_text.as_str())?)
+            Err(command.error(mistake.kind(), mistake_text.as_str())?)
         }
     }
 }
 
 fn task_of<'a>(matches: &ArgMatches<'a>) -> Result<Task<'a>, Mistake<'a>>
     ensures served_here { IfOk result IsServedHere }
-    ensures asked { IfOk result (λ task. (name : List ℕ) × (given : Given)
-        × IsCommand matches.now name given × IsAsked given name task) }
+    ensures asked { IfOk result (IsMatched matches.now) }
 {
     let Some((name, given)) = matches.subcommand() else {
         return Err(Mistake::NoCommand);
     };
+    task_by(name, given)
+}
+
+// What a command of this name asks for.
+fn task_by<'a>(name: &str, given: &ArgMatches<'a>) -> Result<Task<'a>, Mistake<'a>>
+    ensures served_here { IfOk result IsServedHere }
+    ensures asked { IfOk result (IsAsked (given_in given.now) name.now) }
+{
     match name {
         "board" => board_of(given),
         "renew" => renew_of(given),
@@ -169,7 +194,7 @@ fn task_of<'a>(matches: &ArgMatches<'a>) -> Result<Task<'a>, Mistake<'a>>
 // What a command over a room's file asks for.
 fn task_over<'a>(file: &'a str, name: &str, given: &ArgMatches<'a>) -> Result<Task<'a>, Mistake<'a>>
     ensures served_here { IfOk result IsServedHere }
-    ensures asked { IfOk result (IsOver given.now name.now file.now) }
+    ensures asked { IfOk result (IsOver (given_in given.now) name.now file.now) }
 {
     match name {
         "init" => Ok(Task::Init {
@@ -202,11 +227,11 @@ fn task_over<'a>(file: &'a str, name: &str, given: &ArgMatches<'a>) -> Result<Ta
 
 fn times_of<'a>(file: &'a str, given: &ArgMatches<'a>) -> Result<Task<'a>, Mistake<'a>>
     ensures served_here { IfOk result IsServedHere }
-    ensures asked { IfOk result (IsOver given.now (codes "times") file.now) }
+    ensures asked { IfOk result (IsOver (given_in given.now) (codes "times") file.now) }
 {
     let division = division_of(given)?;
     let day = text(given, "DAY")?;
-    match given.get_str("and") {
+    match word(given, "and") {
         None => Ok(Task::Times {
             file,
             division,
@@ -224,13 +249,13 @@ fn times_of<'a>(file: &'a str, given: &ArgMatches<'a>) -> Result<Task<'a>, Mista
 fn terminals_of<'a>(file: &'a str, given: &ArgMatches<'a>) -> Result<Task<'a>, Mistake<'a>>
     ensures served_here { IfOk result IsServedHere }
     ensures asked { MatchResult result
-        (IsOver given.now (codes "terminals") file.now)
-        (IsAmiss given.now file.now) }
+        (IsOver (given_in given.now) (codes "terminals") file.now)
+        (IsAmiss (given_in given.now) file.now) }
 {
     let new = named(given, "new")?;
     let revoked = named(given, "revoke")?;
     let list = list_of(file, given)?;
-    let wanted = match (new, revoked, given.get_str("from")) {
+    let wanted = match (new, revoked, word(given, "from")) {
         (None, None, None) if list.is_some() => return Err(Mistake::NoChange),
         (None, None, None) => Terminals::List,
         (Some(who), None, None) => Terminals::New(who),
@@ -252,10 +277,10 @@ fn conflict<'a>(one: &'a str, other: &'a str) -> Mistake<'a>
 // Whom the word behind an option names, where the option is given.
 fn named<'a>(given: &ArgMatches<'a>, option: &'a str) -> Result<Option<Who>, Mistake<'a>>
     ensures { MatchResult result
-        (IsNamed given.now option.now)
-        (λ mistake. (file : List ℕ) → IsAmiss given.now file mistake) }
+        (IsNamed (given_in given.now) option.now)
+        (λ mistake. (file : List ℕ) → IsAmiss (given_in given.now) file mistake) }
 {
-    let Some(who) = given.get_str(option) else {
+    let Some(who) = word(given, option) else {
         return Ok(None);
     };
     match who_of(who) {
@@ -266,40 +291,64 @@ fn named<'a>(given: &ArgMatches<'a>, option: &'a str) -> Result<Option<Who>, Mis
 
 fn serve_of<'a>(file: &'a str, given: &ArgMatches<'a>) -> Result<Task<'a>, Mistake<'a>>
     ensures served_here { IfOk result IsServedHere }
-    ensures asked { IfOk result (IsOver given.now (codes "serve") file.now) }
+    ensures asked { IfOk result (IsOver (given_in given.now) (codes "serve") file.now) }
 {
-    let address = text(given, "ADDRESS")?;
-    let Some(address) = loopback(address) else {
-        return Err(Mistake::NotLoopback {
-            address,
-            fault: fault_in(address),
-        });
-    };
-    let service = Service {
-        address,
-        connections: given.get_one::<u64>("connections").unwrap_or(u64::MAX),
+    let service = service_of(file, given)?;
+    Ok(Task::Serve { file, service })
+}
+
+fn service_of<'a>(file: &'a str, given: &ArgMatches<'a>) -> Result<Service<'a>, Mistake<'a>>
+    ensures here { IfOk result IsHere }
+    ensures asked { IfOk result (IsService (given_in given.now) file.now) }
+{
+    Ok(Service {
+        address: address_of(given)?,
+        connections: connections_of(given),
         idle: number(given, "idle")?,
         keep: number(given, "keep")?,
         patience: number(given, "patience")?,
-        history: given.get_flag("history"),
-        log: given.get_flag("log"),
+        history: flag(given, "history"),
+        log: flag(given, "log"),
         journal: journal_of(file, given)?,
-    };
-    Ok(Task::Serve { file, service })
+    })
+}
+
+// Where a room is served.
+fn address_of<'a>(given: &ArgMatches<'a>) -> Result<SocketAddr, Mistake<'a>>
+    ensures here { IfOk result IsLoopback }
+    ensures asked { IfOk result (IsAddress (given_in given.now)) }
+{
+    let address = text(given, "ADDRESS")?;
+    match loopback(address) {
+        Some(address) => Ok(address),
+        None => Err(Mistake::NotLoopback {
+            address,
+            fault: fault_in(address),
+        }),
+    }
+}
+
+// How many connections are served: without end where no number is given.
+fn connections_of(given: &ArgMatches<'_>) -> u64
+    ensures { IsCount (given_in given.now) result }
+{
+    count(given, "connections").unwrap_or(u64::MAX)
 }
 
 // The list that is kept of a room's file, where there is one.
 fn list_of<'a>(file: &'a str, given: &ArgMatches<'a>) -> Result<Option<&'a str>, Mistake<'a>>
-    ensures { MatchResult result (IsList given.now file.now) (IsAmiss given.now file.now) }
+    ensures { MatchResult result
+        (IsList (given_in given.now) file.now)
+        (IsAmiss (given_in given.now) file.now) }
 {
-    match given.get_str("journal") {
+    match word(given, "journal") {
         Some(list) if is_of_database(file, list) => Err(Mistake::OfDatabase { list, file }),
         list => Ok(list),
     }
 }
 
 fn journal_of<'a>(file: &'a str, given: &ArgMatches<'a>) -> Result<Option<Journal<'a>>, Mistake<'a>>
-    ensures { IfOk result (IsJournal given.now file.now) }
+    ensures { IfOk result (IsJournal (given_in given.now) file.now) }
 {
     let Some(list) = list_of(file, given)? else {
         return Ok(None);
@@ -311,19 +360,28 @@ fn journal_of<'a>(file: &'a str, given: &ArgMatches<'a>) -> Result<Option<Journa
     }))
 }
 
-fn replay_of(given: &ArgMatches<'_>) -> Replay {
+fn replay_of(given: &ArgMatches<'_>) -> Replay
+    ensures { IsReplay (given_in given.now) result }
+{
     Replay {
-        until: given.get_one::<u32>("until").and_then(Moment::new),
-        answers: given.get_flag("answers"),
-        history: given.get_flag("history"),
-        open: given.get_flag("open"),
-        digest: given.get_flag("digest"),
+        until: until_of(given),
+        answers: flag(given, "answers"),
+        history: flag(given, "history"),
+        open: flag(given, "open"),
+        digest: flag(given, "digest"),
     }
+}
+
+fn until_of(given: &ArgMatches<'_>) -> Option<Moment>
+    ensures { IsLimit (given_in given.now) (codes "until") 0 4102444799 result }
+{
+    let number = limit(given, "until")?;
+    Moment::new(number)
 }
 
 fn renew_of<'a>(given: &ArgMatches<'a>) -> Result<Task<'a>, Mistake<'a>>
     ensures served_here { IfOk result IsServedHere }
-    ensures asked { IfOk result (IsAsked given.now (codes "renew")) }
+    ensures asked { IfOk result (IsAsked (given_in given.now) (codes "renew")) }
 {
     Ok(Task::Renew {
         file: text(given, "OLD")?,
@@ -334,39 +392,83 @@ fn renew_of<'a>(given: &ArgMatches<'a>) -> Result<Task<'a>, Mistake<'a>>
 
 fn board_of<'a>(given: &ArgMatches<'a>) -> Result<Task<'a>, Mistake<'a>>
     ensures served_here { IfOk result IsServedHere }
-    ensures asked { IfOk result (IsAsked given.now (codes "board")) }
+    ensures asked { IfOk result (IsAsked (given_in given.now) (codes "board")) }
 {
     let look = Look {
         address: text(given, "ADDRESS")?,
         token: text(given, "TOKEN")?,
-        incident: given.get_one::<u32>("incident").and_then(Number::new),
+        incident: incident_of(given),
         patience: number(given, "patience")?,
-        color: color_of(text(given, "color")?),
+        color: color_of(given)?,
     };
     Ok(Task::Board { look })
 }
 
-fn color_of(name: &str) -> Color {
-    match name {
+fn incident_of(given: &ArgMatches<'_>) -> Option<Number>
+    ensures { IsLimit (given_in given.now) (codes "incident") 1 2147483647 result }
+{
+    let number = limit(given, "incident")?;
+    Number::new(number)
+}
+
+fn color_of<'a>(given: &ArgMatches<'a>) -> Result<Color, Mistake<'a>>
+    ensures { IfOk result (IsColor (given_in given.now)) }
+{
+    Ok(match text(given, "color")? {
         "always" => Color::Always,
         "never" => Color::Never,
         _ => Color::Auto,
-    }
+    })
 }
 
-fn division_of<'a>(given: &ArgMatches<'a>) -> Result<DivisionNumber, Mistake<'a>> {
+fn division_of<'a>(given: &ArgMatches<'a>) -> Result<DivisionNumber, Mistake<'a>>
+    ensures { IfOk result (HasNumber (given_in given.now) 16 (codes "DIVISION")) }
+{
     let digit = number(given, "DIVISION")?;
     DivisionNumber::new(u32::from(digit)).ok_or(Mistake::NoCommand)
 }
 
 fn text<'a>(given: &ArgMatches<'a>, name: &str) -> Result<&'a str, Mistake<'a>>
     ensures { MatchResult result
-        (λ text. Has given.now name.now text.now)
+        (λ text. Has (given_in given.now) name.now text.now)
         (λ mistake. mistake ≡ NoCommand) }
 {
-    given.get_str(name).ok_or(Mistake::NoCommand)
+    word(given, name).ok_or(Mistake::NoCommand)
 }
 
-fn number<'a>(given: &ArgMatches<'a>, name: &str) -> Result<u16, Mistake<'a>> {
+fn number<'a>(given: &ArgMatches<'a>, name: &str) -> Result<u16, Mistake<'a>>
+    ensures { MatchResult result
+        (HasNumber (given_in given.now) 16 name.now)
+        (λ mistake. (mistake ≡ NoCommand) × HasNoNumber (given_in given.now) 16 name.now) }
+{
     given.get_one::<u16>(name).ok_or(Mistake::NoCommand)
+}
+
+// What is given by a name, where it is: a text, a number or a flag.
+fn word<'a>(given: &ArgMatches<'a>, name: &str) -> Option<&'a str>
+    ensures { option_map (λ text. text.now) result ≡ first_of name.now (given_in given.now) }
+{
+    given.get_str(name)
+}
+
+fn limit(given: &ArgMatches<'_>, name: &str) -> Option<u32>
+    ensures { MatchOption result
+        (HasNoNumber (given_in given.now) 32 name.now)
+        (HasNumber (given_in given.now) 32 name.now) }
+{
+    given.get_one::<u32>(name)
+}
+
+fn count(given: &ArgMatches<'_>, name: &str) -> Option<u64>
+    ensures { MatchOption result
+        (HasNoNumber (given_in given.now) 64 name.now)
+        (HasNumber (given_in given.now) 64 name.now) }
+{
+    given.get_one::<u64>(name)
+}
+
+fn flag(given: &ArgMatches<'_>, name: &str) -> bool
+    ensures { IsFlag (given_in given.now) name.now result }
+{
+    given.get_flag(name)
 }

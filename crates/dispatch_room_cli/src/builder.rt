@@ -1,14 +1,25 @@
 //! The program as a command of clap, put together from the forms of its commands.
 
+ghost use Rattle.std.specs.Prelude.{IfOk};
+ghost use Rattle.clap.specs.Words.{new_rule};
+ghost use Rattle.dispatch_room_cli.specs.CommandForms.{AreAllCommands, AreArgs, AreCommands};
+ghost use Rattle.dispatch_room_cli.specs.CommandForms.{IsArg, IsCommandOf, IsProgram};
+ghost use Rattle.dispatch_room_cli.specs.CommandForms.{rule_by, rule_of_word};
+ghost use Rattle.dispatch_room_cli.specs.declared.command_options.WordKind.TheVariants.{Flag};
+ghost use Rattle.dispatch_room_cli.specs.declared.command_options.WordKind.TheVariants.{Named};
+ghost use Rattle.dispatch_room_cli.specs.declared.command_options.WordKind.TheVariants.{Placed};
+
 use crate::command_options::{CommandForm, FORMS, Word, WordKind};
 use clap::builder::ValueParser;
 use clap::{Arg, ArgAction, Command};
 use std::alloc::{AllocError, Global};
 
 /// The program of this version. Its words have to name a command.
-pub fn program<'a>(alloc: Global, version: &'a str) -> Result<Command<'a>, AllocError> {
-    let commands = commands(alloc)?;
-    Command::new(alloc, "dispatch_room")
+pub fn program<'a>(alloc: Global, version: &'a str) -> Result<Command<'a>, AllocError>
+    ensures { IfOk result IsProgram }
+{
+    let commands = all_commands(alloc)?;
+    let program = Command::new(alloc, "dispatch_room")
         .about(
             "Keeps the control room of an ambulance service in one SQLite file, \
              and serves it over HTTP",
@@ -21,26 +32,41 @@ pub fn program<'a>(alloc: Global, version: &'a str) -> Result<Command<'a>, Alloc
         )
         .version(version)
         .subcommand_required(true)
-        .subcommands(commands)
+        .subcommands(commands)?;
+    Ok(program)
 }
 
-fn commands<'a>(alloc: Global) -> Result<Vec<Command<'a>>, AllocError> {
+// All commands.
+fn all_commands<'a>(alloc: Global) -> Result<Vec<Command<'a>>, AllocError>
+    ensures { IfOk result (λ commands. AreAllCommands commands.items) }
+{
+    commands(alloc, &FORMS)
+}
+
+fn commands<'a>(alloc: Global, forms: &[CommandForm]) -> Result<Vec<Command<'a>>, AllocError>
+    ensures { IfOk result (λ commands. AreCommands forms.now commands.items) }
+{
     let mut commands = Vec::new(alloc);
-    for form in &FORMS {
+    for form in forms {
         commands.push(command_of(alloc, form)?)?;
     }
     Ok(commands)
 }
 
-fn command_of<'a>(alloc: Global, form: &CommandForm) -> Result<Command<'a>, AllocError> {
+fn command_of<'a>(alloc: Global, form: &CommandForm) -> Result<Command<'a>, AllocError>
+    ensures { IfOk result (IsCommandOf form.now) }
+{
     let args = args_of(alloc, form.words)?;
-    Command::new(alloc, form.name)
+    let command = Command::new(alloc, form.name)
         .about(form.about)
         .after_help(form.end)
-        .args(args)
+        .args(args)?;
+    Ok(command)
 }
 
-fn args_of<'a>(alloc: Global, words: &[Word]) -> Result<Vec<Arg<'a>>, AllocError> {
+fn args_of<'a>(alloc: Global, words: &[Word]) -> Result<Vec<Arg<'a>>, AllocError>
+    ensures { IfOk result (λ args. AreArgs words.now args.items) }
+{
     let mut args = Vec::new(alloc);
     for word in words {
         args.push(arg_of(alloc, word))?;
@@ -48,7 +74,9 @@ fn args_of<'a>(alloc: Global, words: &[Word]) -> Result<Vec<Arg<'a>>, AllocError
     Ok(args)
 }
 
-fn arg_of<'a>(alloc: Global, word: &Word) -> Arg<'a> {
+fn arg_of<'a>(alloc: Global, word: &Word) -> Arg<'a>
+    ensures { IsArg (rule_of_word word.now) result }
+{
     match word.kind {
         WordKind::Placed(parser) => placed(alloc, word, parser),
         WordKind::Flag => flag(alloc, word),
@@ -61,14 +89,18 @@ fn arg_of<'a>(alloc: Global, word: &Word) -> Arg<'a> {
     }
 }
 
-fn placed<'a>(alloc: Global, word: &Word, parser: ValueParser<'a>) -> Arg<'a> {
+fn placed<'a>(alloc: Global, word: &Word, parser: ValueParser<'a>) -> Arg<'a>
+    ensures { IsArg (rule_by (new_rule word.now.name.now) (Placed parser.entry)) result }
+{
     Arg::new(alloc, word.name)
         .required(true)
         .value_parser(parser)
         .help(word.help)
 }
 
-fn flag<'a>(alloc: Global, word: &Word) -> Arg<'a> {
+fn flag<'a>(alloc: Global, word: &Word) -> Arg<'a>
+    ensures { IsArg (rule_by (new_rule word.now.name.now) Flag) result }
+{
     Arg::new(alloc, word.name)
         .long(word.name)
         .action(ArgAction::SetTrue)
@@ -81,7 +113,11 @@ fn named<'a>(
     value: &'a str,
     parser: ValueParser<'a>,
     default: &'a [&'a str],
-) -> Arg<'a> {
+) -> Arg<'a>
+    ensures { IsArg
+        (rule_by (new_rule word.now.name.now) (Named value.entry parser.entry default.entry))
+        result }
+{
     Arg::new(alloc, word.name)
         .long(word.name)
         .value_name(value)

@@ -1,8 +1,9 @@
-//! The commands of the program, each with its words and what help says of them.
+//! The commands of the program, with their words, options and help texts.
 
 use clap::builder::ValueParser;
+use room_types::numbers::LAST_MOMENT;
 
-/// A command: its name, what it does, what help says at its end, and what follows its name.
+/// A command: its name, what it does, the text at the end of its help, and its words.
 #[derive(Clone, Copy)]
 pub struct CommandForm {
     pub name: &'static str,
@@ -22,16 +23,16 @@ pub struct Word {
 /// How a word is given.
 #[derive(Clone, Copy)]
 pub enum WordKind {
-    /// At its place, and it has to be there.
+    /// At its place; it must be given.
     Placed(ValueParser<'static>),
     /// By its name only.
     Flag,
-    /// Behind its name, and it has to be there: what help calls it, and what it has to be.
+    /// Behind its name, and it must be given: its name in help, and which values it takes.
     Needed {
         value: &'static str,
         parser: ValueParser<'static>,
     },
-    /// Behind its name: what help calls it, what it has to be, and what it is where none is given.
+    /// Behind its name: its name in help, which values it takes, and the default.
     Named {
         value: &'static str,
         parser: ValueParser<'static>,
@@ -56,8 +57,8 @@ const FILE: Word = Word {
 const EXPLAIN: Word = Word {
     name: "explain",
     kind: WordKind::Flag,
-    help: "Before the line of a failure, say what failed, where and why; on a terminal it is \
-         always said",
+    help: "Before the line that names a failure, print what failed, where and why; on a terminal \
+         this is the default",
 };
 
 const LIST: Word = Word {
@@ -67,8 +68,8 @@ const LIST: Word = Word {
         parser: ValueParser::String,
         default: &[],
     },
-    help: "Keep the change in this file, which is no service's meanwhile, before it is made: the \
-         room's journal stays whole then",
+    help: "Append the change to this journal before it is made, so that `replay` makes it too; no \
+         service may use the journal meanwhile",
 };
 
 const INIT: CommandForm = CommandForm {
@@ -88,7 +89,7 @@ const INIT: CommandForm = CommandForm {
 
 const IMPORT: CommandForm = CommandForm {
     name: "import",
-    about: "Enrols a fleet, and says what became of each row",
+    about: "Enrols a fleet, and prints what became of each row",
     end: "Where it says `refused: file`, `check` says what is wrong.\n\n\
          Example: dispatch_room import room.db fleet.csv",
     words: &[
@@ -113,8 +114,8 @@ const MIGRATE: CommandForm = CommandForm {
 
 const CHECK: CommandForm = CommandForm {
     name: "check",
-    about: "Says how much a room has, or what is wrong first with its file",
-    end: "No row is written. Its status is 0 where the file is a well-formed room.\n\n\
+    about: "Prints what a room has, or the first thing that is wrong with its file",
+    end: "No row is written. The exit status is 0 where the file is a well-formed room.\n\n\
          Example: dispatch_room check room.db",
     words: &[FILE, EXPLAIN],
 };
@@ -130,7 +131,7 @@ const DIGEST: CommandForm = CommandForm {
 
 const RESTORE: CommandForm = CommandForm {
     name: "restore",
-    about: "Puts a copy of a room in the place of a file, and reports how much it has",
+    about: "Puts a copy of a room in the place of a file, and prints what it has",
     end: "The copy stays, with its log in it. The file that was there goes to FILE.old, with its \
          log: neither may be served meanwhile. A stop leaves the copy's room there, or no file; \
          then do it again.\n\n\
@@ -165,7 +166,8 @@ const SERVE: CommandForm = CommandForm {
                 parser: ValueParser::Unsigned(1, u64::MAX),
                 default: &[],
             },
-            help: "How many connections to serve, one after another; without it there is no end",
+            help: "How many connections to serve, one after another, and then end; by default it \
+                 goes on",
         },
         Word {
             name: "idle",
@@ -174,8 +176,8 @@ const SERVE: CommandForm = CommandForm {
                 parser: ValueParser::Signed(1, 60000),
                 default: &["200"],
             },
-            help: "How long a connection may be silent between requests, and before the first, where \
-                 all others wait for it: with --connections",
+            help: "With --connections: how long a connection may be silent before each request, \
+                 while all others wait",
         },
         Word {
             name: "keep",
@@ -184,13 +186,13 @@ const SERVE: CommandForm = CommandForm {
                 parser: ValueParser::Signed(1, 3600),
                 default: &["75"],
             },
-            help: "How long a connection may be silent where nobody waits for it: without \
-                 --connections",
+            help: "Without --connections: how long a connection may be silent before each \
+                 request",
         },
         Word {
             name: "patience",
             kind: PATIENCE,
-            help: "How long a request may take to come, and its answer to be taken",
+            help: "How long a request may take to arrive, and its answer to be taken",
         },
         Word {
             name: "history",
@@ -211,8 +213,8 @@ const SERVE: CommandForm = CommandForm {
                 parser: ValueParser::String,
                 default: &[],
             },
-            help: "Keep each message in this file before the room acts on it, and its answer's \
-                 status",
+            help: "Append each message to this file before the room acts on it, and then its \
+                 answer's status",
         },
         Word {
             name: "journal-of",
@@ -221,7 +223,7 @@ const SERVE: CommandForm = CommandForm {
                 parser: ValueParser::Names(&["all", "changes"]),
                 default: &["all"],
             },
-            help: "Which messages the journal keeps: all, or no questions, which change nothing",
+            help: "Which messages the journal keeps: all, or all but GET and HEAD",
         },
         Word {
             name: "journal-sync",
@@ -230,8 +232,8 @@ const SERVE: CommandForm = CommandForm {
                 parser: ValueParser::Names(&["always", "system"]),
                 default: &["system"],
             },
-            help: "When a record of the journal is on the disk: always before the room acts on \
-                 it, or when the system writes it",
+            help: "When the journal is synced: always, before the room acts on a message, or when \
+                 the system does it",
         },
         EXPLAIN,
     ],
@@ -239,9 +241,9 @@ const SERVE: CommandForm = CommandForm {
 
 const REPLAY: CommandForm = CommandForm {
     name: "replay",
-    about: "Does to a room what a journal says, from standard input, at its moments",
-    end: "The room has to be as it was where the journal begins. Each answer's status has to be \
-         the recorded one; where it is not, or the input is no journal, the record is reported.\n\n\
+    about: "Replays a journal from standard input to a room, each message at its moment",
+    end: "The room must be as it was where the journal begins. Where an answer has another status \
+         than the recorded one, or the input is no journal, the record is reported.\n\n\
          Example: dispatch_room replay copy.db --until $(date -d '03:15' +%s) <room.list",
     words: &[
         FILE,
@@ -249,7 +251,7 @@ const REPLAY: CommandForm = CommandForm {
             name: "until",
             kind: WordKind::Named {
                 value: "MOMENT",
-                parser: ValueParser::Signed(0, 4102444799),
+                parser: ValueParser::Signed(0, LAST_MOMENT as i64),
                 default: &[],
             },
             help: "Stop before the first later message; whole seconds since 1970, in UTC",
@@ -257,8 +259,8 @@ const REPLAY: CommandForm = CommandForm {
         Word {
             name: "answers",
             kind: WordKind::Flag,
-            help: "Play each message as it comes, and write its answer: for a program at both \
-                 pipes",
+            help: "Write the answer to each message as soon as it has come: for a program that \
+                 drives the room by pipes",
         },
         Word {
             name: "history",
@@ -269,12 +271,12 @@ const REPLAY: CommandForm = CommandForm {
             name: "open",
             kind: WordKind::Flag,
             help: "The journal is still written: where it ends within a record, leave that out and \
-                 say so",
+                 report it",
         },
         Word {
             name: "digest",
             kind: WordKind::Flag,
-            help: "At the end print the room's digest too, as `digest` does",
+            help: "At the end, print the digest of the room too, as `digest` does",
         },
         EXPLAIN,
     ],
@@ -282,9 +284,9 @@ const REPLAY: CommandForm = CommandForm {
 
 const VERIFY: CommandForm = CommandForm {
     name: "verify",
-    about: "Reports how much a journal holds, or the first record at which it is no journal",
-    end: "In a journal of version 2 each byte that changed is found, and each record that was lost \
-         or came twice. Its status is 0 where the journal is whole.\n\n\
+    about: "Prints how much a journal holds, or the first record at which it is no journal",
+    end: "In a journal of version 2 each changed byte is found, and each record that was lost or \
+         comes twice. The exit status is 0 where the journal is whole.\n\n\
          Example: dispatch_room verify room.list",
     words: &[
         Word {
@@ -320,8 +322,8 @@ const BOARD: CommandForm = CommandForm {
                 parser: ValueParser::Signed(1, 2147483647),
                 default: &[],
             },
-            help: "Show also what came of this incident, where the room is served with --history, \
-                 and which vehicles may be sent to it",
+            help: "Show this incident too: proposed vehicles, and where the room is served with \
+                 --history its calls and turns",
         },
         Word {
             name: "patience",
@@ -343,20 +345,20 @@ const BOARD: CommandForm = CommandForm {
 
 const RENEW: CommandForm = CommandForm {
     name: "renew",
-    about: "Makes a new room of a room: what is going on in it, and what happened since a day",
-    end: "OLD is not served meanwhile. No row of it is written: it stays the archive, which check \
-         and times read.\n\n\
+    about: "Makes a new room of an old one: what is going on, and what happened since a day",
+    end: "OLD must not be served meanwhile. No row of it is written: it stays as the archive, for \
+         `check` and `times`.\n\n\
          Example: dispatch_room renew room.db new.db --since 2026-03-22",
     words: &[
         Word {
             name: "OLD",
             kind: TEXT,
-            help: "The file of the room that there is",
+            help: "The file of the old room",
         },
         Word {
             name: "NEW",
             kind: TEXT,
-            help: "The file of the new room: an empty one, or one that is not there",
+            help: "The file of the new room: empty, or not there yet",
         },
         Word {
             name: "since",
@@ -364,8 +366,8 @@ const RENEW: CommandForm = CommandForm {
                 value: "DAY",
                 parser: ValueParser::String,
             },
-            help: "The first day of which all stays, as YYYY-MM-DD: two days before the room's \
-                 last moment, or earlier",
+            help: "The first day that the new room keeps whole, as YYYY-MM-DD: at least two days \
+                 before the room's last moment",
         },
         EXPLAIN,
     ],
@@ -397,8 +399,8 @@ const TIMES: CommandForm = CommandForm {
                 parser: ValueParser::String,
                 default: &[],
             },
-            help: "The room of which FILE was made: its incidents count too, where FILE has none of \
-                 their numbers; neither file is written",
+            help: "The room of which `renew` made FILE: incidents that only OLD has count too; \
+                 neither file is written",
         },
         EXPLAIN,
     ],
@@ -406,8 +408,8 @@ const TIMES: CommandForm = CommandForm {
 
 const TERMINALS: CommandForm = CommandForm {
     name: "terminals",
-    about: "Lists who has a terminal, or gives one a new token, or takes it away, or sets all that \
-            a file names",
+    about: "Lists who has a terminal; or gives a new token, takes a terminal away, or sets those \
+            that a file names",
     end: "WHO is desk:1, position:3 or crew:A1. No token is listed; a new one is printed once. \
          The room must not be served.\n\n\
          Example: dispatch_room terminals room.db --new crew:A1",
@@ -420,7 +422,7 @@ const TERMINALS: CommandForm = CommandForm {
                 parser: ValueParser::String,
                 default: &[],
             },
-            help: "Give this one a new token, print it, and know no other of it any more",
+            help: "Give WHO a new token and print it; the old ones are refused from then on",
         },
         Word {
             name: "revoke",
@@ -429,7 +431,7 @@ const TERMINALS: CommandForm = CommandForm {
                 parser: ValueParser::String,
                 default: &[],
             },
-            help: "Know no token of this one any more",
+            help: "Refuse all tokens of WHO from now on; a crew gets one that nobody knows",
         },
         Word {
             name: "from",
@@ -438,8 +440,8 @@ const TERMINALS: CommandForm = CommandForm {
                 parser: ValueParser::String,
                 default: &[],
             },
-            help: "Give the desks and positions of this plan, or the crews of this fleet, the \
-                 tokens that it has, and know no other of them any more; all others stay",
+            help: "Give the desks and positions of this plan, or the crews of this fleet, its \
+                 tokens and no others; all that it does not name keep theirs",
         },
         LIST,
         EXPLAIN,
@@ -448,8 +450,8 @@ const TERMINALS: CommandForm = CommandForm {
 
 const REPLAN: CommandForm = CommandForm {
     name: "replan",
-    about: "Gives a room another plan: its zone, its areas, and the tokens that it has",
-    end: "The plan has an area of each division that the room has, and may have more. Desks and \
+    about: "Gives a room another plan: its zone, its areas and its tokens",
+    end: "The plan needs an area for each division of the room, and may add divisions. Desks and \
          positions that it does not name keep their tokens. The room must not be served.\n\n\
          Example: dispatch_room replan room.db plan.csv",
     words: &[

@@ -2,8 +2,8 @@
 ghost use Rattle.std.specs.Prelude.{◌↔◌, IsTrue, MatchBool};
 ghost use Rattle.dispatch_room_cli.specs.DatabaseNames.{IsApart, IsBeside, IsLastName, IsOfDatabase};
 
-// What such a name has behind that of the database's own file.
-const ENDS: [&str; 3] = ["-journal", "-wal", "-shm"];
+/// What SQLite appends to the name of its file for the files that it has beside it.
+pub const ENDS: [&str; 3] = ["-journal", "-wal", "-shm"];
 
 /// Whether a path has the name of a file that the database of another path uses, whichever folder
 /// it lies in. A journal of that name would be taken for the database's own, which no longer opens.

@@ -1,5 +1,5 @@
-//! How a program ends: how much it did, or why it fails, what it says of that, and its exit status.
-ghost use Rattle.std.specs.Prelude.{◌≡◌};
+//! How the program ends: how much it did, or why it fails; what it prints then; its exit status.
+ghost use Rattle.std.specs.Prelude.{◌≡◌, IfOk};
 ghost use Rattle.dispatch_room_cli.specs.ExitStatus.{refused, status_after};
 ghost use Rattle.dispatch_room_cli.specs.declared.exit_status.Failure.TheVariants.{Memory};
 
@@ -32,13 +32,13 @@ impl Done {
     }
 }
 
-/// Why the program fails. It is what standard error says.
+/// Why the program fails. Its text is the last line on standard error.
 #[derive(Clone, Copy, Debug, PartialEq, Eq, Error)]
 pub enum Failure {
     /// A row of a plan, from 1 after the header; 0 for the plan as a whole.
     #[error("refused: plan row {0}")]
     PlanRow(u64),
-    /// A text can't be read, or is none of its form.
+    /// A text can't be read, or is not of its form.
     #[error("refused: input")]
     Input,
     /// The room's file is not there, or is no room; or a room was to be created, and the file is
@@ -54,13 +54,13 @@ pub enum Failure {
     /// The text is no day from 1970 to 2099.
     #[error("refused: day")]
     Day,
-    /// What stands at a record of a list is no list, or no message; records are counted from 1.
+    /// What stands at this record is no entry of a list, or no message; records count from 1.
     #[error("refused: record {0}")]
     Record(u64),
-    /// At a record of a list the room is another than the list says.
+    /// At this record of the list the room is another than the list's.
     #[error("refused: another room at record {0}")]
     OtherRoom(u64),
-    /// A record of a list has another status than its message is answered with.
+    /// At this record of the list the answer has another status than the recorded one.
     #[error("differs: record {0}")]
     Differs(u64),
     /// The input ended within a message, the reads were used up, or the clock gave no moment.
@@ -115,7 +115,7 @@ impl<T: Drop> From<AllocFailed<T>> for Failure {
     }
 }
 
-/// What a store's refusal is to the program: it has no other than of memory and of storage.
+/// The failure that reports a store's refusal: a store refuses only for memory or storage.
 pub fn refused(refusal: Refusal) -> Failure
     ensures { result ≡ refused refusal }
 {
@@ -125,9 +125,10 @@ pub fn refused(refusal: Refusal) -> Failure
     }
 }
 
-/// Reports to `err` why the program failed, if it did, and gives its exit status.
+/// Prints to `err` why the program failed, if it did, and returns its exit status.
 pub fn end<E: Write>(done: Result<Done, Failure>, err: &mut E) -> u8
-    ensures { result ≡ status_after done }
+    ensures status { result ≡ status_after done }
+    ensures silent { IfOk done (λ _. err.new ≡ err.old) }
 {
     match done {
         Ok(done) => done.status(),

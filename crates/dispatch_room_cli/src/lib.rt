@@ -6,7 +6,7 @@ mod addresses;
 pub mod argument_parser;
 mod builder;
 mod command_options;
-mod database_names;
+pub mod database_names;
 pub mod exit_status;
 pub mod failure_causes;
 pub mod tasks;

@@ -13,7 +13,7 @@ pub enum Task<'a> {
         file: &'a str,
         plan: &'a str,
     },
-    /// The rows of a fleet are enrolled in a room, and kept in a list before, where there is one.
+    /// The rows of a fleet are enrolled in a room, and before that kept in a list, if one is given.
     Import {
         file: &'a str,
         fleet: &'a str,
@@ -28,12 +28,12 @@ pub enum Task<'a> {
         file: &'a str,
         service: Service<'a>,
     },
-    /// What a journal says is done to a room.
+    /// A journal is replayed to a room.
     Replay {
         file: &'a str,
         replay: Replay,
     },
-    /// How much a list holds is reported, or the first record at which it is none.
+    /// How much a journal holds is reported, or the first record at which it is none.
     Verify {
         list: &'a str,
     },
@@ -41,7 +41,7 @@ pub enum Task<'a> {
     Check {
         file: &'a str,
     },
-    /// A room gets the plan of a file, which is kept in a list before, where there is one.
+    /// A room gets the plan of a file, which before that is kept in a list, if one is given.
     Replan {
         file: &'a str,
         plan: &'a str,
@@ -56,7 +56,7 @@ pub enum Task<'a> {
         copy: &'a str,
         file: &'a str,
     },
-    /// A new room is made of a room, since a day.
+    /// A new room is made of an old one, since a day.
     Renew {
         file: &'a str,
         new: &'a str,
@@ -80,15 +80,15 @@ pub enum Task<'a> {
         division: DivisionNumber,
         day: &'a str,
     },
-    /// The terminals of a room are listed, or those of one changed, which is kept in a list
-    /// before, where there is one.
+    /// The terminals of a room are listed, or those of one user changed; the change is before that
+    /// kept in a list, if one is given.
     Terminals {
         file: &'a str,
         wanted: Terminals,
         list: Option<&'a str>,
     },
-    /// All that a plan's or a fleet's file names get the tokens that it gives them, which is kept
-    /// in a list before, where there is one.
+    /// Everyone whom a plan or a fleet names gets the tokens that it gives; before that this is
+    /// kept in a list, if one is given.
     SetTerminals {
         file: &'a str,
         csv: &'a str,
@@ -130,11 +130,11 @@ impl<'a> Task<'a> {
 pub struct Service<'a> {
     /// Where it listens: an address of this machine only.
     pub address: SocketAddr,
-    /// How many connections it serves, one after another: where these are as many as can be, it
-    /// goes on until it is stopped.
+    /// How many connections it serves, one after another. With 2^64 - 1, the default, it goes on
+    /// until it is stopped.
     pub connections: u64,
-    /// How many milliseconds it waits for the first byte of a message, where it serves so many
-    /// connections.
+    /// How many milliseconds it waits for the first byte of a message, where the number of
+    /// connections is given.
     pub idle: u16,
     /// How many seconds a connection may be silent where the service goes on until it is stopped.
     pub keep: u16,
@@ -161,7 +161,7 @@ pub struct Journal<'a> {
 /// How much of a journal is replayed, and what is reported of it.
 #[derive(Clone, Copy)]
 pub struct Replay {
-    /// The last moment that is replayed: all are by default.
+    /// The last moment that is replayed; none, the default, replays all.
     pub until: Option<Moment>,
     /// Whether each message is played as it comes, and its answer written.
     pub answers: bool,
@@ -169,7 +169,7 @@ pub struct Replay {
     pub history: bool,
     /// Whether the list may end within a record, as one that is still written.
     pub open: bool,
-    /// Whether the digest of the room is printed that it came to.
+    /// Whether the digest of the room is printed at the end.
     pub digest: bool,
 }
 
@@ -178,13 +178,13 @@ pub struct Replay {
 pub enum Terminals {
     /// Who has one is listed.
     List,
-    /// This one gets a new token, and its old ones are no longer known.
+    /// This user gets a new token, and the old ones are refused.
     New(Who),
-    /// The tokens of this one are no longer known.
+    /// The tokens of this user are refused.
     Revoke(Who),
 }
 
-/// Which served room is looked at, by which desk, and how.
+/// Which desk's board is shown, of which served room, and how.
 #[derive(Clone, Copy)]
 pub struct Look<'a> {
     /// Where the room is served.
@@ -193,7 +193,7 @@ pub struct Look<'a> {
     pub token: &'a str,
     /// The incident that is shown too, with what came of it and whom to send.
     pub incident: Option<Number>,
-    /// How many seconds it may take in all.
+    /// How many seconds it takes in all, at most.
     pub patience: u16,
     pub color: Color,
 }
@@ -201,7 +201,7 @@ pub struct Look<'a> {
 /// Whether a board has colours.
 #[derive(Clone, Copy, PartialEq, Eq)]
 pub enum Color {
-    /// It has on a terminal.
+    /// Only on a terminal.
     Auto,
     Always,
     Never,

@@ -54,8 +54,8 @@ end_of_board reached.AllButRefused = Ok InPart
 end_of_board reached.Less = Err Network
 
 -- the board of what was heard is written, and the command ends so
-abbrev pub IsPrinted : List ℕ → Bool → Bool → Option (List ℕ) → Option (List ℕ) → Done → Type 0
-IsPrinted heard proposes colour old new done =
+abbrev pub PrintsBoard : List ℕ → Bool → Bool → Option (List ℕ) → Option (List ℕ) → Done → Type 0
+PrintsBoard heard proposes colour old new done =
     (board : Board) × IsBoard heard proposes colour board × Appends old new board.page.text.items
     × (end_of_board board.reached ≡ Ok done)
 

@@ -1,13 +1,15 @@
 -- What a task of the command line comes to, where it is done.
 use Rattle.std.specs.Global.{Global}
 use Rattle.std.specs.Io.KnownBytes.{Appends}
-use Rattle.std.specs.Prelude.{Bool, Err, List, MatchResult, None, Ok, Option, Result, Some, Vec, codes}
+use Rattle.std.specs.Prelude.{Bool, Err, IfOk, List, MatchResult, None, Ok, Option, Result, Some, Vec, codes}
 use Rattle.std.specs.Prelude.{is_some, true, ℕ, ◌≡◌, ◌⊎◌}
 use Rattle.clap.specs.Words.{kind_of}
 use Rattle.clap.specs.declared.error.Error.{Error}
 use Rattle.dispatch_room_disk.specs.DiskFaults.{IsFileFault}
 use Rattle.dispatch_room_disk.specs.RoomFiles.{IsDoneInFile, IsUndoneInFile}
+use Rattle.dispatch_room_cli.specs.AskedTasks.{IsRead}
 use Rattle.dispatch_room_cli.specs.ExitStatus.{status_after}
+use Rattle.dispatch_room_cli.specs.Tasks.{IsServedHere}
 use Rattle.dispatch_room_cli.specs.declared.exit_status.Done.{Done}
 use Rattle.dispatch_room_cli.specs.declared.exit_status.Done.TheVariants.{Whole}
 use Rattle.dispatch_room_cli.specs.declared.exit_status.Failure.{Failure}
@@ -20,7 +22,7 @@ use Rattle.dispatch_room_cli.specs.declared.tasks.Task.TheVariants.{Board, Check
 use Rattle.dispatch_room_cli.specs.declared.tasks.Task.TheVariants.{Migrate, Renew, Replan, Replay, Restore, Serve}
 use Rattle.dispatch_room_cli.specs.declared.tasks.Task.TheVariants.{SetTerminals, Terminals, Times, Verify}
 use Rattle.dispatch_room_archive.specs.declared.division_days.DivisionDay.{DivisionDay}
-use Rattle.dispatch_room_commands.specs.CommandEnds.{FailsToPrint, IsColour, IsPrinted, IsWordsOutput, IsWordsStatus}
+use Rattle.dispatch_room_commands.specs.CommandEnds.{FailsToPrint, IsColour, PrintsBoard, IsWordsOutput, IsWordsStatus}
 use Rattle.room_types.specs.Texts.{is_token}
 use Rattle.dispatch_room_commands.specs.RoomTasks.{Begins, BeginsNone, Digests, Examines}
 use Rattle.dispatch_room_commands.specs.RoomTasks.{ExaminesNone, FindsDay, FindsNoDay}
@@ -99,7 +101,7 @@ module _ (before after : Option (List ℕ)) (done : Done) where
   IsBoardOf look =
       (is_token look.token.now ≡ true)
       × ((heard : List ℕ) × (colour : Bool) × IsColour look.color colour
-      × IsPrinted heard (is_some look.incident) colour before after done)
+      × PrintsBoard heard (is_some look.incident) colour before after done)
 
   -- what was asked for was done
   abbrev pub IsTask : Task → Type 0
@@ -213,6 +215,11 @@ module _ (before after : Option (List ℕ)) (fault : Failure) where
   FailsTask (Terminals file wanted list) = FailsTerminals before after fault (is_some list) wanted
   FailsTask (SetTerminals file csv list) = FailsSetting before after fault (is_some list)
 
+-- what the words of a command line are read as: a task is the one that they ask for, and whatever it
+-- serves, it serves to this machine
+abbrev pub IsAskedBy : List (List ℕ) → Result Task Error → Type 0
+IsAskedBy words asked = IfOk asked IsServedHere × IfOk asked (IsRead words)
+
 -- The exit status of what the words of a command line ask for. Of a task it is by how much was
 -- done, or by why it was not, and what the output holds is by that; of other words it is by what
 -- they are, and nothing is written but help that is asked for.
@@ -224,3 +231,8 @@ IsExit (Ok task) before after status =
     × (status ≡ status_after done)
 IsExit (Err error) before after status =
     IsWordsStatus (kind_of error) status × IsWordsOutput (kind_of error) before after
+
+-- what the words of a command line ask for was done, or not, with this exit status
+abbrev pub IsCommand : List (List ℕ) → Option (List ℕ) → Option (List ℕ) → ℕ → Type 0
+IsCommand words before after status =
+    (asked : Result Task Error) × IsAskedBy words asked × IsExit asked before after status

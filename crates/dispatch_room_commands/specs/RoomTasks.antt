@@ -44,7 +44,7 @@ LeavesNothing day = λ S g conn before after fault. LeavesNone g conn day fault 
 -- the room of what was left is made, and how much it has is reported
 abbrev pub Begins : Successor → Saying Done
 Begins left = λ S g old new before after done.
-    IsBegun g old new left × renewed.IsPrinted left.changes.items before after done
+    IsBegun g old new left × renewed.PrintsRenewed left.changes.items before after done
 
 -- or none is, and nothing is printed: the file is not empty, or the machine fails
 abbrev pub BeginsNone : Refusing
@@ -55,7 +55,7 @@ BeginsNone = λ S g conn before after fault.
 abbrev pub Examines : Saying Done
 Examines = λ S g old new before after done.
     checked.HasChecked g old new before after done
-    × OnOk done (checked.IsPrinted before after) × WritesNothing (state g old) (state g new)
+    × OnOk done (checked.PrintsSummary before after) × WritesNothing (state g old) (state g new)
 
 -- there is always something to report
 abbrev pub ExaminesNone : Refusing

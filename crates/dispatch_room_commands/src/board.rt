@@ -4,7 +4,7 @@ ghost use Rattle.std.specs.Duration.{as_nanos};
 ghost use Rattle.std.specs.Io.KnownBytes.{Consumes};
 ghost use Rattle.room_types.specs.Texts.{is_token};
 ghost use Rattle.dispatch_room_board.specs.Requests.{Sends, requests};
-ghost use Rattle.dispatch_room_commands.specs.CommandEnds.{FailsToPrint, IsColour, IsPrinted, end_of_board};
+ghost use Rattle.dispatch_room_commands.specs.CommandEnds.{FailsToPrint, IsColour, PrintsBoard, end_of_board};
 ghost use Rattle.dispatch_room_commands.specs.DoneTasks.{FailsBoard, IsBoardOf};
 
 use dispatch_room_board::boards::{Reached, board_of};
@@ -73,7 +73,7 @@ fn print<O: Write>(
     out: &mut O,
 ) -> Result<Done, Failure>
     ensures done { IfOk result
-        (IsPrinted heard.now proposes colour (O.contents out.old) (O.contents out.new)) }
+        (PrintsBoard heard.now proposes colour (O.contents out.old) (O.contents out.new)) }
     ensures undone { IfErr result
         (FailsToPrint heard.now proposes colour (O.contents out.old) (O.contents out.new)) }
 {

@@ -12,7 +12,7 @@ use sqlite::{Alter, Connection};
 use std::alloc::Global;
 use std::io::Write;
 
-/// Says how much the room of a file has, or what is wrong with the file first. No row is written.
+/// Prints what the room of a file has, or what is wrong with the file first. No row is written.
 pub fn check<O: Write>(host: Host<'_>, file: &str, out: &mut O) -> Result<Done, Failure>
     ensures done { IfOk result (IsCheck (O.contents out.old) (O.contents out.new)) }
     ensures undone { IfErr result (FailsCheck (O.contents out.old) (O.contents out.new)) }

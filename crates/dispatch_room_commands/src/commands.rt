@@ -1,11 +1,10 @@
 //! The commands over a room's file: what they write, and the exit status.
-ghost use Rattle.std.specs.Prelude.{◌≡◌, IfOk, MatchResult, Result};
+ghost use Rattle.std.specs.Prelude.{◌≡◌, MatchResult, Result, map, string_bytes};
 ghost use Rattle.clap.specs.Words.{kind_of};
 ghost use Rattle.clap.specs.declared.error.Error.{Error as Mistake};
 ghost use Rattle.clap.specs.declared.error.ErrorKind.TheVariants.{OutOfMemory};
 ghost use Rattle.dispatch_room_commands.specs.CommandEnds.{IsHelpDone, IsWordsOutput, IsWordsStatus, is_mistake};
-ghost use Rattle.dispatch_room_commands.specs.DoneTasks.{FailsTask, IsExit, IsTask};
-ghost use Rattle.dispatch_room_cli.specs.Tasks.{IsServedHere};
+ghost use Rattle.dispatch_room_commands.specs.DoneTasks.{FailsTask, IsAskedBy, IsExit, IsTask};
 ghost use Rattle.dispatch_room_cli.specs.declared.tasks.Task.{Task as Asked};
 
 use crate::board::board;
@@ -53,9 +52,9 @@ pub trait Asks<'a> {
     fn explains(&self) -> bool;
 }
 
-// What words are to clap no contract says. Whatever is served by them, is served to this machine.
+// A task is the one that the words ask for. Whatever is served by them, is served to this machine.
 impl<'a> Asks<'a> for &'a [String] {
-    ghost reads = { λ _ asked. IfOk asked IsServedHere };
+    ghost reads = { λ words asked. IsAskedBy (map string_bytes words.now) asked };
 
     fn read(self, alloc: Global) -> Result<Task<'a>, Error> {
         argument_parser::read(alloc, self)
@@ -66,10 +65,10 @@ impl<'a> Asks<'a> for &'a [String] {
     }
 }
 
-/// Does what the words of a command line ask for, the program's name first. What a command gives
-/// goes to `out`, and to `err` why it fails, that others can read the room's file, and the log of
+/// Does what the words of a command line ask for, the program's name first. Results are printed to
+/// `out`; to `err` why it fails, a warning where others can read the room's file, and the log of
 /// what is served. On a terminal, and where the words ask for it, a failure is explained before it
-/// is named. Gives the exit status: 0 done, or help asked for; 1 refused input; 2 usage; 3
+/// is named. Returns the exit status: 0 done, or help asked for; 1 refused input; 2 usage; 3
 /// storage; 4 network; 5 memory; 6 journal.
 pub fn command<'a, W: Asks<'a>, O: Write, E: Write>(
     rt: &HostRuntime,
@@ -89,7 +88,7 @@ pub fn command<'a, W: Asks<'a>, O: Write, E: Write>(
     exit(host, words.read(alloc), out, err)
 }
 
-// Who explains failures: on a terminal they are explained, and where that is asked for.
+// Failures are explained on a terminal, and where that is asked for.
 fn explainer_of(rt: &HostRuntime, is_asked_for: bool) -> Explainer<'_> {
     Explainer::new(rt, is_asked_for || rt.stderr().is_terminal())
 }
@@ -116,7 +115,7 @@ fn exit<O: Write, E: Write>(
     }
 }
 
-// Says where others can read the room's file, or write it.
+// Warns where others than its owner can read or write the room's file.
 fn warn<E: Write>(rt: &HostRuntime, file: &str, err: &mut E) {
     if is_open_to_others(rt, file) {
         let _ = writeln!(
@@ -184,7 +183,7 @@ fn perform<O: Write, E: Write>(
     }
 }
 
-// Reports a mistake in the words, or prints the help that was asked for, and gives the exit status.
+// Prints a mistake in the words or the help that was asked for, and returns the exit status.
 fn refuse<O: Write, E: Write>(error: &Error, out: &mut O, err: &mut E) -> u8
     ensures status { IsWordsStatus (kind_of error.now) result }
     ensures output { IsWordsOutput (kind_of error.now) (O.contents out.old) (O.contents out.new) }

@@ -1,11 +1,11 @@
-//! Why a task fails, in words, where what was asked for makes it clear.
+//! Explains failures whose cause follows from what was asked for.
 
 use dispatch_room_cli::exit_status::{Done, Failure};
 use dispatch_room_cli::failure_causes::Explainer;
 use dispatch_room_cli::tasks::{Task, Terminals};
 use room_types::asks::Who;
 
-/// Explains why a task failed, where that was not explained where it did.
+/// Explains why a task failed, unless that was explained where it failed.
 pub fn explain(explainer: Explainer<'_>, task: &Task<'_>, done: &Result<Done, Failure>) {
     let Err(fault) = *done else {
         return;
@@ -48,7 +48,7 @@ pub fn explain(explainer: Explainer<'_>, task: &Task<'_>, done: &Result<Done, Fa
         Task::Verify { list } => {
             if let Failure::Record(number) = fault {
                 explainer.explain(format_args!(
-                    "{list}: record {number} is not of a journal, or not the one that was written"
+                    "{list}: record {number} is not of a journal, or was changed"
                 ));
             }
         }
@@ -74,16 +74,15 @@ fn explain_replay(explainer: Explainer<'_>, file: &str, fault: Failure) {
     }
 }
 
-// Explains why the terminals of one were not changed.
+// Explains why the terminals of one user were not changed.
 fn explain_unchanged(explainer: Explainer<'_>, file: &str, wanted: &Terminals, fault: Failure) {
     match wanted {
         Terminals::List => {}
-        Terminals::New(who) => explain_none(explainer, file, who, fault),
-        Terminals::Revoke(who) => explain_none(explainer, file, who, fault),
+        Terminals::New(who) | Terminals::Revoke(who) => explain_none(explainer, file, who, fault),
     }
 }
 
-// Explains that a room knows nobody of this name, or that one has no terminal in it.
+// Explains that a room has no such desk or crew, or that this user has no terminal in it.
 fn explain_none(explainer: Explainer<'_>, file: &str, who: &Who, fault: Failure) {
     match who {
         Who::Desk(division) => {

@@ -10,7 +10,7 @@ ghost use Rattle.dispatch_room_commands.specs.VerifiedLists.{fails_by, span_text
 use dispatch_room_cli::exit_status::{Done, Failure};
 use dispatch_room_journal::entry_reader::EntryFault;
 use dispatch_room_journal::journal_inbox::JournalInbox;
-use dispatch_room_journal::list_source::Unchained;
+use dispatch_room_journal::list_source::ListSource;
 use dispatch_room_journal::list_tallies::{Flaw, Span, Tally};
 use dispatch_room_journal::verification::verify;
 use dispatch_room_tcp::hosts::Host;
@@ -27,7 +27,7 @@ pub fn verify_list<O: Write>(host: Host<'_>, path: &str, out: &mut O) -> Result<
     ensures undone { IfErr result (FailsVerify (O.contents out.old) (O.contents out.new)) }
 {
     let file = opened(host, path)?;
-    verify_in(host.alloc, &mut Unchained::new(Wire::new(&file)), out)
+    verify_in(host.alloc, &mut ListSource::new(Wire::new(&file)), out)
 }
 
 // The file of a list.
@@ -60,7 +60,7 @@ fn unopened(kind: ErrorKind) -> Failure
 // Prints what a list holds that is read.
 fn verify_in<R: Source, O: Write>(
     alloc: Global,
-    list: &mut Unchained<R>,
+    list: &mut ListSource<R>,
     out: &mut O,
 ) -> Result<Done, Failure>
     requires sound { R.has_failed list.old.reader ≡ false }

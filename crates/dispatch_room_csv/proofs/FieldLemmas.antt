@@ -8,7 +8,8 @@ use Rattle.std.proofs.lemmas.List.{ext_get_or, get_or-map}
 use Rattle.std.proofs.lemmas.Slice.Eq.{bytes_eq-Decides}
 use Rattle.std.proofs.lemmas.Str.Parse.{IsNumeralModel, numerals_by_value, parse_digits}
 use Rattle.csv.specs.Records.{field_at}
-use Rattle.dispatch_room_csv.specs.RowFields.{are_digits, is_numeral, number_of, text_at}
+use Rattle.room_types.specs.Numerals.{are_digits}
+use Rattle.dispatch_room_csv.specs.RowFields.{is_numeral, number_of, text_at}
 use Rattle.dispatch_room_csv.specs.Records.{Fields}
 
 -- only digits have a number

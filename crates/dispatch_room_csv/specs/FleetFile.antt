@@ -1,10 +1,10 @@
 -- What each row of a fleet's file says, by its fields.
-use Rattle.std.specs.Prelude.{◌≡◌, ℕ, List, [], ◌∷◌, codes, find, map, ◌==◌, if◌then◌else◌, Option, Some, None}
+use Rattle.std.specs.Prelude.{◌≡◌, ℕ, List, [], ◌∷◌, codes, find, map, ◌==◌, Option, Some, None}
 use Rattle.std.specs.Prelude.{option_and_then}
 use Rattle.std.specs.Result.{result_ok}
 use Rattle.room_place.specs.References.{parse}
 use Rattle.room_types.specs.Codes.{kind_number}
-use Rattle.room_types.specs.Texts.{Callsign, is_callsign}
+use Rattle.room_types.specs.Texts.{callsign_of}
 use Rattle.room_types.specs.declared.codes.Kind.{Kind}
 use Rattle.room_types.specs.declared.codes.Kind.TheVariants.{Ambulance, Car, Support}
 use Rattle.room_types.specs.declared.fleet.FleetRow.{FleetRow}
@@ -26,10 +26,6 @@ fleet_header =
 abbrev pub fleet_fault_of : RecordsFault → FleetFileFault
 fleet_fault_of records.Input = Input
 fleet_fault_of records.Memory = Memory
-
--- the callsign that a text is
-abbrev pub callsign_of : List ℕ → Option Callsign
-callsign_of text = if is_callsign text then Some text else None
 
 -- the kind of a number
 abbrev pub kind_by : ℕ → Option Kind

@@ -1,20 +1,15 @@
 -- The fields of a row, and the numbers that they write.
-use Rattle.std.specs.Prelude.{ℕ, List, [], length, Bool, not, nat_le, nat_lt, ◌^◌, ◌==◌, ◌&&◌, if◌then◌else◌, unwrap_or}
+use Rattle.std.specs.Prelude.{ℕ, List, [], length, Bool, not, nat_lt, ◌^◌, ◌==◌, ◌&&◌, if◌then◌else◌, unwrap_or}
 use Rattle.std.specs.Prelude.{Option, Some, None, option_and_then}
-use Rattle.std.specs.Char.{is_ascii_digit}
-use Rattle.std.specs.List.{list_all}
 use Rattle.std.specs.Str.Parse.{digits_value}
 use Rattle.csv.specs.Records.{field_at}
+use Rattle.room_types.specs.Numerals.{are_digits, within}
 use Rattle.room_types.specs.Texts.{Token, is_token}
 use Rattle.dispatch_room_csv.specs.Records.{Fields}
 
 -- the text of a field, empty where the row has none there
 abbrev pub text_at : Fields → ℕ → List ℕ
 text_at row at = unwrap_or (field_at row at) []
-
--- only digits
-abbrev pub are_digits : List ℕ → Bool
-are_digits text = list_all is_ascii_digit text
 
 -- one digit or more, and nothing else
 abbrev pub is_numeral : List ℕ → Bool
@@ -24,10 +19,6 @@ is_numeral text = not (length text == 0) && are_digits text
 abbrev pub number_of : List ℕ → Option ℕ
 number_of text = if is_numeral text
     && nat_lt (digits_value 10 text) (2 ^ 32) then Some (digits_value 10 text) else None
-
--- the number, if it is in the range
-abbrev pub within : ℕ → ℕ → ℕ → Option ℕ
-within least greatest n = if nat_le least n && nat_le n greatest then Some n else None
 
 -- the number of a range that a text of digits only writes
 abbrev pub whole_of : ℕ → ℕ → List ℕ → Option ℕ

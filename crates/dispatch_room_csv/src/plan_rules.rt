@@ -7,15 +7,9 @@ ghost use Rattle.dispatch_room_csv.specs.PlanRules.{AreKept, IsFirstRefused, are
 use crate::plan_lines::PlanLine;
 use room_http_time::zones::Zone;
 use room_place::places::Place;
-use room_place::plans::Area;
+use room_place::plans::{Area, LAST_DIVISION, LONGEST_ZONE, MOST_AREAS};
 use room_types::asks::Who;
 use room_types::token::Token;
-
-const MOST_AREAS: usize = 64;
-
-const LAST_DIVISION: u32 = 9;
-
-const LONGEST_ZONE: usize = 64;
 
 impl PlanLine {
     /// Whether the row is for the zone, of its form or not.
@@ -119,7 +113,8 @@ fn are_ascii(text: &[u8]) -> bool
     text.iter().all(|byte| byte.is_ascii())
 }
 
-/// Whether an area is of a division, not turned round, and with its corners in the squares.
+/// Whether an area is of a division, its west not above its east, its south not above its north,
+/// and its corners in the squares.
 fn is_sound(area: &Area) -> bool
     ensures { result ≡ is_sound area.now }
 {

@@ -1,7 +1,8 @@
 //! The fields of a row, and the numbers that they write.
 ghost use Rattle.std.specs.Prelude.{◌≡◌};
 ghost use Rattle.csv.specs.Records.{fields_of};
-ghost use Rattle.dispatch_room_csv.specs.RowFields.{are_digits, is_numeral, number_of, text_at, whole_of};
+ghost use Rattle.room_types.specs.Numerals.{are_digits};
+ghost use Rattle.dispatch_room_csv.specs.RowFields.{is_numeral, number_of, text_at, whole_of};
 
 use csv::StringRecord;
 use room_place::bounded_numbers::Bounded;

@@ -23,7 +23,8 @@ where_well (Ok x) P well holds = holds
 where_well (Err e) P well holds = absurd (cc)
 
 -- what holds where a call went well whose result says no more
-pub once_done : {E : Type 0} (r : Result (Unit {0}) E) (P : Unit {0} → Type 0) (Q : Type 0) → IfOk r P → (P tt → Q) → OnOk r Q
+pub once_done : {E : Type 0} (r : Result (Unit {0}) E) (P : Unit {0} → Type 0) (Q : Type 0) → IfOk r P → (P tt → Q)
+    → OnOk r Q
 once_done (Ok done) P Q is by = by is
 once_done (Err e) P Q is by = tt
 

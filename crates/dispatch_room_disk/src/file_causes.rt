@@ -1,4 +1,4 @@
-//! Why a room's file is not opened, or nothing is done in it, in words.
+//! Explains why a room's file is not opened, or nothing is done in it.
 
 use crate::holders::holder;
 use crate::room_files::RoomFile;
@@ -11,7 +11,9 @@ use std::io::{self, ErrorKind};
 pub(crate) fn explain_unbegun(explainer: Explainer<'_>, path: &str, begun: &io::Result<bool>) {
     match begun {
         Ok(true) => {}
-        Ok(false) => explainer.explain(format_args!("{path} is no room: none was begun in it")),
+        Ok(false) => explainer.explain(format_args!(
+            "{path} is no room: it is empty, or `init` was stopped"
+        )),
         Err(error) => explainer.explain(format_args!("{path}: {error}")),
     }
 }
@@ -31,7 +33,7 @@ pub(crate) fn explain_unopened(
             None => explainer.explain(format_args!("{path} is in use by another process")),
         },
         OpenError::Io(error) if error.kind() == ErrorKind::Unsupported => {
-            explainer.explain(format_args!("{path} is no regular file, or has more than one name"));
+            explainer.explain(format_args!("{path} is no regular file, or has a second hard link"));
         }
         _ => explainer.explain(format_args!("{path}: {error}")),
     }
@@ -57,7 +59,7 @@ pub(crate) fn explain_undone(explainer: Explainer<'_>, file: RoomFile<'_>, fault
             explainer.explain(format_args!("{path} can't be written"));
         }
         (_, Failure::Storage) => explainer.explain(format_args!(
-            "{path} can't be read, or a row is not of its table"
+            "{path} can't be read, or is damaged: a row is not of its table"
         )),
         _ => {}
     }

@@ -5,6 +5,7 @@ ghost use Rattle.dispatch_room_cli.specs.declared.exit_status.Failure.TheVariant
 ghost use Rattle.dispatch_room_disk.specs.DiskFaults.{IsFaultBy, IsFileFault};
 
 use crate::file_causes::explain_unopened;
+use dispatch_room_cli::database_names::ENDS;
 use dispatch_room_cli::exit_status::Failure;
 use dispatch_room_cli::failure_causes::Explainer;
 use sqlite::{File, Files, Unknown};
@@ -12,9 +13,6 @@ use sqlite_std_file::OpenError;
 use std::fs::{self, OpenOptions};
 use std::io::{self, ErrorKind};
 use std::os::unix::fs::{MetadataExt, OpenOptionsExt};
-
-// What a database puts behind the name of its file for the files that it has beside it.
-const BESIDE: [&str; 3] = ["-wal", "-journal", "-shm"];
 
 /// Puts a copy of a room in the place of a file, where neither is served. What was there goes to
 /// FILE.old, with its log: first the file, then its log, and then the copy comes. So whenever this
@@ -103,7 +101,7 @@ fn put(rt: &HostRuntime, copy: &str, path: &str) -> io::Result<()> {
         remove_all(rt, old.as_str())?;
         fs::rename(rt, path, old.as_str())?;
     }
-    for end in &BESIDE {
+    for end in &ENDS {
         let from = format!(in rt.alloc(); "{path}{end}")?;
         let to = format!(in rt.alloc(); "{old}{end}")?;
         unless_missing(fs::rename(rt, from.as_str(), to.as_str()))?;
@@ -128,7 +126,7 @@ fn copy_whole(rt: &HostRuntime, from: &str, to: &str) -> io::Result<()> {
 
 // Removes what an earlier restore left of the file that was there before it, its log first.
 fn remove_all(rt: &HostRuntime, old: &str) -> io::Result<()> {
-    for end in &BESIDE {
+    for end in &ENDS {
         let path = format!(in rt.alloc(); "{old}{end}")?;
         unless_missing(fs::remove_file(rt, path.as_str()))?;
     }

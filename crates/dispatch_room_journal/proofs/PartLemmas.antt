@@ -14,7 +14,8 @@ use Rattle.std.proofs.lemmas.List.Elements.{All-append, All-take, All-replicate,
 use Rattle.room_http_messages.specs.declared.limits.TheConstants.{INBOX_ROOM}
 use Rattle.room_model.specs.declared.digests.Version.{Version}
 use Rattle.dispatch_room_journal.specs.declared.entry_lines.EntryLine.TheVariants.{Room, Message, Answer}
-use Rattle.dispatch_room_journal.specs.declared.entry_lines.TheConstants.{LAST_MOMENT, LEAST_STATUS, GREATEST_STATUS}
+use Rattle.dispatch_room_journal.specs.declared.entry_lines.TheConstants.{LEAST_STATUS, GREATEST_STATUS}
+use Rattle.room_types.specs.declared.numbers.TheConstants.{LAST_MOMENT}
 use Rattle.dispatch_room_journal.specs.declared.entry_lines.TheConstants.{DIGEST_DIGITS}
 use Rattle.dispatch_room_journal.specs.Entries.{is_digest_digit, IsDigest, head_words}
 use Rattle.dispatch_room_journal.specs.TextParts.{Lacks, BeginsOne, After, AreNumbers, IsNumber, IsLineText}

@@ -146,7 +146,8 @@ module _ (reach : Reach) (link : Link) (kept : List ℕ) (size : ℕ) (check : L
           rw (mode, now.0, now.1) (silent_moved goes is)
 
 -- all that was read may be given
-pub all_vouched : (reach : Reach) (kept more : List ℕ) → left_of (Plain reach) (length kept) (kept ++ more) ≡ kept ++ more
+pub all_vouched : (reach : Reach) (kept more : List ℕ)
+    → left_of (Plain reach) (length kept) (kept ++ more) ≡ kept ++ more
 all_vouched reach kept more = take-append-drop (length kept) (kept ++ more)
 
 -- some of what may be given was given

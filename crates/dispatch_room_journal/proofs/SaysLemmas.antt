@@ -11,7 +11,8 @@ use Rattle.dispatch_room_journal.specs.declared.record_fronts.Front.{Front}
 use Rattle.dispatch_room_journal.specs.declared.record_fronts.Front.TheVariants.{Empty, Short, Wrong, Whole}
 use Rattle.dispatch_room_journal.specs.Chains.{first_check, is_end, opening, said_by}
 use Rattle.dispatch_room_journal.specs.declared.read_progress.Reach.{Reach}
-use Rattle.dispatch_room_journal.specs.RecordFronts.{after, body_in, front_of, list_says, said_in, said_with, says, stops_at}
+use Rattle.dispatch_room_journal.specs.RecordFronts.{after, body_in, front_of, list_says, said_in, said_with, says}
+use Rattle.dispatch_room_journal.specs.RecordFronts.{stops_at}
 
 -- what is said with what the rest says
 said_with-same : (reach : Reach) (f g : List ℕ → Bool → List ℕ → List ℕ) (text : List ℕ) (front : Front)
@@ -96,7 +97,8 @@ module _ (hash : List ℕ → List ℕ) (reach : Reach) where
       → list_says hash reach (text ++ more) ≡ says hash reach first_check false (drop 7 text ++ more)
   unfolding list_says
   list_chain text more long is =
-      rw (take-append-le 7 text more long, is) (ap (says hash reach first_check false) (drop-append-le 7 text more long))
+      rw (take-append-le 7 text more long, is)
+      (ap (says hash reach first_check false) (drop-append-le 7 text more long))
 
   pub list_plain : (text more : List ℕ) → 7 ≤ length text → bytes_eq (take 7 text) opening ≡ false
       → list_says hash reach (text ++ more) ≡ text ++ more

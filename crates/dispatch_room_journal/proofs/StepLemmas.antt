@@ -11,6 +11,7 @@ use Rattle.room_model.specs.Rooms.{Step}
 use Rattle.room_model.specs.declared.digests.Miss.{Miss}
 use Rattle.room_model.specs.declared.digests.Miss.TheVariants as miss
 use Rattle.room_http.specs.Dialogues.{IsReplyTo}
+use Rattle.room_http.specs.KeptMessages.{Unmoved}
 use Rattle.room_model.specs.declared.digests.Head.{Head}
 use Rattle.dispatch_room_journal.specs.declared.entry_lines.EntryLine.{EntryLine}
 use Rattle.dispatch_room_journal.specs.declared.entry_prefixes.EntryLayout.{EntryLayout}
@@ -27,7 +28,7 @@ use Rattle.dispatch_room_journal.specs.ReplayedTurns.{AreBy, BeginsWith}
 use Rattle.dispatch_room_journal.specs.ReplayFaults.{read_fault, miss_fault, IsPlayedFor, broken_after, Explains}
 use Rattle.dispatch_room_journal.specs.ReplayFaults.{IsDueTo, Refuses}
 use Rattle.dispatch_room_journal.specs.Replays.{DigitsOf, Leads, LeadsElsewhere, IsHeadOf}
-use Rattle.dispatch_room_journal.specs.ReplaySteps.{Stays, IsAt, TurnOf, Deviates, IsAstray, IsPlayedForLine, RefusesAt}
+use Rattle.dispatch_room_journal.specs.ReplaySteps.{IsAt, TurnOf, Deviates, IsAstray, IsPlayedForLine, RefusesAt}
 use Rattle.dispatch_room_journal.specs.ReplaySteps.{StopsAt, StopsIn, ComesTo, Misses, PlaysTowards, Settles, MessageIs}
 use Rattle.dispatch_room_journal.proofs.FaultLemmas.{not_both, known_after, begins_one, read_explains, refuses_explains}
 use Rattle.dispatch_room_journal.proofs.FaultLemmas.{refuses_due}
@@ -80,7 +81,7 @@ module _ (step : Step) (setting : Setting) (digest_of : DigitsOf) (trusted : Typ
 
   -- the room did not come to the digest of a head
   pub missed : (head : Head) (m : Miss) (fault : ReplayFault)
-      → fault ≡ miss_fault m → IsMiss m → Stays trusted stood stands
+      → fault ≡ miss_fault m → IsMiss m → Unmoved trusted stood stands
       → (m ≡ miss.OtherDigest → Misses step setting digest_of trusted stood stands at sent head)
       → PlaysTowards step setting digest_of trusted stood stands {A = Unit {0}} at sent head (Err fault)
   missed head miss.OtherDigest fault is why stays misses = (stays, inr (is, misses refl))
@@ -102,7 +103,7 @@ module _ (step : Step) (setting : Setting) (digest_of : DigitsOf) (trusted : Typ
   settles_line line other result is x =
       subst (λ (l : EntryLine). Settles step setting digest_of trusted stood stands at sent l result) (sym is) x
 
-  pub left_turn : Stays trusted stood stands
+  pub left_turn : Unmoved trusted stood stands
       → TurnOf step setting digest_of trusted stood stands at sent [] true
   left_turn stays = record {
     turn = left_out at sent;
@@ -118,7 +119,7 @@ module _ (step : Step) (setting : Setting) (digest_of : DigitsOf) (trusted : Typ
 module _ (step : Step) (setting : Setting) (digest_of : DigitsOf) (early late : Type 0)
     (earlier : late → early) (stood mid stands : List Terminal → Room → Type 0) (at : ℕ)
     (sent : List ℕ) where
-  pub caught_turn : (head : Head) (is : Bool) → Stays early stood mid
+  pub caught_turn : (head : Head) (is : Bool) → Unmoved early stood mid
       → ShowsDigest digest_of early stood head is → is ≡ false
       → ComesTo step setting digest_of late mid stands at sent head
       → TurnOf step setting digest_of late stood stands at sent (room head ∷ []) false
@@ -138,7 +139,7 @@ module _ (step : Step) (setting : Setting) (digest_of : DigitsOf) (early late : 
 
   -- the message was not done, and what the room has then is as it was
   pub stops_open : (head : Head) (is : Bool) (fault : ReplayFault)
-      → Stays early stood mid → ShowsDigest digest_of early stood head is → is ≡ false
+      → Unmoved early stood mid → ShowsDigest digest_of early stood head is → is ≡ false
       → PlaysTowards step setting digest_of late mid stands {A = Unit {0}} at sent head (Err fault)
       → StopsAt step setting digest_of late stood stands at sent (line_of (room head)) fault
   stops_open head is fault stays states said (still, inl refuses) =
@@ -185,7 +186,7 @@ module _ (waits : Bool) (step : Step) (setting : Setting) (digest_of : DigitsOf)
       StopsIn step setting digest_of trusted stood stands waits before (Some at) true fault read_failed write_failed
       last
 
-  unplayed_stops : (fault : ReplayFault) → Stays trusted stood stands
+  unplayed_stops : (fault : ReplayFault) → Unmoved trusted stood stands
       → BeginsWith before [] (Shows waits step setting digest_of trusted stood stands fault [])
       → IsDueTo read_failed write_failed fault → Stops fault []
   unplayed_stops fault stays begins due = record {
@@ -223,7 +224,7 @@ module _ (waits : Bool) (step : Step) (setting : Setting) (digest_of : DigitsOf)
       (texts_of (message at sent ∷ []))) where
     -- it was not played, since its bytes are no message, or memory or storage is unavailable
     pub refused_stops : (fault : ReplayFault) → read_failed ≡ false → write_failed ≡ false
-        → Stays trusted stood stands → Refuses sent fault
+        → Unmoved trusted stood stands → Refuses sent fault
         → ((rest : List ℕ) → mid ≡ Some rest → waits ≡ true → fault ≡ Bad
         → IsPlayedFor (LeadsElsewhere step setting digest_of trusted stood stands []) rest)
         → Stops fault []
@@ -240,7 +241,7 @@ module _ (waits : Bool) (step : Step) (setting : Setting) (digest_of : DigitsOf)
         (refuses_due read_failed write_failed sent fault read write refuses)
 
     -- it was not played, since what follows it was not read
-    pub unread_stops : (fault : EntryFault) → waits ≡ true → Stays trusted stood stands
+    pub unread_stops : (fault : EntryFault) → waits ≡ true → Unmoved trusted stood stands
         → ((text : List ℕ) → mid ≡ Some text → FirstIs text (Err fault))
         → IsDueTo read_failed write_failed (read_fault fault) → Stops (read_fault fault) []
     unread_stops fault wait stays first due =
@@ -258,7 +259,7 @@ module _ (waits : Bool) (step : Step) (setting : Setting) (digest_of : DigitsOf)
     -- it was not done, since the head that follows it is of another room than it would lead to
     astray_stops : (layout : EntryLayout) (fault : ReplayFault) → waits ≡ true
         → ((text : List ℕ) → mid ≡ Some text → FirstIs text (Ok (Some layout)))
-        → read_failed ≡ false → write_failed ≡ false → Stays trusted stood stands
+        → read_failed ≡ false → write_failed ≡ false → Unmoved trusted stood stands
         → IsAstray step setting digest_of trusted stood stands at sent layout.line fault
         → Stops fault []
     astray_stops layout fault wait first read write stays x =
@@ -318,7 +319,7 @@ module _ (waits : Bool) (step : Step) (setting : Setting) (digest_of : DigitsOf)
 
     refused_at : (layout : EntryLayout) (fault : ReplayFault)
         → ((text : List ℕ) → mid ≡ Some text → FirstIs text (Ok (Some layout)))
-        → read_failed ≡ false → write_failed ≡ false → Stays trusted stood stands
+        → read_failed ≡ false → write_failed ≡ false → Unmoved trusted stood stands
         → RefusesAt step setting digest_of trusted stood stands sent layout.line fault
         → Stops fault []
     refused_at layout fault first read write stays (inl cause) =

@@ -14,6 +14,7 @@ use Rattle.room_model.specs.Room.{Room}
 use Rattle.room_http.specs.declared.settings.Setting.{Setting}
 use Rattle.room_model.specs.Rooms.{Step}
 use Rattle.room_http.specs.Dialogues.{IsDialogue}
+use Rattle.room_http.specs.KeptMessages.{Unmoved}
 use Rattle.room_model.specs.declared.digests.Head.{Head as RoomHead}
 use Rattle.dispatch_room_journal.specs.declared.entry_prefixes.EntryLayout.{EntryLayout}
 use Rattle.dispatch_room_journal.specs.Entries.{Entry, room, message, answer, IsEntry, text_of, texts_of}
@@ -34,7 +35,7 @@ use Rattle.dispatch_room_journal.specs.ReplayedTurns.{AreTurns}
 use Rattle.dispatch_room_journal.specs.ReplayFaults.{too_many, Explains, IsDueTo}
 use Rattle.dispatch_room_journal.specs.Replays.{DigitsOf, IsReplay, Leads, LeadsDialogue, LeadsElsewhere, MeetsHead}
 use Rattle.dispatch_room_journal.specs.Replays.{StopsAfter, WouldMiss}
-use Rattle.dispatch_room_journal.specs.ReplaySteps.{Stays, HasItsHead, IsMark, TurnOf, MessageIs, IsElsewhere, NextIs}
+use Rattle.dispatch_room_journal.specs.ReplaySteps.{HasItsHead, IsMark, TurnOf, MessageIs, IsElsewhere, NextIs}
 use Rattle.dispatch_room_journal.specs.ReplaySteps.{IsProgress, Progresses, Passes, StopsIn, TakesTurn}
 use Rattle.dispatch_room_journal.proofs.FaultLemmas.{not_both, begins_explain}
 use Rattle.dispatch_room_journal.proofs.NextEntryLemmas.{begins_more}
@@ -216,7 +217,7 @@ head_by until head is = all_one (IsIn until) (room head) (is, mark_by until (roo
 module _ (step : Step) (setting : Setting) (digest_of : DigitsOf) where
   -- what holds before a look at the room
   pub Leads-after : (early late : Type 0) (stood mid stands : List Terminal → Room → Type 0)
-      (ts : List Turn) → (late → early) → Stays early stood mid
+      (ts : List Turn) → (late → early) → Unmoved early stood mid
       → Leads step setting digest_of late mid stands ts
       → Leads step setting digest_of late stood stands ts
   Leads-after early late stood mid stands ts earlier stays leads trust terminals held stood_for =
@@ -224,7 +225,7 @@ module _ (step : Step) (setting : Setting) (digest_of : DigitsOf) where
 
   module _ (trusted : Type 0) (stood stands : List Terminal → Room → Type 0)
       (before after : Option (List ℕ)) (until : Option ℕ) where
-    pub passes_none : (Kind : Turn → Type 0) → Keeps before after → Stays trusted stood stands
+    pub passes_none : (Kind : Turn → Type 0) → Keeps before after → Unmoved trusted stood stands
         → Passes step setting digest_of trusted stood stands before after until Kind []
     passes_none Kind same stays = record {
       turns = All-nil IsTurn;
@@ -289,7 +290,7 @@ module _ (waits : Bool) (step : Step) (setting : Setting) (digest_of : DigitsOf)
     (stood stands : List Terminal → Room → Type 0) (before : Option (List ℕ))
     (until : Option ℕ) where
   pub next_stops : (is_begun : Bool) (fault : ReplayFault) (read_failed write_failed : Bool)
-      → Stays trusted stood stands
+      → Unmoved trusted stood stands
       → BeginsWith before [] (Explains waits (is_begun ≡ false) ⊥
       (IsElsewhere digest_of trusted stood stands) [] fault)
       → IsDueTo read_failed write_failed fault
@@ -316,7 +317,7 @@ module _ (waits : Bool) (step : Step) (setting : Setting) (digest_of : DigitsOf)
 -- a message that is next stopped it
 module _ (waits : Bool) (step : Step) (setting : Setting) (digest_of : DigitsOf) (early late : Type 0)
     (earlier : late → early) (stood mid stands : List Terminal → Room → Type 0)
-    (a b : Option (List ℕ)) (until : Option ℕ) (at : ℕ) (sent : List ℕ) (stays : Stays early stood mid)
+    (a b : Option (List ℕ)) (until : Option ℕ) (at : ℕ) (sent : List ℕ) (stays : Unmoved early stood mid)
     (same : Keeps a b) (by : IsBy until (message at sent)) where
   few_turn : (is_begun : Bool) (last : List Turn) → is_begun ≡ true
       → (last ≡ []) ⊎ ((p : Play) × IsPlay p × AreBy (Some at) (message p.at p.sent ∷ [])

@@ -1,6 +1,7 @@
 -- How far a list was read, and what is left to be given of what it says.
 use Rattle.std.specs.Prelude.{◌≡◌, ◌⊎◌, ⊤, ℕ, zero, suc, ◌+◌, ◌-◌, ◌*◌, ◌<◌, ◌≤◌, List, [], ◌∷◌, ◌++◌, length, take}
-use Rattle.std.specs.Prelude.{drop, Bool, true, false, cond, is_err, ◌||◌, if◌then◌else◌, Option, MatchResult, Result, Ok}
+use Rattle.std.specs.Prelude.{drop, Bool, true, false, cond, is_err, ◌||◌, if◌then◌else◌, Option, MatchResult, Result}
+use Rattle.std.specs.Prelude.{Ok}
 use Rattle.std.specs.Prelude.{Err, None, Some}
 use Rattle.std.specs.Option.{option_map}
 use Rattle.std.specs.Io.KnownBytes.{Consumes, IsAtEnd, Keeps}

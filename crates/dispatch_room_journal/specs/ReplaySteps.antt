@@ -7,6 +7,7 @@ use Rattle.room_model.specs.Room.{Room}
 use Rattle.room_http.specs.declared.settings.Setting.{Setting}
 use Rattle.room_model.specs.Rooms.{Step}
 use Rattle.room_http.specs.Dialogues.{IsReplyTo}
+use Rattle.room_http.specs.KeptMessages.{Unmoved}
 use Rattle.room_model.specs.declared.digests.Head.{Head}
 use Rattle.dispatch_room_journal.specs.declared.entry_lines.EntryLine.{EntryLine}
 use Rattle.dispatch_room_journal.specs.Entries.{Entry, room, message, answer, IsEntry, line_of, texts_of, Begins}
@@ -25,12 +26,6 @@ use Rattle.dispatch_room_journal.specs.ReplayedTurns.{AreBy, StartsBy, HasNoStat
 use Rattle.dispatch_room_journal.specs.declared.replay_progress.Progress.{Progress}
 use Rattle.dispatch_room_journal.specs.ReplayFaults.{IsNoMessage, IsUnavailableFault, Refuses, Explains, IsDueTo}
 use Rattle.dispatch_room_journal.specs.Replays.{DigitsOf, Leads, LeadsElsewhere, MeetsHead, WouldMiss, IsHeadOf}
-
--- what it stands for is what it stood for
-abbrev pub Stays : Type 0 → (List Terminal → Room → Type 0) → (List Terminal → Room → Type 0)
-    → Type 0
-Stays trusted stood stands = trusted → (terminals : List Terminal) (room : Room)
-    → stood terminals room → stands terminals room
 
 -- the room has the digest of this head
 abbrev pub IsAt : DigitsOf → Type 0 → (List Terminal → Room → Type 0) → Head → Type 0
@@ -52,7 +47,7 @@ Plays step setting trusted stood stands at sent (Ok response) =
     → (after : Room) × IsReplyTo step setting terminals room (timed p) after p.response
     × stands terminals after)
 Plays step setting trusted stood stands at sent (Err fault) =
-    Stays trusted stood stands × Refuses sent fault
+    Unmoved trusted stood stands × Refuses sent fault
 
 -- the entry is a head or a status
 abbrev pub IsMark : Entry → Type 0
@@ -100,7 +95,7 @@ module _ (step : Step) (setting : Setting) (digest_of : DigitsOf) (trusted : Typ
   -- a message before this line was not done, or it was and is not as the line says
   abbrev pub StopsAt : ℕ → List ℕ → EntryLine → ReplayFault → Type 0
   StopsAt at sent line fault =
-      (Stays trusted stood stands × (RefusesAt sent line fault ⊎ IsAstray at sent line fault))
+      (Unmoved trusted stood stands × (RefusesAt sent line fault ⊎ IsAstray at sent line fault))
       ⊎ ((p : Play) × (p.at ≡ at) × (p.sent ≡ sent) × IsPlay p
       × Leads step setting digest_of trusted stood stands (tried p ∷ []) × Deviates p line fault)
 
@@ -122,7 +117,7 @@ module _ (step : Step) (setting : Setting) (digest_of : DigitsOf) (trusted : Typ
   -- the room has come to the digest of this head by the message; or nothing was done, and why
   abbrev pub PlaysTowards : {A : Type 0} → ℕ → List ℕ → Head → Result A ReplayFault → Type 0
   PlaysTowards at sent head (Ok done) = ComesTo at sent head
-  PlaysTowards at sent head (Err fault) = Stays trusted stood stands
+  PlaysTowards at sent head (Err fault) = Unmoved trusted stood stands
       × (Refuses sent fault ⊎ ((fault ≡ OtherRoom) × Misses at sent head))
 
   -- What becomes of a message before this line: it takes the line's entry with it, or is left out.
@@ -189,11 +184,11 @@ module _ (digest_of : DigitsOf) (trusted : Type 0) (stood stands : List Terminal
       (sent : List ℕ) × IsLayout kept entry.layout (message entry.at sent)
       × IsBy until (message entry.at sent)
       × Keeps before after
-      × (begun ≡ true) × (failed ≡ false) × Stays trusted stood stands
+      × (begun ≡ true) × (failed ≡ false) × Unmoved trusted stood stands
   NextIs until begun kept (Ok next.End) =
-      Keeps before after × BeginsWith before [] (EndsAt until) × Stays trusted stood stands
+      Keeps before after × BeginsWith before [] (EndsAt until) × Unmoved trusted stood stands
   NextIs until begun kept (Err fault) =
-      Stays trusted stood stands × ((waits : Bool)
+      Unmoved trusted stood stands × ((waits : Bool)
       → BeginsWith before [] (Explains waits (begun ≡ false) ⊥
       (IsElsewhere digest_of trusted stood stands) [] fault)) × IsDueTo failed false fault
 

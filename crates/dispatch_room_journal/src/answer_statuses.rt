@@ -17,7 +17,7 @@ pub fn status_in(bytes: &[u8]) -> &[u8]
     &rest[..rest.len().min(3)]
 }
 
-/// The status that they are, none where they are not one from 100 to 999.
+/// The status in an answer's first line; none where that has no number from 100 to 999.
 pub fn status_of(bytes: &[u8]) -> Option<u16>
     ensures { MatchOption result
         (¬ (IsNumber LEAST_STATUS GREATEST_STATUS (status_in bytes.now)))

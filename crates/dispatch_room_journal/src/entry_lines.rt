@@ -9,10 +9,7 @@ use crate::journal_numbers::number;
 use memchr::memchr;
 use room_http_messages::limits::INBOX_ROOM;
 use room_model::digests::{Head, Version};
-use room_types::numbers::Moment;
-
-/// The last moment, as of `Moment`.
-pub const LAST_MOMENT: u32 = 4_102_444_799;
+use room_types::numbers::{LAST_MOMENT, Moment};
 
 /// The least status of an answer.
 pub const LEAST_STATUS: u32 = 100;

@@ -28,7 +28,7 @@ fn end_of(bytes: &[u8]) -> Result<Option<EntryLayout>, EntryFault>
     }
 }
 
-/// Reads until the entry at the front of the journal is whole, and says where it is in the inbox;
+/// Reads until the entry at the front of the journal is whole, and returns its place in the inbox;
 /// none at the end of the journal. It stays at the front of the inbox, where
 /// `JournalInbox::message` shows a message's bytes, until `JournalInbox::remove` lets it go.
 ///

@@ -1,11 +1,12 @@
 //! Entries written to a sink.
-ghost use Rattle.std.specs.Prelude.{◌≡◌, ◌+◌, ◌≤◌, ◌∷◌, [], ◌++◌, false, length};
+ghost use Rattle.std.specs.Prelude.{◌≡◌, ◌∷◌, [], ◌++◌, false, length};
 ghost use Rattle.arrayvec.specs.ArrayVec.{array_vec_len};
 ghost use Rattle.room_http_messages.specs.Streams.{WritesAll};
 ghost use Rattle.dispatch_room_journal.specs.Entries.{IsDigest, IsEntry, IsLine, answer};
 ghost use Rattle.dispatch_room_journal.specs.Entries.{line_text, message, room, text_of};
 
 use crate::entry_lines::{EntryLine, head_words};
+use crate::line_texts::append;
 use arrayvec::ArrayVec;
 use itoa::Buffer;
 use room_http_messages::sinks::{Sink, WriteFailed, write_all};
@@ -15,16 +16,7 @@ use room_types::numbers::Moment;
 /// The bytes of the longest line, that of a digest, with its end.
 const LINE_ROOM: usize = 72;
 
-/// More bytes at the end of a line.
-fn add(text: &mut ArrayVec<u8, LINE_ROOM>, bytes: &[u8])
-    requires { array_vec_len text.old + length bytes.now ≤ LINE_ROOM }
-    ensures items { text.new.items ≡ text.old.items ++ bytes.now }
-    ensures len { array_vec_len text.new ≡ array_vec_len text.old + length bytes.now }
-{
-    let _ = text.try_extend_from_slice(bytes);
-}
-
-/// A line without its end, in an empty text.
+/// Puts a line without its end into an empty text.
 fn add_line(text: &mut ArrayVec<u8, LINE_ROOM>, line: &EntryLine)
     requires is_one { IsLine line.now }
     requires empty { text.old.items ≡ [] }
@@ -34,18 +26,18 @@ fn add_line(text: &mut ArrayVec<u8, LINE_ROOM>, line: &EntryLine)
 {
     match line {
         EntryLine::Room(head) => {
-            add(text, head_words(head.version));
-            add(text, &head.digits);
+            append(text, head_words(head.version));
+            append(text, &head.digits);
         }
         EntryLine::Message { at, size } => {
-            add(text, b"message ");
-            add(text, Buffer::new().format(at.get()).as_bytes());
-            add(text, b" ");
-            add(text, Buffer::new().format(*size).as_bytes());
+            append(text, b"message ");
+            append(text, Buffer::new().format(at.get()).as_bytes());
+            append(text, b" ");
+            append(text, Buffer::new().format(*size).as_bytes());
         }
         EntryLine::Answer(status) => {
-            add(text, b"answer ");
-            add(text, Buffer::new().format(*status).as_bytes());
+            append(text, b"answer ");
+            append(text, Buffer::new().format(*status).as_bytes());
         }
     }
 }
@@ -59,7 +51,7 @@ fn put_line<W: Sink>(writer: &mut W, line: &EntryLine) -> Result<(), WriteFailed
 {
     let mut text = ArrayVec::new();
     add_line(&mut text, line);
-    add(&mut text, b"\n");
+    append(&mut text, b"\n");
     write_all(writer, text.as_slice())
 }
 

@@ -18,7 +18,7 @@ pub fn number(bytes: &[u8], least: u32, greatest: u32) -> Option<u32>
     let Ok(number) = text.parse::<u32>() else {
         return None;
     };
-    // A sign or zeros before it were read over, and are not written again.
+    // `parse` takes a sign and leading zeros; `format` writes neither.
     if Buffer::new().format(number).as_bytes() != bytes {
         return None;
     }

@@ -33,7 +33,7 @@
 //! Where the list ended well, its last record is a line `end`. A record `row ..` is a line of the
 //! fleet's file, which an import puts there. Neither is an entry.
 //!
-//! `Unchained` reads what the records say, and a byte with which no entry begins where a record is
+//! `ListSource` reads what the records say, and a byte with which no entry begins where a record is
 //! not the one that comes next: all that a list says, over the rows in it, or one leg after
 //! another, each up to the next row, and the rows between them. `put_record` writes a record, and
 //! `verify` looks a whole list through.
@@ -41,6 +41,7 @@
 
 pub mod answer_frames;
 pub mod answer_statuses;
+pub mod answer_writers;
 pub mod chain_laws;
 pub mod entry_lines;
 pub mod entry_prefixes;
@@ -53,6 +54,7 @@ pub mod journal_messages;
 pub mod journal_numbers;
 pub mod laws;
 pub mod line_prefixes;
+mod line_texts;
 pub mod list_ends;
 pub mod list_source;
 pub mod list_tallies;

@@ -6,10 +6,11 @@ ghost use Rattle.dispatch_room_journal.specs.Entries.{IsDigest, head_words};
 ghost use Rattle.dispatch_room_journal.specs.TextParts.{After, AreNumbers, BeginsOne, IsLineText};
 ghost use Rattle.dispatch_room_journal.specs.TextParts.{IsNumber};
 
-use crate::entry_lines::{DIGEST_DIGITS, GREATEST_STATUS, LAST_MOMENT, LONGEST, cut, head_words};
+use crate::entry_lines::{DIGEST_DIGITS, GREATEST_STATUS, LONGEST, cut, head_words};
 use crate::journal_digests::are_digest_digits;
 use crate::journal_numbers::{begins_number, number};
 use room_model::digests::Version;
+use room_types::numbers::LAST_MOMENT;
 
 /// Whether the bytes are the first part of a digest.
 fn begins_digest(bytes: &[u8]) -> bool

@@ -23,7 +23,7 @@ use room_http_messages::sources::{ReadFailed, Source};
 /// one that comes next. Either all that the list says is read, over the rows in it; or one leg
 /// after another, each up to the next row, and the rows between them are taken.
 #[derive(Drop)]
-pub struct Unchained<R> {
+pub struct ListSource<R> {
     reader: R,
     reel: Reel,
     has_ended: bool,
@@ -34,9 +34,9 @@ pub struct Unchained<R> {
     ghost legs: { reach_of reel.mode ≡ Leg → passed ≡ 0 },
 }
 
-impl<R: Source> Unchained<R> {
+impl<R: Source> ListSource<R> {
     /// All that a list says of which nothing was read.
-    pub fn new(reader: R) -> Unchained<R>
+    pub fn new(reader: R) -> ListSource<R>
         ensures left { left_in result.reel.mode result.reel.vouched result.reel.inbox
             (R.left result.reader) ≡ option_map (list_says sha256_digits Full) (R.left reader) }
         ensures reader { result.reader ≡ reader }
@@ -44,7 +44,7 @@ impl<R: Source> Unchained<R> {
         ensures none { result.passed ≡ 0 }
         ensures reach { reach_of result.reel.mode ≡ Full }
     {
-        Unchained {
+        ListSource {
             reader,
             reel: Reel::new(Reach::Full),
             has_ended: false,
@@ -53,7 +53,7 @@ impl<R: Source> Unchained<R> {
     }
 
     /// The first leg of a list of which nothing was read.
-    pub fn by_legs(reader: R) -> Unchained<R>
+    pub fn by_legs(reader: R) -> ListSource<R>
         ensures left { left_in result.reel.mode result.reel.vouched result.reel.inbox
             (R.left result.reader) ≡ option_map (list_says sha256_digits Leg) (R.left reader) }
         ensures reader { result.reader ≡ reader }
@@ -61,7 +61,7 @@ impl<R: Source> Unchained<R> {
         ensures none { result.passed ≡ 0 }
         ensures reach { reach_of result.reel.mode ≡ Leg }
     {
-        Unchained {
+        ListSource {
             reader,
             reel: Reel::new(Reach::Leg),
             has_ended: false,
@@ -270,7 +270,7 @@ impl<R: Source> Unchained<R> {
     }
 }
 
-impl<R: Source> Source for Unchained<R> {
+impl<R: Source> Source for ListSource<R> {
     ghost left = { λ list. left_in list.reel.mode list.reel.vouched list.reel.inbox
         (R.left list.reader) };
 

@@ -172,7 +172,7 @@ impl Reel {
         }
     }
 
-    /// Gives some of the bytes that may be given, and says how many.
+    /// Gives some of the bytes that may be given, and returns how many.
     pub fn give(&mut self, buf: &mut [u8]) -> usize
         requires some { 0 < self.old.vouched }
         requires room { 0 < length buf.old }

@@ -1,10 +1,10 @@
 //! The line before a record.
-ghost use Rattle.std.specs.Prelude.{◌≡◌, ◌+◌, ◌≤◌, ◌++◌, length};
-ghost use Rattle.arrayvec.specs.ArrayVec.{array_vec_len};
+ghost use Rattle.std.specs.Prelude.{◌≡◌, ◌≤◌, ◌++◌};
 ghost use Rattle.sha2.specs.Sha256.{sha256};
 ghost use Rattle.dispatch_room_journal.specs.Chains.{header, next_check, sha256_digits, size_text};
 
 use crate::journal_digests::digest_of;
+use crate::line_texts::append;
 use arrayvec::ArrayVec;
 use sha2::{Digest, Sha256};
 
@@ -37,15 +37,6 @@ pub fn check_after(check: &[u8; CHECK_DIGITS], body: &[u8]) -> [u8; CHECK_DIGITS
     digest_of(&hash_of(check.as_slice(), body))
 }
 
-/// More bytes of a line.
-fn add(text: &mut ArrayVec<u8, HEADER>, bytes: &[u8])
-    requires { array_vec_len text.old + length bytes.now ≤ HEADER }
-    ensures items { text.new.items ≡ text.old.items ++ bytes.now }
-    ensures len { array_vec_len text.new ≡ array_vec_len text.old + length bytes.now }
-{
-    let _ = text.try_extend_from_slice(bytes);
-}
-
 /// A number of bytes in five digits.
 fn size_digits(size: usize) -> [u8; 5]
     requires { size ≤ GREATEST_SIZE }
@@ -65,10 +56,10 @@ pub fn header_of(size: usize, check: &[u8; CHECK_DIGITS]) -> ArrayVec<u8, HEADER
     requires { size ≤ GREATEST_SIZE }
     ensures { result.items ≡ header size check.now }
 {
-    let mut text = ArrayVec::new();
-    add(&mut text, &size_digits(size));
-    add(&mut text, b" ");
-    add(&mut text, check.as_slice());
-    add(&mut text, b"\n");
+    let mut text = ArrayVec::<u8, HEADER>::new();
+    append(&mut text, &size_digits(size));
+    append(&mut text, b" ");
+    append(&mut text, check.as_slice());
+    append(&mut text, b"\n");
     text
 }

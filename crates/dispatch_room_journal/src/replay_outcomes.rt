@@ -45,8 +45,8 @@ fn play_answered<M: Digested>(
 }
 
 /// Plays a message that has no status before the head of a part, where the room has not come to
-/// the head's digest yet and comes to it by the message. Whether it was played. Where the room
-/// would come to another digest, nothing is done.
+/// the head's digest yet and comes to it by the message. Where it would come to another digest,
+/// nothing is done. Returns whether the message was played.
 fn replay_unanswered<M: Digested>(
     handler: &Handler,
     room: &mut M,
@@ -75,8 +75,8 @@ fn replay_unanswered<M: Digested>(
     }
 }
 
-/// Plays a message or leaves it out, by the line that follows it. Whether that line's entry is
-/// taken with it.
+/// Plays a message or leaves it out, by the line that follows it. Returns whether that line's entry
+/// is taken with it.
 pub fn settle<M: Digested>(
     handler: &Handler,
     room: &mut M,

@@ -93,7 +93,7 @@ fn replay_turns<R: Source, M: Digested>(
     Err(stopped(ReplayFault::Bad, &progress))
 }
 
-/// Takes the next turn of a journal. Whether it goes on.
+/// Takes the next turn of a journal, and returns whether the journal goes on.
 fn replay_turn<R: Source, M: Digested>(
     handler: &Handler,
     inbox: &mut JournalInbox,

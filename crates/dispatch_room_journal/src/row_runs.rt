@@ -1,7 +1,6 @@
 //! Rows of a file that stand in a list, one after another.
-ghost use Rattle.std.specs.Prelude.{◌≡◌, ◌<◌, ◌≤◌, ◌+◌, ◌++◌, false, is_err, length, Err, IfErr, IfOk, OnOk, vec_len};
+ghost use Rattle.std.specs.Prelude.{◌≡◌, ◌<◌, ◌≤◌, ◌++◌, false, is_err, length, Err, IfErr, IfOk, OnOk, vec_len};
 ghost use Rattle.std.specs.Io.KnownBytes.{prepend_known};
-ghost use Rattle.arrayvec.specs.ArrayVec.{array_vec_len};
 ghost use Rattle.dispatch_room_journal.specs.Chains.{row_body, row_line};
 ghost use Rattle.dispatch_room_journal.specs.RowRuns.{HeadIs, IsRow, TakesKnown, is_read};
 ghost use Rattle.dispatch_room_journal.specs.WholeRecords.{GivesMore};
@@ -12,6 +11,7 @@ ghost use Rattle.dispatch_room_journal.specs.declared.row_runs.RowsFault.TheVari
 use crate::entry_lines::EntryLine;
 use crate::entry_prefixes::{self, EntryPrefix};
 use crate::journal_inbox::ENTRY_ROOM;
+use crate::line_texts::append;
 use crate::record_fronts::{Front, Link, ROW, body_of, is_end, is_row, look_at};
 use crate::record_headers::HEADER;
 use crate::record_inbox::RecordInbox;
@@ -45,24 +45,15 @@ pub enum RowsFault {
     Memory,
 }
 
-/// More bytes of a row.
-fn add(text: &mut ArrayVec<u8, ENTRY_ROOM>, bytes: &[u8])
-    requires { array_vec_len text.old + length bytes.now ≤ ENTRY_ROOM }
-    ensures items { text.new.items ≡ text.old.items ++ bytes.now }
-    ensures len { array_vec_len text.new ≡ array_vec_len text.old + length bytes.now }
-{
-    let _ = text.try_extend_from_slice(bytes);
-}
-
 /// The record of a line, which is given without its end.
 pub fn row_of(line: &[u8]) -> ArrayVec<u8, ENTRY_ROOM>
     requires { length line.now ≤ ROW_ROOM }
     ensures { result.items ≡ row_body line.now }
 {
-    let mut text = ArrayVec::new();
-    add(&mut text, ROW);
-    add(&mut text, line);
-    add(&mut text, b"\n");
+    let mut text = ArrayVec::<u8, ENTRY_ROOM>::new();
+    append(&mut text, ROW);
+    append(&mut text, line);
+    append(&mut text, b"\n");
     text
 }
 
@@ -87,7 +78,7 @@ fn add_line(rows: &mut Vec<u8>, body: &[u8]) -> Result<(), RowsFault>
     }
 }
 
-// Reads once more, and says whether that gave anything.
+// Reads once more, and returns whether that gave anything.
 fn read_rows<R: Source>(inbox: &mut RecordInbox, reader: &mut R) -> Result<bool, RowsFault>
     requires sound { R.has_failed reader.old ≡ false }
     requires room { length inbox.old < RECORD_ROOM }

@@ -7,6 +7,7 @@ ghost use Rattle.dispatch_room_journal.specs.AnswerFrames.{AnswersEach, AnswersT
 ghost use Rattle.dispatch_room_journal.specs.Replays.{UnlessStopped, UnlessUnavailable, digits_of};
 
 use crate::answer_frames::put_frame;
+use crate::answer_writers::AnswerWriter;
 use crate::entry_lines::EntryLine;
 use crate::entry_reader::read_entry;
 use crate::journal_inbox::JournalInbox;
@@ -17,12 +18,12 @@ use crate::replay_progress::Progress;
 use crate::replayed_journal::{memory, stopped};
 use room_http::handlers::Handler;
 use room_http::settings::Setting;
-use room_http_messages::sinks::Sink;
 use room_http_messages::sources::Source;
 use room_model::digests::Digested;
 use std::alloc::Global;
+use std::io::Write;
 
-/// Compares the status that follows an answer, if one does. Whether it was taken.
+/// Compares the status that follows an answer, if one does, and returns whether it was taken.
 fn follow<R: Source>(
     inbox: &mut JournalInbox,
     reader: &mut R,
@@ -52,27 +53,29 @@ fn follow<R: Source>(
 
 /// Plays the message at the front of the journal, writes its answer in its frame, and compares the
 /// status that follows, if one does.
-fn answer_message<R: Source, W: Sink, M: Digested>(
+fn answer_message<R: Source, O: Write, M: Digested>(
     handler: &Handler,
     inbox: &mut JournalInbox,
     reader: &mut R,
-    writer: &mut W,
+    writer: &mut AnswerWriter<'_, O>,
     room: &mut M,
     entry: &MessageEntry,
 ) -> Result<(), ReplayFault>
     requires ready { M.is_ready room.old }
     requires reader { R.has_failed reader.old ≡ false }
-    requires writer { W.has_failed writer.old ≡ false }
+    requires writer { writer.old.failed ≡ false }
     requires front { (sent : List ℕ) × IsLayout inbox.old.kept entry.now.layout
         (message entry.now.at sent) }
+    ensures same_reference { writer.new.output.ghost_name ≡ writer.old.output.ghost_name }
     ensures ready { M.is_ready room.new }
     ensures zone { M.zone room.new ≡ M.zone room.old }
     ensures trusted { M.is_trusted room.new → M.is_trusted room.old }
     ensures turn { EachIs M.step handler.now.setting (digits_of M.digest_of (M.zone room.old))
         (M.is_trusted room.new) (M.stands room.old) (M.stands room.new)
         (prepend_known inbox.old.kept (R.left reader.old))
-        (prepend_known inbox.new.kept (R.left reader.new)) (W.held writer.old) (W.held writer.new)
-        entry.now.at (R.has_failed reader.new) (W.has_failed writer.new) result }
+        (prepend_known inbox.new.kept (R.left reader.new)) (O.contents writer.old.output.now)
+        (O.contents writer.new.output.now) entry.now.at (R.has_failed reader.new)
+        writer.new.failed result }
     ensures kept { M.is_trusted room.new → UnlessUnavailable result (M.is_kept room.old
         → M.is_kept room.new) }
 {
@@ -91,26 +94,28 @@ fn answer_message<R: Source, W: Sink, M: Digested>(
     }
 }
 
-/// Takes the next turn of a journal. Whether it goes on.
-fn answer_turn<R: Source, W: Sink, M: Digested>(
+/// Takes the next turn of a journal, and returns whether the journal goes on.
+fn answer_turn<R: Source, O: Write, M: Digested>(
     handler: &Handler,
     inbox: &mut JournalInbox,
     reader: &mut R,
-    writer: &mut W,
+    writer: &mut AnswerWriter<'_, O>,
     room: &mut M,
     progress: &mut Progress,
 ) -> Result<bool, ReplayFault>
     requires ready { M.is_ready room.old }
     requires reader { R.has_failed reader.old ≡ false }
-    requires writer { W.has_failed writer.old ≡ false }
+    requires writer { writer.old.failed ≡ false }
+    ensures same_reference { writer.new.output.ghost_name ≡ writer.old.output.ghost_name }
     ensures ready { M.is_ready room.new }
     ensures zone { M.zone room.new ≡ M.zone room.old }
     ensures trusted { M.is_trusted room.new → M.is_trusted room.old }
     ensures turn { AnswersTurn M.step handler.now.setting (digits_of M.digest_of (M.zone room.old))
         (M.is_trusted room.new) (M.stands room.old) (M.stands room.new)
         (prepend_known inbox.old.kept (R.left reader.old))
-        (prepend_known inbox.new.kept (R.left reader.new)) (W.held writer.old) (W.held writer.new)
-        progress.old progress.new (R.has_failed reader.new) (W.has_failed writer.new) result }
+        (prepend_known inbox.new.kept (R.left reader.new)) (O.contents writer.old.output.now)
+        (O.contents writer.new.output.now) progress.old progress.new (R.has_failed reader.new)
+        writer.new.failed result }
     ensures kept { M.is_trusted room.new → UnlessUnavailable result (M.is_kept room.old
         → M.is_kept room.new) }
 {
@@ -136,24 +141,26 @@ fn answer_turn<R: Source, W: Sink, M: Digested>(
 }
 
 /// Plays the messages of a journal of which nothing was read yet.
-fn answer_turns<R: Source, W: Sink, M: Digested>(
+fn answer_turns<R: Source, O: Write, M: Digested>(
     handler: &Handler,
     inbox: &mut JournalInbox,
     reader: &mut R,
-    writer: &mut W,
+    writer: &mut AnswerWriter<'_, O>,
     room: &mut M,
 ) -> Result<u64, Stopped>
     requires reader { R.has_failed reader.old ≡ false }
-    requires writer { W.has_failed writer.old ≡ false }
+    requires writer { writer.old.failed ≡ false }
     requires ready { M.is_ready room.old }
     requires empty { inbox.old.kept ≡ [] }
+    ensures same_reference { writer.new.output.ghost_name ≡ writer.old.output.ghost_name }
     ensures ready { M.is_ready room.new }
     ensures zone { M.zone room.new ≡ M.zone room.old }
     ensures trusted { M.is_trusted room.new → M.is_trusted room.old }
     ensures answers { AnswersEach M.step handler.now.setting
         (digits_of M.digest_of (M.zone room.old)) (M.is_trusted room.new)
-        (M.stands room.old) (M.stands room.new) (R.left reader.old) (W.held writer.old)
-        (W.held writer.new) (R.has_failed reader.new) (W.has_failed writer.new) result }
+        (M.stands room.old) (M.stands room.new) (R.left reader.old)
+        (O.contents writer.old.output.now) (O.contents writer.new.output.now)
+        (R.has_failed reader.new) writer.new.failed result }
     ensures kept { M.is_trusted room.new → UnlessStopped result (M.is_kept room.old
         → M.is_kept room.new) }
 {
@@ -170,24 +177,26 @@ fn answer_turns<R: Source, W: Sink, M: Digested>(
 
 /// Plays each message of a journal as soon as it is whole, to a room that stands where the journal
 /// begins, and writes each answer in its frame. A status that follows a message is compared with
-/// that of its answer, and a head with the room. How many messages there were.
-pub fn answer_each<R: Source, W: Sink, M: Digested>(
+/// that of its answer, and a head with the room. Returns the number of messages.
+pub fn answer_each<R: Source, O: Write, M: Digested>(
     alloc: Global,
     reader: &mut R,
-    writer: &mut W,
+    writer: &mut AnswerWriter<'_, O>,
     room: &mut M,
     setting: &Setting,
 ) -> Result<u64, Stopped>
     requires reader { R.has_failed reader.old ≡ false }
-    requires writer { W.has_failed writer.old ≡ false }
+    requires writer { writer.old.failed ≡ false }
     requires ready { M.is_ready room.old }
+    ensures same_reference { writer.new.output.ghost_name ≡ writer.old.output.ghost_name }
     ensures ready { M.is_ready room.new }
     ensures zone { M.zone room.new ≡ M.zone room.old }
     ensures trusted { M.is_trusted room.new → M.is_trusted room.old }
     ensures answers { AnswersEach M.step setting.now (digits_of M.digest_of (M.zone room.old))
         (M.is_trusted room.new)
-        (M.stands room.old) (M.stands room.new) (R.left reader.old) (W.held writer.old)
-        (W.held writer.new) (R.has_failed reader.new) (W.has_failed writer.new) result }
+        (M.stands room.old) (M.stands room.new) (R.left reader.old)
+        (O.contents writer.old.output.now) (O.contents writer.new.output.now)
+        (R.has_failed reader.new) writer.new.failed result }
     ensures kept { M.is_trusted room.new → UnlessStopped result (M.is_kept room.old
         → M.is_kept room.new) }
 {

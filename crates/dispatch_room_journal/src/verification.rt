@@ -1,4 +1,4 @@
-//! A list, looked through.
+//! A whole list, read and judged.
 ghost use Rattle.std.specs.Prelude.{◌≡◌, ℕ, List, [], false, Some, MatchResult};
 ghost use Rattle.dispatch_room_journal.specs.ListTallies.{IsFlawed, IsVerified};
 

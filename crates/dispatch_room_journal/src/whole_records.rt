@@ -46,7 +46,7 @@ pub fn ends_with(layout: &EntryLayout, bytes: &[u8]) -> bool
     layout.end == bytes.len()
 }
 
-/// Reads once more, and says whether that gave anything.
+/// Reads once more, and returns whether that gave anything.
 pub fn read_more<R: Source>(inbox: &mut RecordInbox, reader: &mut R) -> Result<bool, EntryFault>
     requires sound { R.has_failed reader.old ≡ false }
     requires room { length inbox.old < RECORD_ROOM }
@@ -116,8 +116,8 @@ pub enum ListForm {
     Chain(WholeChain),
 }
 
-// Reads until there are as many bytes as the line with which a chain begins has, and says whether
-// there are.
+// Reads until there are as many bytes as a chain's first line has, and returns whether there are so
+// many.
 fn fill_line<R: Source>(inbox: &mut RecordInbox, reader: &mut R) -> Result<bool, EntryFault>
     requires sound { R.has_failed reader.old ≡ false }
     ensures failed { R.has_failed reader.new ≡ is_err result }

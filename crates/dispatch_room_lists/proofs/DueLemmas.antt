@@ -1,5 +1,6 @@
 -- Rows that are enrolled one after another until the room has a head's digest.
-use Rattle.std.proofs.Common.{Bool, Err, IfOk, IsTrue, List, Ok, Result, [], arith, false, inl, inr, length, refl, subst, suc, take}
+use Rattle.std.proofs.Common.{Bool, Err, IfOk, IsTrue, List, Ok, Result, [], arith, false, inl, inr, length, refl}
+use Rattle.std.proofs.Common.{subst, suc, take}
 use Rattle.std.proofs.Common.{true, zero, ℕ, ◌≤◌, ◌↔◌}
 use Rattle.std.proofs.Math.Nat.{eq-or-lt_of_le}
 use Rattle.std.proofs.Common.{◌+◌, ◌++◌, ◌<◌, ◌∙◌, ◌∷◌, ◌≡◌, ◌⊎◌}
@@ -25,7 +26,8 @@ use Rattle.dispatch_room_journal.proofs.FaultLemmas.{not_both}
 use Rattle.room_tables_schema.specs.FileConnections.{IsClean}
 
 -- a store that went on twice
-pub goes_on : {S : Type 0} (g : Ghosts S) (old mid new : Store S) → GoesOn g old mid → GoesOn g mid new → GoesOn g old new
+pub goes_on : {S : Type 0} (g : Ghosts S) (old mid new : Store S) → GoesOn g old mid → GoesOn g mid new
+    → GoesOn g old new
 goes_on g old mid new first second = record {
   ready = second.ready;
   zone = second.zone ∙ first.zone;

@@ -1,5 +1,6 @@
 -- The legs of a list that is replayed, one after another.
-use Rattle.std.proofs.Common.{Bool, List, [], Ok, Option, Result, ap, arith, false, inl, inr, length, refl, subst, sym, ℕ, true}
+use Rattle.std.proofs.Common.{Bool, List, [], Ok, Option, Result, ap, arith, false, inl, inr, length, refl, subst, sym}
+use Rattle.std.proofs.Common.{ℕ, true}
 use Rattle.std.specs.Bool.{⊤}
 use Rattle.std.proofs.Common.{Err, IfOk, ◌+◌, ◌<◌, ◌∙◌, ◌∷◌, ◌≡◌, ◌⊎◌}
 use Rattle.std.proofs.lemmas.Result.{IfOk-weaker}
@@ -9,7 +10,7 @@ use Rattle.room_http.specs.Settings.{IsSetting}
 use Rattle.room_model.specs.declared.digests.Head.{Head}
 use Rattle.room_store.specs.declared.store.Store.{Store}
 use Rattle.dispatch_room_cli.specs.declared.tasks.Replay.{Replay as How}
-use Rattle.dispatch_room_journal.specs.declared.list_source.Unchained.{Unchained}
+use Rattle.dispatch_room_journal.specs.declared.list_source.ListSource.{ListSource}
 use Rattle.dispatch_room_journal.specs.Legs.{TakesIn}
 use Rattle.dispatch_room_journal.specs.declared.replay_faults.ReplayFault.{ReplayFault}
 use Rattle.dispatch_room_journal.specs.declared.replay_faults.Stopped.{Stopped}
@@ -112,7 +113,7 @@ so_many (Ok it) P Q many = inr many
 so_many (Err e) P Q many = tt
 
 -- what stands behind a leg, by what a call says that took it
-pub takes_behind : {R : Type 0} (left : R → Option (List ℕ)) (old new : Unchained R) (before rows : List ℕ)
+pub takes_behind : {R : Type 0} (left : R → Option (List ℕ)) (old new : ListSource R) (before rows : List ℕ)
     (taken : Result Behind RowsFault)
     → (old.has_ended ≡ false → (taken ≡ Ok behind.Unread) × IsUntouched old new × (rows ≡ before))
     → (0 < old.reel.vouched → (taken ≡ Ok behind.Unread) × IsUntouched old new × (rows ≡ before))
@@ -171,7 +172,7 @@ ends_here g how first old new holds _ _ reads writes before replayed rows behind
     (whole_leg g how first old holds _ _ reads writes before replayed ends)
 
 -- a list is spent where no leg follows what was taken behind the last one
-pub spent_by : {R : Type 0} (left : R → Option (List ℕ)) (old new : Unchained R) {S : Type 0} (g : Ghosts S)
+pub spent_by : {R : Type 0} (left : R → Option (List ℕ)) (old new : ListSource R) {S : Type 0} (g : Ghosts S)
     (was is : Store S) (rows : List ℕ) (which : Behind) → TakesBehind left old new [] rows which
     → FollowsBy g was is rows which false → IsSpent left new
 spent_by left old new g was is rows which takes by =

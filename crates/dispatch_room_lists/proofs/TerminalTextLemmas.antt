@@ -1,6 +1,8 @@
 -- The text of a list of terminals is cut into its lines, and each line is read as its terminal.
-use Rattle.std.proofs.Common.{Bool, Bor, List, None, Some, [], ap, append-nil, append_assoc, arith, codes, decimal, eqb, false}
-use Rattle.std.proofs.Common.{flat_map, get_or, inl, inr, length, length-append, ltb, refl, sym, true, ℕ, ◌+◌, ◌++◌, ◌<◌, ◌^◌, ◌∙◌, ◌∷◌}
+use Rattle.std.proofs.Common.{Bool, Bor, List, None, Some, [], ap, append-nil, append_assoc, arith, codes, decimal, eqb}
+use Rattle.std.proofs.Common.{false}
+use Rattle.std.proofs.Common.{flat_map, get_or, inl, inr, length, length-append, ltb, refl, sym, true, ℕ, ◌+◌, ◌++◌}
+use Rattle.std.proofs.Common.{◌<◌, ◌^◌, ◌∙◌, ◌∷◌}
 use Rattle.std.proofs.Common.{◌≡◌, ◌≢◌, ◌≤◌}
 use Rattle.std.specs.List.{All, list_all, slice_split}
 use Rattle.std.specs.Prelude.{nat_le, nat_lt, ◌&&◌}
@@ -172,7 +174,8 @@ cut_line : (rest : List ℕ) (line below : Bor (List ℕ)) → IsSplitOnceResult
     → (left : List Terminal) → All IsTerminal left → rest ≡ flat_map line_of left
     → Cut left line.now below.now
 cut_line rest line below cut [] all same =
-    let whole : [] ≡ line.now ++ 10 ∷ below.now = sym same ∙ (split_parts 10 rest (Some (line, below)) cut (omega arith)).0 in
+    let whole : []
+    ≡ line.now ++ 10 ∷ below.now = sym same ∙ (split_parts 10 rest (Some (line, below)) cut (omega arith)).0 in
     let none : 0 ≡ length line.now + length (10 ∷ below.now) =
     ap length whole ∙ length-append line.now (10 ∷ below.now) in
     absurd (omega (arith, none))
@@ -243,7 +246,12 @@ pub reads_more : (lines rest : List ℕ) (line below : Bor (List ℕ)) (found af
     → AddsLine line.now found after → HasRead lines below.now after
 reads_more lines rest line below found after cut read (inl none) = λ listed all same.
     let old = reads_none lines rest line below found cut read none.0 listed all same in
-    record { left = old.left; valid = old.valid; whole = old.whole ∙ ap (λ f. f ++ old.left) (sym none.1); lines = old.lines }
+    record {
+      left = old.left;
+      valid = old.valid;
+      whole = old.whole ∙ ap (λ f. f ++ old.left) (sym none.1);
+      lines = old.lines;
+    }
 reads_more lines rest line below found after cut read (inr one) =
     reads_one lines rest line below found after one.0 cut read one.1 one.2
 
@@ -275,7 +283,8 @@ lines_ascii : (listed : List Terminal) → All IsTerminal listed → IsAscii (fl
 lines_ascii [] all = IsAscii-nil
 lines_ascii (terminal ∷ rest) all =
     let is = all 0 terminal (omega arith) in
-    IsAscii-append (line_of terminal) _ (line_ascii terminal.who terminal.token is.0 (ascii _ (token_letters terminal.token is.1)))
+    IsAscii-append (line_of terminal) _
+    (line_ascii terminal.who terminal.token is.0 (ascii _ (token_letters terminal.token is.1)))
     (lines_ascii rest (All-tail IsTerminal terminal rest all))
 
 header_ascii : IsAscii (codes "terminal,token\n")

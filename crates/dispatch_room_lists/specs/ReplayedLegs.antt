@@ -17,7 +17,7 @@ use Rattle.dispatch_room_journal.specs.AnswerFrames.{AnswersEach}
 use Rattle.dispatch_room_journal.specs.Legs.{TakesIn}
 use Rattle.dispatch_room_journal.specs.ReadSteps.{left_in}
 use Rattle.dispatch_room_journal.specs.Replays as replay
-use Rattle.dispatch_room_journal.specs.declared.list_source.Unchained.{Unchained}
+use Rattle.dispatch_room_journal.specs.declared.list_source.ListSource.{ListSource}
 use Rattle.dispatch_room_journal.specs.declared.replay_faults.ReplayFault.{ReplayFault}
 use Rattle.dispatch_room_journal.specs.declared.replay_faults.ReplayFault.TheVariants.{ReadFailed, Unavailable}
 use Rattle.dispatch_room_journal.specs.declared.replay_faults.Stopped.{Stopped}
@@ -44,7 +44,7 @@ begins_leg store setting list held =
     record { store = store; setting = setting; left = list; held = held; messages = 0 }
 
 -- what is left of the leg of a list that is read next, by what is left of its source
-abbrev pub left_of : {R : Type 0} → (R → Option (List ℕ)) → Unchained R → Option (List ℕ)
+abbrev pub left_of : {R : Type 0} → (R → Option (List ℕ)) → ListSource R → Option (List ℕ)
 left_of left list = left_in list.reel.mode list.reel.vouched list.reel.inbox (left list.reader)
 
 -- how many messages were answered, or why it stopped
@@ -65,14 +65,14 @@ in_all before (Err stopped) =
 
 -- ---- what stands behind a leg
 -- a list of which nothing was read
-abbrev pub IsUntouched : {R : Type 0} → Unchained R → Unchained R → Type 0
+abbrev pub IsUntouched : {R : Type 0} → ListSource R → ListSource R → Type 0
 IsUntouched old new = (new.reader ≡ old.reader) × (new.reel ≡ old.reel)
 
 module _ {R : Type 0} (left : R → Option (List ℕ)) where
   -- What stands behind a leg of a list was taken, and the lines of its rows put behind others. Of
   -- one that was not read to its end, and of one of which something may still be given, nothing
   -- was; else the rows that stand next.
-  abbrev pub TakesBehind : Unchained R → Unchained R → List ℕ → List ℕ → Behind → Type 0
+  abbrev pub TakesBehind : ListSource R → ListSource R → List ℕ → List ℕ → Behind → Type 0
   TakesBehind old new before rows which =
       (old.has_ended ≡ false → (which ≡ behind.Unread) × IsUntouched old new × (rows ≡ before))
       × (0 < old.reel.vouched → (which ≡ behind.Unread) × IsUntouched old new × (rows ≡ before))
@@ -82,8 +82,8 @@ module _ {R : Type 0} (left : R → Option (List ℕ)) where
 
   -- No leg follows the one that was read last: no rows stand behind it, or it was not read to its
   -- end, or nothing stands behind the rows.
-  pub record IsSpent (new : Unchained R) : Type 0 where
-    pub old : Unchained R
+  pub record IsSpent (new : ListSource R) : Type 0 where
+    pub old : ListSource R
     pub rows : List ℕ
     pub which : Behind
     pub takes : TakesBehind old new [] rows which
@@ -190,9 +190,9 @@ module _ {S : Type 0} (g : Ghosts S) where
 
     -- Behind a leg that was replayed whole no room was opened again, for this, before a change that
     -- stands there, or after it.
-    pub record LosesLeg (first : Waypoint S) (fault : Failure) : Type 0 where
+    pub record LosesLeg (first : Waypoint S) (holds : Option (List ℕ)) (fault : Failure)
+        : Type 0 where
       pub stood : Store S
-      pub holds : Option (List ℕ)
       pub before : ℕ
       pub replayed : Replayed
       pub leg : EndsLeg first stood holds false false before (Ok replayed)

@@ -35,14 +35,14 @@ abbrev pub failure_of : Stopped → Failure
 failure_of stopped = failure_at stopped.fault stopped.number
 
 -- what is reported of a replay: how many records it took, or why it stopped
-abbrev pub IsPrinted : Result Replayed Stopped → Option (List ℕ) → Option (List ℕ)
+abbrev pub PrintsReplayed : Result Replayed Stopped → Option (List ℕ) → Option (List ℕ)
     → Result Done Failure → Type 0
-IsPrinted (Ok replayed) before after (Ok done) =
+PrintsReplayed (Ok replayed) before after (Ok done) =
     Appends before after (codes "replayed " ++ (decimal replayed.messages ++ codes "\n"))
     × (done ≡ Whole)
-IsPrinted (Ok replayed) before after (Err fault) = fault ≡ Network
-IsPrinted (Err stopped) before after (Ok done) = ⊥
-IsPrinted (Err stopped) before after (Err fault) = fault ≡ failure_of stopped
+PrintsReplayed (Ok replayed) before after (Err fault) = fault ≡ Network
+PrintsReplayed (Err stopped) before after (Ok done) = ⊥
+PrintsReplayed (Err stopped) before after (Err fault) = fault ≡ failure_of stopped
 
 -- how the program ends by how answering each message did
 abbrev pub EndsAs : Result ℕ Stopped → Result Done Failure → Type 0
@@ -60,7 +60,7 @@ module _ {S : Type 0} (g : Ghosts S) (how : How) (first : Store S) (setting : Se
     pub result : Result Replayed Stopped
     pub is : ReplaysLegs g how (begins_leg first setting list None) last None read_failed
         write_failed spent result
-    pub printed : IsPrinted result before after done
+    pub printed : PrintsReplayed result before after done
 
   -- each of its messages is answered, leg by leg, and the answers are written
   pub record AreAnswered : Type 0 where
@@ -78,12 +78,12 @@ pub record IsPlayed {S : Type 0} (g : Ghosts S) (how : How) (first : Store S) (s
   pub trusted : IsClean g last.conn → IsClean g first.conn
   pub replayed : how.answers ≡ false
       → IsReplayed g how first setting last list before after read_failed spent done
-  pub answered : how.answers ≡ true → (holds : Option (List ℕ))
-      × AreAnswered g how first setting last list before holds read_failed spent done
+  pub answered : how.answers ≡ true
+      → AreAnswered g how first setting last list before after read_failed spent done
 
--- This list was replayed to the room, or its messages answered, as it was asked. What is written of
--- the answers is said by who writes them. Then the replay ended, with the digest of the room where
--- no answers were asked for.
+-- This list was replayed to the room, or its messages answered, as it was asked: what is written
+-- behind what the output held is these answers. Then the replay ended, with the digest of the room
+-- where no answers were asked for.
 pub record HasReplayed {S : Type 0} (g : Ghosts S) (old new : Held S) (how : How)
     (list before after : Option (List ℕ)) (done : Result Done Failure) : Type 0 where
   pub first : Store S
@@ -96,22 +96,21 @@ pub record HasReplayed {S : Type 0} (g : Ghosts S) (old new : Held S) (how : How
   pub read_failed : Bool
   pub replayed : how.answers ≡ false
       → IsReplayed g how first setting last list before between read_failed ⊤ came
-  pub answered : how.answers ≡ true → (holds : Option (List ℕ))
-      × AreAnswered g how first setting last list before holds read_failed ⊤ came
+  pub answered : how.answers ≡ true
+      → AreAnswered g how first setting last list before between read_failed ⊤ came
   pub ended : Store S
   pub has_ended : Bool
   pub ends : Concludes g last ended how came has_ended between after done
   pub closed : new ≡ ended.conn
 
--- Behind a leg of a list no room was opened again, for this. Where no answers are asked for,
--- nothing is printed; else they begin behind what the output held, and what is written of them is
--- said by who writes them.
+-- Behind a leg of a list no room was opened again, for this. Where answers are asked for, those to
+-- the legs before it are written behind what the output held; else nothing is printed.
 pub record LosesPlayed {S : Type 0} (g : Ghosts S) (how : How) (first : Store S) (setting : Setting)
     (list before after : Option (List ℕ)) (fault : Failure) : Type 0 where
-  pub held : Option (List ℕ)
-  pub unprinted : how.answers ≡ false → after ≡ before
-  pub behind : how.answers ≡ true → held ≡ before
-  pub loses : LosesLeg g how (begins_leg first setting list held) fault
+  pub unprinted : how.answers ≡ false → (after ≡ before)
+      × LosesLeg g how (begins_leg first setting list None) None fault
+  pub answered : how.answers ≡ true
+      → LosesLeg g how (begins_leg first setting list before) after fault
 
 -- no room was opened, or, behind a leg of a list, none was opened again
 pub record LosesReplayed {S : Type 0} (g : Ghosts S) (old : Held S) (how : How)

@@ -5,11 +5,11 @@ ghost use Rattle.dispatch_room_journal.specs.Chains.{sha256_digits};
 ghost use Rattle.dispatch_room_journal.specs.ReadSteps.{left_in, most_rows};
 ghost use Rattle.dispatch_room_journal.specs.RecordFronts.{list_says};
 ghost use Rattle.dispatch_room_journal.specs.RowRuns.{is_read};
-ghost use Rattle.dispatch_room_journal.specs.declared.list_source.Unchained.{Unchained as List};
+ghost use Rattle.dispatch_room_journal.specs.declared.list_source.ListSource.{ListSource as List};
 ghost use Rattle.dispatch_room_journal.specs.declared.read_progress.Reach.TheVariants.{Leg};
 ghost use Rattle.dispatch_room_lists.specs.ReplayedLegs.{TakesBehind, left_of};
 
-use dispatch_room_journal::list_source::Unchained;
+use dispatch_room_journal::list_source::ListSource;
 use dispatch_room_journal::row_runs::{Behind, RowsFault};
 use room_http_messages::sources::{ReadFailed, Source};
 use std::marker::Model;
@@ -17,7 +17,7 @@ use std::marker::Model;
 /// A list that is read leg by leg, and whether a read of it failed.
 #[derive(Drop)]
 pub struct LegReader<R: Source> {
-    list: Unchained<R>,
+    list: ListSource<R>,
     failed: bool,
 }
 
@@ -40,7 +40,7 @@ impl<R: Source> LegReader<R> {
             ≡ option_map (list_says sha256_digits Leg) (R.left reader) }
     {
         LegReader {
-            list: Unchained::by_legs(reader),
+            list: ListSource::by_legs(reader),
             failed: false,
         }
     }

@@ -7,7 +7,6 @@ pub mod change_texts;
 pub mod digest_lines;
 mod followed_rows;
 mod leg_readers;
-mod leg_writers;
 mod listed_changes;
 mod listed_rows;
 mod replay_ends;

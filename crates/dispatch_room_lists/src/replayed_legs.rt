@@ -16,10 +16,10 @@ ghost use Rattle.dispatch_room_lists.specs.StoodRooms.{GoesOn, StageGoesOn};
 
 use crate::followed_rows::{Followed, Stage, follow};
 use crate::leg_readers::LegReader;
-use crate::leg_writers::LegWriter;
 use dispatch_room_cli::exit_status::Failure;
 use dispatch_room_cli::failure_causes::Explainer;
 use dispatch_room_cli::tasks::Replay;
+use dispatch_room_journal::answer_writers::AnswerWriter;
 use dispatch_room_journal::replay_faults::{ReplayFault, Stopped};
 use dispatch_room_journal::replayed_journal::{self, Replayed};
 use dispatch_room_journal::row_runs::{Behind, RowsFault};
@@ -49,20 +49,21 @@ pub fn replay_legs<S: Alter + Drop, R: Source, O: Write, E: Write>(
     course: &Course<'_>,
     list: &mut LegReader<R>,
     first: Stage<S>,
-    out: &mut LegWriter<O>,
+    out: &mut AnswerWriter<'_, O>,
     err: &mut E,
 ) -> Played<Result<Replayed, Stopped>, S>
     requires list { (R.has_failed list.old.reader || list.old.passed == most_rows) ≡ false }
     requires ready { IsReady S.Store first.room }
     requires set { IsSetting first.room.plan.zone course.now.replay.now.history first.setting }
+    ensures same_reference { out.new.output.ghost_name ≡ out.old.output.ghost_name }
     ensures played { IfOk result (λ played. PlaysLegs S.Store course.now.replay.now
-        (begins_leg first.room first.setting (left_of R.left list.old) (O.contents out.old.inner))
-        played.1 (O.contents out.new.inner)
+        (begins_leg first.room first.setting (left_of R.left list.old)
+        (O.contents out.old.output.now)) played.1 (O.contents out.new.output.now)
         (R.has_failed list.new.reader || list.new.passed == most_rows) out.new.failed
         (IsSpent R.left list.new) played.0) }
     ensures lost { IfErr result (LosesLeg S.Store course.now.replay.now
         (begins_leg first.room first.setting (left_of R.left list.old)
-        (O.contents out.old.inner))) }
+        (O.contents out.old.output.now)) (O.contents out.new.output.now)) }
 {
     let mut stage = first;
     let mut before = 0;
@@ -126,10 +127,11 @@ fn replay_leg<S: Alter, R: Source, O: Write>(
     course: &Course<'_>,
     list: &mut R,
     stage: &mut Stage<S>,
-    out: &mut LegWriter<O>,
+    out: &mut AnswerWriter<'_, O>,
 ) -> Result<Replayed, Stopped>
     requires list { R.has_failed list.old ≡ false }
     requires ready { IsReady S.Store stage.old.room }
+    ensures same_reference { out.new.output.ghost_name ≡ out.old.output.ghost_name }
     ensures goes { GoesOn S.Store stage.old.room stage.new.room }
     ensures setting { stage.new.setting ≡ stage.old.setting }
     ensures leg { (before : ℕ) → IsLeg S.Store course.now.replay.now
@@ -137,10 +139,11 @@ fn replay_leg<S: Alter, R: Source, O: Write>(
           store = stage.old.room;
           setting = stage.old.setting;
           left = R.left list.old;
-          held = O.contents out.old.inner;
+          held = O.contents out.old.output.now;
           messages = before;
         })
-        stage.new.room (O.contents out.new.inner) (R.has_failed list.new) out.new.failed result }
+        stage.new.room (O.contents out.new.output.now) (R.has_failed list.new) out.new.failed
+        result }
 {
     let replay = course.replay;
     let setting = stage.setting;
@@ -158,7 +161,7 @@ fn replay_leg<S: Alter, R: Source, O: Write>(
     }
 }
 
-// Takes the rows behind a leg that was replayed whole, and follows them. Whether another leg does.
+// Takes and follows the rows behind a leg that was replayed whole. Returns whether a leg follows.
 #[tactic(auto, using(crate::proofs::DueLemmas::stage_stays))]
 fn follow_between<S: Alter + Drop, R: Source, E: Write>(
     course: &Course<'_>,
@@ -188,7 +191,7 @@ fn follow_between<S: Alter + Drop, R: Source, E: Write>(
     }
 }
 
-// Follows rows by what stands behind them. Whether another leg does.
+// Follows rows by what stands behind them. Returns whether another leg does.
 #[tactic(auto, using(crate::proofs::DueLemmas::stage_stays))]
 fn follow_by<S: Alter + Drop, E: Write>(
     course: &Course<'_>,

@@ -9,15 +9,15 @@ ghost use Rattle.dispatch_room_journal.specs.RecordFronts.{list_says};
 ghost use Rattle.dispatch_room_journal.specs.declared.read_progress.Reach.TheVariants.{Leg};
 ghost use Rattle.dispatch_room_tasks.specs.OpenedRoom.{IsUnopened};
 ghost use Rattle.dispatch_room_lists.specs.ReplayedLegs.{IsSpent, count_in, left_of};
-ghost use Rattle.dispatch_room_lists.specs.ReplayedLists.{EndsAs, HasReplayed, IsPlayed, IsPrinted};
+ghost use Rattle.dispatch_room_lists.specs.ReplayedLists.{EndsAs, HasReplayed, IsPlayed, PrintsReplayed};
 ghost use Rattle.dispatch_room_lists.specs.ReplayedLists.{LosesPlayed, LosesReplayed, failure_of};
 
 use crate::followed_rows::Stage;
 use crate::leg_readers::LegReader;
-use crate::leg_writers::LegWriter;
 use crate::replay_ends::{Noted, conclude};
 use crate::replayed_legs::{Course, Played, replay_legs};
 use dispatch_room_cli::exit_status::{Done, Failure, refused};
+use dispatch_room_journal::answer_writers::AnswerWriter;
 use dispatch_room_journal::replay_faults::{ReplayFault, Stopped};
 use dispatch_room_journal::replayed_journal::Replayed;
 use dispatch_room_tasks::opened_room::{TaskResult, open_room};
@@ -85,12 +85,13 @@ fn replay_in<R: Source, S: Alter + Drop, O: Write, E: Write>(
         (left_of R.left list.old) (O.contents out.old) (O.contents out.new)) }
 {
     if course.replay.answers {
-        let mut writer = LegWriter::new(out);
+        let mut writer = AnswerWriter::new(out);
         let (came, room) = replay_legs(course, list, stage, &mut writer, err)?;
         return Ok((answered(&came), room));
     }
-    let mut sink = LegWriter::new(io::sink());
-    let (came, room) = replay_legs(course, list, stage, &mut sink, err)?;
+    let mut nowhere = io::sink();
+    let mut writer = AnswerWriter::new(&mut nowhere);
+    let (came, room) = replay_legs(course, list, stage, &mut writer, err)?;
     match came {
         Ok(replayed) => Ok((print_replayed(&replayed, out, err), room)),
         Err(stopped) => Ok((Err(failure_of(&stopped)), room)),
@@ -107,13 +108,13 @@ fn answered(came: &Result<Replayed, Stopped>) -> Result<Done, Failure>
     }
 }
 
-// Says how much was replayed.
+// Prints how much was replayed.
 fn print_replayed<O: Write, E: Write>(
     replayed: &Replayed,
     out: &mut O,
     err: &mut E,
 ) -> Result<Done, Failure>
-    ensures { IsPrinted (Ok replayed.now) (O.contents out.old) (O.contents out.new) result }
+    ensures { PrintsReplayed (Ok replayed.now) (O.contents out.old) (O.contents out.new) result }
 {
     if replayed.is_open {
         let _ = writeln!(err, "the last record has no status, and was left out");

@@ -18,7 +18,7 @@ use Rattle.room_model.specs.Step.{is_question}
 use Rattle.room_model.proofs.Questions.{question_stays}
 use Rattle.room_http_messages.specs.Messages.{WholeMessage, terminal_of}
 use Rattle.room_http_requests.specs.RequestTable.{allow_of, is_of, path_of, request_by, role_of}
-use Rattle.room_http_requests.specs.Routes.{by_method, is_allowed, known_by, routed, target_of}
+use Rattle.room_http_requests.specs.Router.{by_method, is_allowed, known_by, routed, target_of}
 use Rattle.room_http_requests.specs.declared.request_table.Request.{Request}
 use Rattle.room_http_requests.specs.declared.request_table.Request.TheVariants as request
 use Rattle.room_http_requests.specs.declared.request_table.Target.{Target}
@@ -39,18 +39,8 @@ Asks (request.Times day) = Unit {0}
 
 asks_at : (t : Target) (body : List ℕ) → allow_of (path_of t) ≡ GetHead → IfSome (request_by t body) Asks
 unfolding request_by
-asks_at target.Incidents body get = refl
-asks_at (target.Incident n) body get = refl
-asks_at (target.Propose n) body get = refl
-asks_at target.Vehicles body get = refl
-asks_at target.Queue body get = refl
-asks_at target.Points body get = refl
-asks_at target.Loans body get = refl
-asks_at target.Offers body get = refl
 asks_at (target.Times day) body get = tt
-asks_at target.Order body get = refl
-asks_at target.Last body get = refl
-asks_at t body get = absurd (cc)
+asks_at t body get = cc
 
 -- a path that takes such a method is one that is asked
 is_asked : (allow : Allow) (method : List ℕ) → is_allowed allow method ≡ true

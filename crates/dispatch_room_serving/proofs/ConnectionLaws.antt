@@ -25,7 +25,8 @@ use Rattle.room_http.specs.declared.session.ServeEnd.TheVariants as end
 use Rattle.room_http.proofs.PromiseLaws.{promises_kept}
 use Rattle.room_http.proofs.RunLemmas.{room_split, run_join}
 use Rattle.dispatch_room_cli.specs.declared.exit_status.Failure.{Failure}
-use Rattle.dispatch_room_serving.specs.Callers.{Grows, Opening}
+use Rattle.room_http_messages.specs.Streams.{Grows}
+use Rattle.dispatch_room_serving.specs.Callers.{Opening}
 use Rattle.dispatch_room_serving.specs.Connections.{AreAttended, AreJoined, AreKept, AreNext, AreServed, AttendsNext}
 use Rattle.dispatch_room_serving.specs.Connections.{Conversation, EndsAs, GoOn, GoesOn, HasServed, IsNext, Service}
 use Rattle.dispatch_room_serving.specs.Connections.{Stage, connected, done_or, fault_after, fault_by, opening_of}

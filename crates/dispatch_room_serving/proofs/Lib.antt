@@ -14,3 +14,5 @@ pub mod KeeperLemmas
 pub mod ChangeLaws
 -- what is printed as callers begin
 pub mod CallerLemmas
+-- the beginning of the line before a record
+pub mod LeftLemmas

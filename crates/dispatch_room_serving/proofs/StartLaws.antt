@@ -13,7 +13,7 @@ use Rattle.room_model.specs.Room.{Room}
 use Rattle.room_model.specs.Rooms.{machine}
 use Rattle.room_model.specs.declared.digests.Head.{Head}
 use Rattle.room_http_time.specs.Days.{zone_of}
-use Rattle.room_http.specs.declared.moments.TheConstants.{LAST_MOMENT}
+use Rattle.room_types.specs.declared.numbers.TheConstants.{LAST_MOMENT}
 use Rattle.room_http.specs.declared.settings.Setting.{Setting}
 use Rattle.room_http.specs.Course.{AreFirstIn, AreOf, Course}
 use Rattle.room_http.specs.Runs.{AreAnswered, Exchange, IsRun, arrivals_of, room_by}

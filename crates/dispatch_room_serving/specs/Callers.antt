@@ -1,5 +1,5 @@
 -- The calls that come at a room, what each begins with, and what is printed as they begin.
-use Rattle.std.specs.Prelude.{◌≡◌, ◌⊎◌, ⊤, ℕ, List, ◌++◌, Bool, true, false, Option, None, Some, Result, Ok, Err, codes}
+use Rattle.std.specs.Prelude.{◌≡◌, ◌⊎◌, ℕ, List, Bool, true, false, Option, Result, Ok, Err, codes}
 use Rattle.std.specs.Io.KnownBytes.{Appends}
 use Rattle.dispatch_room_cli.specs.declared.exit_status.Failure.{Failure}
 use Rattle.dispatch_room_cli.specs.declared.exit_status.Failure.TheVariants.{Network}
@@ -10,14 +10,8 @@ pub record Opening : Type 0 where
   pub left : Option (List ℕ)
   pub held : Option (List ℕ)
 
--- What is known grows by these.
-abbrev pub Grows : {A : Type 0} → Option (List A) → Option (List A) → List A → Type 0
-Grows None new more = ⊤
-Grows (Some xs) None more = ⊥
-Grows (Some xs) (Some ys) more = ys ≡ xs ++ more
-
--- where callers stand with what is printed: whether that they may call was printed before, what the
--- output holds, where that is known, and which output it is
+-- what callers have printed: whether, before, that they may call; what the output holds, where that
+-- is known; and which output it is
 pub record Printing : Type 0 where
   pub has_begun : Bool
   pub printed : Option (List ℕ)
@@ -44,8 +38,8 @@ pub record IsUnprinted (old new : Printing) (fault : Failure) : Type 0 where
   pub network : fault ≡ Network
   pub output : new.output ≡ old.output
 
--- What is printed where something was done with callers that came to this. Where it went well, that
--- they may call, and nothing else. Else the same, or nothing, or that could not be printed.
+-- What is printed by a call with this result. Where it succeeded: that they may call, and nothing
+-- else. Where it failed: the same, or nothing, or that could not be printed.
 abbrev pub Prints : {T : Type 0} → Printing → Printing → Result T Failure → Type 0
 Prints old new (Ok done) = MayCall old new
 Prints old new (Err fault) = (new ≡ old) ⊎ (MayCall old new ⊎ IsUnprinted old new fault)

@@ -22,7 +22,8 @@ use Rattle.dispatch_room_cli.specs.declared.exit_status.Done.{Done}
 use Rattle.dispatch_room_cli.specs.declared.exit_status.Done.TheVariants.{Whole}
 use Rattle.dispatch_room_cli.specs.declared.exit_status.Failure.{Failure}
 use Rattle.dispatch_room_cli.specs.declared.exit_status.Failure.TheVariants.{Journal, Memory, Storage}
-use Rattle.dispatch_room_serving.specs.Callers.{Grows, Opening}
+use Rattle.room_http_messages.specs.Streams.{Grows}
+use Rattle.dispatch_room_serving.specs.Callers.{Opening}
 use Rattle.room_tables_schema.specs.FileConnections.{IsClean}
 
 -- how many reads a connection has at most
@@ -128,9 +129,9 @@ module _ {S : Type 0} where
   GoOnBefore (c ∷ []) = ⊤
   GoOnBefore (c ∷ d ∷ cs) = GoesOn c × GoOnBefore (d ∷ cs)
 
-  -- How serving so many calls ended. Well: all came, or no more than these, where it may end before
-  -- (`renews`), and after each more was served. With a fault: it is that after which no more is
-  -- served, of the last.
+  -- How serving `most` calls ended. Well: all came, or only these, where it may end earlier
+  -- (`renews`), and after each of them serving could go on. With a fault: it is that of the last,
+  -- after which no more is served.
   abbrev pub EndsAs : Bool → List (Option (Conversation S)) → ℕ → Result Done Failure → Type 0
   EndsAs renews calls most (Ok done) =
       (done ≡ Whole) × (length calls ≤ most) × (renews ≡ false → length calls ≡ most) × GoOn calls

@@ -17,7 +17,7 @@ request_of (Message message bytes) = Some (message.method.now, path_of message.t
 request_of (Refused r head_only) = None
 
 -- The line of what was asked, and of the status of its answer, and a line feed. What a clock of UTC
--- showed is the moment of the answer; how many milliseconds it took is said by who writes it.
+-- showed is the moment of the answer; how many milliseconds it took is for the writer to state.
 pub record IsLineOf (asked : Asked) (answer text : List ℕ) : Type 0 where
   pub at : DateTime
   pub millis : ℕ

@@ -1,7 +1,8 @@
-//! Who calls at a room: what gives its connections, one after another.
+//! The callers of a room: a source of connections, one after another.
 ghost use Rattle.std.specs.Prelude.{◌≡◌, ℕ, List, [], ◌∷◌, Option, Some, IfErr, IfSome, false, option_map};
 ghost use Rattle.dispatch_room_cli.specs.declared.exit_status.Failure.TheVariants.{Network};
-ghost use Rattle.dispatch_room_serving.specs.Callers.{Grows, Opening, Printing, Prints};
+ghost use Rattle.room_http_messages.specs.Streams.{Grows};
+ghost use Rattle.dispatch_room_serving.specs.Callers.{Opening, Printing, Prints};
 
 use dispatch_room_cli::exit_status::Failure;
 use room_http_messages::sinks::Sink;
@@ -25,7 +26,7 @@ pub trait Callers {
     // Where they stand with what is printed: nothing but that they may call.
     ghost prints: { Self → Printing };
 
-    /// Lets the callers begin. A failure is the network's.
+    /// Begins to take calls. It fails only as `Network`.
     fn begin(&mut self) -> Result<(), Failure>
         ensures heard { heard self.new ≡ heard self.old }
         ensures written { written self.new ≡ written self.old }

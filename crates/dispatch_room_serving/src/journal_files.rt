@@ -1,14 +1,20 @@
 //! The file of a journal: what a crash cut off is taken away, and entries are put behind the rest.
-ghost use Rattle.std.specs.Prelude.{◌≡◌, ◌⊎◌, ◌+◌, ℕ, List, false, if◌then◌else◌, min, nat_lt};
+ghost use Rattle.std.specs.Prelude.{◌≡◌, ◌↔◌, ◌⊎◌, ◌≤◌, ◌+◌, ℕ, List, false, if◌then◌else◌, length, min, nat_lt};
 ghost use Rattle.std.specs.Option.{option_map};
 ghost use Rattle.dispatch_room_journal.specs.Chains.{sha256_digits};
 ghost use Rattle.dispatch_room_journal.specs.PlainTexts.{StandsKnown, plain_of};
 ghost use Rattle.dispatch_room_journal.specs.RowRuns.{PutsEnd, PutsEntry};
+ghost use Rattle.dispatch_room_journal.specs.RecordRuns.{first_link};
 ghost use Rattle.dispatch_room_journal.specs.declared.list_ends.ListEnd.{ListEnd};
-ghost use Rattle.std.specs.Prelude.{Bool, Option, Some, None, IfErr, IsTrue, MatchResult, is_some, refl};
+ghost use Rattle.dispatch_room_journal.specs.declared.record_headers.TheConstants.{HEADER};
+ghost use Rattle.dispatch_room_journal.specs.declared.list_ends.ListEnd.TheVariants.{Chain};
+ghost use Rattle.dispatch_room_journal.specs.declared.whole_records.ListForm.TheVariants as Form;
+ghost use Rattle.std.specs.Prelude.{Bool, Option, Some, None, IfErr, IfOk, IsTrue, MatchResult, is_some, refl};
 ghost use Rattle.dispatch_room_cli.specs.declared.exit_status.Failure.TheVariants as failure;
 ghost use Rattle.dispatch_room_journal.specs.WholeEntries.{EndsWhole};
 ghost use Rattle.dispatch_room_serving.specs.Journals.{IsUnread};
+ghost use Rattle.dispatch_room_serving.specs.LeftRecords.{MayBeLeft, may_stand};
+ghost use Rattle.dispatch_room_serving.specs.OpenedLists.{IsWholeOf, goes_on_at};
 ghost use Rattle.dispatch_room_serving.specs.declared.journal_files.WrittenFile.{WrittenFile};
 
 use crate::journals::Keeper;
@@ -67,16 +73,24 @@ pub fn open_journal<E: Write>(
         }
         Err(error) => return Err(fault_of(explainer, path, &error)),
     }
-    let end = match list.end {
-        Some(end) if list.whole > 0 => end,
-        _ => begin_chain(explainer, path, &file)?,
+    let end = match goes_on_at(list) {
+        Some(end) => end,
+        None => begin_chain(explainer, path, &file)?,
     };
     Ok(OpenedList { file, end })
 }
 
+// How a list goes on, of which so much is whole: not, where nothing is.
+fn goes_on_at(list: WholeList) -> Option<ListEnd>
+    ensures { result ≡ goes_on_at list }
+{
+    if list.whole == 0 { None } else { list.end }
+}
+
 // Writes the line with which a chain begins, and makes it last.
 fn begin_chain(explainer: Explainer<'_>, path: &str, file: &File) -> Result<ListEnd, Failure>
-    ensures { IfErr result (λ fault. (fault ≡ failure.Memory) ⊎ (fault ≡ failure.Journal)) }
+    ensures new { IfOk result (λ end. end ≡ Chain first_link) }
+    ensures fault { IfErr result (λ fault. (fault ≡ failure.Memory) ⊎ (fault ≡ failure.Journal)) }
 {
     let mut out = WrittenFile::new(SystemFile::new(file, explainer, path));
     if put_opening(&mut out).is_err() {
@@ -106,22 +120,7 @@ fn whole_list(
 {
     let mut inbox = RecordInbox::new();
     match look_through(&mut inbox, &mut Wire::new(file)) {
-        Ok(ListForm::New) => Ok(WholeList {
-            whole: 0,
-            end: None,
-        }),
-        Ok(ListForm::Chain(chain)) => whole_chain(explainer, path, file, &chain),
-        Ok(ListForm::Plain) => {
-            let mut begin = file;
-            if let Err(error) = begin.seek(SeekFrom::Start(0)) {
-                return Err(fault_of(explainer, path, &error));
-            }
-            let whole = whole_in(alloc, explainer, path, &mut Wire::new(file))?;
-            Ok(WholeList {
-                whole,
-                end: Some(ListEnd::Plain),
-            })
-        }
+        Ok(form) => whole_of_form(alloc, explainer, path, file, &form),
         Err(EntryFault::Read) => {
             explainer.explain(format_args!("{path} can't be read"));
             Err(Failure::Journal)
@@ -135,6 +134,37 @@ fn whole_list(
     }
 }
 
+// What is whole of a list of this form.
+fn whole_of_form(
+    alloc: Global,
+    explainer: Explainer<'_>,
+    path: &str,
+    file: &File,
+    form: &ListForm,
+) -> Result<WholeList, Failure>
+    ensures whole { IfOk result (IsWholeOf form.now) }
+    ensures fault { IfErr result (λ fault. (fault ≡ failure.Memory) ⊎ (fault ≡ failure.Journal)) }
+{
+    match form {
+        ListForm::New => Ok(WholeList {
+            whole: 0,
+            end: None,
+        }),
+        ListForm::Chain(chain) => whole_chain(explainer, path, file, chain),
+        ListForm::Plain => {
+            let mut begin = file;
+            if let Err(error) = begin.seek(SeekFrom::Start(0)) {
+                return Err(fault_of(explainer, path, &error));
+            }
+            let whole = whole_in(alloc, explainer, path, &mut Wire::new(file))?;
+            Ok(WholeList {
+                whole,
+                end: Some(ListEnd::Plain),
+            })
+        }
+    }
+}
+
 // What of a chain is whole records, where what follows them may be left of one.
 fn whole_chain(
     explainer: Explainer<'_>,
@@ -142,7 +172,8 @@ fn whole_chain(
     file: &File,
     chain: &WholeChain,
 ) -> Result<WholeList, Failure>
-    ensures { IfErr result (λ fault. (fault ≡ failure.Memory) ⊎ (fault ≡ failure.Journal)) }
+    ensures whole { IfOk result (IsWholeOf (Form.Chain chain.now)) }
+    ensures fault { IfErr result (λ fault. (fault ≡ failure.Memory) ⊎ (fault ≡ failure.Journal)) }
 {
     let whole = whole_of(chain);
     match may_be_cut(file, whole) {
@@ -171,17 +202,27 @@ fn may_be_cut(file: &File, whole: u64) -> Result<bool, Error> {
     reader.seek(SeekFrom::Start(whole))?;
     let mut line = [0; HEADER];
     let count = reader.read(&mut line)?;
-    for at in 0..count.min(HEADER) {
+    Ok(may_be_left(&line[..count.min(HEADER)]))
+}
+
+// Whether these bytes may be what a stop left of the line before a record.
+fn may_be_left(line: &[u8]) -> bool
+    requires { length line.now ≤ HEADER }
+    ensures { IsTrue result ↔ MayBeLeft line.now }
+{
+    for at in 0..line.len() {
         if !may_stand(at, line[at]) {
-            return Ok(false);
+            return false;
         }
     }
-    Ok(true)
+    true
 }
 
 // Whether a byte may stand at a place of the line before a record: the digits of a size, a space,
 // the digits of a check, and a line end.
-fn may_stand(at: usize, byte: u8) -> bool {
+fn may_stand(at: usize, byte: u8) -> bool
+    ensures { result ≡ may_stand at byte }
+{
     match at {
         0..=4 => byte.is_ascii_digit(),
         5 => byte == b' ',
@@ -213,9 +254,9 @@ fn opened(rt: &HostRuntime, explainer: Explainer<'_>, path: &str) -> Result<File
     }
 }
 
-// Makes what stands in a file last, and its name in its folder. An earlier program may have ended
-// at a sync that failed: then the system still shows what it has not written, and says yes to the
-// next sync. So first what can be written is, then the system's copies are dropped, and what is
+// Syncs what stands in a file, and its name in its folder. An earlier program may have ended
+// at a sync that failed: then the system still shows what it has not written, and the next sync
+// succeeds. So first what can be written is, then the system's copies are dropped, and what is
 // read from here on is what the disk has. Only of that it is reported how much is whole, what
 // follows is cut off, and the cut is made to last.
 fn settle(rt: &HostRuntime, path: &str, file: &File) -> Result<(), Error> {
@@ -268,7 +309,7 @@ fn explain_unread(explainer: Explainer<'_>, path: &str, fault: EntryFault, whole
     }
 }
 
-// Takes away what follows so many bytes of a file, and says whether anything did.
+// Cuts off what follows so many bytes of a file, and returns whether anything did.
 fn cut(file: &File, whole: u64) -> Result<bool, Error> {
     match cut_to(file.metadata()?.len(), whole) {
         Some(end) => {
@@ -308,7 +349,7 @@ pub trait Lasting: Write {
     // Whether what it holds is known, of each of these or of none.
     ghost is_known: { Bool };
 
-    /// Makes all that was written last, and says whether it could.
+    /// Makes all that was written last, and returns whether it could.
     fn make_last(&mut self) -> bool
         ensures held { Self.contents self.new ≡ Self.contents self.old }
         ensures lasts { IsTrue result → lasting self.new ≡ Self.contents self.new };

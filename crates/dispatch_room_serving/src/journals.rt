@@ -46,7 +46,7 @@ pub trait Keeper {
         ensures ended { OnOk result (ends self.old self.new) }
         ensures failed { has_failed self.new ≡ (has_failed self.old || is_err result) };
 
-    /// Makes all that was kept last, and says whether it could.
+    /// Makes all that was kept last, and returns whether it could.
     fn sync(&mut self) -> bool
         ensures held { held self.new ≡ held self.old }
         ensures put { (first : Self) (entry : List ℕ) → puts first self.old entry

@@ -125,12 +125,12 @@ impl<'a, E: Write, T: Clock, W: Keeper> JournalObserver for LogAndJournal<'a, E,
 
     ghost begun = { room_text };
 
-    // A log has no use for it.
+    // Only a journal needs it.
     fn wants_digest(&self) -> bool {
         self.journal.is_some()
     }
 
-    // Beside what all who watch ensure: the head is put in the journal, and nothing else.
+    // Beside what all observers ensure: the head is put in the journal, and nothing else.
     fn begins(&mut self, head: &Head) -> Result<(), Unkept>
         requires { IsDigest head.now.digits }
         ensures kept { KeepsAll (held_by W.held self.old.journal) (held_by W.held self.new.journal)

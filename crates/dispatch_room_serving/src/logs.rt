@@ -9,13 +9,13 @@ use dispatch_room_journal::answer_statuses::status_in;
 use room_http::arrivals::Arrived;
 use room_http::observers::{Asked, Observer, Unkept};
 use room_http_requests::body_faults::fault_of;
-use room_http_requests::routes::Routes;
+use room_http_requests::router::Routes;
 use room_types::numbers::Moment;
 use std::alloc::Global;
 use std::io::{ErrorKind, Write};
 use std::time::{Clock, Duration};
 
-// How often a write of a line is tried at most.
+// How often a write of a line is tried, at most.
 const MOST_TRIES: u32 = u32::MAX;
 
 /// A log, with a line for each message that is answered: the moment of its answer, who asked, its

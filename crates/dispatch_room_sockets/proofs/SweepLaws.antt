@@ -9,7 +9,7 @@ use Rattle.dispatch_room_sockets.specs.declared.kept_callers.Heard.{Heard}
 use Rattle.dispatch_room_sockets.specs.declared.kept_callers.Kept.{Kept}
 use Rattle.dispatch_room_sockets.specs.declared.kept_callers.Verdict.{Verdict}
 use Rattle.dispatch_room_sockets.specs.declared.kept_callers.Verdict.TheVariants.{Closed, Served, Waits}
-use Rattle.dispatch_room_sockets.specs.Growths.{Grows}
+use Rattle.room_http_messages.specs.Streams.{Grows}
 use Rattle.dispatch_room_sockets.specs.Sweeps.{IsAdmitted, IsLookedAt, IsNoted, IsSwept, Looked, judged, numbered}
 use Rattle.dispatch_room_sockets.specs.Sweeps.{served_of, waiting_of}
 use Rattle.dispatch_room_sockets.specs.Verdicts.{is_served, waits}

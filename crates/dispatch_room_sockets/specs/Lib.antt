@@ -3,7 +3,6 @@ pub mod Discards
 -- how a peer is parted from
 pub mod LingeringClose
 -- what is known grows
-pub mod Growths
 -- what becomes of one that was looked at
 pub mod Verdicts
 -- what one look at all who are kept does

@@ -1,5 +1,5 @@
 -- What stands ahead in a stream.
-use Rattle.std.specs.Prelude.{◌≡◌, ◌⊎◌, ℕ, List, [], ◌++◌, Bool, true, false}
+use Rattle.std.specs.Prelude.{◌≡◌, ◌≢◌, ◌⊎◌, ℕ, List, [], ◌++◌, Bool, true, false}
 use Rattle.room_types.specs.declared.refusal_statuses.Refusal.{Refusal}
 use Rattle.room_http_messages.specs.declared.messages.Layout.{Layout}
 use Rattle.room_http_messages.specs.Layouts.{IsWhole}
@@ -24,6 +24,11 @@ LookaheadIs bytes has_ended ahead.Last = AreRefused bytes ⊎ ((has_ended ≡ tr
 LookaheadIs bytes has_ended ahead.Part = (has_ended ≡ false) × IsPart bytes
 LookaheadIs bytes has_ended ahead.Nothing = (has_ended ≡ false) × (bytes ≡ [])
 LookaheadIs bytes has_ended ahead.End = (has_ended ≡ true) × (bytes ≡ [])
+
+-- These bytes were read of a stream, and this is what they are. It may be lost too: then nothing is
+-- said of them.
+abbrev pub StandsAhead : List ℕ → Lookahead → Type 0
+StandsAhead bytes seen = seen ≢ ahead.End → (has_ended : Bool) × LookaheadIs bytes has_ended seen
 
 -- what is heard of one in whose stream this stands ahead
 abbrev pub heard_of : Lookahead → Heard

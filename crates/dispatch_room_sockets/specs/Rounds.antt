@@ -8,7 +8,8 @@ use Rattle.dispatch_room_sockets.specs.Sweeps.{IsAdmitted, IsSwept}
 
 -- who calls is admitted, and may be silent as long as one is kept; then all are looked at
 pub record IsRound {C : Type 0} (now keep patience : Duration)
-    (line left ready readied : List (Kept C)) (next after : ℕ) (came comes : Option (List C)) (log logs : Option (List Heard)) : Type 0
+    (line left ready readied : List (Kept C)) (next after : ℕ) (came comes : Option (List C))
+    (log logs : Option (List Heard)) : Type 0
   where
     pub until : Duration
     pub silent : as_nanos until ≡ min (as_nanos now + as_nanos keep) max_nanos

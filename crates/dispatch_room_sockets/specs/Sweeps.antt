@@ -6,7 +6,7 @@ use Rattle.std.specs.declared.time.Duration.{Duration}
 use Rattle.dispatch_room_sockets.specs.declared.kept_callers.Heard.{Heard}
 use Rattle.dispatch_room_sockets.specs.declared.kept_callers.Kept.{Kept}
 use Rattle.dispatch_room_sockets.specs.declared.kept_callers.Verdict.{Verdict}
-use Rattle.dispatch_room_sockets.specs.Growths.{Grows}
+use Rattle.room_http_messages.specs.Streams.{Grows}
 use Rattle.dispatch_room_sockets.specs.Verdicts.{is_closed, is_over, is_part, is_served, verdict_on, waits}
 
 -- a look at one: it before and after, and what was found

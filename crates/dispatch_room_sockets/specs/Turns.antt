@@ -1,8 +1,16 @@
--- Whose turn it is of those who are to be served, and who waits again.
-use Rattle.std.specs.Prelude.{◌≡◌, ◌⊎◌, ◌+◌, ℕ, List, [], ◌∷◌, ◌++◌, false, min, Option, None, Some}
+-- Whose turn it is of those who are to be served, how long it is, and who waits again.
+use Rattle.std.specs.Prelude.{◌≡◌, ◌⊎◌, ◌+◌, ◌||◌, ◌&&◌, ℕ, List, [], ◌∷◌, ◌++◌, Bool, false, min, nat_lt}
+use Rattle.std.specs.Prelude.{Option, None, Some}
 use Rattle.std.specs.Duration.{as_nanos, max_nanos}
 use Rattle.std.specs.declared.time.Duration.{Duration}
 use Rattle.dispatch_room_sockets.specs.declared.kept_callers.Kept.{Kept}
+use Rattle.dispatch_room_sockets.specs.Verdicts.{is_over}
+
+-- A turn is over after 50,000 reads. It is over by time once both moments have come: until the one
+-- nobody else has moved, and until the other it goes on all the same.
+abbrev pub is_turn_over : ℕ → Duration → Duration → Duration → Bool
+is_turn_over reads now only_until turn_ends =
+    nat_lt 50000 reads || (is_over now only_until && is_over now turn_ends)
 
 -- Where some are to be served, the first of them is given, and the line stays as it is: nobody is
 -- looked at before. Nobody is given only where nobody is to be served, also once all were looked at.

@@ -14,9 +14,9 @@ type Reader<'a> = SocketReader<'a, TcpStream, HostRuntime>;
 
 type Writer<'a> = SocketWriter<'a, TcpStream, HostRuntime>;
 
-/// The two sides of a connection to an address, where it is there in time; else it explains why
-/// not. All reads and writes end so long from now: what a reader and a writer grant to one of them
-/// is here granted to all.
+/// The two sides of a connection to an address; none, with an explanation, where it is not made
+/// within `patience`. All reads and writes together end within the same time, which a reader and a
+/// writer grant elsewhere to each message and answer.
 pub fn call<'a>(
     rt: &'a HostRuntime,
     explainer: Explainer<'_>,

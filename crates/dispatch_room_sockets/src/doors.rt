@@ -1,5 +1,6 @@
 //! The door of a room: its sockets, and the system's set of those that move.
 ghost use Rattle.std.specs.Prelude.{◌≡◌, true};
+ghost use Rattle.dispatch_room_sockets.specs.Lookaheads.{StandsAhead, heard_of};
 
 use crate::entrances::Entrance;
 use crate::kept_callers::{Heard, is_over};
@@ -21,22 +22,22 @@ use std::rc::Rc;
 use std::time::{Clock, Duration};
 use std::{io, thread};
 
-// In how many slots it is noted who has moved. Of two that share one, each is looked at where
-// either has moved.
+// How many slots note which connections have moved. Two may share one: then both are looked at
+// where either has moved.
 const SLOTS: usize = 4096;
 
 // How many of those that move are reported by one wait.
 const MOST_EVENTS: usize = 1100;
 
-// How many milliseconds nobody is accepted after a connection that the system could not give, as
-// where too many files are open: it would say the same again at once.
-pub(crate) const PAUSE: u64 = 100;
+/// How many milliseconds nobody is accepted after a connection that the system could not give, as
+/// where too many files are open: it would say the same again at once.
+pub const PAUSE: u64 = 100;
 
 // How many descriptors are left to the room itself, as to its files.
 const SPARE: u64 = 8;
 
-// How many bytes are thrown away by one read, and by how many reads in one look: who sends more
-// than that meanwhile is closed.
+// How many bytes one read throws away, and how many reads one look makes: a connection that sends
+// more than that meanwhile is closed.
 const PIECE: usize = 4096;
 
 const MOST_PIECES: u32 = 4096;
@@ -49,7 +50,7 @@ pub struct Client {
     // What stood ahead when it was looked at last.
     pub(crate) ahead: Lookahead,
     slot: usize,
-    // Whether it is looked at whoever has moved.
+    // Whether the next look includes it in any case.
     is_fresh: bool,
     // Whether it is in the set of those whose moves are reported.
     is_watched: bool,
@@ -69,7 +70,9 @@ impl Client {
     }
 
     /// What stands ahead, by what was read of its stream and can be read now.
-    pub(crate) fn look_ahead(&mut self, room: &mut [u8]) -> Lookahead {
+    pub(crate) fn look_ahead(&mut self, room: &mut [u8]) -> Lookahead
+        ensures { StandsAhead self.new.unserved result }
+    {
         let mut stream = self.stream.as_ref();
         look_ahead(&mut self.unserved, &mut stream, room)
     }
@@ -174,7 +177,10 @@ impl<'a> Door<'a> {
     }
 
     // Lets the moves of one be reported. Where that can't be, it is looked at whoever has moved.
-    fn watch(&self, client: &mut Client) {
+    fn watch(&self, client: &mut Client)
+        ensures { (client.new.unserved ≡ client.old.unserved)
+            × (client.new.ahead ≡ client.old.ahead) }
+    {
         if client.is_watched {
             return;
         }
@@ -185,6 +191,22 @@ impl<'a> Door<'a> {
             .register(&mut SourceFd(&fd), Token(client.slot), Interest::READABLE);
         client.is_watched = registered.is_ok();
         client.is_fresh = registered.is_err();
+    }
+
+    // Looks at what stands ahead of one now. Who may still speak is looked at again, whoever has
+    // moved, until its moves are reported.
+    fn look_anew(&mut self, client: &mut Client)
+        ensures { StandsAhead client.new.unserved client.new.ahead }
+    {
+        client.ahead = client.look_ahead(self.room.as_mut_slice());
+        client.is_fresh = false;
+        if !client.ahead.may_grow() {
+            return;
+        }
+        client.is_fresh = !client.is_watched;
+        if self.watches {
+            self.watch(client);
+        }
     }
 
     /// Lets the moves of one not be reported any longer.
@@ -285,15 +307,16 @@ impl<'a> Entrance for Door<'a> {
         }
     }
 
-    fn look(&mut self, client: &mut Client) -> Heard {
-        if client.is_fresh || self.has_moved(client.slot) {
-            client.ahead = client.look_ahead(self.room.as_mut_slice());
-            let may_speak = client.ahead.may_grow();
-            client.is_fresh = may_speak && !client.is_watched;
-            if may_speak && self.watches {
-                self.watch(client);
-            }
+    // Beside what each entrance ensures: what was heard is what stands ahead.
+    fn look(&mut self, client: &mut Client) -> Heard
+        ensures said { result ≡ heard_of client.new.ahead }
+        ensures seen { client.old.is_fresh ≡ true
+            → StandsAhead client.new.unserved client.new.ahead }
+    {
+        if !client.is_fresh && !self.has_moved(client.slot) {
+            return client.ahead.heard();
         }
+        self.look_anew(client);
         client.ahead.heard()
     }
 

@@ -1,13 +1,13 @@
 //! Where those who call come in, and where they are looked at.
 ghost use Rattle.std.specs.Prelude.{◌≡◌, Bool, List, [], ◌∷◌, Option, option_to_list};
-ghost use Rattle.dispatch_room_sockets.specs.Growths.{Grows};
+ghost use Rattle.room_http_messages.specs.Streams.{Grows};
 ghost use Rattle.dispatch_room_sockets.specs.declared.kept_callers.Heard.{Heard as Found};
 
 use crate::kept_callers::Heard;
 use std::time::Duration;
 
-/// Where those who call come in. Nobody is waited for but by `wait`, and then for all of them. That
-/// the system reports who moves, and that a wait ends by its moment, is tested.
+/// Where those who call come in. Only `wait` waits, and for all of them at once. That the system
+/// reports who moves, and that a wait ends by its moment, is tested.
 pub trait Entrance: Drop {
     /// One who calls.
     type Caller: Drop;
@@ -31,7 +31,7 @@ pub trait Entrance: Drop {
         ensures came { came self.new ≡ came self.old }
         ensures heard { Grows (heard self.old) (heard self.new) (result ∷ []) };
 
-    /// Throws away what one still says who is parted from, and says whether more may come.
+    /// Throws away what comes on a closing connection, and returns whether more may come.
     fn throw_away(&mut self, caller: &mut Self::Caller) -> bool
         ensures came { came self.new ≡ came self.old }
         ensures heard { heard self.new ≡ heard self.old };
@@ -40,8 +40,8 @@ pub trait Entrance: Drop {
     fn is_watched(&self, caller: &Self::Caller) -> bool
         ensures { result ≡ is_watched self.now caller.now };
 
-    /// Waits until someone moves, and so long at most. Who was looked at after it waited for
-    /// nothing is watched, where they may still speak.
+    /// Waits until someone moves, at most this long. After a wait of no time, each caller that is
+    /// looked at and may still speak is watched.
     fn wait(&mut self, most: Duration)
         ensures came { came self.new ≡ came self.old }
         ensures heard { heard self.new ≡ heard self.old };

@@ -43,7 +43,7 @@ pub struct Kept<C> {
 }
 
 impl<C> Kept<C> {
-    /// Notes what a look found now, and says what becomes of it.
+    /// Notes what a look found now, and returns what becomes of the caller.
     pub(crate) fn note(&mut self, heard: Heard, now: Duration, patience: Duration) -> Verdict
         ensures same { (self.new.number ≡ self.old.number) × (self.new.caller ≡ self.old.caller) }
         ensures begun { self.new.has_begun ≡ (self.old.has_begun || is_part heard) }

@@ -1,5 +1,5 @@
-//! Those who are parted from: the writing side of each is shut, and what they still say is thrown
-//! away among the others, so that nobody waits for them.
+//! Closing connections: the writing side of each is shut, and what the peer still sends is read and
+//! thrown away between looks at the others, so that nobody waits for it.
 ghost use Rattle.std.specs.Prelude.{◌≤◌, ◌<◌, All, true};
 ghost use Rattle.std.specs.Duration.{as_nanos};
 ghost use Rattle.std.specs.VecDeque.{deque_len, deque_capacity};
@@ -75,7 +75,7 @@ pub(crate) fn throw_away_all<E: Entrance>(
     }
 }
 
-// Throws away what one of them still says, where it is to be looked at, and says whether it stays.
+// Throws away what one of them still says, where it is due, and returns whether it stays.
 fn stays<E: Entrance>(entrance: &mut E, leaver: &mut Leaver<E::Caller>, now: Duration) -> bool
     ensures in_time { result ≡ true → as_nanos now < as_nanos leaver.new.until }
     ensures came { E.came entrance.new ≡ E.came entrance.old }

@@ -70,7 +70,7 @@ pub(crate) fn look_at_all<E: Entrance>(
     }
 }
 
-// Looks at one, and says what becomes of it.
+// Looks at one, and returns what becomes of it.
 fn look_at<E: Entrance>(
     entrance: &mut E,
     kept: &mut Kept<E::Caller>,

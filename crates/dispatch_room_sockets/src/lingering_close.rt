@@ -1,4 +1,4 @@
-//! How a connection is parted from.
+//! How a connection is closed so that its last answer arrives: a lingering close.
 ghost use Rattle.std.specs.Prelude.{◌≡◌, ◌||◌, [], ◌∷◌, List, ℕ, Bool, Option, None, not, if◌then◌else◌};
 ghost use Rattle.std.specs.declared.time.Duration.{Duration as Time};
 ghost use Rattle.dispatch_room_sockets.specs.LingeringClose.{Does, IsDrained, IsParted, Step, drains_until, shut, threw};
@@ -10,10 +10,10 @@ use std::io::{Read, Write};
 use std::net::OpenStream;
 use std::time::{Clock, Duration};
 
-// How many pieces are thrown away.
+// How many pieces are thrown away, at most.
 const MOST_PIECES: u32 = 4096;
 
-/// A peer that is parted from.
+/// A peer whose connection is being closed.
 pub trait Parting {
     // The bytes that it still sends, where they are known.
     ghost left: { Self → Option (List ℕ) };
@@ -36,20 +36,20 @@ pub trait Parting {
     fn answered(&self) -> Option<Duration>
         ensures { result ≡ answered self.now };
 
-    /// Shuts the writing side, and says whether that could be done.
+    /// Shuts the writing side, and returns whether that succeeded.
     fn shut(&mut self) -> bool
         ensures left { left self.new ≡ left self.old }
         ensures done { Does (done self.old) (done self.new) (shut result ∷ []) };
 
-    /// Reads a piece of what still comes and throws it away, and says whether more may come. It
+    /// Reads a piece of what still comes and throws it away, and returns whether more may come. It
     /// waits until a moment at most.
     fn throw_away(&mut self, moment: Duration) -> bool
         ensures thrown { ThrowsAway 4096 (left self.old) (left self.new) }
         ensures done { Does (done self.old) (done self.new) (threw moment result ∷ []) };
 }
 
-/// Parts from a peer so that the last answer arrives: the writing side is shut, what the peer still
-/// sends is read and thrown away, and then the connection is dropped (RFC 9112, section 9.6). A
+/// Closes a connection so that its last answer arrives: the writing side is shut, what still comes
+/// is read and thrown away, and then the connection is dropped (RFC 9112, section 9.6). A
 /// connection with bytes that nobody reads would be reset as it is dropped, and the system would
 /// throw away what it has not sent yet. All this takes no longer than the answer may wait.
 pub fn part<P: Parting>(peer: &mut P)

@@ -1,10 +1,15 @@
 //! A connection is served in pieces: each is whole requests, and between two of them others are
 //! served.
-ghost use Rattle.std.specs.Prelude.{◌≡◌, ◌*◌, ◌≤◌, ◌||◌, if◌then◌else◌, IfOk, IfSome, None, false, is_err, length, true};
+ghost use Rattle.std.specs.Prelude.{◌≡◌, ◌*◌, ◌-◌, ◌≤◌, ◌||◌, if◌then◌else◌, IfOk, IfSome, None, false, is_err, length, true};
+ghost use Rattle.std.specs.Prelude.{◌≢◌, take};
 ghost use Rattle.std.specs.Duration.{as_nanos};
+ghost use Rattle.std.specs.Io.KnownBytes.{ReadConsumes, prepend_known};
 ghost use Rattle.dispatch_room_sockets.specs.CallerHistories.{ComesBack};
 ghost use Rattle.dispatch_room_sockets.specs.Departures.{Departs};
-ghost use Rattle.dispatch_room_sockets.specs.Turns.{WaitsAgain};
+ghost use Rattle.dispatch_room_sockets.specs.Lookaheads.{StandsAhead};
+ghost use Rattle.dispatch_room_sockets.specs.Pieces.{Begins, GivesAhead, given_of};
+ghost use Rattle.dispatch_room_sockets.specs.Turns.{WaitsAgain, is_turn_over};
+ghost use Rattle.dispatch_room_sockets.specs.declared.lookaheads.Lookahead.TheVariants.{Nothing};
 ghost use Rattle.room_http_messages.specs.Streams.{found_end, known_count};
 
 use crate::doors::{Client, Door, PAUSE};
@@ -14,6 +19,7 @@ use crate::lookaheads::Lookahead;
 use crate::readiness::readable_before;
 use crate::shared_streams::SharedStream;
 use crate::socket_writers::SocketWriter;
+use crate::unserved_bytes::UnservedBytes;
 use crate::waiting_callers::Waiting;
 use room_http_messages::limits::INBOX_ROOM;
 use room_http_messages::sources::{ReadFailed, Source};
@@ -54,6 +60,48 @@ pub struct PieceReader<'a> {
     is_paused: bool,
 }
 
+// Takes what comes next of a stream: what was read ahead of it, and where all that is served, what
+// can be read of it now.
+fn take_from<T: Read>(
+    unserved: &mut UnservedBytes,
+    stream: &mut T,
+    buf: &mut [u8],
+) -> Result<usize, ReadFailed>
+    ensures bound { IfOk result (λ n. n ≤ length buf.new) }
+    ensures bytes { ReadConsumes (prepend_known unserved.old (T.remaining stream.old))
+        (prepend_known unserved.new (T.remaining stream.new)) result buf.new }
+    ensures ahead { GivesAhead unserved.old unserved.new result buf.new }
+{
+    if !unserved.is_empty() {
+        return Ok(unserved.give(buf));
+    }
+    match stream.read(buf) {
+        Ok(count) => Ok(count),
+        Err(_) => Err(ReadFailed),
+    }
+}
+
+// How many bytes are given of what stands ahead: none where the piece ends before it.
+fn given_of(ahead: Lookahead, is_first: bool) -> Option<usize>
+    ensures { result ≡ given_of ahead is_first }
+{
+    match ahead {
+        Lookahead::Whole(size) => Some(size),
+        Lookahead::Last | Lookahead::End => Some(usize::MAX),
+        // It was given only as its time is over: the reader reports why.
+        Lookahead::Part if is_first => Some(usize::MAX),
+        Lookahead::Part | Lookahead::Nothing => None,
+    }
+}
+
+// Whether a turn is over after so many reads: it goes on while nobody else moves, and else until
+// its end.
+fn is_turn_over(reads: u32, now: Duration, only_until: Duration, turn_ends: Duration) -> bool
+    ensures { result ≡ is_turn_over reads now only_until turn_ends }
+{
+    reads > MOST_READS || is_over(now, only_until) && is_over(now, turn_ends)
+}
+
 impl<'a> PieceReader<'a> {
     // The piece that begins with what stands ahead, and whose turn begins now. It goes on so long
     // while nobody else moves.
@@ -84,28 +132,50 @@ impl<'a> PieceReader<'a> {
 
     // Whether another request begins, or the last of the stream, and how much of it is given.
     fn begins(&mut self, room: &mut [u8]) -> bool
+        ensures first { self.old.is_first ≡ true
+            → Begins self.new.kept.caller.ahead true self.new.left result }
+        ensures next { self.old.is_first ≡ false
+            → Begins self.new.kept.caller.ahead false self.new.left result }
+        ensures kept { self.old.is_first ≡ true → self.new.kept ≡ self.old.kept }
+        ensures seen { self.old.is_first ≡ false → self.new.kept.caller.ahead ≢ Nothing
+            → StandsAhead self.new.kept.caller.unserved self.new.kept.caller.ahead }
+        ensures turn { self.old.is_first ≡ false → self.new.kept.caller.ahead ≢ Nothing
+            → self.new.reads ≤ 50_000 }
         ensures same { (self.new.failed ≡ self.old.failed) × (self.new.ended ≡ self.old.ended)
             × (self.new.reads ≡ self.old.reads) }
     {
-        let ahead = if self.is_first {
-            self.kept.caller.ahead
-        } else {
-            self.next(room)
-        };
-        self.left = match ahead {
-            Lookahead::Whole(size) => size,
-            Lookahead::Last | Lookahead::End => usize::MAX,
-            // Its time is over, where it was given.
-            Lookahead::Part if self.is_first => usize::MAX,
-            Lookahead::Part | Lookahead::Nothing => return false,
-        };
-        self.is_first = false;
-        true
+        if self.is_first {
+            return self.begins_with(self.kept.caller.ahead, true);
+        }
+        let ahead = self.next(room);
+        self.begins_with(ahead, false)
+    }
+
+    // Whether what stands ahead is given, and how much of it.
+    fn begins_with(&mut self, ahead: Lookahead, is_first: bool) -> bool
+        ensures begins { Begins self.new.kept.caller.ahead is_first self.new.left result }
+        ensures kept { self.new.kept ≡ record self.old.kept {
+          caller = record self.old.kept.caller { ahead = ahead };
+        } }
+        ensures same { (self.new.failed ≡ self.old.failed) × (self.new.ended ≡ self.old.ended)
+            × (self.new.reads ≡ self.old.reads) }
+    {
+        self.kept.caller.ahead = ahead;
+        match given_of(ahead, is_first) {
+            Some(size) => {
+                self.left = size;
+                self.is_first = false;
+                true
+            }
+            None => false,
+        }
     }
 
     // What stands ahead after a request. Where nothing was read of it, it is waited for while
     // nobody else moves.
     fn next(&mut self, room: &mut [u8]) -> Lookahead
+        ensures seen { result ≢ Nothing → StandsAhead self.new.kept.caller.unserved result }
+        ensures turn { result ≢ Nothing → self.new.reads ≤ 50_000 }
         ensures same { (self.new.failed ≡ self.old.failed) × (self.new.ended ≡ self.old.ended)
             × (self.new.reads ≡ self.old.reads) }
     {
@@ -130,12 +200,11 @@ impl<'a> PieceReader<'a> {
     }
 
     // Whether others are served before it goes on.
-    fn has_had_its_turn(&self) -> bool {
+    fn has_had_its_turn(&self) -> bool
+        ensures { result ≡ false → self.now.reads ≤ 50_000 }
+    {
         match self.rt.monotonic() {
-            Ok(now) => {
-                self.reads > MOST_READS
-                    || is_over(now, self.only_until) && is_over(now, self.turn_ends)
-            }
+            Ok(now) => is_turn_over(self.reads, now, self.only_until, self.turn_ends),
             Err(_) => true,
         }
     }
@@ -144,17 +213,17 @@ impl<'a> PieceReader<'a> {
     // for.
     fn take(&mut self, buf: &mut [u8]) -> Result<usize, ReadFailed>
         ensures bound { IfOk result (λ n. n ≤ length buf.new) }
+        ensures most { IfOk result (λ n. n ≤ self.old.left) }
+        ensures left { IfOk result (λ n. self.new.left ≡ self.old.left - n) }
+        ensures ahead { GivesAhead self.old.kept.caller.unserved self.new.kept.caller.unserved
+            result (take self.old.left buf.new) }
         ensures same { (self.new.failed ≡ self.old.failed) × (self.new.ended ≡ self.old.ended)
             × (self.new.reads ≡ self.old.reads) }
     {
         let most = buf.len().min(self.left);
         let client = &mut self.kept.caller;
         let mut stream = client.stream.as_ref();
-        let count = if client.unserved.is_empty() {
-            stream.read(&mut buf[..most]).map_err(|_| ReadFailed)?
-        } else {
-            client.unserved.give(&mut buf[..most])
-        };
+        let count = take_from(&mut client.unserved, &mut stream, &mut buf[..most])?;
         self.left = self.left.saturating_sub(count);
         Ok(count)
     }

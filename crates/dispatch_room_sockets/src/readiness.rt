@@ -1,4 +1,6 @@
 //! Whether something can be read from a socket, by the system.
+ghost use Rattle.std.specs.Prelude.{◌≡◌, ◌/◌, min, pos};
+ghost use Rattle.std.specs.Duration.{as_nanos};
 
 use libc::net::{POLLIN, POLLOUT, poll};
 use libc::types::pollfd;
@@ -15,9 +17,14 @@ fn asked(fd: RawFd, events: i16) -> pollfd {
     }
 }
 
-// So many milliseconds, as the system counts them.
-fn in_millis(wait: Duration) -> i32 {
-    i32::try_from(wait.as_millis()).unwrap_or(i32::MAX)
+// So many milliseconds, as the system counts them: fewer than none would have no end.
+fn in_millis(wait: Duration) -> i32
+    ensures { result ≡ pos (min (as_nanos wait / 1_000_000) 2_147_483_647) }
+{
+    match i32::try_from(wait.as_millis()) {
+        Ok(millis) => millis,
+        Err(_) => i32::MAX,
+    }
 }
 
 /// Whether something can be read now, or one be accepted.
@@ -35,8 +42,8 @@ pub(crate) fn has_room_before(stream: &TcpStream, wait: Option<Duration>) -> boo
     poll(&mut sockets, millis) != 0
 }
 
-/// Whether something can be read from a socket, or the end, or a failure, and whether something
-/// moves elsewhere, once one of both is so. It waits so long at most.
+/// Waits until a socket has bytes, its end or a failure to read, or until something else moves, at
+/// most this long. Returns whether the first is so, and whether the second.
 pub(crate) fn readable_before(
     stream: &TcpStream,
     elsewhere: RawFd,

@@ -156,7 +156,7 @@ impl<'a, T: Read + OpenStream, C: Clock> SocketReader<'a, T, C> {
         !self.lost && !self.ended
     }
 
-    /// Reads a piece of what still comes and throws it away, and says whether more may come. It
+    /// Reads a piece of what still comes and throws it away, and returns whether more may come. It
     /// waits until a moment, and no longer than a connection may idle.
     pub(crate) fn throw_away(&mut self, moment: Duration) -> bool
         ensures { ThrowsAway 4096 (T.remaining self.old.stream) (T.remaining self.new.stream) }

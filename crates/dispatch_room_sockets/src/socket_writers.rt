@@ -101,7 +101,7 @@ impl<'a, T: Write + OpenStream, C: Clock> SocketWriter<'a, T, C> {
         if self.failed { None } else { self.until }
     }
 
-    /// Shuts the writing side, and says whether that could be done.
+    /// Shuts the writing side, and returns whether that succeeded.
     pub(crate) fn shut(&self) -> bool {
         self.stream.shutdown(Shutdown::Write).is_ok()
     }

@@ -4,9 +4,10 @@ ghost use Rattle.std.specs.Duration.{as_nanos, max_nanos};
 
 use std::time::{Clock, Duration};
 
+// A connection's turn lasts so many times as long as a pause and a message may take.
 const TURN: u32 = 5;
 
-// Of a millisecond.
+// The nanoseconds of a millisecond.
 const NANOS: u32 = 1_000_000;
 
 /// How long a connection is waited for.
@@ -20,7 +21,7 @@ pub struct Waits {
 }
 
 impl Waits {
-    /// How long a connection has its turn: so many times as long as a pause and a message may take.
+    /// How long a connection has its turn: five times as long as a pause and a message may take.
     pub(crate) fn turn(self) -> Duration
         ensures { as_nanos result ≡
             min (min (as_nanos self.idle + as_nanos self.patience) max_nanos * 5) max_nanos }
@@ -40,16 +41,16 @@ pub(crate) fn earlier(one: Duration, other: Duration) -> Duration
     }
 }
 
-/// How long it is until a moment of a clock: none where it has come, or where the clock can't be
-/// read.
+/// How long it is until a moment of a clock; none where the moment has come, or where the clock
+/// can't be read.
 pub(crate) fn time_until<C: Clock>(clock: &C, moment: Duration) -> Option<Duration>
     ensures { IfSome result (λ left. (0 < as_nanos left) × (as_nanos left ≤ as_nanos moment)) }
 {
     left_until(clock.monotonic().ok()?, moment)
 }
 
-// How long it is from now until a moment, in whole milliseconds where it is one at least: none
-// where the moment has come.
+// How long it is from now until a moment, rounded down to milliseconds where it is one at least;
+// none where the moment has come.
 fn left_until(now: Duration, moment: Duration) -> Option<Duration>
     ensures come { as_nanos moment ≤ as_nanos now → result ≡ None }
     ensures waits { as_nanos now < as_nanos moment → IsSome result }

@@ -49,8 +49,8 @@ impl UnservedBytes {
         self.bytes.as_slice()
     }
 
-    /// Reads what can be read now of a stream that doesn't block, by way of some room, and says how
-    /// many bytes that were: none of them at its end, and no number where nothing has come yet.
+    /// Reads what can be read now of a stream that doesn't block, by way of some room, and returns
+    /// how many bytes that were: 0 at its end, and none where nothing has come yet.
     pub(crate) fn fill<T: Read>(
         &mut self,
         stream: &mut T,
@@ -73,7 +73,7 @@ impl UnservedBytes {
         }
     }
 
-    /// Gives the first of them to be served, as many as there are and have room, and says how many.
+    /// Gives the first of them to be served, as many as fit in `buf`, and returns how many.
     pub(crate) fn give(&mut self, buf: &mut [u8]) -> usize
         ensures count { result ≡ min (length self.old) (length buf.old) }
         ensures given { self.old ≡ take result buf.new ++ self.new }

@@ -1,6 +1,6 @@
 //! Those who wait: each is kept until a request of theirs is whole, and is then given in that
-//! order, so that nobody waits for who has not spoken. Each round asks the system's set without
-//! waiting, also where someone is ready: else who calls would not be heard beside those who ask
+//! order, so that nobody waits for a silent caller. Each round asks the system's set without
+//! waiting, also where someone is ready: else new callers would not be heard beside those who ask
 //! without a pause.
 ghost use Rattle.std.specs.Prelude.{◌≡◌, ◌+◌, ◌≤◌, IfOk};
 ghost use Rattle.std.specs.VecDeque.{deque_len, deque_capacity};
@@ -17,11 +17,11 @@ use std::time::Duration;
 // How many are kept at most, those who are parted from among them. More wait in the system's queue.
 const MOST_KEPT: usize = 1024;
 
-// How many seconds it is waited at most for someone to move.
+// How many seconds a wait for someone to move lasts, at most.
 const LONGEST_PAUSE: u64 = 1;
 
-// How many milliseconds it is waited at most where one isn't watched, and how many one who leaves
-// rests.
+// How many milliseconds it lasts, at most, where a caller isn't watched; and how long a closing
+// connection rests before the first look.
 const SHORTEST_PAUSE: u64 = 2;
 
 /// Those who wait, and where they come in.
@@ -134,8 +134,8 @@ impl<E: Entrance> Waiting<E> {
         }
     }
 
-    // Waits until someone moves, so long at most, and looks at all. Who is parted from is seen to
-    // before it waits, so that whoever calls meanwhile doesn't wait for that.
+    // Waits until someone moves, at most this long, and looks at all. Closing connections are read
+    // before the wait, so that nobody who calls meanwhile waits for them.
     fn wait(&mut self, pause: Duration)
         ensures given { GivesNext self.old.line.items self.old.ready.items self.old.next
             self.new.line.items self.new.ready.items self.new.next None }

@@ -50,6 +50,8 @@ created_text file =
     amounts_text (division_count file.plan.areas) (length file.plan.areas) (vec_len file.terminals)
 
 -- the line is written, unless the output fails
-abbrev pub IsPrinted : PlanFile → Option (List ℕ) → Option (List ℕ) → Result Done Failure → Type 0
-IsPrinted file before after (Ok done) = Appends before after (created_text file) × (done ≡ Whole)
-IsPrinted file before after (Err failure) = failure ≡ Network
+abbrev pub PrintsCreated : PlanFile → Option (List ℕ) → Option (List ℕ) → Result Done Failure
+    → Type 0
+PrintsCreated file before after (Ok done) =
+    Appends before after (created_text file) × (done ≡ Whole)
+PrintsCreated file before after (Err failure) = failure ≡ Network

@@ -27,8 +27,8 @@ HasPrinted lines fates before after (Err Network) = Unit {0}
 HasPrinted lines fates before after (Err other) = ⊥
 
 -- What an import wrote, and how much of it is done, agree: both are by some fates of these lines.
-abbrev pub IsPrinted : List FleetLine → Option (List ℕ) → Option (List ℕ) → Done → Type 0
-IsPrinted lines before after done =
+abbrev pub PrintsFates : List FleetLine → Option (List ℕ) → Option (List ℕ) → Done → Type 0
+PrintsFates lines before after done =
     (fates : List RowFate) × HasPrinted lines fates before after (Ok done)
 
 -- Of a fleet's good rows the first ones were enrolled, all of them where nothing failed, and their

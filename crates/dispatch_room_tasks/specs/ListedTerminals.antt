@@ -1,7 +1,8 @@
 -- Who has a terminal in a room, and what is written of that.
 use Rattle.std.specs.Io.KnownBytes.{Appends}
 use Rattle.std.specs.List.{flat_map}
-use Rattle.std.specs.Prelude.{IfErr, IfOk, IsPermutation, List, OnOk, Option, Result, codes, decimal, map, ℕ, ◌++◌, ◌≡◌, ◌⊎◌}
+use Rattle.std.specs.Prelude.{IfErr, IfOk, IsPermutation, List, OnOk, Option, Result, codes, decimal, map, ℕ, ◌++◌, ◌≡◌}
+use Rattle.std.specs.Prelude.{◌⊎◌}
 use Rattle.sqlite.specs.Held.{Held, state}
 use Rattle.sqlite.specs.State.{Survives}
 use Rattle.sqlite_trees.specs.declared.store.Store.{Ghosts}

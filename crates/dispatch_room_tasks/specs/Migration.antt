@@ -12,10 +12,10 @@ use Rattle.room_tables_schema.specs.Versions.{HasFirstTables}
 use Rattle.room_tables.specs.RoomsInTables.{Configuration, Stands, StandsInFirst}
 use Rattle.room_store_file.specs.OpenedFile.{HoldsFirstRoom, IsNewRoom, IsOldRoom, MayBeMoved}
 use Rattle.room_store_check_tables.specs.HeldRooms.{WritesNothing}
-use Rattle.room_store_file.specs.declared.migrated_file.MigrateFault.{MigrateFault}
-use Rattle.room_store_file.specs.declared.migrated_file.MigrateFault.TheVariants.{NotARoom, NotOld}
+use Rattle.room_store_file.specs.declared.opened_file.OpenFault.{OpenFault}
+use Rattle.room_store_file.specs.declared.opened_file.OpenFault.TheVariants.{NotARoom, OtherVersion}
 use Rattle.room_store_writes.specs.Transactions.{Leaves}
-use Rattle.dispatch_room_tasks.specs.OpeningFaults.{migrate_fault}
+use Rattle.dispatch_room_tasks.specs.OpeningFaults.{open_fault}
 use Rattle.dispatch_room_cli.specs.declared.exit_status.Failure.{Failure}
 use Rattle.room_tables_schema.specs.FileConnections.{IsClean}
 
@@ -45,14 +45,14 @@ pub record IsMigrated {S : Type 0} (g : Ghosts S) (old new : Held S)
 -- Why no room was moved, as the program says it, and what became of the database, which is
 -- released: it is as it was.
 pub record IsUnmoved {S : Type 0} (g : Ghosts S) (old : Held S) (failure : Failure) : Type 0 where
-  pub fault : MigrateFault
-  pub failed : failure ≡ migrate_fault fault
+  pub fault : OpenFault
+  pub failed : failure ≡ open_fault fault
   pub released : Held S
   pub left : IsClean g released → Leaves (state g old) (state g released)
-  pub untouched : (fault ≡ NotOld) ⊎ (fault ≡ NotARoom)
+  pub untouched : (fault ≡ OtherVersion) ⊎ (fault ≡ NotARoom)
       → WritesNothing (state g old) (state g released)
   pub version : IsClean g released
-      → (fault ≡ NotOld → IsNewRoom (state g old).now)
+      → (fault ≡ OtherVersion → IsNewRoom (state g old).now)
       × (fault ≡ NotARoom → ¬ IsNewRoom (state g old).now)
   pub no_room : IsClean g released → fault ≡ NotARoom
       → HasFirstTables (state g old).now.schema → ¬ HoldsFirstRoom (state g old).now.trees

@@ -13,7 +13,7 @@ use Rattle.room_store.specs.declared.store.Store.{Store}
 use Rattle.room_store_file.specs.OpenedFile.{IsOldRoom, KeepsFile, MayBeIndexed}
 use Rattle.room_store_check_tables.specs.HeldRooms.{HoldsRoom, WritesNothing}
 use Rattle.room_store_file.specs.declared.opened_file.OpenFault.{OpenFault}
-use Rattle.room_store_file.specs.declared.opened_file.OpenFault.TheVariants.{NotARoom, OldRoom}
+use Rattle.room_store_file.specs.declared.opened_file.OpenFault.TheVariants.{NotARoom, OtherVersion}
 use Rattle.room_store_writes.specs.Transactions.{Leaves}
 use Rattle.dispatch_room_cli.specs.declared.exit_status.Failure.{Failure}
 use Rattle.dispatch_room_cli.specs.declared.exit_status.Failure.TheVariants.{File}
@@ -41,10 +41,10 @@ pub record HoldsNone {S : Type 0} (g : Ghosts S) (old : Held S) (failure : Failu
   pub failed : failure ≡ open_fault fault
   pub released : Held S
   pub left : IsClean g released → Leaves (state g old) (state g released)
-  pub untouched : (fault ≡ OldRoom) ⊎ (fault ≡ NotARoom)
+  pub untouched : (fault ≡ OtherVersion) ⊎ (fault ≡ NotARoom)
       → WritesNothing (state g old) (state g released)
   pub version : IsClean g released
-      → (fault ≡ OldRoom → IsOldRoom (state g old).now)
+      → (fault ≡ OtherVersion → IsOldRoom (state g old).now)
       × (fault ≡ NotARoom → ¬ IsOldRoom (state g old).now)
   pub no_room : IsClean g released → fault ≡ NotARoom
       → HasTables (state g old).now.schema → ¬ HoldsRoom (state g old).now.trees

@@ -1,8 +1,6 @@
 -- What a fault of the store is to the program.
 use Rattle.room_store.specs.declared.store_creation.CreateFault.{CreateFault}
 use Rattle.room_store.specs.declared.store_creation.CreateFault.TheVariants as create
-use Rattle.room_store_file.specs.declared.migrated_file.MigrateFault.{MigrateFault}
-use Rattle.room_store_file.specs.declared.migrated_file.MigrateFault.TheVariants as migrating
 use Rattle.room_store_file.specs.declared.opened_file.OpenFault.{OpenFault}
 use Rattle.room_store_file.specs.declared.opened_file.OpenFault.TheVariants as opening
 use Rattle.dispatch_room_cli.specs.declared.exit_status.Failure.{Failure}
@@ -15,16 +13,9 @@ create_fault create.BadTerminal = Input
 create_fault create.Memory = Memory
 create_fault create.Storage = Storage
 
--- where a file is opened
+-- where a file is opened, or moved to this version
 abbrev pub open_fault : OpenFault → Failure
-open_fault opening.OldRoom = Version
+open_fault opening.OtherVersion = Version
 open_fault opening.NotARoom = File
 open_fault opening.Memory = Memory
 open_fault opening.Storage = Storage
-
--- where a file is moved to this version
-abbrev pub migrate_fault : MigrateFault → Failure
-migrate_fault migrating.NotOld = Version
-migrate_fault migrating.NotARoom = File
-migrate_fault migrating.Memory = Memory
-migrate_fault migrating.Storage = Storage

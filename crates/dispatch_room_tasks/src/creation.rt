@@ -1,7 +1,7 @@
 //! `init`: a room is created in a database, by a plan.
 ghost use Rattle.std.specs.Prelude.{◌≡◌, false, IfErr, IfOk, OnErr};
 ghost use Rattle.sqlite.specs.Held.{state};
-ghost use Rattle.dispatch_room_tasks.specs.Creation.{ExplainsNone, IsCreated, IsPrinted, division_count};
+ghost use Rattle.dispatch_room_tasks.specs.Creation.{ExplainsNone, IsCreated, PrintsCreated, division_count};
 
 use crate::opened_room::TaskResult;
 use crate::opening_faults::of_creating;
@@ -24,7 +24,7 @@ pub fn create_in<S: Alter + Drop, O: Write>(
     requires outside { conn.in_transaction ≡ false }
     ensures created { IfOk result (λ worked. IsCreated S.Store conn worked.1 plan.now) }
     ensures printed { IfOk result (λ worked.
-        IsPrinted plan.now (O.contents out.old) (O.contents out.new) worked.0) }
+        PrintsCreated plan.now (O.contents out.old) (O.contents out.new) worked.0) }
     ensures fault { IfErr result (ExplainsNone (state S.Store conn).now.schema plan.now) }
     ensures unprinted { OnErr result (O.contents out.new ≡ O.contents out.old) }
 {
@@ -36,7 +36,7 @@ pub fn create_in<S: Alter + Drop, O: Write>(
 
 // Prints how much a created room has.
 fn print_created<O: Write>(created: &PlanFile, out: &mut O) -> Result<Done, Failure>
-    ensures { IsPrinted created.now (O.contents out.old) (O.contents out.new) result }
+    ensures { PrintsCreated created.now (O.contents out.old) (O.contents out.new) result }
 {
     let divisions = count_divisions(&created.plan);
     let areas = created.plan.areas().len();

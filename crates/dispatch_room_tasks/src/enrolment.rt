@@ -8,7 +8,7 @@ ghost use Rattle.room_store.specs.FleetEnrolment.{MayBeEnrolled};
 ghost use Rattle.room_store.specs.StoredRoom.{IsReady, IsRoom};
 ghost use Rattle.dispatch_room_cli.specs.declared.exit_status.Failure.TheVariants.{Memory};
 ghost use Rattle.dispatch_room_tasks.specs.RowOutcomes.{good_rows};
-ghost use Rattle.dispatch_room_tasks.specs.Enrolment.{HasImported, HasImportedIn, IsPrinted};
+ghost use Rattle.dispatch_room_tasks.specs.Enrolment.{HasImported, HasImportedIn, PrintsFates};
 ghost use Rattle.dispatch_room_tasks.specs.OpenedRoom.{IsUnopened};
 ghost use Rattle.room_tables_schema.specs.FileConnections.{IsClean};
 
@@ -35,7 +35,7 @@ pub fn enrol_in<S: Alter + Drop, O: Write>(
 ) -> TaskResult<Done, S>
     requires outside { conn.in_transaction ≡ false }
     ensures printed { IfOk result (λ worked.
-        IfOk worked.0 (IsPrinted lines.now (O.contents out.old) (O.contents out.new))) }
+        IfOk worked.0 (PrintsFates lines.now (O.contents out.old) (O.contents out.new))) }
     ensures imported { IfOk result (λ worked. IsClean S.Store worked.1
         → HasImportedIn S.Store conn worked.1 lines.now (O.contents out.old) (O.contents out.new)
         worked.0) }
@@ -63,7 +63,8 @@ pub fn enrol<S: Alter, O: Write>(
     requires rows { rows.now ≡ good_rows lines.now }
     ensures ready { IsReady S.Store room.new }
     ensures plan { room.new.plan ≡ room.old.plan }
-    ensures printed { IfOk result (IsPrinted lines.now (O.contents out.old) (O.contents out.new)) }
+    ensures printed { IfOk result
+        (PrintsFates lines.now (O.contents out.old) (O.contents out.new)) }
     ensures imported { IsClean S.Store room.new.conn
         → (terminals : List Terminal) (held : Room) → IsRoom S.Store room.old terminals held
         → HasImported S.Store room.old room.new lines.now (O.contents out.old) (O.contents out.new)

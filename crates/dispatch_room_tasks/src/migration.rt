@@ -3,7 +3,7 @@ ghost use Rattle.std.specs.Prelude.{◌≡◌, false, IfErr, IfOk};
 ghost use Rattle.dispatch_room_tasks.specs.Migration.{IsMigrated, IsUnmoved};
 
 use crate::opened_room::TaskResult;
-use crate::opening_faults::of_migrating;
+use crate::opening_faults::of_opening;
 use room_store::store::Store;
 use sqlite::{Alter, Connection};
 use std::alloc::Global;
@@ -16,6 +16,6 @@ pub fn migrate_in<S: Alter + Drop>(alloc: Global, conn: Connection<S>) -> TaskRe
 {
     match Store::migrate(alloc, conn) {
         Ok(room) => Ok((Ok(()), room.close())),
-        Err((fault, _conn)) => Err(of_migrating(fault)),
+        Err((fault, _conn)) => Err(of_opening(fault)),
     }
 }

@@ -12,10 +12,10 @@ use std::str;
 /// How many random bytes a token is made of. Nearly all give a letter.
 pub const RANDOM: usize = 64;
 
-// How many letters a token has that is made so: each is worth nearly 6 bits, and all 142.
+// How many letters such a token has: each is worth nearly 6 bits, all together 142.
 const LENGTH: usize = 24;
 
-// So many values of a byte give letters, each letter as many: four times 62.
+// How many values of a byte give letters: four for each of the 62, so that none is likelier.
 const FAIR: u8 = 248;
 
 /// A token of random bytes: the first of them that give letters. There is none exactly where too

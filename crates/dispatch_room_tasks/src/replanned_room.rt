@@ -1,8 +1,7 @@
 //! `replan`: the room of a database gets another plan, and the terminals of its file.
-ghost use Rattle.std.specs.Prelude.{◌≡◌, ◌≤◌, [], false, filter_map, length, IfErr, IfOk, None, OnOk};
+ghost use Rattle.std.specs.Prelude.{◌≡◌, false, filter_map, IfErr, IfOk, None, OnOk};
 ghost use Rattle.sqlite.specs.Held.{state};
 ghost use Rattle.sqlite.specs.State.{Survives};
-ghost use Rattle.room_place.specs.Plans.{most_areas};
 ghost use Rattle.room_model.specs.Room.{Room, apply};
 ghost use Rattle.room_tables_rows.specs.RoomsInTables.{Configuration, Stands};
 ghost use Rattle.room_tables_schema.specs.FileConnections.{HasRoomSchema, MayWrite, IsClean};
@@ -24,8 +23,8 @@ use dispatch_room_cli::failure_causes::Explainer;
 use dispatch_room_csv::plan_file::PlanFile;
 use room_place::plans::{Area, DivisionNumber, Plan};
 use room_store_file::opened_file::open_in;
+use room_store_writes::new_room::put_areas;
 use room_store_writes::transactions::{end, put_each};
-use room_tables::area_table::put_area;
 use room_tables::meta_table::put_meta;
 use room_tables_schema::database_faults::Fault;
 use room_types::changes::Change;
@@ -58,7 +57,7 @@ pub fn replan_in<S: Alter + Drop>(
     }
 }
 
-// Gives it to the room of a file that is opened.
+// Gives the plan to the room of a file that is opened.
 fn replan_opened<S: Alter>(
     alloc: Global,
     explainer: Explainer<'_>,
@@ -98,7 +97,7 @@ fn explain_none(explainer: Explainer<'_>, file: &PlanFile, fault: ReplanFault) {
     }
 }
 
-// Gives it to it in one transaction. A fault leaves the room as it was. What a stop may leave is
+// Gives the plan in one transaction. A fault leaves the room as it was. What a stop may leave is
 // what it could before, or the room with the new plan.
 fn replan_all<S: Alter>(
     alloc: Global,
@@ -128,7 +127,7 @@ fn replan_all<S: Alter>(
     end(tx, done)
 }
 
-// Gives it to it, where the room agrees with it and no terminal is refused.
+// Gives the plan, where the room agrees with it and no terminal is refused.
 fn replan_inside<S: Alter>(
     alloc: Global,
     tx: &mut Transaction<'_, S>,
@@ -204,25 +203,4 @@ fn addition(old: &Plan, area: &Area) -> Option<Change>
             last_incident: LastNumber::of(0),
         }))
     }
-}
-
-// Puts the areas in a room that has none.
-fn put_areas<S: Alter>(tx: &mut Transaction<'_, S>, areas: &[Area]) -> Result<(), Fault>
-    requires inside { MayWrite S.Store tx.old.conn.now }
-    requires few { length areas.now ≤ most_areas }
-    ensures same_reference { tx.new.conn.ghost_name ≡ tx.old.conn.ghost_name }
-    ensures inside { OnOk result (MayWrite S.Store tx.new.conn.now) }
-    ensures stands { IsClean S.Store tx.new.conn.now
-        → OnOk result ((config : Configuration) (room : Room)
-        → Stands (state S.Store tx.old.conn.now).now.trees config room
-        → room.plan ≡ [] → Stands (state S.Store tx.new.conn.now).now.trees config
-        (record room { plan = areas.now })) }
-    ensures commits { CommitsNothing S.Store tx.old.conn.now tx.new.conn.now }
-{
-    let mut at = 0;
-    for area in areas {
-        at += 1;
-        put_area(tx, at, area)?;
-    }
-    Ok(())
 }

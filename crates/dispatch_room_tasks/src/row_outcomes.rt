@@ -58,7 +58,7 @@ pub fn print_fates<O: Write>(
     Ok(done)
 }
 
-// Prints what became of a row, and says whether it is enrolled.
+// Prints what became of a row, and returns whether it is enrolled.
 fn print_fate<O: Write>(row: &FleetRow, fate: &RowFate, out: &mut O) -> io::Result<bool>
     ensures text { OnOk result (Appends (O.contents out.old) (O.contents out.new)
         (row.now.callsign ++ fate_text fate.now)) }

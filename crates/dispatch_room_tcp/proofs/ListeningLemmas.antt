@@ -1,7 +1,7 @@
 -- How those are parted from who called where something listens.
 use Rattle.std.proofs.Common.{◌≡◌, [], ◌∷◌, Bool, List, Option}
 use Rattle.std.specs.declared.time.Duration.{Duration}
-use Rattle.dispatch_room_serving.specs.Callers.{Grows}
+use Rattle.room_http_messages.specs.Streams.{Grows}
 use Rattle.dispatch_room_sockets.specs.LingeringClose.{Does, IsParted, Step, drains_until}
 use Rattle.dispatch_room_tcp.specs.Listeners.{PartsFrom}
 

@@ -7,6 +7,7 @@ use Rattle.dispatch_room_cli.specs.declared.exit_status.Failure.{Failure}
 use Rattle.dispatch_room_serving.specs.declared.served_room.Terms.{Terms}
 use Rattle.dispatch_room_serving.specs.Callers.{MayCall, Printing, Prints}
 use Rattle.dispatch_room_serving.specs.Journals.{EndsAfter}
+use Rattle.dispatch_room_serving.specs.declared.journal_files.OpenedList.{OpenedList}
 use Rattle.dispatch_room_serving.specs.declared.journals.Journal.{Journal}
 use Rattle.dispatch_room_tcp.specs.ServedFiles.{PrintsServing}
 use Rattle.dispatch_room_tcp.specs.ServedParts.{EndsAs, EndsPart, Interval, IsPart, PartsBefore, Watch}
@@ -51,10 +52,11 @@ module _ {S : Type 0} (g : Ghosts S) (watch : Watch) (terms : Terms) where
   pub first_before : (first : Interval S) → PartsBefore g watch terms first first
   first_before first = record { earlier = []; are = refl; only = λ once. refl }
 
-  pub first_part : (first last : Interval S) (result : Result Done Failure)
-      → IsPart g watch terms first last result
+  pub first_part : (list : Option OpenedList) (first last : Interval S) (result : Result Done Failure)
+      → IsPart g watch terms list first last result
       → EndsPart g watch terms first last result
-  first_part first last result is = record { at = first; before = first_before first; is = is }
+  first_part list first last result is =
+      record { at = first; before = first_before first; list = list; is = is }
 
   -- after a part that ended well another begins
   pub next_before : (first now : Interval S) (result : Result Done Failure) → terms.renews ≡ true
@@ -62,7 +64,7 @@ module _ {S : Type 0} (g : Ghosts S) (watch : Watch) (terms : Terms) where
       → PartsBefore g watch terms first now
   next_before first now (Ok done) renews well part = record {
     earlier = part.at ∷ part.before.earlier;
-    are = (part.before.are, done, part.is);
+    are = (part.before.are, part.list, done, part.is);
     only = λ once. absurd (cc);
   }
   next_before first now (Err fault) renews well part = absurd (cc)

@@ -1,7 +1,7 @@
 -- How those are parted from who called where something listens.
 use Rattle.std.specs.Prelude.{[], ◌∷◌, Bool, List, Option}
 use Rattle.std.specs.declared.time.Duration.{Duration}
-use Rattle.dispatch_room_serving.specs.Callers.{Grows}
+use Rattle.room_http_messages.specs.Streams.{Grows}
 use Rattle.dispatch_room_sockets.specs.LingeringClose.{Does, IsParted, Step, drains_until}
 
 -- A peer was parted from, and then it was released. What was done to part from it and from others

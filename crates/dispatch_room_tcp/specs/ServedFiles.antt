@@ -36,15 +36,21 @@ abbrev pub ended : {L : Type 0} → Result (Served L) Failure → Result Done Fa
 ended (Ok served) = Ok served.done
 ended (Err fault) = Err fault
 
--- where a service begins, by what listens for its calls
-abbrev pub begins_at : {S L : Type 0} → (L → Option (List (Option Opening)))
-    → (L → Option (List (Option (List ℕ)))) → L → Held S → Option (List ℕ) → Interval S
-begins_at heard written listener conn given = record {
+-- Where a service stands, by what is known of its calls. Its moments are those of the machine's
+-- clock, which are never known before.
+abbrev pub stands_at : {S : Type 0} → Option (List (Option Opening))
+    → Option (List (Option (List ℕ))) → Held S → Interval S
+stands_at heard written conn = record {
   conn = conn;
-  heard = heard listener;
-  written = written listener;
-  given = given;
+  heard = heard;
+  written = written;
+  given = None;
 }
+
+-- where it begins, by what listens for its calls
+abbrev pub begins_at : {S L : Type 0} → (L → Option (List (Option Opening)))
+    → (L → Option (List (Option (List ℕ)))) → L → Held S → Interval S
+begins_at heard written listener conn = stands_at (heard listener) (written listener) conn
 
 -- What the output holds where serving ended so: that a room is served is printed as it begins to
 -- listen, and nothing else is. Where serving failed, the same, or nothing, or that could not be
@@ -58,7 +64,7 @@ PrintsServing is_listening before after (Err fault) =
 
 -- The room was served to so many calls, and a journal kept of it or none. What is known of the
 -- calls is what they are to what listened for them, before and after (`heard`, `written`), where
--- that is given back. What is known of the moments is said by who gives them.
+-- that is given back.
 pub record IsServed {S L : Type 0} (heard : L → Option (List (Option Opening)))
     (written : L → Option (List (Option (List ℕ)))) (g : Ghosts S) (old new : Held S)
     (watch : Watch) (terms : Terms) (listener : L) (served : Result (Served L) Failure)
@@ -67,10 +73,8 @@ pub record IsServed {S L : Type 0} (heard : L → Option (List (Option Opening))
   pub writes : Option (List (Option (List ℕ)))
   pub known : IfOk served (λ served. (hears ≡ heard served.listener)
       × (writes ≡ written served.listener))
-  pub given : Option (List ℕ)
-  pub gives : Option (List ℕ)
-  pub is : ServesParts g watch terms (begins_at heard written listener old given)
-      (record { conn = new; heard = hears; written = writes; given = gives }) (ended served)
+  pub is : ServesParts g watch terms (begins_at heard written listener old)
+      (stands_at hears writes new) (ended served)
 
 abbrev pub Serves : {L : Type 0} → (L → Option (List (Option Opening)))
     → (L → Option (List (Option (List ℕ)))) → Bool → Watch → Terms → L → Saying (Served L)
@@ -82,8 +86,8 @@ Serves heard written is_listening watch terms listener = λ S g old new before a
 abbrev pub OpensNone : {S L : Type 0} → (L → Option (List (Option Opening)))
     → (L → Option (List (Option (List ℕ)))) → Ghosts S → Held S → Watch → Terms → L → Failure
     → Type 0
-OpensNone heard written g conn watch terms listener fault = (given : Option (List ℕ))
-    × OpensNoPart g watch terms (begins_at heard written listener conn given) fault
+OpensNone heard written g conn watch terms listener =
+    OpensNoPart g watch terms (begins_at heard written listener conn)
 
 -- or that is so, for the first of them, and nothing is printed, or for a later one
 abbrev pub ServesNone : {L : Type 0} → (L → Option (List (Option Opening)))
@@ -170,8 +174,8 @@ module _ (before after : Option (List ℕ)) (fault : Failure) where
       × FailsAt (λ _. None) (λ _. None) false (watch_of has_journal service)
       (terms_of service) listener
 
-  -- there is no journal, where one was asked for, and nothing is said; or this became of the file
-  -- of the room that was to be served
+  -- there is no journal, where one was asked for, and nothing is printed; or this became of the
+  -- file of the room that was to be served
   abbrev pub FailsServe : Service → Type 0
   FailsServe service =
       ((after ≡ before) × (is_some service.journal ≡ true)

@@ -1,6 +1,7 @@
 -- A room that is served in parts, one after another: each begins in a new list, at the room that
 -- the one before left in the same database.
-use Rattle.std.specs.Prelude.{◌≡◌, ◌⊎◌, ℕ, List, [], ◌∷◌, Bool, true, false, IfSome, IsOk, Option, None, Result, Ok, Err}
+use Rattle.std.specs.Prelude.{◌≡◌, ◌⊎◌, ℕ, List, [], ◌∷◌, Bool, true, false, IfSome, IsOk, Option, None, Result, Ok}
+use Rattle.std.specs.Prelude.{Err}
 use Rattle.std.specs.Prelude.{◌≢◌, is_some}
 use Rattle.sqlite.specs.Held.{Held}
 use Rattle.sqlite_trees.specs.declared.store.Store.{Ghosts}
@@ -13,6 +14,7 @@ use Rattle.dispatch_room_serving.specs.Callers.{Opening}
 use Rattle.dispatch_room_journal.specs.RowRuns.{PutsEnd}
 use Rattle.dispatch_room_serving.specs.Journals.{EndsAfter, failed_by, held_by}
 use Rattle.dispatch_room_serving.specs.ServedRoom.{ServesRoom}
+use Rattle.dispatch_room_serving.specs.declared.journal_files.OpenedList.{OpenedList}
 use Rattle.dispatch_room_serving.specs.declared.journal_files.SystemFile.{SystemFile}
 use Rattle.dispatch_room_serving.specs.declared.journal_files.WrittenFile.{WrittenFile}
 use Rattle.dispatch_room_serving.specs.declared.journals.Journal.{Journal}
@@ -50,24 +52,32 @@ PartJournal = Journal (WrittenFile SystemFile × ListEnd)
 abbrev pub puts_end : WrittenFile SystemFile × ListEnd → WrittenFile SystemFile × ListEnd → Type 0
 puts_end old new = PutsEnd old.1 new.1 None None
 
--- a log that is written or not, and a journal or none, are as a part is observed
-pub record AreOf (watch : Watch) (logs : Bool) (journal : Option PartJournal) : Type 0 where
+-- where there is a list, a journal goes on where that ends
+abbrev pub GoesOn : Option OpenedList → PartJournal → Type 0
+GoesOn list journal = IfSome list (λ list. journal.out.1 ≡ list.end)
+
+-- a log that is written or not, and a journal or none, are as a part is observed that has this list
+-- or none
+pub record AreOf (watch : Watch) (list : Option OpenedList) (logs : Bool)
+    (journal : Option PartJournal) : Type 0 where
   pub logged : logs ≡ watch.logs
   pub kept : is_some journal ≡ watch.has_journal
   pub synced : IfSome journal (λ it. it.is_synced ≡ watch.is_synced)
   pub of : IfSome journal (λ it. it.keeps_questions ≡ watch.keeps_questions)
+  pub goes_on : IfSome journal (GoesOn list)
 
 module _ {S : Type 0} (g : Ghosts S) (watch : Watch) (terms : Terms) where
-  -- A part was served, which is a start, with this log and this journal, and ended so. Once it was
-  -- served, and then only, an end is put in the journal, unless its list was truncated. What the
-  -- list holds no contract can say.
-  pub record IsPart (old new : Interval S) (result : Result Done Failure) : Type 0 where
+  -- A part was served, which is a start, with a log and a journal in this list or none, and ended
+  -- so. Once it was served, and then only, an end is put in the journal, unless its list was
+  -- truncated. What the list holds no contract can say.
+  pub record IsPart (list : Option OpenedList) (old new : Interval S)
+      (result : Result Done Failure) : Type 0 where
     pub logs : Bool
     -- the journal as the part begins, as serving ended, and as the part ended
     pub journal : Option PartJournal
     pub later : Option PartJournal
     pub last : Option PartJournal
-    pub are : AreOf watch logs journal
+    pub are : AreOf watch list logs journal
     pub served : Result Done Failure
     pub ends : EndsAs watch.has_journal served result
     pub found : Finding
@@ -101,7 +111,8 @@ module _ {S : Type 0} (g : Ghosts S) (watch : Watch) (terms : Terms) where
   abbrev pub AreParts : List (Interval S) → Interval S → Interval S → Type 0
   AreParts [] first now = now ≡ first
   AreParts (at ∷ earlier) first now =
-      AreParts earlier first at × (done : Done) × IsPart at now (Ok done)
+      AreParts earlier first at × (list : Option OpenedList) × (done : Done)
+      × IsPart list at now (Ok done)
 
   -- before a part there were others only where a part may end before all calls came
   pub record PartsBefore (first at : Interval S) : Type 0 where
@@ -113,7 +124,8 @@ module _ {S : Type 0} (g : Ghosts S) (watch : Watch) (terms : Terms) where
   pub record EndsPart (first last : Interval S) (result : Result Done Failure) : Type 0 where
     pub at : Interval S
     pub before : PartsBefore first at
-    pub is : IsPart at last result
+    pub list : Option OpenedList
+    pub is : IsPart list at last result
 
   -- no list was opened for a further part
   pub record HasNoList (first last : Interval S) (result : Result Done Failure) : Type 0 where

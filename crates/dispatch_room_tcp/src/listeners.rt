@@ -1,12 +1,14 @@
 //! What listens at an address: it gives the connections of those who call, and lets their peers go.
 ghost use Rattle.std.specs.Prelude.{◌≡◌, ℕ, List, [], ◌∷◌, Bool, None, Option, IfErr, IfSome, OnErr, OnOk, false, is_some, option_map, true};
 ghost use Rattle.dispatch_room_cli.specs.declared.exit_status.Failure.TheVariants.{Network};
-ghost use Rattle.dispatch_room_serving.specs.Callers.{Grows, Opening};
+ghost use Rattle.room_http_messages.specs.Streams.{Grows};
+ghost use Rattle.dispatch_room_serving.specs.Callers.{Opening};
 ghost use Rattle.dispatch_room_sockets.specs.LingeringClose.{Step};
 
 use dispatch_room_cli::exit_status::Failure;
 use dispatch_room_cli::failure_causes::Explainer;
 use dispatch_room_sockets::connection_halves::sides;
+use dispatch_room_sockets::doors::PAUSE;
 use dispatch_room_sockets::lingering_close::{Parting, Peer};
 use dispatch_room_sockets::socket_readers::SocketReader;
 use dispatch_room_sockets::socket_writers::SocketWriter;
@@ -46,7 +48,7 @@ pub trait Listener: Drop {
     // The peer of two sides.
     ghost peer_of: { Self.Reader → Self.Writer → Self.Peer };
 
-    /// Begins to listen. A failure is the network's.
+    /// Begins to listen. It fails only as `Network`.
     fn listen(&mut self) -> Result<(), Failure>
         ensures listens { OnOk result (is_listening self.new ≡ true) }
         ensures deaf { OnErr result (is_listening self.new ≡ is_listening self.old) }
@@ -86,11 +88,7 @@ pub trait Listener: Drop {
         ensures parted { Grows (parted self.old) (parted self.new) (Self.Peer.done peer ∷ []) };
 }
 
-// How many milliseconds nobody is heard after a connection that the system could not give, as where
-// too many files are open: it would say the same again at once.
-const PAUSE: u64 = 100;
-
-/// An address of TCP at which it is listened.
+/// An address of TCP at which a room listens.
 #[derive(Drop)]
 pub struct TcpAddress<'a> {
     rt: &'a HostRuntime,
@@ -181,7 +179,7 @@ impl<'a> Listener for TcpAddress<'a> {
     }
 }
 
-/// What listens at an address of TCP. A failure is the network's, and is explained.
+/// What listens at an address of TCP. It fails only as `Network`, which is explained.
 pub(crate) fn bound(
     rt: &HostRuntime,
     explainer: Explainer<'_>,

@@ -10,8 +10,8 @@ use std::fs;
 use std::os::unix::fs::MetadataExt;
 use std::time::{Clock, Duration};
 
-// How many milliseconds pass at least between two looks. A look asks the system twice, and that
-// after each answer would cost a tenth of it.
+// How many milliseconds pass at least between two looks. A look asks the system twice: one after
+// each answer would add a tenth to the answer's cost.
 const BETWEEN_LOOKS: u64 = 1000;
 
 /// The names of a room's file and of its log, with what lay there once the room was opened: none
@@ -114,8 +114,8 @@ impl OpenedName {
         }
     }
 
-    // Notes whether the file lies there, and says whether it is to be explained: once, as it first
-    // does not.
+    // Notes whether the file lies there, and returns whether that is to be explained: only when it
+    // does not for the first time.
     fn note(&mut self, is_there: bool) -> bool
         ensures once { result ≡ (not is_there && not self.old.is_missed) }
         ensures missed { self.new.is_missed ≡ not is_there }

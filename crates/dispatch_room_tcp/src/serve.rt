@@ -10,7 +10,7 @@ ghost use Rattle.dispatch_room_serving.specs.declared.list_places.Finding.TheVar
 ghost use Rattle.dispatch_room_tcp.specs.ServedFiles.{FailsAt, FailsBy, FailsServe, IsAddressOf, IsDoorOf, IsServe, IsServed, IsServedAt, IsServedBy};
 ghost use Rattle.dispatch_room_tcp.specs.ServedFiles.{OpensNone, PrintsServing};
 ghost use Rattle.dispatch_room_tcp.specs.ServedFiles.{Serves, ServesNone, ended, is_endless, is_synced_by, keeps_questions_by, terms_of, watch_of};
-ghost use Rattle.dispatch_room_tcp.specs.ServedParts.{EndsAs, IsPart, OpensNoPart, ServesParts};
+ghost use Rattle.dispatch_room_tcp.specs.ServedParts.{EndsAs, GoesOn, IsPart, OpensNoPart, ServesParts};
 
 use crate::hosts::Host;
 use crate::listeners::{Listener, TcpAddress};
@@ -37,9 +37,9 @@ use std::time::{self, Duration};
 
 /// Serves the room of a file, with a log and a journal of it where they are wanted: to so many
 /// connections, one after another, each to its end; or where it goes on until it is stopped, in
-/// pieces, so that nobody waits for who has not spoken. A connection that ends badly doesn't end
-/// it, but for lack of memory, where the journal can't be kept, and where the room's file failed so
-/// that it has to be opened again.
+/// pieces, so that nobody waits for a silent caller. A connection that ends badly ends it only for
+/// lack of memory, where the journal can't be kept, and where the room's file failed so that it has
+/// to be opened again.
 pub fn serve_file<O: Write, E: Write>(
     host: Host<'_>,
     file: &str,
@@ -357,7 +357,7 @@ fn serve_part<S: Alter + Drop, P: Callers, C: Clock, E: Write>(
     requires outside { conn.in_transaction ≡ false }
     ensures outside { IfOk result (λ worked. worked.1.in_transaction ≡ false) }
     ensures served { IfOk result (λ worked. IsPart S.Store
-        (watch_of (is_some list.now) run.now.service.now) (terms_of run.now.service.now)
+        (watch_of (is_some list.now) run.now.service.now) (terms_of run.now.service.now) list.now
         (record {
           conn = conn;
           heard = P.heard callers.old;
@@ -486,6 +486,7 @@ fn journal_of<'a>(
         journal.is_synced ≡ is_synced_by service.now.journal) }
     ensures of { IfSome result (λ journal.
         journal.keeps_questions ≡ keeps_questions_by service.now.journal) }
+    ensures goes_on { IfSome result (GoesOn list.now) }
     ensures fresh { failed_by result ≡ false }
 {
     let (path, is_synced, keeps_questions) = match service.journal {

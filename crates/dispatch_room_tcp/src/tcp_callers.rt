@@ -2,7 +2,8 @@
 ghost use Rattle.std.specs.Io.KnownBytes.{Appends};
 ghost use Rattle.std.specs.Prelude.{◌≡◌, ◌⊎◌, ◌∷◌, [], IfErr, IfSome, IsOk, MatchBool, OnErr, OnOk, codes, false, option_map, true};
 ghost use Rattle.dispatch_room_cli.specs.declared.exit_status.Failure.TheVariants.{Network};
-ghost use Rattle.dispatch_room_serving.specs.Callers.{Grows, Prints, printing};
+ghost use Rattle.room_http_messages.specs.Streams.{Grows};
+ghost use Rattle.dispatch_room_serving.specs.Callers.{Prints, printing};
 ghost use Rattle.dispatch_room_tcp.specs.Listeners.{PartsFrom};
 
 use crate::listeners::Listener;
@@ -11,8 +12,8 @@ use dispatch_room_serving::callers::Callers;
 use dispatch_room_sockets::lingering_close::part;
 use std::io::Write;
 
-/// Those who call where something listens. That they may is said on an output, and each is parted
-/// from.
+/// Those who call where something listens. That they may call is printed, and each connection is
+/// closed so that its last answer arrives.
 #[derive(Drop)]
 pub struct TcpCallers<'a, L, O> {
     listener: L,
@@ -80,7 +81,7 @@ impl<'a, L: Listener, O: Write> Callers for TcpCallers<'a, L, O> {
         print_serving(self.out)
     }
 
-    // Beside what all callers ensure: nothing is said.
+    // Beside what all callers ensure: nothing is printed.
     fn next(&mut self) -> Option<(L::Reader, L::Writer)>
         ensures heard { Grows (L.heard self.old.listener) (L.heard self.new.listener)
             (option_map (λ sides. record {
@@ -100,7 +101,7 @@ impl<'a, L: Listener, O: Write> Callers for TcpCallers<'a, L, O> {
     }
 
     // Beside what all callers ensure: the peer was parted from, and then released, and nothing is
-    // said.
+    // printed.
     #[tactic(auto, using(crate::proofs::ListeningLemmas::parts_from))]
     fn done(&mut self, reader: L::Reader, writer: L::Writer)
         ensures heard { L.heard self.new.listener ≡ L.heard self.old.listener }
@@ -121,7 +122,7 @@ impl<'a, L: Listener, O: Write> Callers for TcpCallers<'a, L, O> {
     }
 }
 
-// Says that a room is served.
+// Prints that a room is served.
 fn print_serving<O: Write>(out: &mut O) -> Result<(), Failure>
     ensures said { OnOk result (Appends (O.contents out.old) (O.contents out.new)
         (codes "serving\n")) }

@@ -1,4 +1,4 @@
-//! A door at which nobody waits for who has not spoken: each connection is served in pieces, and
+//! A door at which nobody waits for a silent caller: each connection is served in pieces, and
 //! between two of them it waits among the others.
 ghost use Rattle.std.specs.Prelude.{◌≡◌, IfErr, IfOk, IfSome, None, OnErr, OnOk, false, is_some, true};
 ghost use Rattle.dispatch_room_cli.specs.declared.exit_status.Failure.TheVariants.{Network};
@@ -54,7 +54,7 @@ impl<'a> TcpDoor<'a> {
         }
     }
 
-    // Those who wait where this listens. A failure is the network's.
+    // Those who wait where this listens. It fails only as `Network`.
     fn opened(&self, listener: TcpListener) -> Result<Waiting<Door<'a>>, Failure>
         ensures times { IfOk result (λ waiting. (waiting.keep ≡ self.now.keep)
             × (waiting.patience ≡ self.now.patience)) }

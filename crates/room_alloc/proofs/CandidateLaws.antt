@@ -11,7 +11,7 @@ use Rattle.room_types.proofs.KeyedLaws.{keyed_filter, row_filter}
 use Rattle.room_types.specs.Codes.{same_kind}
 use Rattle.room_types.specs.KeyedRows.{IsBelowAll, IsKeyed, keep, put_row, row_at}
 use Rattle.room_types.specs.Keys.{pair_cmp, point_key}
-use Rattle.room_types.specs.Orders.{exact_pair, pairs_total}
+use Rattle.room_types.specs.KeyLemmas.{exact_pair, pairs_total}
 use Rattle.room_types.specs.declared.codes.Kind.{Kind}
 use Rattle.room_types.specs.declared.slices.DivisionRows.{DivisionRows}
 use Rattle.room_types.specs.declared.tables.Incident.{Incident}
@@ -22,7 +22,8 @@ use Rattle.room_model.specs.Points.{breaks_post, is_short}
 use Rattle.room_model.specs.Proposals.{candidates, proposal_of}
 use Rattle.room_model.specs.Queries.{holders, is_eligible, point_of}
 use Rattle.room_model.specs.Room.{Room}
-use Rattle.room_alloc.specs.Candidates.{AreShort, candidates_by, is_candidate, is_point_short, proposal_by, unplanned}
+use Rattle.room_model.specs.RoomSlices.{unplanned}
+use Rattle.room_alloc.specs.Candidates.{AreShort, candidates_by, is_candidate, is_point_short, proposal_by}
 
 module _ {R K : Type 0} (cmp : K → K → Ordering) (key : R → K) (total : IsTotalOrder cmp) where
   below_one : (k : K) (xs : List R) (x : R) (ys : List R) → IsBelowAll cmp key k (xs ++ x ∷ ys)

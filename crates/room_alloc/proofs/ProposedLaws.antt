@@ -14,8 +14,7 @@ use Rattle.room_model.specs.Decisions.{Verdict, answer_of, refuse_if, show, wher
 use Rattle.room_model.specs.Proposals.{all_proposed, candidates, propose, proposed}
 use Rattle.room_model.specs.Queries.{holders, incident_of, point_of, served}
 use Rattle.room_model.specs.Room.{IsInOrder, Room}
-use Rattle.room_model.specs.RoomSlices.{room_of}
-use Rattle.room_alloc.specs.Candidates.{unplanned}
+use Rattle.room_model.specs.RoomSlices.{room_of, unplanned}
 use Rattle.room_alloc.specs.ProposalAnswers.{AreForIncident}
 
 -- no proposal looks at the plan

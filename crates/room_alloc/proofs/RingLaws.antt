@@ -13,7 +13,7 @@ use Rattle.room_place.specs.Choice.{Among}
 use Rattle.room_types.specs.KeyedRows.{put_row}
 use Rattle.room_types.specs.declared.tables.Incident.{Incident}
 use Rattle.room_alloc.specs.Nearness.{nearness_cmp, whole}
-use Rattle.room_alloc.specs.NearnessOrder.{exact_nearness}
+use Rattle.room_alloc.specs.NearnessLemmas.{exact_nearness}
 use Rattle.room_alloc.specs.Rings.{AreByRing, IsByRing, IsSearched, nearness_of}
 use Rattle.room_alloc.specs.declared.nearness.Candidate.{Candidate}
 use Rattle.room_alloc.specs.declared.nearness.Nearness.{Nearness}

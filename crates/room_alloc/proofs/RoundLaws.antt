@@ -12,7 +12,7 @@ use Rattle.room_types.proofs.KeyedLaws.{keyed_filter}
 use Rattle.room_types.specs.Codes.{same_kind}
 use Rattle.room_types.specs.KeyedRows.{IsBelowAll, IsKeyed}
 use Rattle.room_types.specs.Keys.{callsign_cmp, vehicle_key}
-use Rattle.room_types.specs.Orders.{callsigns_total}
+use Rattle.room_types.specs.KeyLemmas.{callsigns_total}
 use Rattle.room_types.specs.Texts.{Callsign}
 use Rattle.room_types.specs.declared.answers.Proposal.{Proposal}
 use Rattle.room_types.specs.declared.codes.Kind.TheVariants.{Ambulance, Car, Support}
@@ -27,7 +27,8 @@ use Rattle.room_model.specs.Incidents.{lacking}
 use Rattle.room_model.specs.Proposals.{candidates, is_before, proposal_cmp, proposed}
 use Rattle.room_model.specs.Queries.{is_eligible}
 use Rattle.room_model.specs.Room.{IsInOrder}
-use Rattle.room_alloc.specs.Candidates.{AreShort, is_candidate, proposal_by, unplanned}
+use Rattle.room_model.specs.RoomSlices.{unplanned}
+use Rattle.room_alloc.specs.Candidates.{AreShort, is_candidate, proposal_by}
 use Rattle.room_alloc.specs.Rings.{AreApart, AreOfKind, ArePlaced, IsPlaced, candidate_of, candidates_round}
 use Rattle.room_alloc.specs.Rings.{is_breaking}
 use Rattle.room_alloc.specs.Rings.{proposal_at}

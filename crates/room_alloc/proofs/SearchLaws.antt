@@ -15,12 +15,12 @@ use Rattle.room_place.specs.Places.{ring_floor}
 use Rattle.room_types.proofs.KeyedLaws.{keyed_filter}
 use Rattle.room_types.specs.KeyedRows.{IsBelowAll, IsKeyed}
 use Rattle.room_types.specs.Keys.{callsign_cmp}
-use Rattle.room_types.specs.Orders.{callsigns_total}
+use Rattle.room_types.specs.KeyLemmas.{callsigns_total}
 use Rattle.room_types.specs.Texts.{Callsign}
 use Rattle.room_types.specs.declared.codes.Kind.{Kind}
 use Rattle.room_types.specs.declared.tables.Incident.{Incident}
 use Rattle.room_alloc.specs.Nearness.{is_nearer, nearness_cmp, proposal_with, whole}
-use Rattle.room_alloc.specs.NearnessOrder.{nearness_total}
+use Rattle.room_alloc.specs.NearnessLemmas.{nearness_total}
 use Rattle.room_alloc.specs.Rings.{AreApart, AreOfKind, ArePlaced, IsSearched, is_below, is_breaking, is_enough}
 use Rattle.room_alloc.specs.Rings.{nearness_of, proposal_at}
 use Rattle.room_alloc.specs.declared.nearness.Candidate.{Candidate}

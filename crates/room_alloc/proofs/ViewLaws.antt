@@ -9,9 +9,8 @@ use Rattle.room_model.specs.Decisions.{show}
 use Rattle.room_model.specs.Loans.{show_loans, show_offers}
 use Rattle.room_model.specs.Points.{point_line, show_points}
 use Rattle.room_model.specs.Queries.{assignment_of, holders}
-use Rattle.room_model.specs.RoomSlices.{room_of}
+use Rattle.room_model.specs.RoomSlices.{room_of, unplanned}
 use Rattle.room_model.specs.Vehicles.{show_vehicles, vehicle_line}
-use Rattle.room_alloc.specs.Candidates.{unplanned}
 
 module _ (d : ℕ) (s : DivisionRows) (agrees : is_share d s ≡ true) (plan : List Area) where
   pub vehicles_shown : show_vehicles d (room_of plan s)

@@ -13,11 +13,7 @@ use Rattle.room_types.specs.declared.tables.Vehicle.{Vehicle}
 use Rattle.room_model.specs.Points.{breaks_post, is_short}
 use Rattle.room_model.specs.Queries.{holders, is_eligible}
 use Rattle.room_model.specs.Room.{Room}
-use Rattle.room_model.specs.RoomSlices.{room_of}
-
--- a division's rows as a room; no proposal looks at the plan
-abbrev pub unplanned : DivisionRows → Room
-unplanned s = room_of [] s
+use Rattle.room_model.specs.RoomSlices.{unplanned}
 
 -- the point has no more holders than it needs
 abbrev pub is_point_short : ℕ → ℕ → Room → Point → Bool

@@ -2,5 +2,5 @@ pub mod Cover
 pub mod Candidates
 pub mod ProposalAnswers
 pub mod Nearness
-pub mod NearnessOrder
+pub mod NearnessLemmas
 pub mod Rings

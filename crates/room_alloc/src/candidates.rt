@@ -1,7 +1,8 @@
 //! What may be proposed for an incident.
 ghost use Rattle.std.specs.Prelude.{◌≡◌, filter, IfOk, IfErr};
 ghost use Rattle.room_types.specs.declared.refusal_statuses.Refusal.TheVariants.{Memory};
-ghost use Rattle.room_alloc.specs.Candidates.{AreShort, has_point, is_candidate, is_point_short, unplanned};
+ghost use Rattle.room_model.specs.RoomSlices.{unplanned};
+ghost use Rattle.room_alloc.specs.Candidates.{AreShort, has_point, is_candidate, is_point_short};
 
 use crate::cover::{holders, is_eligible};
 use room_place::plans::DivisionNumber;

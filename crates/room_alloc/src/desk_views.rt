@@ -5,9 +5,8 @@ ghost use Rattle.room_types.specs.declared.refusal_statuses.Refusal.TheVariants.
 ghost use Rattle.room_model.specs.Decisions.{Decides};
 ghost use Rattle.room_model.specs.Loans.{show_loans, show_offers};
 ghost use Rattle.room_model.specs.Points.{point_line, show_points};
-ghost use Rattle.room_model.specs.RoomSlices.{room_of};
+ghost use Rattle.room_model.specs.RoomSlices.{room_of, unplanned};
 ghost use Rattle.room_model.specs.Vehicles.{show_vehicles, vehicle_line};
-ghost use Rattle.room_alloc.specs.Candidates.{unplanned};
 
 use crate::cover::holders;
 use room_types::answers::{Answer, Listed, PointLine, VehicleLine};

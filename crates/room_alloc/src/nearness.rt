@@ -1,4 +1,4 @@
-//! What a search by rings goes over, and what it finds.
+//! The candidates of a search by rings, and the order in which it finds them: the nearest first.
 use room_types::callsign::Callsign;
 use room_types::tables::Vehicle;
 
@@ -12,7 +12,7 @@ pub(crate) struct Nearness {
 /// A vehicle that may be sent.
 #[derive(Clone, Copy)]
 pub(crate) struct Candidate {
-    /// Of cells, round the incident's.
+    /// How many rings of cells it stands away from the incident's cell.
     pub(crate) ring: u32,
     /// Whether sending it breaks cover.
     pub(crate) breaks: bool,

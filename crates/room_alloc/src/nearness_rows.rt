@@ -1,7 +1,7 @@
 //! Rows of nearness: a nearness is its own key, so that they are a set in order.
 ghost use Rattle.std.specs.Prelude.{true};
 ghost use Rattle.room_alloc.specs.Nearness.{whole};
-ghost use Rattle.room_alloc.specs.NearnessOrder.{exact_nearness};
+ghost use Rattle.room_alloc.specs.NearnessLemmas.{exact_nearness};
 
 use crate::nearness::Nearness;
 use room_place::plans::DivisionNumber;

@@ -8,8 +8,8 @@ ghost use Rattle.room_model.specs.Decisions.{Decides};
 ghost use Rattle.room_model.specs.Proposals.{all_proposed, is_before, propose, proposed};
 ghost use Rattle.room_model.specs.Queries.{incident_of};
 ghost use Rattle.room_model.specs.Room.{IsInOrder};
-ghost use Rattle.room_model.specs.RoomSlices.{room_of};
-ghost use Rattle.room_alloc.specs.Candidates.{AreShort, unplanned};
+ghost use Rattle.room_model.specs.RoomSlices.{room_of, unplanned};
+ghost use Rattle.room_alloc.specs.Candidates.{AreShort};
 ghost use Rattle.room_alloc.specs.ProposalAnswers.{AreForIncident};
 ghost use Rattle.room_alloc.specs.Rings.{AreApart, AreOfKind, ArePlaced, proposal_at};
 

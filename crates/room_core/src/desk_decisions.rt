@@ -14,13 +14,14 @@ use room_alloc::lending::{LoanTerms, accept, decline, give_back, lend, recall, w
 use room_alloc::orders::{mobilise, stand_down};
 use room_alloc::posts::{set_point, standby};
 use room_alloc::proposals::propose;
+use room_incident::incident_closing::close;
 use room_incident::incident_history::incident;
 use room_incident::incident_list::{day_times, incidents};
 use room_incident::incident_merges::merge;
-use room_incident::incident_needs::{change_needs, close};
+use room_incident::incident_needs::change_needs;
 use room_place::plans::Plan;
-use room_queue::exceptions::clear;
 use room_queue::queues::queue;
+use room_queue::report_clearing::clear;
 use room_types::asks::Ask;
 use room_types::decisions::Decision;
 use room_types::numbers::Moment;

@@ -6,7 +6,7 @@ use Rattle.std.specs.Prelude.{List, [], is_none, is_some, IfSome, option_map, â—
 use Rattle.room_types.proofs.EachRow.{row_key}
 use Rattle.room_types.specs.KeyedRows.{keep, row_at}
 use Rattle.room_types.specs.Keys.{callsign_cmp, loan_key, numbered_cmp, turn_key, vehicle_key}
-use Rattle.room_types.specs.Orders.{callsigns_total, exact_callsigns}
+use Rattle.room_types.specs.KeyLemmas.{callsigns_total, exact_callsigns}
 use Rattle.room_types.specs.Texts.{Callsign}
 use Rattle.room_types.specs.declared.answers.Answer.{Answer}
 use Rattle.room_types.specs.declared.answers.Answer.TheVariants.{Reported}

@@ -1,12 +1,12 @@
-//! What each button comes to at each status, and what it does where it acts: a profile of this
-//! project's own.
+//! The outcome of each button at each status, and what a button does where it acts: a profile of
+//! this project's own.
 ghost use Rattle.std.specs.Prelude.{◌≡◌};
 ghost use Rattle.room_types.specs.Codes.{acts};
 ghost use Rattle.room_model.specs.Reports.{press, status_after, ends_turn, names_order, is_home};
 
 use room_types::codes::{Button, Outcome, Status};
 
-/// What a button comes to whose report is neither late nor stale: a row for each status. Scene is
+/// The outcome of a button whose report is neither late nor stale: a row for each status. Scene is
 /// normal at a mobilised vehicle only where its crew acknowledged the order; else it skips that.
 pub fn press(status: Status, button: Button, acknowledged: bool) -> Outcome
     ensures { result ≡ press status button acknowledged }

@@ -13,7 +13,7 @@ use Rattle.room_model.specs.Step.{is_for}
 use Rattle.room_http_messages.specs.Messages.{WholeMessage, terminal_of}
 use Rattle.room_http_time.specs.Dates.{Date}
 use Rattle.room_http_requests.specs.RequestTable.{is_known, is_of, request_by, role_of}
-use Rattle.room_http_requests.specs.Routes.{routed}
+use Rattle.room_http_requests.specs.Router.{routed}
 use Rattle.room_http_requests.specs.declared.request_table.Target.{Target}
 use Rattle.room_http_requests.specs.declared.request_table.Target.TheVariants as target
 use Rattle.room_http_requests.specs.Bodies.{ask_with_body}

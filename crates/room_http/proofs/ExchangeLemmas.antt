@@ -15,13 +15,13 @@ use Rattle.room_model.specs.Step.{answer_to}
 use Rattle.room_model.specs.Rooms.{machine}
 use Rattle.room_http_messages.specs.Messages.{terminal_of}
 use Rattle.room_http_requests.specs.RequestTable.{is_of, request_by, role_of}
-use Rattle.room_http_requests.specs.Routes.{routed}
+use Rattle.room_http_requests.specs.Router.{routed}
 use Rattle.room_http_requests.specs.declared.request_table.Request.{Request}
 use Rattle.room_http_requests.specs.declared.request_table.Request.TheVariants as request
 use Rattle.room_http_requests.specs.declared.request_table.Target.{Target}
 use Rattle.room_http.proofs.DatedMoments.{always_there_law}
 use Rattle.room_http_time.specs.Days.{zone_of}
-use Rattle.room_http.specs.declared.moments.TheConstants.{LAST_MOMENT}
+use Rattle.room_types.specs.declared.numbers.TheConstants.{LAST_MOMENT}
 use Rattle.room_http.specs.declared.settings.Setting.{Setting}
 use Rattle.room_http_time.proofs.ZoneLaws.{one_zone_law}
 use Rattle.room_http.specs.Arrivals.{is_closing, is_head_only, message, refused}

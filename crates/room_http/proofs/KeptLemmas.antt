@@ -11,7 +11,7 @@ use Rattle.room_types.specs.declared.refusal_statuses.Refusal.{Refusal}
 use Rattle.room_model.specs.Room.{Room}
 use Rattle.room_http.specs.ReplyMessages.{fixed_bytes}
 use Rattle.room_http_messages.proofs.StreamLemmas.{Appends-more, Appends-none}
-use Rattle.room_http.specs.declared.moments.TheConstants.{LAST_MOMENT}
+use Rattle.room_types.specs.declared.numbers.TheConstants.{LAST_MOMENT}
 use Rattle.room_http.specs.declared.settings.Setting.{Setting}
 use Rattle.room_http.specs.ClockMoments.{HasNoMoment}
 use Rattle.room_model.specs.Rooms.{IsUnavailable, Step}
@@ -21,7 +21,8 @@ use Rattle.room_http.specs.declared.session.ServeEnd.{ServeEnd}
 use Rattle.room_http.specs.declared.session.ServeEnd.TheVariants.{Closed, Cut, ReadFault, WriteFault, ClockFault}
 use Rattle.room_http.specs.declared.session.ServeEnd.TheVariants.{Unkept, ReadsSpent, Memory}
 use Rattle.room_http.specs.Arrivals.{Arrival, message, refused, is_closing, is_head_only, Begins, HasNext, IsShown}
-use Rattle.room_http.specs.KeptMessages.{Acts, ActsOnEach, AreKept, AreReplies, DoesNothing, Grow, IsBegun, IsCome, IsRecord}
+use Rattle.room_http.specs.KeptMessages.{Acts, ActsOnEach, AreKept, AreReplies, DoesNothing, Grow, IsBegun, IsCome}
+use Rattle.room_http.specs.KeptMessages.{IsRecord}
 use Rattle.room_http.specs.KeptMessages.{KeepsEach, KeepsOne, Tapes, Unmoved, answer_kept, came_of, response_of}
 use Rattle.room_http.specs.Dialogues.{Timed, IsFront, IsReplyTo}
 use Rattle.room_http.specs.Course.{Course}

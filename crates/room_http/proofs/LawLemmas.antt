@@ -15,7 +15,7 @@ use Rattle.room_http_messages.specs.declared.read_faults.Unread.TheVariants.{Ref
 use Rattle.room_http_messages.specs.Messages.{WholeMessage, terminal_of}
 use Rattle.room_http_messages.proofs.LawLemmas.{one_message_law, no_end_law}
 use Rattle.room_http_requests.specs.RequestTable.{is_of, request_by, role_of}
-use Rattle.room_http_requests.specs.Routes.{routed}
+use Rattle.room_http_requests.specs.Router.{routed}
 use Rattle.room_http_requests.specs.declared.request_table.Target.{Target}
 use Rattle.room_http_requests.specs.declared.request_table.Request.{Request}
 use Rattle.room_http_requests.specs.declared.request_table.Request.TheVariants as request

@@ -16,7 +16,7 @@ use Rattle.room_model.specs.Run.{room_run}
 use Rattle.room_model.specs.Step.{IsAddressed}
 use Rattle.room_http_messages.specs.Messages.{WholeMessage, terminal_of}
 use Rattle.room_http_requests.specs.RequestTable.{is_known, is_of, request_by, role_of}
-use Rattle.room_http_requests.specs.Routes.{routed}
+use Rattle.room_http_requests.specs.Router.{routed}
 use Rattle.room_http_requests.specs.declared.request_table.Request.{Request}
 use Rattle.room_http_requests.specs.declared.request_table.Request.TheVariants as request
 use Rattle.room_http_requests.specs.declared.request_table.Target.{Target}

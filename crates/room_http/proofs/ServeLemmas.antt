@@ -16,7 +16,7 @@ use Rattle.room_http_messages.specs.Messages.{IsCut, IsPart}
 use Rattle.room_http_messages.specs.Readings.{SaysOf}
 use Rattle.room_http_messages.specs.Streams.{CountsBy}
 use Rattle.room_http_messages.proofs.StreamLemmas.{Appends-more, Appends-none}
-use Rattle.room_http.specs.declared.moments.TheConstants.{LAST_MOMENT}
+use Rattle.room_types.specs.declared.numbers.TheConstants.{LAST_MOMENT}
 use Rattle.room_http.specs.declared.session.ServeEnd.{ServeEnd}
 use Rattle.room_http.specs.declared.session.ServeEnd.TheVariants.{Closed, Cut, ReadFault, WriteFault, ClockFault}
 use Rattle.room_http.specs.declared.session.ServeEnd.TheVariants.{Unkept, ReadsSpent, Memory}

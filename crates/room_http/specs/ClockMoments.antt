@@ -1,7 +1,7 @@
 -- What the clock gave.
 use Rattle.std.specs.Prelude.{◌≡◌, ◌⊎◌, ◌<◌, ℕ, List, [], ◌∷◌, ◌++◌, Bool, true, Option}
 use Rattle.std.specs.Io.KnownBytes.{Appends}
-use Rattle.room_http.specs.declared.moments.TheConstants.{LAST_MOMENT}
+use Rattle.room_types.specs.declared.numbers.TheConstants.{LAST_MOMENT}
 
 -- after these moments the clock gave none, or one that is none of the room's
 abbrev pub HasNoMoment : Option (List ℕ) → Option (List ℕ) → Bool → List ℕ → Type 0

@@ -6,7 +6,7 @@ use Rattle.room_types.specs.declared.fleet.Terminal.{Terminal}
 use Rattle.room_types.specs.declared.refusal_statuses.Refusal.{Refusal}
 use Rattle.room_model.specs.Room.{Room}
 use Rattle.room_http.specs.ReplyMessages.{fixed_bytes}
-use Rattle.room_http.specs.declared.moments.TheConstants.{LAST_MOMENT}
+use Rattle.room_types.specs.declared.numbers.TheConstants.{LAST_MOMENT}
 use Rattle.room_http.specs.declared.settings.Setting.{Setting}
 use Rattle.room_model.specs.Rooms.{IsUnavailable, Step}
 use Rattle.room_http.specs.declared.arrivals.Arrived.{Arrived}

@@ -1,5 +1,5 @@
 pub mod JsonShapes
-pub mod Contents
+pub mod AnswerJson
 pub mod Objects
 pub mod ReplyMessages
 pub mod ReplyLaws

@@ -26,7 +26,8 @@ use Rattle.room_model.specs.Shares.{mine, own}
 use Rattle.room_model.specs.Step.{answer_to, room_after}
 use Rattle.room_model.specs.RoomAgreements.{IsWellFormed}
 use Rattle.room_http.specs.declared.settings.Setting.{Setting}
-use Rattle.room_http.specs.Runs.{Exchange, HasAnswer, HaveAnswers, IsRun, answers_of, arrivals_of, asker, events_of, room_by}
+use Rattle.room_http.specs.Runs.{Exchange, HasAnswer, HaveAnswers, IsRun, answers_of, arrivals_of, asker, events_of}
+use Rattle.room_http.specs.Runs.{room_by}
 use Rattle.room_http.specs.Runs.{with_desk}
 
 -- no vehicle is sent to two incidents

@@ -10,7 +10,7 @@ use Rattle.room_types.specs.declared.refusal_statuses.Allow.{Allow}
 use Rattle.room_types.specs.declared.refusal_statuses.Allow.TheVariants.{GetHead, Post}
 use Rattle.room_types.specs.declared.refusal_statuses.Refusal.{Refusal}
 use Rattle.room_types.specs.declared.refusal_statuses.Refusal.TheVariants.{WrongMethod}
-use Rattle.room_http.specs.Contents.{content}
+use Rattle.room_http.specs.AnswerJson.{content}
 
 -- 200 OK, or what the refusal has
 abbrev pub status_of : Result Answer Refusal → ℕ

@@ -11,7 +11,7 @@ use Rattle.room_http_messages.specs.Streams.{CountsBy}
 use Rattle.room_http.specs.declared.session.ServeEnd.{ServeEnd}
 use Rattle.room_http.specs.declared.session.ServeEnd.TheVariants.{Closed, Cut, ReadFault, WriteFault, ClockFault}
 use Rattle.room_http.specs.declared.session.ServeEnd.TheVariants.{Unkept, ReadsSpent, Memory}
-use Rattle.room_http.specs.declared.moments.TheConstants.{LAST_MOMENT}
+use Rattle.room_types.specs.declared.numbers.TheConstants.{LAST_MOMENT}
 use Rattle.room_model.specs.Rooms.{Step}
 use Rattle.room_http.specs.Arrivals.{Arrival, is_head_only, is_closing, Begins, HasNext}
 use Rattle.room_http.specs.declared.settings.Setting.{Setting}
@@ -98,8 +98,8 @@ module _ (step : Step) (setting : Setting) (old : Sides) (new : Finish) (trusted
   abbrev pub HasActed : Timed → List Terminal → Room → Type 0
   HasActed x terminals room = BreaksOff step setting terminals stands room x []
 
-  -- where memory or storage failed for an arrival, so much holds of the room; and so much
-  -- where its last call was refused
+  -- what holds of the room where memory or storage failed for an arrival, and where its last
+  -- call was refused
   module _ (unserved : Timed → List Terminal → Room → Type 0) (failed : Type 0) where
     -- The arrivals were answered. For the next one memory or storage failed: the room stayed
     -- as it was, and of the fixed answer so much was written.

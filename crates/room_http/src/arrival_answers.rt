@@ -1,4 +1,4 @@
-//! What arrives, answered.
+//! Answers what arrives.
 ghost use Rattle.std.specs.Prelude.{◌≡◌, ◌≢◌, ℕ, false, Err, IfErr, OnOk};
 ghost use Rattle.room_http.specs.Arrivals.{Arrival, IsBounded, IsShown};
 ghost use Rattle.room_http.specs.ArrivalAnswers.{Answers, EndsAnswering};
@@ -107,7 +107,7 @@ pub fn answer<W: Sink, M: Room, C: Clock, N: Observer>(
     }
 }
 
-// Writes an answer, and then lets the observer know of it.
+// Writes an answer, and then reports it to the observer.
 fn write_answer<W: Sink, N: Observer>(
     writer: &mut W,
     observer: &mut N,

@@ -3,12 +3,12 @@ ghost use Rattle.std.specs.Prelude.{◌≡◌, IfErr, IfOk};
 ghost use Rattle.room_types.specs.declared.refusal_statuses.Refusal.TheVariants.{Memory};
 
 use crate::settings::Setting;
-use room_http_requests::routes::Routes;
+use room_http_requests::router::Routes;
 use room_types::refusal_statuses::Refusal;
 use std::alloc::Global;
 
-/// What every request of a service is handled with. It is made once, since to make the routes takes
-/// longer than to answer.
+/// What every request of a service is handled with. It is made only once, since making the routes
+/// takes longer than an answer.
 #[derive(Drop)]
 pub struct Handler {
     pub alloc: Global,
@@ -17,7 +17,7 @@ pub struct Handler {
 }
 
 impl Handler {
-    /// A handler of a service that is set so. A refusal is lack of memory.
+    /// A handler of a service with this setting. A refusal is lack of memory.
     pub fn new(alloc: Global, setting: Setting) -> Result<Handler, Refusal>
         ensures setting { IfOk result (λ handler. handler.setting ≡ setting) }
         ensures refused { IfErr result (λ refusal. refusal ≡ Memory) }

@@ -2,14 +2,14 @@
 //! answer is a message of HTTP/1.1 whose content is JSON.
 #![tactic(auto)]
 
+mod answer_json;
 pub mod arrival_answers;
 pub mod arrivals;
 pub mod clocks;
-mod contents;
 pub mod digest_replies;
 pub mod fixed_answers;
 pub mod handlers;
-mod json;
+mod json_values;
 pub mod laws;
 pub mod message_events;
 pub mod moments;

@@ -6,7 +6,7 @@ ghost use Rattle.serde_json.specs.Data.{Members, no_members, member, object};
 ghost use Rattle.serde_json.specs.Events.{members_len};
 ghost use Rattle.room_http.specs.Objects.{AreCountable, Sends, SendsRest};
 
-use crate::json::ToJson;
+use crate::json_values::ToJson;
 use serde::Serializer;
 
 /// Members of an object, in their order.

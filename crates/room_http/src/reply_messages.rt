@@ -3,7 +3,7 @@
 ghost use Rattle.std.specs.Prelude.{◌≡◌, ◌++◌, IfErr, IfOk, IfSome, OnOk, string_bytes};
 ghost use Rattle.room_http.specs.ReplyMessages.{IsReply, allow_field, closing_field, field, methods, status_of};
 
-use crate::contents::content;
+use crate::answer_json::content;
 use http::StatusCode;
 use httpdate::HttpDate;
 use room_types::answers::Answer;

@@ -21,18 +21,18 @@ pub all_digits_more : (xs : List ℕ) (i : ℕ) → i < length xs → is_ascii_d
 all_digits_more xs i below digit before =
     rw (take_more xs i 0 below, list_all-append is_ascii_digit (take i xs) (get_or xs i 0 ∷ []), before, digit)
 
-pub bounded_more : (xs : List ℕ) (i n d m : ℕ) → i < length xs
-    → n ≡ min (digits_value 10 (take i xs)) 1025
-    → d ≡ digit_value (get_or xs i 0) → m ≡ min (n * 10 + d) 1025
-    → m ≡ min (digits_value 10 (take (i + 1) xs)) 1025
-bounded_more xs i n d m below before digit next =
+pub bounded_more : (xs : List ℕ) (i n d m cap : ℕ) → i < length xs
+    → n ≡ min (digits_value 10 (take i xs)) cap
+    → d ≡ digit_value (get_or xs i 0) → m ≡ min (n * 10 + d) cap
+    → m ≡ min (digits_value 10 (take (i + 1) xs)) cap
+bounded_more xs i n d m cap below before digit next =
     let push : digits_value 10 (take (i + 1) xs) ≡ digits_value 10 (take i xs) * 10 + digit_value (get_or xs i 0) =
     rw (take_more xs i 0 below, digits_value_push 10 (take i xs) (get_or xs i 0)) in
     go (digits_value 10 (take i xs)) (digits_value 10 (take (i + 1) xs)) (digit_value (get_or xs i 0)) push before digit
     next
   where
-    go : (a b e : ℕ) → b ≡ a * 10 + e → n ≡ min a 1025 → d ≡ e → m ≡ min (n * 10 + d) 1025
-        → m ≡ min b 1025
+    go : (a b e : ℕ) → b ≡ a * 10 + e → n ≡ min a cap → d ≡ e → m ≡ min (n * 10 + d) cap
+        → m ≡ min b cap
     go a b e push before digit next = omega arith
 
 -- a bounded number is above the bound where the number is

@@ -10,7 +10,7 @@ use Rattle.room_http_messages.specs.Messages.{WholeMessage, HasMessage, IsCut, I
 use Rattle.room_http_messages.specs.Streams.{Reads}
 
 -- Why reading stopped: what holds of the bytes in the inbox, of the budget and of the reader. Where
--- a read failed or the budget are used up, the bytes that were read are less than a message.
+-- a read failed or the budget is used up, the bytes that were read are less than a message.
 abbrev pub StopsAs : List ℕ → ℕ → Bool → Bool → Option (List ℕ) → Unread → Type 0
 StopsAs bytes budget failed ended left End =
     (bytes ≡ []) × (ended ≡ true) × IsAtEnd left × (failed ≡ false)

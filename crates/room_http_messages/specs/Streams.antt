@@ -1,5 +1,5 @@
 -- What reads and writes do to what is left of a stream, and to what was written.
-use Rattle.std.specs.Prelude.{◌≡◌, ℕ, ◌+◌, ◌*◌, ◌-◌, ◌≤◌, ◌&&◌, List, ◌++◌, length, Bool, true, false, nat_lt, ◌==◌}
+use Rattle.std.specs.Prelude.{◌≡◌, ⊤, ℕ, ◌+◌, ◌*◌, ◌-◌, ◌≤◌, ◌&&◌, List, ◌++◌, length, Bool, true, false, nat_lt, ◌==◌}
 use Rattle.std.specs.Prelude.{if◌then◌else◌, Option, Some, None, Result, Ok, Err, OnOk, OnErr}
 use Rattle.std.specs.Io.KnownBytes.{prepend_known, Keeps, Appends}
 use Rattle.room_http_messages.specs.declared.limits.TheConstants.{INBOX_ROOM}
@@ -14,6 +14,12 @@ abbrev pub CountsBy : ℕ → Option ℕ → Option ℕ → Type 0
 CountsBy k None new = new ≡ None
 CountsBy k (Some n) None = Unit {0}
 CountsBy k (Some n) (Some m) = m ≡ n + k
+
+-- what is known grows by these
+abbrev pub Grows : {A : Type 0} → Option (List A) → Option (List A) → List A → Type 0
+Grows None new more = ⊤
+Grows (Some xs) None more = ⊥
+Grows (Some xs) (Some ys) more = ys ≡ xs ++ more
 
 -- a count in 32 bits, which is known below the greatest
 unfoldable pub known_count : ℕ → Option ℕ

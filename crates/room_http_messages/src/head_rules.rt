@@ -1,5 +1,5 @@
 //! What a complete head must not break, in the order in which it is tested.
-ghost use Rattle.std.specs.Prelude.{◌≡◌, ◌≤◌, ℕ, List, codes, map, min, MatchOption, MatchResult, None, Some, true, false};
+ghost use Rattle.std.specs.Prelude.{◌≡◌, ◌<◌, ◌≤◌, ◌^◌, ℕ, List, codes, map, min, MatchOption, MatchResult, None, Some, true, false};
 ghost use Rattle.std.specs.Str.Parse.{digits_value};
 ghost use Rattle.httparse.specs.Spans.{header_bytes};
 ghost use Rattle.room_http_messages.specs.HeadFields.{AreWithin, FoundIs, values_of};
@@ -13,18 +13,19 @@ use room_types::refusal_statuses::Refusal;
 /// What stands for every number above the limit of a body.
 const TOO_LONG: usize = BODY_LIMIT + 1;
 
-/// The number that a text of digits only writes, or `TOO_LONG` where it is above the limit of a
-/// body. So any number of digits is read.
-fn numeral(value: &[u8]) -> Option<usize>
+/// The number that a text of digits only writes, or `most` where it is above that. So any number of
+/// digits is read.
+pub fn numeral(value: &[u8], most: usize) -> Option<usize>
+    requires { most < 2 ^ 32 }
     ensures { MatchOption result (is_numeral value.now ≡ false)
-        (λ n. (is_numeral value.now ≡ true) × (n ≡ min (digits_value 10 value.now) TOO_LONG)) }
+        (λ n. (is_numeral value.now ≡ true) × (n ≡ min (digits_value 10 value.now) most)) }
 {
     let mut number = 0;
     for digit in value {
         if !digit.is_ascii_digit() {
             return None;
         }
-        number = (number * 10 + usize::from(*digit - b'0')).min(TOO_LONG);
+        number = (number * 10 + usize::from(*digit - b'0')).min(most);
     }
     if value.is_empty() { None } else { Some(number) }
 }
@@ -51,7 +52,7 @@ fn announced_length(buf: &[u8], headers: &[HeaderSpan]) -> Option<usize>
 {
     match find_field(buf, headers, b"content-length") {
         Found::Nowhere => Some(0),
-        Found::Once(value) => numeral(value.of(buf)),
+        Found::Once(value) => numeral(value.of(buf), TOO_LONG),
         Found::Repeated => None,
     }
 }

@@ -8,8 +8,8 @@ use crate::messages::Layout;
 use crate::read_faults::Unread;
 use crate::sources::Source;
 
-/// Reads until the first message of the stream is whole, and says where its parts are in the inbox;
-/// or says why there is none. The message stays at the front of the inbox, where `Inbox::message`
+/// Reads until the first message of the stream is whole, and returns where its parts are in the
+/// inbox; or why there is none. The message stays at the front of the inbox, where `Inbox::message`
 /// shows it, until `Inbox::remove` lets it go.
 ///
 /// Each read takes one of the `budget`. The head is looked at after each read that may have made it

@@ -15,7 +15,7 @@ pub trait Sink {
     // Whether a write failed, or took nothing of what there was.
     ghost has_failed: { Self → Bool };
 
-    /// Writes some of the first bytes, and says how many.
+    /// Writes some of the first bytes, and returns how many.
     fn write(&mut self, buf: &[u8]) -> Result<usize, WriteFailed>
         ensures bound { IfOk result (λ n. n ≤ length buf.now) }
         ensures bytes { WriteAppends (held self.old) (held self.new) result buf.now }

@@ -9,7 +9,8 @@ use Rattle.std.proofs.lemmas.Bool.{and_parts, cases_lt, lt-leb}
 use Rattle.std.proofs.lemmas.Str.Parse.{IsNumeralModel, numerals_by_value, parse_digits}
 use borrow.Author.Tests.{ltb-true}
 use Rattle.room_types.proofs.Letters.{letters_text}
-use Rattle.room_http_requests.specs.Parameters.{are_ascii, are_digits, is_ascii, is_numeral, within, whole_of}
+use Rattle.room_types.specs.Numerals.{are_digits, within}
+use Rattle.room_http_requests.specs.Parameters.{are_ascii, is_ascii, is_plain_numeral, whole_of}
 
 -- bytes of ASCII are UTF-8
 pub ascii_is_text : (bytes : List ℕ) → are_ascii bytes ≡ true → IsUtf8 bytes
@@ -32,7 +33,7 @@ pub numerals : IsNumeralModel (λ text. are_digits text ≡ true) (digits_value 
 numerals = numerals_by_value _ (search rules)
 
 -- a numeral has a digit
-some_digit : (text : List ℕ) → is_numeral text ≡ true → 0 < length text
+some_digit : (text : List ℕ) → is_plain_numeral text ≡ true → 0 < length text
 some_digit [] numeral = absurd (cc)
 some_digit (b ∷ bs) numeral = omega arith
 
@@ -43,7 +44,7 @@ above least greatest n more = rw (lt-leb n greatest more, and-false) refl
 -- a numeral that is too large to be read is not in the range
 pub not_read : {E : Type 0} (parsed : Result ℕ E) (e : E) (least greatest : ℕ) (text : List ℕ)
     → greatest < 2 ^ 32
-    → is_numeral text ≡ true → parsed ≡ Err e → ParsesUnsigned 32 10 text parsed
+    → is_plain_numeral text ≡ true → parsed ≡ Err e → ParsesUnsigned 32 10 text parsed
     → None ≡ whole_of least greatest text
 not_read parsed e least greatest text fits numeral failed gives =
     let digits : are_digits text ≡ true = (and_parts _ _ numeral).1 in

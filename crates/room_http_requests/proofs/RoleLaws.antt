@@ -9,7 +9,7 @@ use Rattle.room_types.specs.declared.asks.Ask.{Ask}
 use Rattle.room_types.specs.declared.asks.Ask.TheVariants as ask
 use Rattle.room_types.specs.declared.asks.Who.{Who}
 use Rattle.room_types.specs.declared.asks.Who.TheVariants.{Crew, Desk, Position}
-use Rattle.room_http_requests.specs.Parameters.{within}
+use Rattle.room_types.specs.Numerals.{within}
 use Rattle.room_http_requests.specs.declared.request_table.Target.{Target}
 use Rattle.room_http_requests.specs.declared.request_table.Target.TheVariants as target
 use Rattle.room_model.specs.Events.{IsNumbered}

@@ -8,7 +8,7 @@ use Rattle.room_types.specs.KeyedRows.{keep}
 use Rattle.room_http_time.specs.Dates.{Date, day_of}
 use Rattle.room_http_requests.specs.Parameters.{segment_at, text_of}
 use Rattle.room_http_requests.specs.RequestTable.{allow_of, is_of_history, named_by, path_of}
-use Rattle.room_http_requests.specs.Routes.{is_allowed, is_served, path_at, routed, target_of}
+use Rattle.room_http_requests.specs.Router.{is_allowed, is_served, path_at, routed, target_of}
 use Rattle.room_http_requests.specs.declared.request_table.Path.{Path}
 use Rattle.room_http_requests.specs.declared.request_table.Path.TheVariants as path
 use Rattle.room_http_requests.specs.declared.request_table.Target.{Target}

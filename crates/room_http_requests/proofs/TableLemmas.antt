@@ -4,7 +4,7 @@ use Rattle.std.proofs.Common.{arith}
 use Rattle.std.specs.List.{fold}
 use Rattle.std.proofs.lemmas.Bool.{and_parts}
 use Rattle.matchit.proofs.OnLiterals.{matchit_on_literals}
-use Rattle.room_http_requests.specs.Routes.{Table, is_free_for, with_path}
+use Rattle.room_http_requests.specs.Router.{Table, is_free_for, with_path}
 use Rattle.room_http_requests.specs.declared.request_table.Path.{Path}
 use Rattle.room_http_requests.specs.declared.request_table.TheConstants.{PATHS}
 

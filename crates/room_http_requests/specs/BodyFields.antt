@@ -11,11 +11,11 @@ use Rattle.room_place.specs.References.{parse}
 use Rattle.room_place.specs.declared.places.Place.{Place}
 use Rattle.room_types.specs.Codes.{button_name}
 use Rattle.room_types.specs.Needs.{is_some_need}
-use Rattle.room_types.specs.Texts.{Callsign, Note}
+use Rattle.room_types.specs.Numerals.{within}
+use Rattle.room_types.specs.Texts.{Callsign, Note, callsign_of}
 use Rattle.room_types.specs.declared.codes.Button.{Button}
 use Rattle.room_types.specs.declared.codes.Button.TheVariants.{Position, Mobile, Scene, Leave, Hospital, Return, Home}
 use Rattle.room_types.specs.declared.needs.Counts.{Counts}
-use Rattle.room_http_requests.specs.Parameters.{callsign_of, within}
 
 -- the bytes are UTF-8
 abbrev pub is_utf8 : List ℕ → Bool

@@ -4,5 +4,5 @@ pub mod RequestTable
 pub mod Parameters
 pub mod Bodies
 pub mod BodyFields
-pub mod Routes
+pub mod Router
 pub mod TargetExamples

@@ -1,10 +1,9 @@
--- The parameters in a target: its segments, and the numbers and callsigns that they write.
+-- The parameters in a target: its segments, and the numbers that they write.
 use Rattle.std.specs.Prelude.{ℕ, List, [], Bool, nat_le, nat_lt, ◌==◌, ◌&&◌, if◌then◌else◌, slice_index, unwrap_or}
 use Rattle.std.specs.Prelude.{Option, Some, None}
-use Rattle.std.specs.Char.{is_ascii_digit}
 use Rattle.std.specs.List.{list_all, slice_get, slice_split}
 use Rattle.std.specs.Str.Parse.{digits_value}
-use Rattle.room_types.specs.Texts.{Callsign, is_callsign}
+use Rattle.room_types.specs.Numerals.{are_digits, within}
 
 -- the byte is of ASCII
 abbrev pub is_ascii : ℕ → Bool
@@ -26,22 +25,14 @@ is_slash byte = byte == 47
 abbrev pub segment_at : ℕ → List ℕ → List ℕ
 segment_at i target = unwrap_or (slice_get (slice_split is_slash target) i) []
 
--- only digits
-abbrev pub are_digits : List ℕ → Bool
-are_digits text = list_all is_ascii_digit text
-
 -- only digits, the first of them no zero (49 is the code of 1)
-abbrev pub is_numeral : List ℕ → Bool
-is_numeral text = nat_le 49 (slice_index text 0) && are_digits text
-
--- the number, if it is in the range
-abbrev pub within : ℕ → ℕ → ℕ → Option ℕ
-within least greatest n = if nat_le least n && nat_le n greatest then Some n else None
+abbrev pub is_plain_numeral : List ℕ → Bool
+is_plain_numeral text = nat_le 49 (slice_index text 0) && are_digits text
 
 -- the number of a range that a text writes in decimal, without a leading zero
 abbrev pub whole_of : ℕ → ℕ → List ℕ → Option ℕ
 whole_of least greatest text =
-    if is_numeral text then within least greatest (digits_value 10 text) else None
+    if is_plain_numeral text then within least greatest (digits_value 10 text) else None
 
 -- the number of an incident or of a report
 abbrev pub number_of : List ℕ → Option ℕ
@@ -50,7 +41,3 @@ number_of text = whole_of 1 2147483647 text
 -- the number of a standby point
 abbrev pub point_number_of : List ℕ → Option ℕ
 point_number_of text = whole_of 1 99 text
-
--- the callsign that a text is
-abbrev pub callsign_of : List ℕ → Option Callsign
-callsign_of text = if is_callsign text then Some text else None

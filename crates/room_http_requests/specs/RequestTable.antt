@@ -1,7 +1,9 @@
 -- The table of requests: each path, its pattern and methods, what its target names, who may ask,
 -- and what is asked.
-use Rattle.std.specs.Prelude.{ℕ, List, codes, Bool, true, false, is_some, Option, Some, None, option_map, option_and_then}
+use Rattle.std.specs.Prelude.{ℕ, List, codes, Bool, true, false, is_some, Option, Some, None, option_map}
+use Rattle.std.specs.Prelude.{option_and_then}
 use Rattle.room_place.specs.Plans.{has_division}
+use Rattle.room_types.specs.Texts.{callsign_of}
 use Rattle.room_types.specs.declared.asks.Ask.TheVariants as ask
 use Rattle.room_types.specs.declared.asks.Who.{Who}
 use Rattle.room_types.specs.declared.asks.Who.TheVariants as who
@@ -12,7 +14,7 @@ use Rattle.room_model.specs.Room.{Room}
 use Rattle.room_http_time.specs.Dates.{day_of}
 use Rattle.room_http_requests.specs.Bodies.{ask_with_body}
 use Rattle.room_http_requests.specs.BodyFields.{fields_of}
-use Rattle.room_http_requests.specs.Parameters.{callsign_of, number_of, point_number_of, segment_at}
+use Rattle.room_http_requests.specs.Parameters.{number_of, point_number_of, segment_at}
 use Rattle.room_http_requests.specs.declared.request_table.Path.{Path}
 use Rattle.room_http_requests.specs.declared.request_table.Path.TheVariants as path
 use Rattle.room_http_requests.specs.declared.request_table.Request.{Request}

@@ -9,7 +9,7 @@ use Rattle.room_types.specs.declared.refusal_statuses.Refusal.TheVariants.{NoPat
 use Rattle.room_http_time.specs.Dates.{Date}
 use Rattle.room_http_requests.specs.Parameters.{is_slash}
 use Rattle.room_http_requests.specs.RequestTable.{path_of, pattern_of}
-use Rattle.room_http_requests.specs.Routes.{routed, target_of}
+use Rattle.room_http_requests.specs.Router.{routed, target_of}
 use Rattle.room_http_requests.specs.declared.request_table.Path.{Path}
 use Rattle.room_http_requests.specs.declared.request_table.Target.{Target}
 use Rattle.room_http_requests.specs.declared.request_table.Target.TheVariants as target

@@ -5,7 +5,7 @@ ghost use Rattle.std.specs.Prelude.{◌≡◌, ℕ, ℤ, List, Some, true, false
 ghost use Rattle.room_types.specs.declared.refusal_statuses.Refusal.TheVariants.{NoPath};
 ghost use Rattle.room_http_requests.specs.RequestTable.{is_known, is_of, is_of_history, path_of};
 ghost use Rattle.room_http_requests.specs.RequestTable.{request_by, role_of};
-ghost use Rattle.room_http_requests.specs.Routes.{routed, target_of};
+ghost use Rattle.room_http_requests.specs.Router.{routed, target_of};
 ghost use Rattle.room_types.specs.declared.asks.Ask.{Ask};
 ghost use Rattle.room_types.specs.declared.asks.Who.{Who};
 ghost use Rattle.room_http_time.specs.Dates.{Date};

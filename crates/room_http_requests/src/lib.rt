@@ -7,4 +7,4 @@ mod body_fields;
 pub mod laws;
 mod parameters;
 pub mod request_table;
-pub mod routes;
+pub mod router;

@@ -1,6 +1,7 @@
 //! The parameters in a target: its segments, and the numbers that they write.
 ghost use Rattle.std.specs.Prelude.{◌≡◌, option_map};
-ghost use Rattle.room_http_requests.specs.Parameters.{are_digits, is_numeral, segment_at, text_of, whole_of};
+ghost use Rattle.room_types.specs.Numerals.{are_digits};
+ghost use Rattle.room_http_requests.specs.Parameters.{is_plain_numeral, segment_at, text_of, whole_of};
 
 use room_place::bounded_numbers::Bounded;
 
@@ -30,7 +31,7 @@ pub(crate) fn whole<const LEAST: u32, const GREATEST: u32>(
 ) -> Option<Bounded<LEAST, GREATEST>>
     ensures { result ≡ whole_of LEAST GREATEST text.now }
 {
-    if !is_numeral(text.as_bytes()) {
+    if !is_plain_numeral(text.as_bytes()) {
         return None;
     }
     match text.parse::<u32>() {
@@ -40,8 +41,8 @@ pub(crate) fn whole<const LEAST: u32, const GREATEST: u32>(
 }
 
 /// Whether a text is only digits, the first of them no zero.
-fn is_numeral(text: &[u8]) -> bool
-    ensures { result ≡ is_numeral text.now }
+fn is_plain_numeral(text: &[u8]) -> bool
+    ensures { result ≡ is_plain_numeral text.now }
 {
     match text {
         [] => false,

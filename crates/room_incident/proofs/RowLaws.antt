@@ -6,7 +6,7 @@ use Rattle.room_types.proofs.EachRow.{row_key}
 use Rattle.room_types.specs.KeyedRows.{row_at}
 use Rattle.room_types.specs.Keys.{incident_key, owns_incident, pair_cmp}
 use Rattle.room_types.proofs.ShareLaws.{share_agrees}
-use Rattle.room_types.specs.Orders.{exact_pair, pairs_total}
+use Rattle.room_types.specs.KeyLemmas.{exact_pair, pairs_total}
 use Rattle.room_types.specs.Slices.{is_share}
 use Rattle.room_types.specs.declared.slices.DivisionRows.{DivisionRows}
 use Rattle.room_types.specs.declared.tables.Incident.{Incident}

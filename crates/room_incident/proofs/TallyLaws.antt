@@ -14,7 +14,7 @@ use Rattle.room_types.proofs.KeyedLaws.{below_from_less, with_passing, without_f
 use Rattle.room_types.specs.KeyedRows.{IsAt, IsBelowAll, IsGapFor, IsKeyed}
 use Rattle.room_types.specs.Codes.{is_active, same_kind}
 use Rattle.room_types.specs.Keys.{incident_key, pair_cmp}
-use Rattle.room_types.specs.Orders.{pairs_total}
+use Rattle.room_types.specs.KeyLemmas.{pairs_total}
 use Rattle.room_types.specs.declared.codes.Kind.{Kind}
 use Rattle.room_types.specs.declared.tables.Call.{Call}
 use Rattle.room_types.specs.declared.tables.Incident.{Incident}

@@ -1,21 +1,20 @@
-//! New needs, and the end of an incident.
-ghost use Rattle.std.specs.Prelude.{◌≡◌, ◌≤◌, List, IfOk, IsSome};
+//! The needs of an incident changed.
+ghost use Rattle.std.specs.Prelude.{◌≡◌, ◌≤◌, List, IfOk};
 ghost use Rattle.room_place.specs.Choice.{Among};
 ghost use Rattle.room_place.specs.declared.plans.Area.{Area};
 ghost use Rattle.room_types.specs.Needs.{need_of};
 ghost use Rattle.room_types.specs.declared.changes.Change.TheVariants.{PutIncident};
 ghost use Rattle.room_types.specs.declared.codes.Kind.{Kind};
 ghost use Rattle.room_types.specs.declared.tables.Incident.{Incident};
-ghost use Rattle.room_types.specs.declared.tables.Turn.{Turn};
 ghost use Rattle.room_model.specs.Decisions.{Decides};
-ghost use Rattle.room_model.specs.Incidents.{change_needs, close, is_below};
+ghost use Rattle.room_model.specs.Incidents.{change_needs, is_below};
 ghost use Rattle.room_model.specs.Queries.{served};
 ghost use Rattle.room_model.specs.RoomSlices.{room_of};
 
 use crate::active_incidents::active;
-use crate::served_needs::{is_attended, served};
+use crate::served_needs::served;
 use room_types::changes::Change;
-use room_types::codes::{Kind, State};
+use room_types::codes::Kind;
 use room_types::decisions::Decision;
 use room_types::needs::Needs;
 use room_types::numbers::Number;
@@ -24,10 +23,10 @@ use room_types::slices::Slice;
 use room_types::tables::Incident;
 use std::alloc::Global;
 
-/// Gives the division's incident other needs.
+/// Changes the needs of the division's incident.
 ///
 /// Refused as `NoSuchIncident`, then as `IncidentNotOpen`, then as `BelowServed` where a need is
-/// below what the incident got of that kind.
+/// below the number of vehicles of that kind that serve the incident.
 #[tactic(auto, unfolding(room_model::specs::Decisions::refuse_if, room_model::specs::Incidents::change_needs))]
 pub fn change_needs(
     alloc: Global,
@@ -59,25 +58,4 @@ fn is_below(slice: &Slice, number: Number, needs: Needs) -> bool
         || (needs.of(Kind::Car).get() as usize) < served(turns, slice.division, number, Kind::Car)
         || (needs.of(Kind::Support).get() as usize)
             < served(turns, slice.division, number, Kind::Support)
-}
-
-/// Closes the division's incident.
-///
-/// Refused as `NoSuchIncident`, then as `IncidentNotOpen`, then as `StillAssigned` where it has an
-/// open turn.
-#[tactic(auto, unfolding(room_model::specs::Decisions::refuse_if, room_model::specs::Incidents::close))]
-pub fn close(alloc: Global, slice: &Slice, number: Number) -> Result<Decision, Refusal>
-    ensures decides { (plan : List Area) → Decides
-        (close slice.now.division number (room_of plan slice.now.rows)) result }
-    ensures ended { IfOk result (λ x. (t : Turn) → Among t slice.now.rows.turns
-        → t.division ≡ slice.now.division → t.incident ≡ number → IsSome t.ended) }
-{
-    let incident = active(slice, number)?;
-    if is_attended(&slice.rows.turns, slice.division, number) {
-        return Err(Refusal::StillAssigned);
-    }
-    Decision::done(alloc).with(Change::PutIncident(Incident {
-        state: State::Closed,
-        ..*incident
-    }))
 }

@@ -5,6 +5,7 @@ pub mod active_incidents;
 pub mod call_links;
 pub mod calls;
 pub mod day_times;
+pub mod incident_closing;
 pub mod incident_history;
 pub mod incident_list;
 pub mod incident_merges;

@@ -8,7 +8,7 @@ use Rattle.std.specs.declared.cmp.Ordering.TheVariants.{Equal, Greater, Less}
 use Rattle.room_place.specs.Choice.{Among, chosen}
 use Rattle.room_place.specs.declared.places.Place.{Place}
 use Rattle.room_types.specs.Keys.{callsign_cmp, incident_key, pair_cmp, same_callsign}
-use Rattle.room_types.specs.Orders.{callsigns_total, exact_pair, pairs_total}
+use Rattle.room_types.specs.KeyLemmas.{callsigns_total, exact_pair, pairs_total}
 use Rattle.room_types.specs.declared.answers.PointLine.{PointLine}
 use Rattle.room_types.specs.declared.answers.VehicleLine.{VehicleLine}
 use Rattle.room_types.specs.declared.asks.Ask.{Ask}

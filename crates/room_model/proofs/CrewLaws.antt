@@ -11,7 +11,7 @@ use Rattle.room_types.proofs.KeyedLaws.{filter_drop, filter_put, keyed_filter, r
 use Rattle.room_types.specs.KeyedRows.{IsKeyed, drop_row, keep, put_row}
 use Rattle.room_types.specs.Keys.{assignment_key, callsign_cmp, loan_key, numbered_cmp, offer_key, report_key}
 use Rattle.room_types.specs.Keys.{same_callsign, turn_key, vehicle_key}
-use Rattle.room_types.specs.Orders.{callsigns_total, exact_numbered, numbered_total}
+use Rattle.room_types.specs.KeyLemmas.{callsigns_total, exact_numbered, numbered_total}
 use Rattle.room_types.specs.Texts.{Callsign}
 use Rattle.room_types.specs.declared.asks.Ask.{Ask}
 use Rattle.room_types.specs.declared.asks.Press.{Press}

@@ -6,7 +6,7 @@ use Rattle.room_place.specs.Plans.{has_division}
 use Rattle.room_types.specs.Codes.{same_kind}
 use Rattle.room_types.specs.KeyedRows.{row_at}
 use Rattle.room_types.specs.Keys.{callsign_cmp, vehicle_key}
-use Rattle.room_types.specs.Orders.{exact_callsigns}
+use Rattle.room_types.specs.KeyLemmas.{exact_callsigns}
 use Rattle.room_types.specs.Texts.{Callsign, Token}
 use Rattle.room_types.specs.declared.asks.Event.{Event}
 use Rattle.room_types.specs.declared.asks.Who.{Who}

@@ -9,7 +9,7 @@ use Rattle.std.specs.declared.cmp.Ordering.TheVariants.{Equal, Greater, Less}
 use Rattle.room_types.proofs.KeyedLaws.{filter_put, keyed_filter, row_drop_same, row_filter, row_put}
 use Rattle.room_types.specs.KeyedRows.{drop_row, keep, put_row, row_at}
 use Rattle.room_types.specs.Keys.{callsign_cmp, loan_key, offer_key, owns_loan, owns_offer, owns_vehicle, vehicle_key}
-use Rattle.room_types.specs.Orders.{callsigns_total, exact_callsigns}
+use Rattle.room_types.specs.KeyLemmas.{callsigns_total, exact_callsigns}
 use Rattle.room_types.specs.declared.asks.Ask.{Ask}
 use Rattle.room_types.specs.declared.changes.Change.{Change}
 use Rattle.room_types.specs.declared.changes.Change.TheVariants.{DropLoan, DropOffer, PutLoan, PutOffer, PutVehicle}

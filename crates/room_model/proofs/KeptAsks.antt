@@ -5,7 +5,7 @@ use Rattle.room_place.specs.Plans.{has_division}
 use Rattle.room_place.specs.declared.places.Place.{Place}
 use Rattle.room_types.specs.KeyedRows.{row_at}
 use Rattle.room_types.specs.Keys.{incident_key, numbered_cmp, pair_cmp, point_key, turn_key}
-use Rattle.room_types.specs.Orders.{exact_numbered, numbered_total, pairs_total}
+use Rattle.room_types.specs.KeyLemmas.{exact_numbered, numbered_total, pairs_total}
 use Rattle.room_types.specs.Texts.{Callsign}
 use Rattle.room_types.specs.declared.changes.Change.TheVariants.{DropAssignment, PutAssignment, PutIncident, PutTurn}
 use Rattle.room_types.specs.declared.changes.Change.TheVariants.{PutVehicle}

@@ -12,7 +12,7 @@ use Rattle.room_place.specs.Plans.{division_of, has_division}
 use Rattle.room_place.specs.declared.places.Place.{Place}
 use Rattle.room_types.specs.KeyedRows.{put_row, row_at}
 use Rattle.room_types.specs.Keys.{call_key, division_key, incident_key, pair_cmp}
-use Rattle.room_types.specs.Orders.{exact_number, exact_pair, pairs_total}
+use Rattle.room_types.specs.KeyLemmas.{exact_number, exact_pair, pairs_total}
 use Rattle.room_types.specs.declared.asks.NewCall.{NewCall}
 use Rattle.room_types.specs.declared.changes.Change.TheVariants.{PutCall, PutDivision, PutIncident}
 use Rattle.room_types.specs.declared.tables.Call.{Call}

@@ -8,7 +8,7 @@ use Rattle.room_place.specs.Plans.{has_division}
 use Rattle.room_place.specs.declared.places.Place.{Place}
 use Rattle.room_types.specs.KeyedRows.{put_row, row_at}
 use Rattle.room_types.specs.Keys.{incident_key, numbered_cmp, pair_cmp, point_key, report_key, turn_key}
-use Rattle.room_types.specs.Orders.{exact_numbered, numbered_total}
+use Rattle.room_types.specs.KeyLemmas.{exact_numbered, numbered_total}
 use Rattle.room_types.specs.Texts.{Callsign}
 use Rattle.room_types.specs.declared.changes.Change.TheVariants.{PutPoint, PutReport}
 use Rattle.room_types.specs.declared.codes.State.{State}

@@ -7,7 +7,7 @@ use Rattle.std.specs.Prelude.{◌∷◌, ◌≡◌, ◌≢◌}
 use Rattle.room_types.proofs.KeyedLaws.{keyed_filter, row_below, row_filter, row_put}
 use Rattle.room_types.specs.KeyedRows.{IsKeyed, keep, put_row, row_at}
 use Rattle.room_types.specs.Keys.{call_key, incident_key, pair_cmp}
-use Rattle.room_types.specs.Orders.{exact_pair, pairs_total}
+use Rattle.room_types.specs.KeyLemmas.{exact_pair, pairs_total}
 use Rattle.room_types.specs.declared.changes.Change.TheVariants.{PutIncident}
 use Rattle.room_types.specs.declared.codes.State.TheVariants.{Merged}
 use Rattle.room_types.specs.declared.tables.Call.{Call}

@@ -6,9 +6,9 @@ use Rattle.room_place.specs.Choice.{chosen}
 use Rattle.room_types.specs.Codes.{is_mobilised}
 use Rattle.room_types.specs.KeyedRows.{keep, row_at}
 use Rattle.room_types.specs.Keys.{callsign_cmp, offer_key, owns_offer, vehicle_key}
-use Rattle.room_types.specs.Orders.{callsigns_total}
+use Rattle.room_types.specs.KeyLemmas.{callsigns_total}
 use Rattle.room_types.specs.Texts.{Callsign}
-use Rattle.room_types.specs.declared.answers.Entry.{Entry}
+use Rattle.room_types.specs.declared.answers.QueueEntry.{QueueEntry}
 use Rattle.room_types.specs.declared.answers.Proposal.{Proposal}
 use Rattle.room_types.specs.declared.asks.Ask.{Ask}
 use Rattle.room_types.specs.declared.asks.CallForm.{CallForm}
@@ -36,11 +36,11 @@ use Rattle.room_model.specs.Crossing.{Crossing, cross, cross_call, cross_crew, c
 use Rattle.room_model.specs.Crossing.{cross_position, cross_report, cross_who}
 use Rattle.room_model.specs.DayTimes.{show_times}
 use Rattle.room_model.specs.Decisions.{Verdict, changes_of, show, where_active, where_held}
-use Rattle.room_model.specs.Events.{by_desk}
+use Rattle.room_model.specs.Events.{by_desk, is_lend}
 use Rattle.room_model.specs.Incidents.{change_needs, close, lacking, merge, show_incident, show_incidents}
 use Rattle.room_model.specs.Loans.{accept, accepted, decline, declined, give_back, recall, show_loans, show_offers}
 use Rattle.room_model.specs.Loans.{withdraw, withdrawn}
-use Rattle.room_model.specs.UnofferedRooms.{IsUnoffered, NoneIsReserved, OffersAgree, is_lend, speaks_of_offers, without_offers}
+use Rattle.room_model.specs.UnofferedRooms.{IsUnoffered, NoneIsReserved, OffersAgree, speaks_of_offers, without_offers}
 use Rattle.room_model.specs.Points.{breaks_post, show_points}
 use Rattle.room_model.specs.Proposals.{all_proposed, candidates, eligible, is_before, proposal_of, propose, proposed}
 use Rattle.room_model.specs.Queries.{active_incidents, all_held, assignment_at, assignment_of, borrowed, calls_of, held}
@@ -248,20 +248,20 @@ slow_alike : (d at : ℕ) (r : Room)
     → filter_map (slow d at (without_offers r)) r.vehicles ≡ filter_map (slow d at r) r.vehicles
 unfolding open_turn
 slow_alike d at r =
-    ap (λ (f : Vehicle → Option Entry). filter_map f r.vehicles)
+    ap (λ (f : Vehicle → Option QueueEntry). filter_map f r.vehicles)
     (λ j v. cond (v.holder == d && is_mobilised v.status) (turn_alike d at r v (open_turn d v.callsign r) j) None)
 
-more : (xs ys zs ws : List Entry) → ys ≡ zs ++ ws → xs ++ ys ≡ (xs ++ zs) ++ ws
+more : (xs ys zs ws : List QueueEntry) → ys ≡ zs ++ ws → xs ++ ys ≡ (xs ++ zs) ++ ws
 more xs ys zs ws h = ap (λ t. xs ++ t) h ∙ sym (append_assoc xs zs ws)
 
 pub entries_alike : (d at : ℕ) (r : Room)
     → entries d at r ≡ entries d at (without_offers r) ++ filter_map (unanswered d at) r.offers
 unfolding entries served open_turn holders
 entries_alike d at r =
-    let os : List Entry = filter_map (unanswered d at) r.offers in
+    let os : List QueueEntry = filter_map (unanswered d at) r.offers in
     more (filter_map (unserved d at r) r.incidents) _ _ os
     (more (filter_map (unread d at r) r.vehicles) _ _ os
-    (ap (λ (xs : List Entry).
+    (ap (λ (xs : List QueueEntry).
     xs
     ++ (filter_map (exception d) r.reports
     ++ (filter_map (overdue d at) r.loans

@@ -33,7 +33,8 @@ use Rattle.room_model.specs.Decisions.{Verdict, changes_of, refuse_if, where_act
 use Rattle.room_model.specs.Incidents.{change_needs, close, close_active, merge, merge_of, moved_call, needs_changed}
 use Rattle.room_model.specs.Loans.{accept, accepted, decline, declined, give_back, given_back, recall, recall_lent}
 use Rattle.room_model.specs.Loans.{withdraw, withdrawn}
-use Rattle.room_model.specs.UnofferedRooms.{IsUnoffered, NobodyLends, is_lend}
+use Rattle.room_model.specs.UnofferedRooms.{IsUnoffered, NobodyAsksToLend}
+use Rattle.room_model.specs.Events.{is_lend}
 use Rattle.room_model.specs.Queries.{borrowed, held, incident_of, is_attended, lent, offered_by, open_turn, point_of}
 use Rattle.room_model.specs.Queries.{served}
 use Rattle.room_model.specs.Queue.{clear, clear_found}
@@ -253,7 +254,7 @@ unoffered_after : (r : Room) (xs : List Change) → AllMakeNone xs → IsUnoffer
 unoffered_after r [] h n = n
 unoffered_after r (x ∷ xs) h n = unoffered_after (apply_one r x) xs h.1 (unoffered_one r x h.0 n)
 
-pub unoffered_run : (es : List Event) (r : Room) → IsUnoffered r → NobodyLends es
+pub unoffered_run : (es : List Event) (r : Room) → IsUnoffered r → NobodyAsksToLend es
     → IsUnoffered (room_run es r)
 unoffered_run [] r n h = n
 unoffered_run (e ∷ es) r n h =

@@ -12,8 +12,8 @@ use Rattle.room_types.specs.KeyedRows.{IsKeyed, keep, put_row, row_at}
 use Rattle.room_types.specs.Keys.{assignment_key, call_key, callsign_cmp, incident_key, numbered_cmp, owns_assignment}
 use Rattle.room_types.specs.Keys.{owns_call, owns_incident, owns_point, owns_report, owns_turn, owns_vehicle, pair_cmp}
 use Rattle.room_types.specs.Keys.{point_key, report_key, turn_key, vehicle_key}
-use Rattle.room_types.specs.Orders.{callsigns_total, exact_callsigns, exact_numbered, exact_pair, numbered_total}
-use Rattle.room_types.specs.Orders.{pairs_total}
+use Rattle.room_types.specs.KeyLemmas.{callsigns_total, exact_callsigns, exact_numbered, exact_pair, numbered_total}
+use Rattle.room_types.specs.KeyLemmas.{pairs_total}
 use Rattle.room_types.specs.declared.changes.Change.TheVariants.{PutCall, PutIncident, PutPoint, PutReport, PutTurn}
 use Rattle.room_types.specs.declared.changes.Change.TheVariants.{PutVehicle}
 use Rattle.room_types.specs.declared.tables.Assignment.{Assignment}

@@ -12,8 +12,8 @@ use Rattle.room_types.specs.KeyedRows.{keep}
 use Rattle.room_types.specs.Keys.{division_key, incident_key, numbered_cmp, owns_call, owns_division, owns_incident}
 use Rattle.room_types.specs.Keys.{owns_loan, owns_offer, owns_point, owns_report, owns_turn, owns_vehicle, pair_cmp}
 use Rattle.room_types.specs.Keys.{report_key}
-use Rattle.room_types.specs.Orders.{exact_pair, numbered_total, pairs_total}
-use Rattle.room_types.specs.declared.answers.Entry.{Entry}
+use Rattle.room_types.specs.KeyLemmas.{exact_pair, numbered_total, pairs_total}
+use Rattle.room_types.specs.declared.answers.QueueEntry.{QueueEntry}
 use Rattle.room_types.specs.declared.asks.Ask.{Ask}
 use Rattle.room_types.specs.declared.asks.NewCall.{NewCall}
 use Rattle.room_types.specs.declared.asks.Press.{Press}
@@ -124,7 +124,7 @@ module _ (d : ℕ) (r : Room) (in_order : IsInOrder r) where
   unserved_own : (at : ℕ) → filter_map (unserved d at (own d r))
       (filter (owns_incident d) r.incidents) ≡ filter_map (unserved d at r) r.incidents
   unserved_own at =
-      ap (λ (f : Incident → Option Entry). filter_map f (filter (owns_incident d) r.incidents))
+      ap (λ (f : Incident → Option QueueEntry). filter_map f (filter (owns_incident d) r.incidents))
       (λ j i.
       cond (i.division == d
       && (is_active i.state
@@ -136,7 +136,7 @@ module _ (d : ℕ) (r : Room) (in_order : IsInOrder r) where
   unread_own : (at : ℕ) → filter_map (unread d at (own d r)) (filter (owns_vehicle d) r.vehicles)
       ≡ filter_map (unread d at r) r.vehicles
   unread_own at =
-      ap (λ (f : Vehicle → Option Entry). filter_map f (filter (owns_vehicle d) r.vehicles))
+      ap (λ (f : Vehicle → Option QueueEntry). filter_map f (filter (owns_vehicle d) r.vehicles))
       (λ j v. cond (v.holder == d && is_mobilised v.status) (unread_turn at v (turn_own v.callsign j)) None)
       ∙ filter_map_filter (unread d at r) (owns_vehicle d) r.vehicles (λ v h. off_share (v.holder == d) _ _ h)
 
@@ -171,7 +171,7 @@ module _ (d : ℕ) (r : Room) (in_order : IsInOrder r) where
   uncovered_own : (at : ℕ) → filter_map (uncovered d at (own d r)) (filter (owns_point d) r.points)
       ≡ filter_map (uncovered d at r) r.points
   uncovered_own at =
-      ap (λ (f : Point → Option Entry). filter_map f (filter (owns_point d) r.points))
+      ap (λ (f : Point → Option QueueEntry). filter_map f (filter (owns_point d) r.points))
       (λ j p.
       cond (p.division == d && nat_lt (length (sees_own.same_holders p.number at j)) p.cover)
       (Some (record { rank = 7; since = 0; number = p.number; callsign = None })) None)

@@ -13,7 +13,7 @@ use Rattle.room_place.specs.Choice.{Among, AreBefore, AreDistinct, AreFirst, IsR
 use Rattle.room_place.specs.Choice.{extend, least, least_from}
 use Rattle.room_types.specs.Keys.{callsign_cmp, vehicle_key}
 use Rattle.room_types.specs.KeyedRows.{IsBelowAll, IsKeyed}
-use Rattle.room_types.specs.Orders.{callsigns_total, exact_callsigns}
+use Rattle.room_types.specs.KeyLemmas.{callsigns_total, exact_callsigns}
 use Rattle.room_types.specs.Texts.{Callsign}
 use Rattle.room_types.specs.declared.answers.Proposal.{Proposal}
 use Rattle.room_types.specs.declared.codes.Kind.{Kind}

@@ -11,10 +11,12 @@ use Rattle.room_types.specs.declared.changes.Change.{Change}
 use Rattle.room_types.specs.declared.refusal_statuses.Refusal.{Refusal}
 use Rattle.room_types.specs.declared.tables.Call.{Call}
 use Rattle.room_types.specs.declared.tables.Incident.{Incident}
+use Rattle.room_types.specs.declared.tables.Loan.{Loan}
+use Rattle.room_types.specs.declared.tables.Vehicle.{Vehicle}
 use Rattle.room_model.proofs.DecisionLaws.{by_refuse}
 use Rattle.room_model.proofs.Tests.{or_left}
 use Rattle.room_model.specs.DayTimes.{show_times}
-use Rattle.room_model.specs.Decisions.{Verdict, changes_of, where_active, where_found}
+use Rattle.room_model.specs.Decisions.{Verdict, changes_of, where_active, where_found, where_held}
 use Rattle.room_model.specs.Incidents.{show_incident, show_incidents}
 use Rattle.room_model.specs.Loans.{show_loans, show_offers}
 use Rattle.room_model.specs.Points.{show_points}
@@ -40,6 +42,13 @@ by_found : {X : Type 0} (o : Option X) (why : Refusal) (f : X → Verdict)
 by_found None why f g = refl
 by_found (Some x) why f g = g x
 
+by_held : (v : Option Vehicle) (l : Option Loan) (f : Vehicle → Verdict)
+    → ((v : Vehicle) → ChangesNothing (f v)) → ChangesNothing (where_held v l f)
+by_held None l f g = refl
+by_held (Some v) l f g = g v
+
+ruleset by_form = (by_active, by_found, by_held)
+
 -- a question, or what another role may ask
 abbrev pub IsQuiet : Who → Ask → Type 0
 IsQuiet who a = is_question a || not (is_of_role who a) ≡ true
@@ -47,12 +56,12 @@ IsQuiet who a = is_question a || not (is_of_role who a) ≡ true
 module _ (at : ℕ) (r : Room) where
   desk_shows : (d : ℕ) (a : Ask) → IsQuiet (Desk d) a → ChangesNothing (desk_asks d a at r)
   unfolding show_incidents show_incident show_vehicles show_queue show_points show_loans show_offers show_times propose
-  desk_shows d (ask.Propose n) h = by_active _ _ (λ i. refl)
-  desk_shows d a h = first_of (cc, search by_found depth 9)
+  desk_shows d (ask.Call f) h = refl
+  desk_shows d a h = first_of (cc, search by_form depth 9)
 
   crew_shows : (c : Callsign) (a : Ask) → IsQuiet (Crew c) a → ChangesNothing (crew_asks c a at r)
   crew_shows c (ask.Report p) h = cc
-  crew_shows c a h = first_of (cc, search by_found depth 9)
+  crew_shows c a h = first_of (cc, search by_form depth 9)
 
   position_shows : (p : ℕ) (a : Ask) → IsQuiet (Position p) a
       → ChangesNothing (position_asks p a at r)

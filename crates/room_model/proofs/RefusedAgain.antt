@@ -8,7 +8,7 @@ use Rattle.room_place.specs.declared.plans.Area.{Area}
 use Rattle.room_types.proofs.KeyedLaws.{row_put}
 use Rattle.room_types.specs.KeyedRows.{keep, row_at}
 use Rattle.room_types.specs.Keys.{call_key, numbered_cmp, pair_cmp, report_key}
-use Rattle.room_types.specs.Orders.{exact_numbered, exact_pair, numbered_total, pairs_total}
+use Rattle.room_types.specs.KeyLemmas.{exact_numbered, exact_pair, numbered_total, pairs_total}
 use Rattle.room_types.specs.Texts.{Callsign}
 use Rattle.room_types.specs.declared.answers.Answer.{Answer}
 use Rattle.room_types.specs.declared.asks.CallForm.{CallForm}

@@ -13,8 +13,8 @@ use Rattle.room_place.specs.declared.places.Place.{Place}
 use Rattle.room_types.proofs.KeyedLaws.{row_put}
 use Rattle.room_types.specs.KeyedRows.{put_row, row_at}
 use Rattle.room_types.specs.Keys.{call_key, numbered_cmp, pair_cmp, report_key}
-use Rattle.room_types.specs.Orders.{callsigns_total, exact_callsigns, exact_numbered, exact_pair, numbered_total}
-use Rattle.room_types.specs.Orders.{pairs_total}
+use Rattle.room_types.specs.KeyLemmas.{callsigns_total, exact_callsigns, exact_numbered, exact_pair, numbered_total}
+use Rattle.room_types.specs.KeyLemmas.{pairs_total}
 use Rattle.room_types.specs.Texts.{Callsign}
 use Rattle.room_types.specs.declared.answers.Answer.{Answer}
 use Rattle.room_types.specs.declared.asks.CallForm.{CallForm}

@@ -8,7 +8,7 @@ use Rattle.room_types.proofs.KeyedLaws.{row_drop_same, row_filter}
 use Rattle.room_types.specs.KeyedRows.{drop_row, keep, put_row, row_at}
 use Rattle.room_types.specs.Keys.{callsign_cmp, loan_key, numbered_cmp, owns_loan, owns_report, owns_vehicle}
 use Rattle.room_types.specs.Keys.{report_key, same_callsign, vehicle_key}
-use Rattle.room_types.specs.Orders.{callsigns_total, numbered_total}
+use Rattle.room_types.specs.KeyLemmas.{callsigns_total, numbered_total}
 use Rattle.room_types.specs.Texts.{Callsign}
 use Rattle.room_types.specs.declared.asks.Ask.{Ask}
 use Rattle.room_types.specs.declared.asks.Event.{Event}

@@ -6,7 +6,7 @@ use Rattle.room_types.proofs.KeyedLaws.{row_filter}
 use Rattle.room_types.specs.KeyedRows.{keep}
 use Rattle.room_types.specs.Keys.{assignment_key, callsign_cmp, loan_key, offer_key, owns_assignment, owns_loan}
 use Rattle.room_types.specs.Keys.{owns_offer, owns_point, owns_vehicle, pair_cmp, point_key, vehicle_key}
-use Rattle.room_types.specs.Orders.{callsigns_total, exact_pair, pairs_total}
+use Rattle.room_types.specs.KeyLemmas.{callsigns_total, exact_pair, pairs_total}
 use Rattle.room_types.specs.declared.asks.Ask.{Ask}
 use Rattle.room_types.specs.declared.codes.Kind.{Kind}
 use Rattle.room_types.specs.declared.tables.Call.{Call}

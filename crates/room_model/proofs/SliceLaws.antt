@@ -9,7 +9,7 @@ use Rattle.room_types.specs.KeyedRows.{keep, row_at}
 use Rattle.room_types.specs.Keys.{assignment_key, callsign_cmp, incident_key, numbered_cmp, owns_assignment, owns_call}
 use Rattle.room_types.specs.Keys.{owns_division, owns_incident, owns_loan, owns_offer, owns_point, owns_report}
 use Rattle.room_types.specs.Keys.{owns_turn, owns_vehicle, pair_cmp, turn_key, vehicle_key}
-use Rattle.room_types.specs.Orders.{callsigns_total, exact_callsigns, exact_numbered, numbered_total, pairs_total}
+use Rattle.room_types.specs.KeyLemmas.{callsigns_total, exact_callsigns, exact_numbered, numbered_total, pairs_total}
 use Rattle.room_types.specs.SentVehicles.{IsSent, PartsAgree}
 use Rattle.room_types.specs.Codes.{is_active, is_busy}
 use Rattle.room_types.specs.Slices.{AssignmentAgrees, IsActive, IsInTurn, IsShare, TurnAgrees, VehicleAgrees}
@@ -33,7 +33,8 @@ use Rattle.room_model.specs.Shares.{own}
 use Rattle.room_model.specs.RoomSlices.{room_of}
 use Rattle.room_model.specs.RoomAgreements.{IsWellFormed}
 use Rattle.room_model.specs.WorkingRows.{names_turn, reads_assignments, reads_calls, reads_division, reads_incident}
-use Rattle.room_model.specs.WorkingRows.{reads_loan, reads_number, reads_offer, reads_point, reads_report, reads_vehicle}
+use Rattle.room_model.specs.WorkingRows.{reads_loan, reads_number, reads_offer, reads_point, reads_report}
+use Rattle.room_model.specs.WorkingRows.{reads_vehicle}
 use Rattle.room_model.specs.WorkingRows.{working}
 use Rattle.room_model.specs.RoomAgreements as room
 

@@ -14,7 +14,7 @@ use Rattle.room_types.proofs.ShareLaws.{share_agrees}
 use Rattle.room_types.specs.KeyedRows.{IsKeyed, keep, row_at}
 use Rattle.room_types.specs.Keys.{assignment_key, callsign_cmp, numbered_cmp, owns_assignment, owns_turn, owns_vehicle}
 use Rattle.room_types.specs.Keys.{same_callsign, turn_key, vehicle_key}
-use Rattle.room_types.specs.Orders.{callsigns_total, exact_callsigns, exact_numbered, numbered_total}
+use Rattle.room_types.specs.KeyLemmas.{callsigns_total, exact_callsigns, exact_numbered, numbered_total}
 use Rattle.room_types.specs.Slices.{IsInTurn, IsShare, TurnAgrees, assignment_at, is_share, turn_at, vehicle_at}
 use Rattle.room_types.specs.Slices as slice
 use Rattle.room_types.specs.Texts.{Callsign}

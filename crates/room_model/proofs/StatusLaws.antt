@@ -6,7 +6,7 @@ use Rattle.room_place.specs.Choice.{Among}
 use Rattle.room_types.specs.Codes.{is_busy}
 use Rattle.room_types.specs.KeyedRows.{row_at}
 use Rattle.room_types.specs.Keys.{assignment_key, callsign_cmp, numbered_cmp, turn_key, vehicle_key}
-use Rattle.room_types.specs.Orders.{callsigns_total, exact_callsigns, exact_numbered, numbered_total}
+use Rattle.room_types.specs.KeyLemmas.{callsigns_total, exact_callsigns, exact_numbered, numbered_total}
 use Rattle.room_types.specs.Texts.{Callsign}
 use Rattle.room_types.specs.declared.tables.Assignment.{Assignment}
 use Rattle.room_types.specs.declared.tables.Turn.{Turn}

@@ -7,7 +7,7 @@ use Rattle.room_place.specs.declared.plans.Area.{Area}
 use Rattle.room_types.specs.KeyedRows.{row_at}
 use Rattle.room_types.specs.Keys.{call_key, callsign_cmp, division_key, incident_key, numbered_cmp, pair_cmp, point_key}
 use Rattle.room_types.specs.Keys.{report_key, vehicle_key}
-use Rattle.room_types.specs.Orders.{callsigns_total, exact_callsigns}
+use Rattle.room_types.specs.KeyLemmas.{callsigns_total, exact_callsigns}
 use Rattle.room_types.specs.Texts.{Callsign}
 use Rattle.room_types.specs.declared.changes.Change.{Change}
 use Rattle.room_types.specs.declared.codes.Status.{Status}
@@ -26,7 +26,8 @@ use Rattle.room_model.proofs.VehicleRows.{rows_of}
 use Rattle.room_types.specs.Codes.{is_busy, is_free, is_offered}
 use Rattle.room_model.specs.Room.{IsInOrder, Room, apply}
 use Rattle.room_model.specs.RoomAgreements.{AssignmentAgrees, CallAgrees, IsWellFormed, LastAgrees, LoanAgrees}
-use Rattle.room_model.specs.RoomAgreements.{NumberAgrees, OfferAgrees, OpenAgrees, OpenedAgrees, PostAgrees, ReportAgrees}
+use Rattle.room_model.specs.RoomAgreements.{NumberAgrees, OfferAgrees, OpenAgrees, OpenedAgrees, PostAgrees}
+use Rattle.room_model.specs.RoomAgreements.{ReportAgrees}
 use Rattle.room_model.specs.RoomAgreements.{SameIncident, TurnAgrees, TurnIsActive}
 
 -- the vehicle's last report is there, where it sent any

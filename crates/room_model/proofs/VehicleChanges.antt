@@ -8,7 +8,7 @@ use Rattle.room_place.specs.Plans.{has_division}
 use Rattle.room_place.specs.declared.plans.Area.{Area}
 use Rattle.room_types.specs.KeyedRows.{row_at}
 use Rattle.room_types.specs.Keys.{incident_key, pair_cmp}
-use Rattle.room_types.specs.Orders.{exact_number}
+use Rattle.room_types.specs.KeyLemmas.{exact_number}
 use Rattle.room_types.specs.declared.codes.Status.{Status}
 use Rattle.room_types.specs.declared.codes.Status.TheVariants.{Mobilised, OffDuty, Offered}
 use Rattle.room_types.specs.declared.tables.Assignment.{Assignment}

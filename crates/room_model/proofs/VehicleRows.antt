@@ -10,7 +10,7 @@ use Rattle.room_types.proofs.KeyedLaws.{row_drop_other, row_drop_same, row_put}
 use Rattle.room_types.specs.KeyedRows.{drop_row, put_row, row_at}
 use Rattle.room_types.specs.Keys.{assignment_key, callsign_cmp, loan_key, numbered_cmp, offer_key, report_key, turn_key}
 use Rattle.room_types.specs.Keys.{vehicle_key}
-use Rattle.room_types.specs.Orders.{callsigns_total, exact_callsigns, numbered_total}
+use Rattle.room_types.specs.KeyLemmas.{callsigns_total, exact_callsigns, numbered_total}
 use Rattle.room_types.specs.Texts.{Callsign}
 use Rattle.room_types.specs.declared.changes.Change.{Change}
 use Rattle.room_types.specs.declared.changes.Change.TheVariants.{DropAssignment, DropLoan, DropOffer, PutAssignment}

@@ -12,7 +12,7 @@ use Rattle.room_types.specs.KeyedRows.{keep, row_at}
 use Rattle.room_types.specs.Keys.{assignment_key, callsign_cmp, incident_key, loan_key, numbered_cmp, offer_key}
 use Rattle.room_types.specs.Keys.{owns_assignment, owns_loan, owns_offer, owns_point, owns_vehicle, pair_cmp, point_key}
 use Rattle.room_types.specs.Keys.{report_key, same_callsign, turn_key, vehicle_key}
-use Rattle.room_types.specs.Orders.{callsigns_total, exact_callsigns, exact_pair, numbered_total, pairs_total}
+use Rattle.room_types.specs.KeyLemmas.{callsigns_total, exact_callsigns, exact_pair, numbered_total, pairs_total}
 use Rattle.room_types.specs.Slices.{IsActive}
 use Rattle.room_types.specs.Texts.{Callsign}
 use Rattle.room_types.specs.declared.asks.Ask.{Ask}

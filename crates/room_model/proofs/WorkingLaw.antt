@@ -4,7 +4,7 @@ use Rattle.std.specs.Ordering.{is_eq}
 use Rattle.std.specs.Prelude.{Some, not, refl, true, ℕ, ℤ, ◌&&◌, ◌==◌, ◌≡◌}
 use Rattle.room_types.specs.Codes.{is_merged}
 use Rattle.room_types.specs.Keys.{numbered_cmp, report_key, same_callsign}
-use Rattle.room_types.specs.Orders.{exact_numbered}
+use Rattle.room_types.specs.KeyLemmas.{exact_numbered}
 use Rattle.room_types.specs.declared.asks.Ask.{Ask}
 use Rattle.room_types.specs.declared.tables.Report.{Report}
 use Rattle.room_types.specs.declared.tables.Vehicle.{Vehicle}

@@ -5,7 +5,7 @@ use Rattle.std.specs.Prelude.{true, ℕ, ◌&&◌, ◌++◌, ◌==◌, ◌||◌,
 use Rattle.room_types.specs.Codes.{is_active, is_mobilised, is_normal}
 use Rattle.room_types.specs.Keys.{owns_loan, owns_offer, owns_point, owns_vehicle}
 use Rattle.room_types.specs.Slices.{IsActive}
-use Rattle.room_types.specs.declared.answers.Entry.{Entry}
+use Rattle.room_types.specs.declared.answers.QueueEntry.{QueueEntry}
 use Rattle.room_types.specs.declared.codes.Kind.{Kind}
 use Rattle.room_types.specs.declared.codes.Kind.TheVariants.{Ambulance, Car, Support}
 use Rattle.room_types.specs.declared.tables.Incident.{Incident}
@@ -55,7 +55,7 @@ module _ (d at : ℕ) (r : Room) (formed : IsWellFormed r) where
 
   unread_read : filter_map (unread d at seen) seen.vehicles ≡ filter_map (unread d at r) r.vehicles
   unread_read =
-      ap (λ (f : Vehicle → Option Entry). filter_map f (filter (λ v. owns_vehicle d v && true) r.vehicles))
+      ap (λ (f : Vehicle → Option QueueEntry). filter_map f (filter (λ v. owns_vehicle d v && true) r.vehicles))
       (λ j v.
       cond (v.holder == d && is_mobilised v.status)
       (unread_turn at v (open_turn_read d ask.Queue at r formed refl v.callsign j)) None)
@@ -93,7 +93,7 @@ module _ (d at : ℕ) (r : Room) (formed : IsWellFormed r) where
   uncovered_read : filter_map (uncovered d at seen) seen.points
       ≡ filter_map (uncovered d at r) r.points
   uncovered_read =
-      ap (λ (f : Point → Option Entry). filter_map f (filter (λ p. owns_point d p && true) r.points))
+      ap (λ (f : Point → Option QueueEntry). filter_map f (filter (λ p. owns_point d p && true) r.points))
       (λ j p.
       cond (p.division == d && nat_lt (length (holders_read d ask.Queue at r formed (λ k. refl) p.number at j)) p.cover)
       (Some (record { rank = 7; since = 0; number = p.number; callsign = None })) None)

@@ -4,7 +4,7 @@ use Rattle.std.specs.Prelude.{nat_lt, not, true, ℕ, ◌&&◌, ◌++◌, ◌==�
 use Rattle.room_place.specs.Choice.{Among}
 use Rattle.room_types.specs.KeyedRows.{IsKeyed, put_row}
 use Rattle.room_types.specs.Keys.{entry_cmp, entry_key, owns_loan, owns_offer}
-use Rattle.room_types.specs.declared.answers.Entry.{Entry}
+use Rattle.room_types.specs.declared.answers.QueueEntry.{QueueEntry}
 use Rattle.room_types.specs.declared.changes.Change.TheVariants.{PutReport}
 use Rattle.room_types.specs.declared.codes.Kind.TheVariants.{Ambulance, Car, Support}
 use Rattle.room_types.specs.declared.tables.Incident.{Incident}
@@ -15,7 +15,7 @@ use Rattle.room_types.specs.declared.tables.Report.{Report}
 use Rattle.room_types.specs.declared.tables.Turn.{Turn}
 use Rattle.room_types.specs.declared.tables.Vehicle.{Vehicle}
 use Rattle.room_types.specs.Texts.{Callsign}
-use Rattle.room_types.specs.Codes.{is_active, is_mobilised, is_normal, is_off}
+use Rattle.room_types.specs.Codes.{is_active, is_exception, is_mobilised, is_normal, is_off}
 use Rattle.room_model.specs.Decisions.{Verdict, done, refuse_if, show}
 use Rattle.room_model.specs.Moments.{age, scene_limit}
 use Rattle.room_model.specs.Queries.{holders, incident_of, open_turn, report_of, served}
@@ -28,7 +28,7 @@ abbrev pub is_unserved : ℕ → ℕ → Room → Bool
 is_unserved d n r =
     served d n Ambulance r == 0 && (served d n Car r == 0 && served d n Support r == 0)
 
-abbrev pub unserved : ℕ → ℕ → Room → Incident → Option Entry
+abbrev pub unserved : ℕ → ℕ → Room → Incident → Option QueueEntry
 unserved d at r i = cond
     (i.division == d
     && (is_active i.state && (is_unserved d i.number r && nat_lt 180 (age at i.opened))))
@@ -40,7 +40,7 @@ unserved d at r i = cond
     })) None
 
 -- 2: an order that is not acknowledged
-abbrev pub unread_turn : ℕ → Vehicle → Option Turn → Option Entry
+abbrev pub unread_turn : ℕ → Vehicle → Option Turn → Option QueueEntry
 unread_turn at v None = None
 unread_turn at v (Some t) = cond (is_none t.acknowledged && nat_lt 60 (age at t.ordered))
     (Some (record {
@@ -50,12 +50,12 @@ unread_turn at v (Some t) = cond (is_none t.acknowledged && nat_lt 60 (age at t.
       callsign = Some v.callsign;
     })) None
 
-abbrev pub unread : ℕ → ℕ → Room → Vehicle → Option Entry
+abbrev pub unread : ℕ → ℕ → Room → Vehicle → Option QueueEntry
 unread d at r v = cond (v.holder == d && is_mobilised v.status)
     (unread_turn at v (open_turn d v.callsign r)) None
 
 -- 3: a vehicle that is on its way for too long
-abbrev pub slow_incident : ℕ → Vehicle → Option Incident → Option Entry
+abbrev pub slow_incident : ℕ → Vehicle → Option Incident → Option QueueEntry
 slow_incident at v None = None
 slow_incident at v (Some i) = cond (nat_lt (scene_limit i.class) (age at i.opened))
     (Some (record {
@@ -65,20 +65,17 @@ slow_incident at v (Some i) = cond (nat_lt (scene_limit i.class) (age at i.opene
       callsign = Some v.callsign;
     })) None
 
-abbrev pub slow_turn : ℕ → ℕ → Room → Vehicle → Option Turn → Option Entry
+abbrev pub slow_turn : ℕ → ℕ → Room → Vehicle → Option Turn → Option QueueEntry
 slow_turn d at r v None = None
 slow_turn d at r v (Some t) = slow_incident at v (incident_of d t.incident r)
 
-abbrev pub slow : ℕ → ℕ → Room → Vehicle → Option Entry
+abbrev pub slow : ℕ → ℕ → Room → Vehicle → Option QueueEntry
 slow d at r v = cond (v.holder == d && is_mobilised v.status)
     (slow_turn d at r v (open_turn d v.callsign r)) None
 
 -- 4: a report out of turn
-abbrev pub is_exception : ℕ → Report → Bool
-is_exception d x = x.division == d && (not (is_normal x.outcome) && not x.cleared)
-
-abbrev pub exception : ℕ → Report → Option Entry
-exception d x = cond (is_exception d x)
+abbrev pub exception : ℕ → Report → Option QueueEntry
+exception d x = cond (x.division == d && is_exception x)
     (Some (record {
       rank = 4;
       since = x.at;
@@ -87,7 +84,7 @@ exception d x = cond (is_exception d x)
     })) None
 
 -- 5: a loan that is over
-abbrev pub overdue : ℕ → ℕ → Loan → Option Entry
+abbrev pub overdue : ℕ → ℕ → Loan → Option QueueEntry
 overdue d at l = cond (owns_loan d l && nat_lt l.until at)
     (Some (record {
       rank = 5;
@@ -97,7 +94,7 @@ overdue d at l = cond (owns_loan d l && nat_lt l.until at)
     })) None
 
 -- 6: a shift that is over
-abbrev pub shift_over : ℕ → ℕ → Vehicle → Option Entry
+abbrev pub shift_over : ℕ → ℕ → Vehicle → Option QueueEntry
 shift_over d at v = cond (v.holder == d && (not (is_off v.status) && nat_le v.shift_end at))
     (Some (record {
       rank = 6;
@@ -107,7 +104,7 @@ shift_over d at v = cond (v.holder == d && (not (is_off v.status) && nat_le v.sh
     })) None
 
 -- 7: a point with too few vehicles
-abbrev pub uncovered : ℕ → ℕ → Room → Point → Option Entry
+abbrev pub uncovered : ℕ → ℕ → Room → Point → Option QueueEntry
 uncovered d at r p = cond (p.division == d && nat_lt (length (holders d p.number at r)) p.cover)
     (Some (record {
       rank = 7;
@@ -117,7 +114,7 @@ uncovered d at r p = cond (p.division == d && nat_lt (length (holders d p.number
     })) None
 
 -- 8: an offer that nobody answers
-abbrev pub unanswered : ℕ → ℕ → Offer → Option Entry
+abbrev pub unanswered : ℕ → ℕ → Offer → Option QueueEntry
 unanswered d at o = cond (owns_offer d o && nat_lt 300 (age at o.since))
     (Some (record {
       rank = 8;
@@ -127,7 +124,7 @@ unanswered d at o = cond (owns_offer d o && nat_lt 300 (age at o.since))
     })) None
 
 -- all entries of the division
-unfoldable pub entries : ℕ → ℕ → Room → List Entry
+unfoldable pub entries : ℕ → ℕ → Room → List QueueEntry
 entries d at r =
     filter_map (unserved d at r) r.incidents
     ++ (filter_map (unread d at r) r.vehicles
@@ -139,15 +136,15 @@ entries d at r =
     ++ filter_map (unanswered d at) r.offers))))))
 
 -- each of xs put in its place
-abbrev pub ordered_from : List Entry → List Entry → List Entry
+abbrev pub ordered_from : List QueueEntry → List QueueEntry → List QueueEntry
 ordered_from q [] = q
 ordered_from q (x ∷ xs) = ordered_from (put_row entry_cmp entry_key q x) xs
 
 -- strictly increasing, and exactly these
-pub record IsQueueOf (all q : List Entry) : Type 0 where
+pub record IsQueueOf (all q : List QueueEntry) : Type 0 where
   pub increasing : IsKeyed entry_cmp entry_key q
-  pub there : (e : Entry) → Among e all → Among e q
-  pub only : (e : Entry) → Among e q → Among e all
+  pub there : (e : QueueEntry) → Among e all → Among e q
+  pub only : (e : QueueEntry) → Among e q → Among e all
 
 unfoldable pub show_queue : ℕ → ℕ → Room → Verdict
 show_queue d at r = show (answer.Queue (ordered_from [] (entries d at r)))

@@ -2,7 +2,7 @@
 use Rattle.std.specs.Prelude.{Err, List, None, Ok, Some, [], false, map, suc, zero, ℕ, ◌+◌, ◌∷◌, ◌≡◌}
 use Rattle.room_types.specs.Texts.{Callsign}
 use Rattle.room_types.specs.declared.answers.Answer.TheVariants as answer
-use Rattle.room_types.specs.declared.answers.Entry.{Entry}
+use Rattle.room_types.specs.declared.answers.QueueEntry.{QueueEntry}
 use Rattle.room_types.specs.declared.asks.Ask.TheVariants as ask
 use Rattle.room_types.specs.declared.asks.Event.{Event}
 use Rattle.room_types.specs.declared.asks.Who.TheVariants.{Crew, Desk}
@@ -103,7 +103,7 @@ busy_room = record example_room {
   } ∷ [];
 }
 
-abbrev pub busy_queue : List Entry
+abbrev pub busy_queue : List QueueEntry
 busy_queue = entry 1 4500 3 None
     ∷ entry 1 4500 4 None
     ∷ entry 2 4900 1 (Some A1)

@@ -1,5 +1,5 @@
--- The agreements that every room keeps, each at one key. IsWellFormed lists them; after it stands
--- once more, in the field's words, who is sent.
+-- The agreements that every room keeps, each at one key. IsWellFormed lists them; the end of the
+-- file says once more, in the field's words, who is sent.
 use Rattle.std.specs.Ordering.{nat_cmp}
 use Rattle.std.specs.Prelude.{IfSome, List, None, Option, Some, false, is_some, true, ℕ, ◌↔◌, ◌≡◌, ◌≢◌, ◌≤◌, ◌⊎◌}
 use Rattle.room_place.specs.Choice.{Among}

@@ -1,5 +1,5 @@
 -- The rows that a request is decided on, and the room's.
-use Rattle.std.specs.Prelude.{List, Some, is_none, ◌≡◌}
+use Rattle.std.specs.Prelude.{List, [], Some, is_none, ◌≡◌}
 use Rattle.room_place.specs.declared.plans.Area.{Area}
 use Rattle.room_types.specs.KeyedRows.{keep, row_at}
 use Rattle.room_types.specs.Keys.{callsign_cmp, loan_key, numbered_cmp, turn_key, vehicle_key}
@@ -23,6 +23,10 @@ room_of plan s = record {
   offers = s.offers;
   reports = s.reports;
 }
+
+-- a division's rows as a room, where nothing looks at the plan
+abbrev pub unplanned : DivisionRows → Room
+unplanned s = room_of [] s
 
 -- what the room has of vehicle c: the turn is that of its last order, where it is not ended
 pub record AreCrewRows (c : Callsign) (r : Room) (x : CrewRows) : Type 0 where

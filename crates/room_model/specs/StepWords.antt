@@ -5,7 +5,7 @@ use Rattle.room_place.specs.References.{parse}
 use Rattle.room_place.specs.declared.places.Place.{Place}
 use Rattle.room_place.specs.declared.places.PlaceFault.{PlaceFault}
 use Rattle.room_types.specs.Texts.{Callsign}
-use Rattle.room_types.specs.declared.answers.Entry.{Entry}
+use Rattle.room_types.specs.declared.answers.QueueEntry.{QueueEntry}
 use Rattle.room_types.specs.declared.asks.Ask.TheVariants as ask
 use Rattle.room_types.specs.declared.asks.Ask.{Ask}
 use Rattle.room_types.specs.declared.asks.CallForm.{CallForm}
@@ -65,7 +65,7 @@ press number button order reference =
     ask.Report (record { number = number; button = button; order = order; place = place reference })
 
 -- an entry of the queue: its rank, since when, the number, and the vehicle where there is one
-abbrev pub entry : ℕ → ℕ → ℕ → Option Callsign → Entry
+abbrev pub entry : ℕ → ℕ → ℕ → Option Callsign → QueueEntry
 entry rank since number callsign = record {
   rank = rank;
   since = since;

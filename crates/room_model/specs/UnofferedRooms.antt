@@ -9,6 +9,7 @@ use Rattle.room_types.specs.declared.asks.Ask.{Ask}
 use Rattle.room_types.specs.declared.asks.Event.{Event}
 use Rattle.room_types.specs.declared.tables.Vehicle.{Vehicle}
 use Rattle.room_place.specs.Choice.{Among}
+use Rattle.room_model.specs.Events.{is_lend}
 use Rattle.room_model.specs.Room.{Room}
 use Rattle.room_model.specs.RoomAgreements.{OfferAgrees}
 use Rattle.room_types.specs.declared.asks.Ask.TheVariants as ask
@@ -31,14 +32,10 @@ speaks_of_offers ask.Offers = true
 speaks_of_offers ask.Queue = true
 speaks_of_offers a = false
 
-abbrev pub is_lend : Ask → Bool
-is_lend (ask.Lend c to until) = true
-is_lend a = false
-
--- nobody offers a vehicle
-abbrev pub NobodyLends : List Event → Type 0
-NobodyLends [] = Unit {0}
-NobodyLends (e ∷ es) = (is_lend e.ask ≡ false) × NobodyLends es
+-- nobody asks to offer a vehicle, not even so that it is refused
+abbrev pub NobodyAsksToLend : List Event → Type 0
+NobodyAsksToLend [] = Unit {0}
+NobodyAsksToLend (e ∷ es) = (is_lend e.ask ≡ false) × NobodyAsksToLend es
 
 -- the agreement of vehicles and offers, over the whole room
 abbrev pub OffersAgree : Room → Type 0

@@ -2,10 +2,10 @@
 -- it.
 use Rattle.std.specs.Int.{abs_diff}
 use Rattle.std.specs.Ordering.{is_eq}
-use Rattle.std.specs.Prelude.{Bool, None, Option, Some, false, filter, int_le, int_lt, is_some, nat_le, not, pos, true}
+use Rattle.std.specs.Prelude.{Bool, None, Option, Some, false, filter, int_le, int_lt, is_some, nat_le, pos, true}
 use Rattle.std.specs.Prelude.{ℕ, ◌&&◌, ◌==◌, ◌||◌}
 use Rattle.room_place.specs.declared.places.Place.{Place}
-use Rattle.room_types.specs.Codes.{is_active, is_normal}
+use Rattle.room_types.specs.Codes.{is_active, is_exception}
 use Rattle.room_types.specs.KeyedRows.{keep}
 use Rattle.room_types.specs.Keys.{numbered_cmp, owns_assignment, owns_division, owns_loan, owns_offer, owns_point}
 use Rattle.room_types.specs.Keys.{owns_report, owns_vehicle, same_callsign, turn_key}
@@ -91,8 +91,7 @@ names_report a k m = false
 -- an exception that is read, or the report that is named
 abbrev pub reads_report : Ask → Report → Bool
 reads_report a x =
-    reads_exceptions a && (not (is_normal x.outcome) && not x.cleared)
-    || names_report a x.callsign x.number
+    reads_exceptions a && is_exception x || names_report a x.callsign x.number
 
 -- ---- incidents, with their calls and turns
 -- the active incidents

@@ -1,7 +1,7 @@
 //! Why there is one answer to each question of the room: what is proposed, and what stands in the
 //! queue.
 ghost use Rattle.std.specs.Prelude.{◌≡◌, ℕ, List, []};
-ghost use Rattle.room_types.specs.declared.answers.Entry.{Entry};
+ghost use Rattle.room_types.specs.declared.answers.QueueEntry.{QueueEntry};
 ghost use Rattle.room_types.specs.declared.answers.Proposal.{Proposal};
 ghost use Rattle.room_types.specs.declared.codes.Kind.{Kind};
 ghost use Rattle.room_types.specs.declared.tables.Incident.{Incident};
@@ -26,10 +26,10 @@ pub fn proposals_are_one()
 
 /// Entries that are put in their places one by one are a queue.
 pub fn queues_are_in_order()
-    ensures { (entries : List Entry) → IsQueueOf entries (ordered_from [] entries) }
+    ensures { (entries : List QueueEntry) → IsQueueOf entries (ordered_from [] entries) }
 {}
 
 /// No two lists are a queue of the same entries.
 pub fn queues_are_one()
-    ensures { (entries p q : List Entry) → IsQueueOf entries p → IsQueueOf entries q → p ≡ q }
+    ensures { (entries p q : List QueueEntry) → IsQueueOf entries p → IsQueueOf entries q → p ≡ q }
 {}

@@ -9,7 +9,7 @@ ghost use Rattle.room_types.specs.declared.refusal_statuses.Refusal.TheVariants.
 ghost use Rattle.room_model.specs.Crossing.{cross};
 ghost use Rattle.room_model.specs.Decisions.{show, where_held};
 ghost use Rattle.room_model.specs.Events.{by_desk};
-ghost use Rattle.room_model.specs.UnofferedRooms.{IsUnoffered, NobodyLends, NoneIsReserved, OffersAgree, speaks_of_offers, without_offers};
+ghost use Rattle.room_model.specs.UnofferedRooms.{IsUnoffered, NobodyAsksToLend, NoneIsReserved, OffersAgree, speaks_of_offers, without_offers};
 ghost use Rattle.room_model.specs.Queries.{held, lent};
 ghost use Rattle.room_model.specs.Queue.{entries, unanswered};
 ghost use Rattle.room_model.specs.Room.{IsInOrder, Room};
@@ -60,7 +60,7 @@ pub fn no_offer_is_found()
 /// which nothing is offered stays one.
 pub fn nothing_is_offered_by_itself()
     ensures { (es : List Event) (r : Room) →
-        IsUnoffered r → NobodyLends es →
+        IsUnoffered r → NobodyAsksToLend es →
         IsUnoffered (room_run es r) }
 {}
 

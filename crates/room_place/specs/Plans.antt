@@ -31,7 +31,7 @@ has_division areas d = list_any (λ a. a.division == d) areas
 abbrev pub is_division : ℕ → Bool
 is_division d = nat_le 1 d && nat_le d 9
 
--- not turned round, with its corners in the squares
+-- west not above east, south not above north, and the corners in the squares
 abbrev pub is_rectangle : Rect → Bool
 is_rectangle r = nat_le r.west r.east
     && (nat_le r.south r.north && (is_in_squares r.west r.south && is_in_squares r.east r.north))
@@ -55,7 +55,7 @@ has_sound_count areas = nat_le 1 (length areas) && nat_le (length areas) most_ar
 abbrev pub are_of_divisions : List Area → Bool
 are_of_divisions areas = list_all (λ a. is_division a.division) areas
 
--- no area is turned round or leaves the squares
+-- each area is such a rectangle
 abbrev pub are_rectangles : List Area → Bool
 are_rectangles areas = list_all (λ a. is_rectangle a.rect) areas
 

@@ -2,13 +2,7 @@
 ghost use Rattle.std.specs.Prelude.{◌≡◌};
 ghost use Rattle.room_place.specs.Plans.{plan_fault, has_sound_count as is_sound_count, are_of_divisions as all_of_divisions, are_rectangles as all_rectangles, is_zone as zone_test, is_ascii as ascii_test};
 
-use crate::plans::{Area, PlanFault};
-
-const MOST_AREAS: usize = 64;
-
-const LONGEST_ZONE: usize = 64;
-
-const LAST_DIVISION: u32 = 9;
+use crate::plans::{Area, LAST_DIVISION, LONGEST_ZONE, MOST_AREAS, PlanFault};
 
 /// The first fault of a plan, each tested over the whole list before the next.
 pub(crate) fn first_fault(areas: &[Area], zone: &str) -> Option<PlanFault>

@@ -13,6 +13,15 @@ use std::marker::Model;
 /// A division of the service: 1 to 9.
 pub type DivisionNumber = Bounded<1, 9>;
 
+/// A plan has at most so many areas.
+pub const MOST_AREAS: usize = 64;
+
+/// The greatest number of a division.
+pub const LAST_DIVISION: u32 = 9;
+
+/// The most bytes of a zone's name.
+pub const LONGEST_ZONE: usize = 64;
+
 /// A rectangle with inclusive corners, in metres of easting and northing.
 #[derive(Clone, Copy, PartialEq, Eq)]
 pub struct Rect {
@@ -38,7 +47,8 @@ pub enum PlanFault {
     Count,
     /// A division that is not 1 to 9.
     Number,
-    /// A rectangle turned round, or outside the squares.
+    /// A rectangle whose west is above its east, or south above its north, or that leaves the
+    /// squares.
     Rectangle,
     /// A zone that is not 1 to 64 ASCII bytes.
     Zone,

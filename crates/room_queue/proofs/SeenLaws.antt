@@ -9,10 +9,10 @@ use Rattle.room_place.specs.declared.plans.Area.{Area}
 use Rattle.room_types.proofs.ShareLaws.{share_agrees}
 use Rattle.room_types.specs.KeyedRows.{IsKeyed, row_at}
 use Rattle.room_types.specs.Keys.{callsign_cmp, numbered_cmp, owns_point, pair_cmp, point_key, turn_key, vehicle_key}
-use Rattle.room_types.specs.Orders.{callsigns_total, pairs_total}
+use Rattle.room_types.specs.KeyLemmas.{callsigns_total, pairs_total}
 use Rattle.room_types.specs.Slices.{is_share}
 use Rattle.room_types.specs.Slices as slice
-use Rattle.room_types.specs.declared.answers.Entry.{Entry}
+use Rattle.room_types.specs.declared.answers.QueueEntry.{QueueEntry}
 use Rattle.room_types.specs.declared.slices.DivisionRows.{DivisionRows}
 use Rattle.room_types.specs.declared.tables.Point.{Point}
 use Rattle.room_types.specs.declared.tables.Turn.{Turn}
@@ -28,7 +28,7 @@ use Rattle.room_queue.specs.declared.served_incidents.Served.{Served}
 use Rattle.room_queue.proofs.ServedLaws.{unserved_is}
 
 -- what makes nothing of no turn may look at the turn's guard first
-guarded : (f : Option Turn → Option Entry) → f None ≡ None → (b : Bool) (o : Option Turn)
+guarded : (f : Option Turn → Option QueueEntry) → f None ≡ None → (b : Bool) (o : Option Turn)
     → f (cond b o None) ≡ cond b (f o) None
 guarded f none true o = refl
 guarded f none false o = none

@@ -11,7 +11,7 @@ use Rattle.std.specs.declared.cmp.Ordering.{Ordering}
 use Rattle.room_types.proofs.KeyedLaws.{row_put}
 use Rattle.room_types.specs.Codes.{is_active, same_kind}
 use Rattle.room_types.specs.KeyedRows.{put_row, row_at}
-use Rattle.room_types.specs.declared.answers.Entry.{Entry}
+use Rattle.room_types.specs.declared.answers.QueueEntry.{QueueEntry}
 use Rattle.room_types.specs.declared.codes.Kind.TheVariants.{Ambulance, Car, Support}
 use Rattle.room_types.specs.declared.codes.Kind.{Kind}
 use Rattle.room_types.specs.declared.tables.Incident.{Incident}
@@ -81,7 +81,7 @@ unfolding served
 none_serve d n r known h = ap not (h n ∙ tied d n r.turns) ∙ sym (none_counts d n r.turns)
 
 -- the order of the last two tests is another
-turned : (o : Entry) (owned active old none : Bool)
+turned : (o : QueueEntry) (owned active old none : Bool)
     → cond (owned && (active && (old && none))) (Some o) None
     ≡ cond (owned && (active && (none && old))) (Some o) None
 turned o false active old none = refl
@@ -91,7 +91,7 @@ turned o true true true false = refl
 turned o true true false true = refl
 turned o true true false false = refl
 
-abbrev unserved_entry : Incident → Entry
+abbrev unserved_entry : Incident → QueueEntry
 unserved_entry i = record { rank = 1; since = i.opened; number = i.number; callsign = None }
 
 pub unserved_is : (d at : ℕ) (r : Room) (known : List Served) (i : Incident)

@@ -16,19 +16,19 @@ use Rattle.std.specs.declared.cmp.Ordering.TheVariants.{Less}
 use Rattle.room_place.specs.Choice.{Among}
 use Rattle.room_types.specs.KeyedRows.{IsBelowAll, IsKeyed}
 use Rattle.room_types.specs.Keys.{callsign_cmp, entry_cmp, entry_key, option_callsign_cmp}
-use Rattle.room_types.specs.Orders.{entries_total, exact_entries}
+use Rattle.room_types.specs.KeyLemmas.{entries_total, exact_entries}
 use Rattle.room_types.specs.Texts.{Callsign}
-use Rattle.room_types.specs.declared.answers.Entry.{Entry}
+use Rattle.room_types.specs.declared.answers.QueueEntry.{QueueEntry}
 use Rattle.room_model.proofs.Tests.{is_equal}
 use Rattle.room_model.specs.Queue.{IsQueueOf}
 
 -- ---- the order and the test that entries have in code
-abbrev pub code_cmp : Entry → Entry → Ordering
+abbrev pub code_cmp : QueueEntry → QueueEntry → Ordering
 code_cmp a b =
     ordering_then (nat_cmp a.rank b.rank) (ordering_then (nat_cmp a.since b.since)
     (ordering_then (nat_cmp a.number b.number) (option_cmp callsign_cmp a.callsign b.callsign)))
 
-abbrev pub alike : Entry → Entry → Bool
+abbrev pub alike : QueueEntry → QueueEntry → Bool
 alike a b =
     a.rank == b.rank
     && (a.since == b.since && (a.number == b.number && option_eq (eq_by_cmp callsign_cmp) a.callsign b.callsign))
@@ -39,7 +39,7 @@ same_options None (Some b) = refl
 same_options (Some a) None = refl
 same_options (Some a) (Some b) = refl
 
-same_cmp : (a b : Entry) → code_cmp a b ≡ entry_cmp a b
+same_cmp : (a b : QueueEntry) → code_cmp a b ≡ entry_cmp a b
 same_cmp a b =
     ap (λ o.
     ordering_then (nat_cmp a.rank b.rank)
@@ -53,7 +53,7 @@ tied_options None (Some b) = refl
 tied_options (Some a) None = refl
 tied_options (Some a) (Some b) = refl
 
-tied : (a b : Entry) → alike a b ≡ eq_by_cmp entry_cmp a b
+tied : (a b : QueueEntry) → alike a b ≡ eq_by_cmp entry_cmp a b
 tied a b =
     both_tied _ _ _ _ (unsigned_ties a.rank b.rank) (both_tied _ _ _ _ (unsigned_ties a.since b.since)
     (both_tied _ _ _ _ (unsigned_ties a.number b.number) (tied_options a.callsign b.callsign)))
@@ -65,38 +65,38 @@ alike_equiv = let by_cmp = eq_by_cmp_equiv entries_total in record {
   congr = λ a b c e. tied a c ∙ (by_cmp.congr a b c (sym (tied a b) ∙ e) ∙ sym (tied b c));
 }
 
-alike_same : (a b : Entry) → alike a b ≡ true → a ≡ b
+alike_same : (a b : QueueEntry) → alike a b ≡ true → a ≡ b
 alike_same a b e = exact_entries a b (is_equal _ (sym (tied a b) ∙ e))
 
 -- ---- strictly in order
-below_all : (x : Entry) (xs : List Entry) → AllByRecursion (λ y. entry_cmp x y ≡ Less) xs
+below_all : (x : QueueEntry) (xs : List QueueEntry) → AllByRecursion (λ y. entry_cmp x y ≡ Less) xs
     → IsBelowAll entry_cmp entry_key x xs
 below_all x [] h = tt
 below_all x (y ∷ ys) h = (h.0, below_all x ys h.1)
 
-keyed : (xs : List Entry) → IsStrictlySortedBy entry_cmp xs → IsKeyed entry_cmp entry_key xs
+keyed : (xs : List QueueEntry) → IsStrictlySortedBy entry_cmp xs → IsKeyed entry_cmp entry_key xs
 unfolding IsStrictlySortedBy
 keyed [] h = tt
 keyed (x ∷ xs) h = (below_all x xs h.0, keyed xs h.1)
 
 -- ---- the same entries
-contained : (xs : List Entry) (x : Entry) → Among x xs → Contains xs x
+contained : (xs : List QueueEntry) (x : QueueEntry) → Among x xs → Contains xs x
 contained [] x a = absurd a
 contained (y ∷ ys) x a = elim a [
   | inl e ↦ subst (λ z. Contains (z ∷ ys) x) e (Contains-append_left (x ∷ []) ys x (Contains-push [] x))
   | inr b ↦ Contains-append_right (y ∷ []) ys x (contained ys x b)
 ]
 
-all_among : (xs : List Entry) → All (λ x. Among x xs) xs
+all_among : (xs : List QueueEntry) → All (λ x. Among x xs) xs
 all_among [] = λ k d low. let none : ⊥ = omega arith in absurd none
 all_among (x ∷ xs) =
     All-cons (λ y. Among y (x ∷ xs)) x xs (inl refl)
     (All-weaker (λ y. Among y xs) (λ y. Among y (x ∷ xs)) (λ y a. inr a) xs (all_among xs))
 
-among : (xs : List Entry) (x : Entry) → Contains xs x → Among x xs
+among : (xs : List QueueEntry) (x : QueueEntry) → Contains xs x → Among x xs
 among xs x h = All-contains (λ y. Among y xs) xs x (all_among xs) h
 
-pub sorted_queue : (all sorted : List Entry) → IsPermutation all sorted → IsSorted code_cmp sorted
+pub sorted_queue : (all sorted : List QueueEntry) → IsPermutation all sorted → IsSorted code_cmp sorted
     → IsQueueOf all (dedup alike sorted)
 sorted_queue all sorted moved rises = record {
   increasing =

@@ -2,7 +2,7 @@
 use Rattle.std.specs.Prelude.{List, None, Option, Some, [], cond, filter_map, is_some, nat_lt, not, ℕ, ◌&&◌, ◌++◌, ◌==◌}
 use Rattle.room_types.specs.Codes.{is_active, is_mobilised}
 use Rattle.room_types.specs.Slices.{open_turn}
-use Rattle.room_types.specs.declared.answers.Entry.{Entry}
+use Rattle.room_types.specs.declared.answers.QueueEntry.{QueueEntry}
 use Rattle.room_types.specs.declared.slices.DivisionRows.{DivisionRows}
 use Rattle.room_types.specs.declared.tables.Incident.{Incident}
 use Rattle.room_types.specs.declared.tables.Point.{Point}
@@ -12,16 +12,12 @@ use Rattle.room_model.specs.Moments.{age}
 use Rattle.room_model.specs.Queries.{point_of}
 use Rattle.room_model.specs.Queue.{exception, overdue, shift_over, slow_turn, unanswered, uncovered, unread_turn}
 use Rattle.room_model.specs.Room.{Room}
-use Rattle.room_model.specs.RoomSlices.{room_of}
+use Rattle.room_model.specs.RoomSlices.{unplanned}
 use Rattle.room_queue.specs.ServedIncidents.{is_served}
 use Rattle.room_queue.specs.declared.served_incidents.Served.{Served}
 
--- the rows as a room; no entry looks at its plan
-abbrev pub room : DivisionRows → Room
-room s = room_of [] s
-
 -- of an incident that is not among those that some vehicle serves
-abbrev pub unserved_seen : ℕ → ℕ → List Served → Incident → Option Entry
+abbrev pub unserved_seen : ℕ → ℕ → List Served → Incident → Option QueueEntry
 unserved_seen d at served i = cond
     (i.division == d && (is_active i.state
     && (nat_lt 180 (age at i.opened) && not (is_served served i.number))))
@@ -32,21 +28,21 @@ abbrev pub turn_ahead : ℕ → DivisionRows → Vehicle → Option Turn
 turn_ahead d s v = cond (v.holder == d && is_mobilised v.status) (open_turn v s) None
 
 -- of a point that the slice has
-abbrev pub uncovered_seen : ℕ → ℕ → DivisionRows → Point → Option Entry
+abbrev pub uncovered_seen : ℕ → ℕ → DivisionRows → Point → Option QueueEntry
 uncovered_seen d at s p =
-    cond (is_some (point_of d p.number (room s))) (uncovered d at (room s) p) None
+    cond (is_some (point_of d p.number (unplanned s))) (uncovered d at (unplanned s) p) None
 
 -- what was seen before, and then ranks 1 to 4, one by one
-abbrev pub with_sent : ℕ → ℕ → List Served → DivisionRows → List Entry → List Entry
+abbrev pub with_sent : ℕ → ℕ → List Served → DivisionRows → List QueueEntry → List QueueEntry
 with_sent d at served s before =
     before
     ++ filter_map (unserved_seen d at served) s.incidents
     ++ filter_map (λ v. unread_turn at v (turn_ahead d s v)) s.vehicles
-    ++ filter_map (λ v. slow_turn d at (room s) v (turn_ahead d s v)) s.vehicles
+    ++ filter_map (λ v. slow_turn d at (unplanned s) v (turn_ahead d s v)) s.vehicles
     ++ filter_map (exception d) s.reports
 
 -- ranks 5 to 8
-abbrev pub with_held : ℕ → ℕ → DivisionRows → List Entry → List Entry
+abbrev pub with_held : ℕ → ℕ → DivisionRows → List QueueEntry → List QueueEntry
 with_held d at s before =
     before
     ++ filter_map (overdue d at) s.loans
@@ -55,5 +51,5 @@ with_held d at s before =
     ++ filter_map (unanswered d at) s.offers
 
 -- rank by rank
-abbrev pub seen : ℕ → ℕ → List Served → DivisionRows → List Entry
+abbrev pub seen : ℕ → ℕ → List Served → DivisionRows → List QueueEntry
 seen d at served s = with_held d at s (with_sent d at served s [])

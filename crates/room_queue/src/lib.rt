@@ -1,7 +1,7 @@
 //! What needs an eye in a division, and clearing a report.
 #![tactic(auto)]
 
-pub mod exceptions;
 mod queue_entries;
 pub mod queues;
+pub mod report_clearing;
 mod served_incidents;

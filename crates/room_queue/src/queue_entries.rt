@@ -3,24 +3,25 @@
 ghost use Rattle.std.specs.Prelude.{◌≡◌, ◌==◌, option_copied, if◌then◌else◌};
 ghost use Rattle.room_model.specs.Moments.{age, scene_limit};
 ghost use Rattle.room_model.specs.Queue.{exception, overdue, shift_over, slow_turn, unanswered, unread_turn};
-ghost use Rattle.room_queue.specs.QueueEntries.{room, turn_ahead, uncovered_seen, unserved_seen};
+ghost use Rattle.room_model.specs.RoomSlices.{unplanned};
+ghost use Rattle.room_queue.specs.QueueEntries.{turn_ahead, uncovered_seen, unserved_seen};
 
-use crate::exceptions::is_exception;
 use crate::served_incidents::Served;
 use room_alloc::cover::cover;
 use room_place::plans::DivisionNumber;
-use room_types::answers::Entry;
+use room_types::answers::QueueEntry;
 use room_types::numbers::{Class, Moment};
 use room_types::rows::{Row, Rows};
 use room_types::slices::Slice;
 use room_types::tables::{Incident, Loan, Offer, Point, Report, Turn, Vehicle};
 
-// After how many seconds an incident that nobody serves, an order that its crew has not read, and
-// an offer without an answer need an eye.
+/// Seconds after which an active incident that nobody serves needs an eye.
 const UNSERVED_AFTER: u32 = 180;
 
+/// Seconds after which an order that its crew has not acknowledged needs an eye.
 const UNREAD_AFTER: u32 = 60;
 
+/// Seconds after which an offer that nobody answers needs an eye.
 const UNANSWERED_AFTER: u32 = 300;
 
 /// 1: an active incident that nobody serves.
@@ -29,14 +30,14 @@ pub fn unserved(
     served: &Rows<Served>,
     incident: &Incident,
     at: Moment,
-) -> Option<Entry>
+) -> Option<QueueEntry>
     ensures { result ≡ unserved_seen slice.now.division at served.now incident.now }
 {
     let needs_eye = incident.owned_by(slice.division)
         && incident.state.is_active()
         && age(at, incident.opened) > UNSERVED_AFTER
         && served.get(&incident.number).is_none();
-    needs_eye.then_some(Entry {
+    needs_eye.then_some(QueueEntry {
         rank: 1,
         since: incident.opened,
         number: incident.number.get(),
@@ -45,13 +46,13 @@ pub fn unserved(
 }
 
 /// 2: a mobilised vehicle whose crew has not read its order.
-pub fn unread(slice: &Slice, vehicle: &Vehicle, at: Moment) -> Option<Entry>
+pub fn unread(slice: &Slice, vehicle: &Vehicle, at: Moment) -> Option<QueueEntry>
     ensures { result ≡ unread_turn at vehicle.now
         (turn_ahead slice.now.division slice.now.rows vehicle.now) }
 {
     let turn = turn_ahead(slice, vehicle)?;
     let needs_eye = turn.acknowledged.is_none() && age(at, turn.ordered) > UNREAD_AFTER;
-    needs_eye.then_some(Entry {
+    needs_eye.then_some(QueueEntry {
         rank: 2,
         since: turn.ordered,
         number: turn.incident.get(),
@@ -62,14 +63,14 @@ pub fn unread(slice: &Slice, vehicle: &Vehicle, at: Moment) -> Option<Entry>
 /// 3: a vehicle that is on its way for longer than the incident's class allows. It is the class of
 /// now, and the age of the incident, whenever the vehicle was sent.
 #[tactic(auto, unfolding(room_model::specs::Queries::incident_of))]
-pub fn slow(slice: &Slice, vehicle: &Vehicle, at: Moment) -> Option<Entry>
-    ensures { result ≡ slow_turn slice.now.division at (room slice.now.rows) vehicle.now
+pub fn slow(slice: &Slice, vehicle: &Vehicle, at: Moment) -> Option<QueueEntry>
+    ensures { result ≡ slow_turn slice.now.division at (unplanned slice.now.rows) vehicle.now
         (turn_ahead slice.now.division slice.now.rows vehicle.now) }
 {
     let turn = turn_ahead(slice, vehicle)?;
     let incident = slice.rows.incidents.get(&(slice.division, turn.incident))?;
     let needs_eye = age(at, incident.opened) > scene_limit(incident.class);
-    needs_eye.then_some(Entry {
+    needs_eye.then_some(QueueEntry {
         rank: 3,
         since: incident.opened,
         number: incident.number.get(),
@@ -88,11 +89,11 @@ fn turn_ahead<'a>(slice: &'a Slice, vehicle: &Vehicle) -> Option<&'a Turn>
 }
 
 /// 4: a report out of turn that nobody has seen to.
-pub fn exception(slice: &Slice, report: &Report) -> Option<Entry>
+pub fn exception(slice: &Slice, report: &Report) -> Option<QueueEntry>
     ensures { result ≡ exception slice.now.division report.now }
 {
-    let needs_eye = report.owned_by(slice.division) && is_exception(report);
-    needs_eye.then_some(Entry {
+    let needs_eye = report.owned_by(slice.division) && report.is_exception();
+    needs_eye.then_some(QueueEntry {
         rank: 4,
         since: report.at,
         number: report.number.get(),
@@ -101,12 +102,12 @@ pub fn exception(slice: &Slice, report: &Report) -> Option<Entry>
 }
 
 /// 5: a loan that is over, for its lender and its borrower.
-pub fn overdue(slice: &Slice, loan: &Loan, at: Moment) -> Option<Entry>
+pub fn overdue(slice: &Slice, loan: &Loan, at: Moment) -> Option<QueueEntry>
     ensures { result ≡ overdue slice.now.division at loan.now }
 {
     let needs_eye = loan.owned_by(slice.division) && loan.until < at;
     let other = other_party(loan.lender, loan.borrower, slice.division);
-    needs_eye.then_some(Entry {
+    needs_eye.then_some(QueueEntry {
         rank: 5,
         since: loan.until,
         number: other.get(),
@@ -115,13 +116,13 @@ pub fn overdue(slice: &Slice, loan: &Loan, at: Moment) -> Option<Entry>
 }
 
 /// 6: a vehicle that is on duty though its shift is over.
-pub fn shift_over(slice: &Slice, vehicle: &Vehicle, at: Moment) -> Option<Entry>
+pub fn shift_over(slice: &Slice, vehicle: &Vehicle, at: Moment) -> Option<QueueEntry>
     ensures { result ≡ shift_over slice.now.division at vehicle.now }
 {
     let needs_eye = vehicle.owned_by(slice.division)
         && !vehicle.status.is_off()
         && vehicle.shift_end <= at;
-    needs_eye.then_some(Entry {
+    needs_eye.then_some(QueueEntry {
         rank: 6,
         since: vehicle.shift_end,
         number: 0,
@@ -130,12 +131,12 @@ pub fn shift_over(slice: &Slice, vehicle: &Vehicle, at: Moment) -> Option<Entry>
 }
 
 /// 7: a standby point that fewer vehicles hold than it needs.
-pub fn uncovered(slice: &Slice, point: &Point, at: Moment) -> Option<Entry>
+pub fn uncovered(slice: &Slice, point: &Point, at: Moment) -> Option<QueueEntry>
     ensures { result ≡ uncovered_seen slice.now.division at slice.now.rows point.now }
 {
     let held = cover(slice, point.number, at)?;
     let needs_eye = point.owned_by(slice.division) && held < point.cover.get() as usize;
-    needs_eye.then_some(Entry {
+    needs_eye.then_some(QueueEntry {
         rank: 7,
         since: Moment::of(0),
         number: point.number.get(),
@@ -144,12 +145,12 @@ pub fn uncovered(slice: &Slice, point: &Point, at: Moment) -> Option<Entry>
 }
 
 /// 8: an offer that nobody answers, for its lender and its borrower.
-pub fn unanswered(slice: &Slice, offer: &Offer, at: Moment) -> Option<Entry>
+pub fn unanswered(slice: &Slice, offer: &Offer, at: Moment) -> Option<QueueEntry>
     ensures { result ≡ unanswered slice.now.division at offer.now }
 {
     let needs_eye = offer.owned_by(slice.division) && age(at, offer.since) > UNANSWERED_AFTER;
     let other = other_party(offer.lender, offer.borrower, slice.division);
-    needs_eye.then_some(Entry {
+    needs_eye.then_some(QueueEntry {
         rank: 8,
         since: offer.since,
         number: other.get(),

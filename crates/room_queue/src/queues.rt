@@ -3,7 +3,7 @@ ghost use Rattle.std.specs.Prelude.{◌≡◌, ◌++◌, List, [], IfErr, IfOk, 
 ghost use Rattle.std.specs.List.{cons_option};
 ghost use Rattle.room_place.specs.declared.plans.Area.{Area};
 ghost use Rattle.room_types.specs.declared.answers.Answer.TheVariants.{Queue};
-ghost use Rattle.room_types.specs.declared.answers.Entry.{Entry};
+ghost use Rattle.room_types.specs.declared.answers.QueueEntry.{QueueEntry};
 ghost use Rattle.room_types.specs.declared.refusal_statuses.Refusal.TheVariants.{Memory};
 ghost use Rattle.room_model.specs.Decisions.{Decides};
 ghost use Rattle.room_model.specs.Queue.{IsQueueOf, entries, show_queue};
@@ -13,7 +13,7 @@ ghost use Rattle.room_queue.specs.ServedIncidents.{AreServed};
 
 use crate::queue_entries;
 use crate::served_incidents::{Served, gather};
-use room_types::answers::{Answer, Entry, Listed};
+use room_types::answers::{Answer, Listed, QueueEntry};
 use room_types::decisions::Decision;
 use room_types::numbers::Moment;
 use room_types::refusal_statuses::Refusal;
@@ -28,7 +28,7 @@ pub fn queue(alloc: Global, slice: &Slice, at: Moment) -> Result<Decision, Refus
     ensures decides { (plan : List Area) → Decides
         (show_queue slice.now.division at (room_of plan slice.now.rows)) result }
     // Strictly in order, and exactly the entries that hold.
-    ensures entries { IfOk result (λ x. (plan : List Area) (queue : List Entry)
+    ensures entries { IfOk result (λ x. (plan : List Area) (queue : List QueueEntry)
         → x.answer ≡ Queue queue
         → IsQueueOf (entries slice.now.division at (room_of plan slice.now.rows)) queue) }
 {
@@ -36,7 +36,7 @@ pub fn queue(alloc: Global, slice: &Slice, at: Moment) -> Result<Decision, Refus
     Ok(Decision::show(alloc, Answer::Queue(queue)))
 }
 
-fn ordered_entries(alloc: Global, slice: &Slice, at: Moment) -> Result<Listed<Entry>, Refusal>
+fn ordered_entries(alloc: Global, slice: &Slice, at: Moment) -> Result<Listed<QueueEntry>, Refusal>
     ensures entries { IfOk result (λ queue. (plan : List Area)
         → IsQueueOf (entries slice.now.division at (room_of plan slice.now.rows)) queue) }
     ensures memory { IfErr result (λ refusal. refusal ≡ Memory) }
@@ -53,7 +53,7 @@ fn seen(
     slice: &Slice,
     served: &Rows<Served>,
     at: Moment,
-) -> Result<Vec<Entry>, AllocError>
+) -> Result<Vec<QueueEntry>, AllocError>
     requires { AreServed slice.now.division slice.now.rows.turns served.now }
     ensures { IfOk result (λ seen. (plan : List Area)
         → seen.items ≡ entries slice.now.division at (room_of plan slice.now.rows)) }
@@ -70,7 +70,7 @@ fn seen(
 
 // Ranks 1 to 4: of incidents, of the orders for them, and of reports.
 fn push_sent(
-    seen: &mut Vec<Entry>,
+    seen: &mut Vec<QueueEntry>,
     slice: &Slice,
     served: &Rows<Served>,
     at: Moment,
@@ -96,7 +96,7 @@ fn push_sent(
 }
 
 // Ranks 5 to 8: of loans, shifts, points and offers.
-fn push_held(seen: &mut Vec<Entry>, slice: &Slice, at: Moment) -> Result<(), AllocError>
+fn push_held(seen: &mut Vec<QueueEntry>, slice: &Slice, at: Moment) -> Result<(), AllocError>
     ensures { OnOk result
         (seen.new.items ≡ with_held slice.now.division at slice.now.rows seen.old.items) }
 {
@@ -126,14 +126,14 @@ fn push_entry<E: Copy>(seen: &mut Vec<E>, entry: Option<E>) -> Result<(), AllocE
 }
 
 // Puts the entries in order, those alike once.
-fn sort(entries: &mut Vec<Entry>)
+fn sort(entries: &mut Vec<QueueEntry>)
     ensures { IsQueueOf entries.old.items entries.new.items }
 {
     entries.sort_unstable();
     entries.dedup();
 }
 
-fn listed(alloc: Global, entries: &[Entry]) -> Result<Listed<Entry>, Refusal>
+fn listed(alloc: Global, entries: &[QueueEntry]) -> Result<Listed<QueueEntry>, Refusal>
     ensures ok { IfOk result (λ listed. listed ≡ entries.now) }
     ensures memory { IfErr result (λ refusal. refusal ≡ Memory) }
 {

@@ -1,6 +1,6 @@
 //! The incidents that some vehicle serves, by number, so that the turns are gone over once.
 ghost use Rattle.std.specs.Prelude.{◌≡◌, true, IfErr, IfOk};
-ghost use Rattle.room_types.specs.Orders.{exact_number};
+ghost use Rattle.room_types.specs.KeyLemmas.{exact_number};
 ghost use Rattle.room_types.specs.declared.refusal_statuses.Refusal.TheVariants.{Memory};
 ghost use Rattle.room_queue.specs.ServedIncidents.{AreServed, number_of, serves};
 

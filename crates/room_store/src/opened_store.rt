@@ -12,7 +12,7 @@ ghost use Rattle.room_store_file.specs.OpenedFile.{IsOldRoom, KeepsFile, MayBeIn
 ghost use Rattle.room_store_check_tables.specs.HeldRooms.{HoldsRoom, WritesNothing};
 ghost use Rattle.room_store_file.specs.declared.opened_file.OpenFault.TheVariants.{
   NotARoom,
-  OldRoom,
+  OtherVersion,
 };
 ghost use Rattle.room_tables_schema.specs.FileConnections.{IsClean};
 
@@ -44,14 +44,14 @@ impl<S: Alter> Store<S> {
         ensures not_old { IfOk result (λ store. IsClean S.Store store.conn
             → ¬ IsOldRoom (state S.Store conn).now) }
         ensures old_room { IfErr result (λ e. IsClean S.Store e.1
-            → (e.0 ≡ OldRoom → IsOldRoom (state S.Store conn).now)
+            → (e.0 ≡ OtherVersion → IsOldRoom (state S.Store conn).now)
             × (e.0 ≡ NotARoom → ¬ IsOldRoom (state S.Store conn).now)) }
         ensures no_room { IfErr result (λ e. IsClean S.Store e.1 → e.0 ≡ NotARoom
             → HasTables (state S.Store conn).now.schema
             → ¬ HoldsRoom (state S.Store conn).now.trees) }
         ensures same_fault { IfErr result (λ e. IsClean S.Store e.1
             → Leaves (state S.Store conn) (state S.Store e.1)) }
-        ensures untouched { IfErr result (λ e. (e.0 ≡ OldRoom) ⊎ (e.0 ≡ NotARoom)
+        ensures untouched { IfErr result (λ e. (e.0 ≡ OtherVersion) ⊎ (e.0 ≡ NotARoom)
             → WritesNothing (state S.Store conn) (state S.Store e.1)) }
         ensures ended { IfErr result (λ e. e.1.in_transaction ≡ false) }
         ensures survives { IfOk result (λ store.

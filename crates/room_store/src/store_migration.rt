@@ -12,16 +12,17 @@ ghost use Rattle.room_store_writes.specs.Configurations.{config_of};
 ghost use Rattle.room_store_writes.specs.Transactions.{Leaves};
 ghost use Rattle.room_store_file.specs.OpenedFile.{HoldsFirstRoom, IsNewRoom, IsOldRoom, MayBeMoved};
 ghost use Rattle.room_store_check_tables.specs.HeldRooms.{WritesNothing};
-ghost use Rattle.room_store_file.specs.declared.migrated_file.MigrateFault.TheVariants.{
+ghost use Rattle.room_store_file.specs.declared.opened_file.OpenFault.TheVariants.{
   NotARoom,
-  NotOld,
+  OtherVersion,
 };
 ghost use Rattle.room_tables_schema.specs.FileConnections.{IsClean};
 
 use crate::store::Store;
 use room_store_cache::cache::Cache;
 use room_store_cache::known_terminals::Terminals;
-use room_store_file::migrated_file::{MigrateFault, migrate_in};
+use room_store_file::migrated_file::migrate_in;
+use room_store_file::opened_file::OpenFault;
 use sqlite::{Alter, Connection};
 use std::alloc::Global;
 
@@ -33,7 +34,7 @@ impl<S: Alter> Store<S> {
     pub fn migrate(
         alloc: Global,
         mut conn: Connection<S>,
-    ) -> Result<Store<S>, (MigrateFault, Connection<S>)>
+    ) -> Result<Store<S>, (OpenFault, Connection<S>)>
         requires outside { conn.in_transaction ≡ false }
         ensures ready { IfOk result (IsReady S.Store) }
         ensures room { IfOk result (λ store. IsClean S.Store store.conn
@@ -48,14 +49,14 @@ impl<S: Alter> Store<S> {
         ensures old_room { IfOk result (λ store. IsClean S.Store store.conn
             → IsOldRoom (state S.Store conn).now) }
         ensures not_old { IfErr result (λ e. IsClean S.Store e.1
-            → (e.0 ≡ NotOld → IsNewRoom (state S.Store conn).now)
+            → (e.0 ≡ OtherVersion → IsNewRoom (state S.Store conn).now)
             × (e.0 ≡ NotARoom → ¬ IsNewRoom (state S.Store conn).now)) }
         ensures no_room { IfErr result (λ e. IsClean S.Store e.1 → e.0 ≡ NotARoom
             → HasFirstTables (state S.Store conn).now.schema
             → ¬ HoldsFirstRoom (state S.Store conn).now.trees) }
         ensures same_fault { IfErr result (λ e. IsClean S.Store e.1
             → Leaves (state S.Store conn) (state S.Store e.1)) }
-        ensures untouched { IfErr result (λ e. (e.0 ≡ NotOld) ⊎ (e.0 ≡ NotARoom)
+        ensures untouched { IfErr result (λ e. (e.0 ≡ OtherVersion) ⊎ (e.0 ≡ NotARoom)
             → WritesNothing (state S.Store conn) (state S.Store e.1)) }
         ensures ended { IfErr result (λ e. e.1.in_transaction ≡ false) }
         // What a stop may leave is what it could before, or the room of this version.

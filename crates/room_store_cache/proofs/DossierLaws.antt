@@ -7,7 +7,7 @@ use Rattle.room_tables_schema.proofs.Comparisons.{is_eq-then}
 use Rattle.room_types.proofs.KeyedLaws.{row_put}
 use Rattle.room_types.specs.KeyedRows.{drop_row, put_row}
 use Rattle.room_types.specs.Keys.{incident_key, numbered_cmp, pair_cmp, turn_key}
-use Rattle.room_types.specs.Orders.{numbered_total, pairs_total}
+use Rattle.room_types.specs.KeyLemmas.{numbered_total, pairs_total}
 use Rattle.room_types.specs.declared.changes.Change.TheVariants.{PutIncident, PutTurn}
 use Rattle.room_types.specs.declared.tables.Incident.{Incident}
 use Rattle.room_types.specs.declared.tables.Turn.{Turn}

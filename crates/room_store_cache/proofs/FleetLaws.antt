@@ -7,7 +7,7 @@ use Rattle.std.specs.Prelude.{IfSome}
 use Rattle.room_types.proofs.KeyedLaws.{row_drop_other, row_drop_same, row_put}
 use Rattle.room_types.specs.KeyedRows.{IsKeyed, drop_row, put_row, row_at}
 use Rattle.room_types.specs.Keys.{numbered_cmp, turn_key}
-use Rattle.room_types.specs.Orders.{exact_numbered, numbered_total}
+use Rattle.room_types.specs.KeyLemmas.{exact_numbered, numbered_total}
 use Rattle.room_types.specs.Texts.{Callsign}
 use Rattle.room_types.specs.declared.changes.Change.TheVariants.{PutTurn}
 use Rattle.room_types.specs.declared.tables.Turn.{Turn}

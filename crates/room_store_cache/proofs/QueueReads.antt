@@ -8,7 +8,7 @@ use Rattle.room_types.proofs.KeyedLaws.{row_below}
 use Rattle.room_types.specs.KeyedRows.{IsBelowAll, IsKeyed, keep, row_at}
 use Rattle.room_types.specs.Codes.{is_active}
 use Rattle.room_types.specs.Keys.{incident_key, pair_cmp}
-use Rattle.room_types.specs.Orders.{exact_pair, pairs_total}
+use Rattle.room_types.specs.KeyLemmas.{exact_pair, pairs_total}
 use Rattle.room_types.specs.declared.asks.Ask.TheVariants.{Queue}
 use Rattle.room_types.specs.declared.tables.Incident.{Incident}
 use Rattle.room_model.proofs.Tests.{is_equal, or_left, or_right}

@@ -6,7 +6,7 @@ use Rattle.std.specs.Prelude.{OnErr, OnOk, filter, int_le, nat_le, pos, ◌==◌
 use Rattle.std.specs.Result.{is_err}
 use Rattle.room_types.specs.KeyedRows.{IsKeyed, drop_row, put_row}
 use Rattle.room_types.specs.Keys.{incident_key, pair_cmp}
-use Rattle.room_types.specs.Orders.{pairs_total}
+use Rattle.room_types.specs.KeyLemmas.{pairs_total}
 use Rattle.room_types.specs.declared.asks.Ask.TheVariants.{Call}
 use Rattle.room_types.specs.declared.asks.CallForm.{CallForm}
 use Rattle.room_types.specs.declared.tables.Incident.{Incident}

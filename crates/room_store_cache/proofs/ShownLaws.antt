@@ -7,7 +7,7 @@ use Rattle.room_types.proofs.KeyedLaws.{row_filter}
 use Rattle.room_types.specs.KeyedRows.{IsKeyed, keep, row_at}
 use Rattle.room_types.specs.Codes.{is_active}
 use Rattle.room_types.specs.Keys.{incident_key, owns_call, owns_incident, owns_turn, pair_cmp}
-use Rattle.room_types.specs.Orders.{exact_pair, pairs_total}
+use Rattle.room_types.specs.KeyLemmas.{exact_pair, pairs_total}
 use Rattle.room_types.specs.declared.asks.Ask.TheVariants as ask
 use Rattle.room_types.specs.declared.tables.Incident.{Incident}
 use Rattle.room_model.proofs.Tests.{row_key}

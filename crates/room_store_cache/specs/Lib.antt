@@ -1,7 +1,7 @@
 -- which incidents are known
 pub mod RecentIncidents
--- the keys of entries distinguish them
-pub mod EntryKeys
+-- lemmas: the keys of entries distinguish them
+pub mod EntryLemmas
 -- which queue views are of a room
 pub mod QueueViews
 -- which incident views are of a room

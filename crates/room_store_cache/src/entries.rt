@@ -9,7 +9,7 @@ use room_types::changes::Change;
 use std::alloc::Global;
 
 // How many entries are kept: one more takes the place of the one that was kept first.
-const MOST: usize = 64;
+const MOST_ENTRIES: usize = 64;
 
 /// What is known under a key.
 ///
@@ -92,7 +92,7 @@ impl<E: Entry> Entries<E> {
             → All (λ x. E.key_of x ≢ key) self.new.kept.items }
         ensures fewer { vec_len self.new.kept < 64 }
     {
-        if self.kept.len() == MOST {
+        if self.kept.len() == MOST_ENTRIES {
             drop(self.kept.remove(0));
         }
     }

@@ -6,7 +6,7 @@ ghost use Rattle.room_model.specs.Room.{IsInOrder, Room};
 ghost use Rattle.room_model.specs.RoomSlices.{room_of};
 ghost use Rattle.room_model.specs.WorkingRows.{reads_number, working};
 ghost use Rattle.room_tables_schema.specs.declared.database_faults.Fault.TheVariants.{Memory};
-ghost use Rattle.room_store_cache.specs.EntryKeys.{exact_pair};
+ghost use Rattle.room_store_cache.specs.EntryLemmas.{exact_pair};
 ghost use Rattle.room_store_cache.specs.IncidentViews.{AreIncidentViewsOf, IsIncidentViewOf};
 
 use crate::cached_rows::{put, put_if};
@@ -20,7 +20,7 @@ use room_types::slices::DivisionRows;
 use room_types::tables::{Incident, Turn};
 use std::alloc::Global;
 
-// How many incidents that a queue shows are kept with their turns: where more wait, none is.
+// At most so many incidents of a queue are kept with their turns; of a longer queue none is.
 const MOST_SHOWN: usize = 32;
 
 /// What a division has under an incident's number: the incident, if there is one, and its turns.

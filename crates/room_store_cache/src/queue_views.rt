@@ -5,15 +5,14 @@ ghost use Rattle.room_model.specs.Room.{Room};
 ghost use Rattle.room_model.specs.RoomSlices.{room_of};
 ghost use Rattle.room_model.specs.WorkingRows.{working};
 ghost use Rattle.room_tables_schema.specs.declared.database_faults.Fault.TheVariants.{Memory};
-ghost use Rattle.room_store_cache.specs.EntryKeys.{exact_number};
-ghost use Rattle.room_store_cache.specs.QueueViews.{AreQueueViewsOf, IsQueueViewOf, is_exception, is_waiting};
+ghost use Rattle.room_store_cache.specs.EntryLemmas.{exact_number};
+ghost use Rattle.room_store_cache.specs.QueueViews.{AreQueueViewsOf, IsQueueViewOf, is_own_exception, is_waiting};
 
 use crate::cached_rows::{own_rows, put_if};
 use crate::entries::{Entries, Entry};
 use room_place::plans::DivisionNumber;
 use room_tables_schema::database_faults::Fault;
 use room_types::changes::Change;
-use room_types::codes::Outcome;
 use room_types::rows::Rows;
 use room_types::slices::DivisionRows;
 use room_types::tables::{Incident, Report};
@@ -64,7 +63,7 @@ impl Entry for QueueView {
                 put_if(is_shown, &mut self.incidents, incident)
             }
             Change::PutReport(report) => {
-                let is_shown = is_exception(self.division, report);
+                let is_shown = is_own_exception(self.division, report);
                 put_if(is_shown, &mut self.exceptions, report)
             }
             _ => Ok(()),
@@ -99,9 +98,9 @@ fn is_waiting(division: DivisionNumber, incident: &Incident) -> bool
     incident.division == division && incident.state.is_active()
 }
 
-// Whether a report is the division's, out of turn and not cleared.
-fn is_exception(division: DivisionNumber, report: &Report) -> bool
-    ensures { result ≡ is_exception division report.now }
+// Whether a report is the division's, and an exception.
+fn is_own_exception(division: DivisionNumber, report: &Report) -> bool
+    ensures { result ≡ is_own_exception division report.now }
 {
-    report.division == division && !matches!(report.outcome, Outcome::Normal) && !report.cleared
+    report.division == division && report.is_exception()
 }

@@ -5,7 +5,7 @@ ghost use Rattle.room_model.specs.Room.{IsInOrder, Room};
 ghost use Rattle.room_model.specs.RoomSlices.{room_of};
 ghost use Rattle.room_model.specs.WorkingRows.{working};
 ghost use Rattle.room_tables_schema.specs.declared.database_faults.Fault.TheVariants.{Memory};
-ghost use Rattle.room_store_cache.specs.EntryKeys.{exact_number};
+ghost use Rattle.room_store_cache.specs.EntryLemmas.{exact_number};
 ghost use Rattle.room_store_cache.specs.ShownLists.{AreShownListsOf, IsShownListOf, has, is_among};
 
 use crate::cached_rows::{own_rows, put_if};

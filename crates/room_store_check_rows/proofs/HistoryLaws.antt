@@ -11,7 +11,7 @@ use Rattle.room_place.specs.Plans.{Layout}
 use Rattle.room_place.specs.declared.plans.Area.{Area}
 use Rattle.room_types.specs.Codes.{is_busy}
 use Rattle.room_types.specs.Keys.{callsign_cmp, numbered_cmp, report_key, turn_key, vehicle_key}
-use Rattle.room_types.specs.Orders.{callsigns_total, exact_numbered, numbered_total}
+use Rattle.room_types.specs.KeyLemmas.{callsigns_total, exact_numbered, numbered_total}
 use Rattle.room_types.specs.declared.slices.DivisionRows.{DivisionRows}
 use Rattle.room_types.specs.declared.tables.Report.{Report}
 use Rattle.room_types.specs.declared.tables.Turn.{Turn}
@@ -29,7 +29,7 @@ use Rattle.room_store_check_rows.specs.FirstFaults.{standing_disagreement, turn_
 use Rattle.room_store_check_rows.specs.FirstFaults.{vehicle_disagreement}
 use Rattle.room_store_check_rows.specs.RowTests.{has_last_report, has_open_turn, is_open}
 use Rattle.room_store_check_rows.specs.declared.disagreements.Disagreement.{Disagreement}
-use Rattle.room_store_check_rows.specs.HistoryChecks.{AreOpenings, has_last_number, histories_fit, is_last, kept}
+use Rattle.room_store_check_rows.specs.HistoryChecks.{AreOpenings, histories_fit, is_last, is_last_report, kept}
 use Rattle.room_store_check_rows.specs.HistoryChecks.{kept_disagreement}
 use Rattle.room_store_check_rows.proofs.FaultLaws.{first_alike, none_detected}
 use Rattle.room_store_check_rows.proofs.OpeningLaws.{uncalled_unopened}
@@ -51,9 +51,9 @@ last_kept : (vehicles : List Vehicle) (v : Vehicle) (o : Option Report)
 last_kept vehicles v None there named = refl
 last_kept vehicles v (Some x) there named =
     ap (λ b. is_some (cond b (Some x) None))
-    (ap (λ c. has_last_number x (row_at callsign_cmp vehicle_key vehicles c)) (ap (λ k. k.0) named)
-    ∙ ap (has_last_number x) there
-    ∙ eq-eqb x.number v.last_report (ap (λ k. k.1) named))
+    (ap (λ c. is_last_report x.number (row_at callsign_cmp vehicle_key vehicles c)) (ap (λ k. k.0) named)
+    ∙ ap (is_last_report x.number) there
+    ∙ eq-eqb v.last_report x.number (sym (ap (λ k. k.1) named)))
 
 module _ (plan : List Area) (s : DivisionRows) (o : IsInOrder (room_of plan s)) where
   turn_kept : (v : Vehicle) → has_open_turn (kept s) v ≡ has_open_turn s v

@@ -22,8 +22,10 @@ use Rattle.room_types.specs.declared.tables.Vehicle.{Vehicle}
 use Rattle.room_types.proofs.SentLaws.{itself}
 use Rattle.room_model.specs.Room.{IsInOrder, Room}
 use Rattle.room_model.specs.RoomSlices.{room_of}
-use Rattle.room_model.specs.RoomAgreements.{AreInPlan, AssignmentAgrees, CallAgrees, IsWellFormed, LastAgrees, LoanAgrees}
-use Rattle.room_model.specs.RoomAgreements.{NumberAgrees, OfferAgrees, OpenAgrees, OpenedAgrees, PostAgrees, ReportAgrees}
+use Rattle.room_model.specs.RoomAgreements.{AreInPlan, AssignmentAgrees, CallAgrees, IsWellFormed, LastAgrees}
+use Rattle.room_model.specs.RoomAgreements.{LoanAgrees}
+use Rattle.room_model.specs.RoomAgreements.{NumberAgrees, OfferAgrees, OpenAgrees, OpenedAgrees, PostAgrees}
+use Rattle.room_model.specs.RoomAgreements.{ReportAgrees}
 use Rattle.room_model.specs.RoomAgreements.{SameIncident, TurnAgrees, TurnIsActive}
 use Rattle.room_model.proofs.Tests.{both_true, or_right}
 use Rattle.room_store_check_rows.specs.RowTests.{is_open, is_opened, report_at, rows_fit}

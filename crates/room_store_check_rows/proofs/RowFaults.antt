@@ -38,7 +38,8 @@ use Rattle.room_store_check_rows.specs.FirstFaults.{rows_disagreement, turn_faul
 use Rattle.room_store_check_rows.specs.RowTests.{assignment_fits, call_fits, divisions_fit, fleet_fits, has_last_report}
 use Rattle.room_store_check_rows.specs.RowTests.{has_open_turn, has_post, has_row, has_vehicle, incident_fits}
 use Rattle.room_store_check_rows.specs.RowTests.{is_as_assigned, is_given, is_in_turn, is_numbered, is_of, is_open}
-use Rattle.room_store_check_rows.specs.RowTests.{is_opened, is_over, loan_at, loan_fits, offer_at, offer_fits, open_fits}
+use Rattle.room_store_check_rows.specs.RowTests.{is_opened, is_over, loan_at, loan_fits, offer_at, offer_fits}
+use Rattle.room_store_check_rows.specs.RowTests.{open_fits}
 use Rattle.room_store_check_rows.specs.RowTests.{report_fits, rows_fit, turn_fits, vehicle_fits}
 use Rattle.room_store_check_rows.specs.Disagreements.{HasRow, IsCallFault, IsIncidentFault, IsOddly, IsOfNone, IsOpen}
 use Rattle.room_store_check_rows.specs.Disagreements.{Detects, IsReportFault, IsTurnFault, IsVehicleFault, IsWrong}

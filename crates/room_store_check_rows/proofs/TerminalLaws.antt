@@ -10,7 +10,7 @@ use Rattle.std.proofs.lemmas.Map.Views.{btree_set_len-from_list}
 use Rattle.room_place.specs.declared.plans.Area.{Area}
 use Rattle.room_types.specs.KeyedRows.{IsKeyed}
 use Rattle.room_types.specs.Keys.{callsign_cmp, vehicle_key}
-use Rattle.room_types.specs.Orders.{callsigns_total, exact_callsigns}
+use Rattle.room_types.specs.KeyLemmas.{callsigns_total, exact_callsigns}
 use Rattle.room_types.specs.Slices.{vehicle_at}
 use Rattle.room_types.specs.Texts.{Callsign, Token}
 use Rattle.room_types.specs.declared.asks.Who.TheVariants.{Crew, Desk, Position}

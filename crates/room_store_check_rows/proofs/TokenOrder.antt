@@ -8,7 +8,7 @@ use Rattle.std.proofs.Common.{Bool, List, [], add-one, ap, arith, false, get_or,
 use Rattle.std.proofs.Common.{zero, ℕ, ◌+◌, ◌<◌, ◌∙◌, ◌∷◌, ◌≡◌}
 use Rattle.std.proofs.lemmas.Bool.{false≢true}
 use Rattle.room_types.specs.KeyedRows.{IsKeyed}
-use Rattle.room_types.specs.Orders.{callsigns_total}
+use Rattle.room_types.specs.KeyLemmas.{callsigns_total}
 use Rattle.room_types.specs.declared.fleet.Terminal.{Terminal}
 use Rattle.room_types.proofs.KeyedLaws.{below_from_less}
 use Rattle.room_model.specs.FleetRows.{terminal_key, token_cmp}

@@ -15,7 +15,8 @@ use Rattle.room_types.specs.declared.tables.Turn.{Turn}
 use Rattle.room_types.specs.declared.tables.Vehicle.{Vehicle}
 use Rattle.room_model.specs.Room.{Room}
 use Rattle.room_model.specs.RoomAgreements.{AssignmentAgrees, IsWellFormed, LastAgrees, LoanAgrees, NumberAgrees}
-use Rattle.room_model.specs.RoomAgreements.{OfferAgrees, OpenAgrees, OpenedAgrees, PostAgrees, ReportAgrees, SameIncident}
+use Rattle.room_model.specs.RoomAgreements.{OfferAgrees, OpenAgrees, OpenedAgrees, PostAgrees, ReportAgrees}
+use Rattle.room_model.specs.RoomAgreements.{SameIncident}
 use Rattle.room_model.specs.RoomAgreements.{TurnIsActive}
 use Rattle.room_store_check_rows.specs.declared.disagreements.CallFault.TheVariants as call
 use Rattle.room_store_check_rows.specs.declared.disagreements.CallFault.{CallFault}

@@ -17,13 +17,14 @@ use Rattle.room_store_check_rows.specs.FirstFaults.{turn_disagreement}
 use Rattle.room_store_check_rows.specs.RowTests.{opening_cmp, opening_of}
 use Rattle.room_store_check_rows.specs.declared.disagreements.Disagreement.{Disagreement}
 
-abbrev pub has_last_number : Report → Option Vehicle → Bool
-has_last_number x None = false
-has_last_number x (Some v) = x.number == v.last_report
+-- the number is that of the vehicle's last report
+abbrev pub is_last_report : ℕ → Option Vehicle → Bool
+is_last_report n None = false
+is_last_report n (Some v) = v.last_report == n
 
 -- the report is the last of its vehicle
 abbrev pub is_last : List Vehicle → Report → Bool
-is_last vehicles x = has_last_number x (row_at callsign_cmp vehicle_key vehicles x.callsign)
+is_last vehicles x = is_last_report x.number (row_at callsign_cmp vehicle_key vehicles x.callsign)
 
 -- What the rest of a room is judged by: of turns those that are open, of reports the last of each
 -- vehicle, of calls none.

@@ -1,7 +1,7 @@
 -- How much a room has.
-use Rattle.std.specs.Prelude.{List, [], cond, filter, is_none, length, map, nat_lt, not, ℕ, ◌&&◌, ◌∷◌}
+use Rattle.std.specs.Prelude.{List, [], cond, filter, is_none, length, map, nat_lt, ℕ, ◌∷◌}
 use Rattle.room_place.specs.declared.plans.Area.{Area}
-use Rattle.room_types.specs.Codes.{is_active, is_normal}
+use Rattle.room_types.specs.Codes.{is_active, is_exception}
 use Rattle.room_types.specs.declared.fleet.Terminal.{Terminal}
 use Rattle.room_types.specs.declared.slices.DivisionRows.{DivisionRows}
 use Rattle.room_store_check_rows.specs.declared.summaries.Summary.{Summary}
@@ -33,6 +33,6 @@ summary_of plan s ts = record {
   loans = length s.loans;
   offers = length s.offers;
   reports = length s.reports;
-  uncleared = length (filter (λ x. not (is_normal x.outcome) && not x.cleared) s.reports);
+  uncleared = length (filter is_exception s.reports);
   newest = newest s;
 }

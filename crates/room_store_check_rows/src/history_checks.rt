@@ -7,7 +7,7 @@ ghost use Rattle.room_model.specs.RoomAgreements.{IsWellFormed};
 ghost use Rattle.room_types.specs.declared.slices.DivisionRows.{DivisionRows};
 ghost use Rattle.room_types.specs.declared.tables.Call.{Call as CallRow};
 ghost use Rattle.room_store_check_rows.specs.RowTests.{opening_cmp};
-ghost use Rattle.room_store_check_rows.specs.HistoryChecks.{AreOpenings, has_last_number, histories_fit, is_last, kept, kept_disagreement};
+ghost use Rattle.room_store_check_rows.specs.HistoryChecks.{AreOpenings, histories_fit, is_last, is_last_report, kept, kept_disagreement};
 
 use crate::disagreements::Disagreement;
 use crate::first_disagreement::{Judged, first_of};
@@ -74,14 +74,14 @@ pub fn agrees<R: Judged>(plan: &Plan, rows: &RoomRows, row: &R) -> bool
 pub fn is_last(report: &Report, vehicles: &Rows<Vehicle>) -> bool
     ensures { result ≡ is_last vehicles.now report.now }
 {
-    has_last_number(report, vehicles.get(&report.callsign))
+    is_last_report(report.number, vehicles.get(&report.callsign))
 }
 
-fn has_last_number(report: &Report, vehicle: Option<&Vehicle>) -> bool
-    ensures { result ≡ has_last_number report.now (option_copied vehicle.entry) }
+fn is_last_report(number: Number, vehicle: Option<&Vehicle>) -> bool
+    ensures { result ≡ is_last_report number (option_copied vehicle.entry) }
 {
     match vehicle {
-        Some(vehicle) => report.number.get() == vehicle.last_report.get(),
+        Some(vehicle) => vehicle.last_report.get() == number.get(),
         None => false,
     }
 }

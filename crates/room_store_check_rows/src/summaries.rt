@@ -1,11 +1,10 @@
 //! How much a room has.
-ghost use Rattle.std.specs.Prelude.{◌≡◌, ℕ, cond, filter, is_none, length, map, nat_lt, not, ◌&&◌};
-ghost use Rattle.room_types.specs.Codes.{is_active, is_normal};
+ghost use Rattle.std.specs.Prelude.{◌≡◌, ℕ, cond, filter, is_none, length, map, nat_lt};
+ghost use Rattle.room_types.specs.Codes.{is_active, is_exception};
 ghost use Rattle.room_store_check_rows.specs.Summaries.{latest, newest, summary_of};
 
 use crate::room_checks::RoomRows;
 use room_place::plans::Plan;
-use room_types::codes::Outcome;
 use room_types::fleet::Terminal;
 use room_types::numbers::Moment;
 use room_types::tables::{Call, Incident, Report, Turn};
@@ -75,16 +74,12 @@ fn count_open(turns: &[Turn]) -> usize
 }
 
 fn count_uncleared(reports: &[Report]) -> usize
-    ensures { result ≡ length
-        (filter (λ x. not (is_normal x.outcome) && not x.cleared) reports.now) }
+    ensures { result ≡ length (filter is_exception reports.now) }
 {
-    reports.iter().filter(|report| is_uncleared(report)).count()
-}
-
-fn is_uncleared(report: &Report) -> bool
-    ensures { let x = report.now in result ≡ (not (is_normal x.outcome) && not x.cleared) }
-{
-    !matches!(report.outcome, Outcome::Normal) && !report.cleared
+    reports
+        .iter()
+        .filter(|report| report.is_exception())
+        .count()
 }
 
 fn newest(rows: &RoomRows) -> Moment

@@ -25,16 +25,14 @@ use Rattle.room_tables_rows.proofs.Moves.{moved_from, moves}
 use Rattle.room_tables_rows.proofs.Version.{held_shown}
 use Rattle.room_tables.specs.Failures.{IfStorage}
 use Rattle.room_tables.specs.RoomsInTables.{Configuration, Stands}
-use Rattle.room_tables.specs.Writes.{Renews}
+use Rattle.room_tables.specs.Writes.{RaisesVersion}
 use Rattle.room_store_writes.specs.Transactions.{Leaves}
 use Rattle.room_store_file.proofs.FileLaws.{rows_kept}
 use Rattle.room_store_file.specs.OpeningCauses.{FailsAtEnd, FailsBy, FailsInside}
 use Rattle.room_store_file.specs.OpenedFile.{Becomes, HasNoPlanBy, HoldsBy, HoldsFirstRoom, IsMoved, IsRoomOf}
-use Rattle.room_store_file.specs.OpenedFile.{MayBecome, StandsBy, Takes, migrate_fault, open_fault, schema_of}
+use Rattle.room_store_file.specs.OpenedFile.{MayBecome, StandsBy, Takes, open_fault, schema_of}
 use Rattle.room_store_check_tables.proofs.Findings.{planless}
 use Rattle.room_store_check_tables.specs.HeldRooms.{Holds, HoldsRoom, take_fault}
-use Rattle.room_store_file.specs.declared.migrated_file.MigrateFault.{MigrateFault}
-use Rattle.room_store_file.specs.declared.migrated_file.MigrateFault.TheVariants as migrated
 use Rattle.room_store_file.specs.declared.opened_file.OpenFault.{OpenFault}
 use Rattle.room_store_file.specs.declared.opened_file.OpenFault.TheVariants as opened
 use Rattle.room_store_check_tables.specs.declared.file_faults.FileFault.{FileFault}
@@ -43,7 +41,7 @@ use Rattle.room_store_file.specs.declared.room_in_tables.Tables.{Tables}
 use Rattle.room_store_file.specs.declared.room_in_tables.Tables.TheVariants.{First, FirstUnindexed, Unindexed, Whole}
 
 -- the last table was made, and then the version recorded: a room of the first version is moved
-pub is_moved : (old : Trees) (mid new : State) → AddsLast old mid.now.trees → Renews mid new
+pub is_moved : (old : Trees) (mid new : State) → AddsLast old mid.now.trees → RaisesVersion mid new
     → IsMoved old new.now.trees
 is_moved old mid new adds renews =
     let only = renews.only.tables in
@@ -189,16 +187,9 @@ pub any_fault : {T E : Type 0} (r : Result T E) (P : E → Type 0) → ((e : E) 
 any_fault (Ok x) P p = tt
 any_fault (Err e) P p = p e
 
-pub none_moved : {T : Type 0} (r : Result T MigrateFault) (fault : Fault)
-    → IsErrAnd r (λ why. why ≡ migrate_fault (take_fault fault))
-    → IfErr r (λ e. (e ≢ migrated.NotOld) × (e ≢ migrated.NotARoom))
-none_moved (Ok x) fault is = tt
-none_moved (Err e) faults.Memory is = (λ old. cc, λ none. cc)
-none_moved (Err e) faults.Storage is = (λ old. cc, λ none. cc)
-
 pub none_opened : {T : Type 0} (r : Result T OpenFault) (fault : Fault)
     → IsErrAnd r (λ why. why ≡ open_fault (take_fault fault))
-    → IfErr r (λ e. (e ≢ opened.OldRoom) × (e ≢ opened.NotARoom))
+    → IfErr r (λ e. (e ≢ opened.OtherVersion) × (e ≢ opened.NotARoom))
 none_opened (Ok x) fault is = tt
 none_opened (Err e) faults.Memory is = (λ old. cc, λ none. cc)
 none_opened (Err e) faults.Storage is = (λ old. cc, λ none. cc)
@@ -281,14 +272,9 @@ storage_reported NotARoom is = cc
 storage_reported Memory is = cc
 storage_reported Storage is = refl
 
-pub moved_reported : (fault : FileFault) → migrate_fault fault ≡ migrated.NotARoom → fault ≡ NotARoom
-moved_reported NotARoom is = refl
-moved_reported Memory is = cc
-moved_reported Storage is = cc
-
 -- what recorded the version may be followed by more
 pub renewed_on : {S T E : Type 0} (g : Ghosts S) (a b : Held S) (r : Result T E)
-    → (IsClean g b → OnOk r (Renews (state g a) (state g b))) → OnOk r (MayWrite g b)
+    → (IsClean g b → OnOk r (RaisesVersion (state g a) (state g b))) → OnOk r (MayWrite g b)
 renewed_on g a b (Ok x) made =
     record { room = λ clean. (made clean).schema; inside = λ clean. (made clean).inside.mode }
 renewed_on g a b (Err e) made = tt

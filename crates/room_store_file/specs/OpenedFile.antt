@@ -23,8 +23,6 @@ use Rattle.room_tables.specs.MetaVersions.{IsOfVersion}
 use Rattle.room_store_writes.specs.Transactions.{IsSettled, Leaves}
 use Rattle.room_store_file.specs.declared.opened_file.OpenFault.{OpenFault}
 use Rattle.room_store_file.specs.declared.opened_file.OpenFault.TheVariants as opened
-use Rattle.room_store_file.specs.declared.migrated_file.MigrateFault.{MigrateFault}
-use Rattle.room_store_file.specs.declared.migrated_file.MigrateFault.TheVariants as migrated
 use Rattle.room_store_check_tables.specs.declared.file_faults.FileFault.{FileFault}
 use Rattle.room_store_check_tables.specs.declared.file_faults.FileFault.TheVariants.{Memory, NotARoom, Storage}
 use Rattle.room_store_file.specs.declared.room_in_tables.Tables.{Tables}
@@ -160,8 +158,3 @@ abbrev pub open_fault : FileFault → OpenFault
 open_fault NotARoom = opened.NotARoom
 open_fault Memory = opened.Memory
 open_fault Storage = opened.Storage
-
-abbrev pub migrate_fault : FileFault → MigrateFault
-migrate_fault NotARoom = migrated.NotARoom
-migrate_fault Memory = migrated.Memory
-migrate_fault Storage = migrated.Storage

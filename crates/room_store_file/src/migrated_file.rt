@@ -6,76 +6,27 @@ ghost use Rattle.room_tables_schema.specs.Versions.{HasFirstTables};
 ghost use Rattle.room_store_writes.specs.Transactions.{LeavesOnErr};
 ghost use Rattle.room_store_file.specs.OpenedFile.{HoldsFirstRoom, IsNewRoom, IsOldRoom, MayBeMoved, Moves, schema_of};
 ghost use Rattle.room_store_check_tables.specs.HeldRooms.{IsPlanOf, WritesNothing};
-ghost use Rattle.room_store_file.specs.declared.migrated_file.MigrateFault.TheVariants.{
+ghost use Rattle.room_store_file.specs.declared.opened_file.OpenFault.TheVariants.{
   NotARoom,
-  NotOld,
+  OtherVersion,
 };
 ghost use Rattle.room_store_file.specs.declared.room_in_tables.Tables.TheVariants.{First, FirstUnindexed};
 ghost use Rattle.room_tables_schema.specs.FileConnections.{IsClean};
 
-use crate::opened_file::is_room_of;
+use crate::opened_file::{OpenFault, is_room_of};
 use crate::room_in_tables::{Tables, read_room_in};
 use room_place::plans::Plan;
-use room_store_check_tables::file_faults::FileFault;
 use room_tables::connection_lemmas::lemma_committed;
 use room_tables_rows::meta_sql::{FIRST_VERSION, VERSION};
-use room_tables_schema::database_faults::Fault;
 use room_tables_schema::schema_tests::{has_only_first_tables, is_first};
 use sqlite::{Alter, Connection};
 use sqlite_schema::schema::Schema;
 use std::alloc::Global;
-use thiserror::Error;
-
-/// Why a file is not moved to this version. Of the first two, and of the last two, the first that
-/// holds is reported.
-#[derive(Clone, Copy, Debug, PartialEq, Eq, Error)]
-pub enum MigrateFault {
-    /// The file holds a room of this version already, well-formed or not.
-    #[error("the file is a room of this version")]
-    NotOld,
-    /// It has other tables than a room of the first version, or they stand for no well-formed room.
-    #[error("the file is no room of the first version")]
-    NotARoom,
-    /// Memory was refused; the same call may succeed later.
-    #[error("out of memory")]
-    Memory,
-    /// The database failed for another cause, or a row is not of its table.
-    #[error("the database failed")]
-    Storage,
-}
-
-impl From<Fault> for MigrateFault {
-    ghost use Rattle.room_store_file.specs.OpenedFile.{migrate_fault};
-    ghost use Rattle.room_store_check_tables.specs.HeldRooms.{take_fault};
-
-    ghost from_gives = { λ fault why. why ≡ migrate_fault (take_fault fault) };
-
-    fn from(fault: Fault) -> MigrateFault {
-        match fault {
-            Fault::Memory => MigrateFault::Memory,
-            Fault::Storage => MigrateFault::Storage,
-        }
-    }
-}
-
-impl From<FileFault> for MigrateFault {
-    ghost use Rattle.room_store_file.specs.OpenedFile.{migrate_fault};
-
-    ghost from_gives = { λ fault why. why ≡ migrate_fault fault };
-
-    fn from(fault: FileFault) -> MigrateFault {
-        match fault {
-            FileFault::NotARoom => MigrateFault::NotARoom,
-            FileFault::Memory => MigrateFault::Memory,
-            FileFault::Storage => MigrateFault::Storage,
-        }
-    }
-}
 
 /// The plan of the room that the file holds, which is of this version then. In one transaction the
 /// table of offers and the indexes are made, and the version is set; no other row changes. A fault
 /// leaves the file as it was.
-pub fn migrate_in<S: Alter>(alloc: Global, conn: &mut Connection<S>) -> Result<Plan, MigrateFault>
+pub fn migrate_in<S: Alter>(alloc: Global, conn: &mut Connection<S>) -> Result<Plan, OpenFault>
     requires outside { conn.old.in_transaction ≡ false }
     ensures room { IsClean S.Store conn.new
         → IfOk result (IsPlanOf (state S.Store conn.new).now.trees) }
@@ -85,35 +36,35 @@ pub fn migrate_in<S: Alter>(alloc: Global, conn: &mut Connection<S>) -> Result<P
         → OnOk result (IsOldRoom (state S.Store conn.old).now) }
     ensures leaves { LeavesOnErr S.Store conn.old conn.new result }
     ensures not_old { IsClean S.Store conn.new
-        → IfErr result (λ e. (e ≡ NotOld → IsNewRoom (state S.Store conn.old).now)
+        → IfErr result (λ e. (e ≡ OtherVersion → IsNewRoom (state S.Store conn.old).now)
         × (e ≡ NotARoom → ¬ IsNewRoom (state S.Store conn.old).now)) }
     ensures no_room { IsClean S.Store conn.new
         → IfErr result (λ e. e ≡ NotARoom → HasFirstTables (state S.Store conn.old).now.schema
         → ¬ HoldsFirstRoom (state S.Store conn.old).now.trees) }
-    ensures untouched { IfErr result (λ e. (e ≡ NotOld) ⊎ (e ≡ NotARoom)
+    ensures untouched { IfErr result (λ e. (e ≡ OtherVersion) ⊎ (e ≡ NotARoom)
         → WritesNothing (state S.Store conn.old) (state S.Store conn.new)) }
     ensures ended { conn.new.in_transaction ≡ false }
     ensures survives { Survives (state S.Store conn.old) (state S.Store conn.new)
         (MayBeMoved (state S.Store conn.old).now) }
 {
     if is_room_of(conn, VERSION)? {
-        return Err(MigrateFault::NotOld);
+        return Err(OpenFault::OtherVersion);
     }
     if !is_room_of(conn, FIRST_VERSION)? {
-        return Err(MigrateFault::NotARoom);
+        return Err(OpenFault::NotARoom);
     }
     move_tables(alloc, conn)
 }
 
 // The plan of the room that the file's tables hold, which are those of the first version.
-fn move_tables<S: Alter>(alloc: Global, conn: &mut Connection<S>) -> Result<Plan, MigrateFault>
+fn move_tables<S: Alter>(alloc: Global, conn: &mut Connection<S>) -> Result<Plan, OpenFault>
     requires outside { conn.old.in_transaction ≡ false }
     ensures room { IsClean S.Store conn.new
         → IfOk result (IsPlanOf (state S.Store conn.new).now.trees) }
     ensures moves { IsClean S.Store conn.new
         → OnOk result (Moves (state S.Store conn.old) (state S.Store conn.new)) }
     ensures leaves { LeavesOnErr S.Store conn.old conn.new result }
-    ensures is_old { IfErr result (λ e. e ≢ NotOld) }
+    ensures is_old { IfErr result (λ e. e ≢ OtherVersion) }
     ensures no_room { IsClean S.Store conn.new
         → IfErr result (λ e. e ≡ NotARoom → HasFirstTables (state S.Store conn.old).now.schema
         → ¬ HoldsFirstRoom (state S.Store conn.old).now.trees) }
@@ -125,11 +76,11 @@ fn move_tables<S: Alter>(alloc: Global, conn: &mut Connection<S>) -> Result<Plan
 {
     lemma_committed(conn);
     let Some(tables) = first_tables_of(conn.schema()) else {
-        return Err(MigrateFault::NotARoom);
+        return Err(OpenFault::NotARoom);
     };
     match read_room_in(alloc, conn, tables) {
         Ok(plan) => Ok(plan),
-        Err(fault) => Err(MigrateFault::from(fault)),
+        Err(fault) => Err(OpenFault::from(fault)),
     }
 }
 

@@ -11,7 +11,7 @@ ghost use Rattle.room_store_file.specs.OpenedFile.{HidesVersion, IsOldRoom, IsRo
 ghost use Rattle.room_store_check_tables.specs.HeldRooms.{HoldsRoom, IsPlanOf, WritesNothing};
 ghost use Rattle.room_store_file.specs.declared.opened_file.OpenFault.TheVariants.{
   NotARoom,
-  OldRoom,
+  OtherVersion,
   Storage,
 };
 ghost use Rattle.room_store_file.specs.declared.room_in_tables.Tables.TheVariants.{Unindexed, Whole};
@@ -30,13 +30,16 @@ use sqlite_schema::schema::Schema;
 use std::alloc::Global;
 use thiserror::Error;
 
-/// Why a file is not opened.
+/// Why a file is not opened, or not migrated. Of the first two, and of the last two, the first that
+/// holds is reported.
 #[derive(Clone, Copy, Debug, PartialEq, Eq, Error)]
 pub enum OpenFault {
-    /// The file holds a room of the version before this one, well-formed or not.
-    #[error("the file is a room of an older version")]
-    OldRoom,
-    /// A table is missing, or there is another, or the tables stand for no well-formed room.
+    /// The file holds a room of the version before this one; or of this one already, where it is to
+    /// be migrated. It may be well-formed or not.
+    #[error("the file is a room of the other version")]
+    OtherVersion,
+    /// A table of the version is missing, or there is another, or the tables stand for no
+    /// well-formed room.
     #[error("the file is no room")]
     NotARoom,
     /// Memory was refused; the same call may succeed later.
@@ -90,7 +93,7 @@ pub fn open_in<S: Alter>(alloc: Global, conn: &mut Connection<S>) -> Result<Plan
     ensures not_old { IsClean S.Store conn.new
         → OnOk result (¬ IsOldRoom (state S.Store conn.old).now) }
     ensures old_room { IsClean S.Store conn.new
-        → IfErr result (λ e. (e ≡ OldRoom → IsOldRoom (state S.Store conn.old).now)
+        → IfErr result (λ e. (e ≡ OtherVersion → IsOldRoom (state S.Store conn.old).now)
         × (e ≡ NotARoom → ¬ IsOldRoom (state S.Store conn.old).now)) }
     ensures no_room { IsClean S.Store conn.new
         → IfErr result (λ e. e ≡ NotARoom → HasTables (state S.Store conn.old).now.schema
@@ -101,14 +104,14 @@ pub fn open_in<S: Alter>(alloc: Global, conn: &mut Connection<S>) -> Result<Plan
     ensures why { IsClean S.Store conn.new → IfErr result (λ e. e ≡ Storage
         → HidesVersion (state S.Store conn.old) (state S.Store conn.new)
         ⊎ FailsToOpen S.Store conn.old conn.new) }
-    ensures untouched { IfErr result (λ e. (e ≡ OldRoom) ⊎ (e ≡ NotARoom)
+    ensures untouched { IfErr result (λ e. (e ≡ OtherVersion) ⊎ (e ≡ NotARoom)
         → WritesNothing (state S.Store conn.old) (state S.Store conn.new)) }
     ensures ended { conn.new.in_transaction ≡ false }
     ensures survives { Survives (state S.Store conn.old) (state S.Store conn.new)
         (MayBeIndexed (state S.Store conn.old).now) }
 {
     if is_room_of(conn, FIRST_VERSION)? {
-        return Err(OpenFault::OldRoom);
+        return Err(OpenFault::OtherVersion);
     }
     open_tables(alloc, conn)
 }
@@ -142,7 +145,7 @@ fn open_tables<S: Alter>(alloc: Global, conn: &mut Connection<S>) -> Result<Plan
     ensures opens { IsClean S.Store conn.new
         → OnOk result (Opens (state S.Store conn.old) (state S.Store conn.new)) }
     ensures leaves { LeavesOnErr S.Store conn.old conn.new result }
-    ensures this_version { IfErr result (λ e. e ≢ OldRoom) }
+    ensures this_version { IfErr result (λ e. e ≢ OtherVersion) }
     ensures no_room { IsClean S.Store conn.new
         → IfErr result (λ e. e ≡ NotARoom → HasTables (state S.Store conn.old).now.schema
         → ¬ HoldsRoom (state S.Store conn.old).now.trees) }

@@ -69,8 +69,8 @@ pub(crate) fn take<S: Alter>(
     let Tables::Whole = tables else {
         return read_room_in(alloc, conn, tables);
     };
-    // Whole tables are only looked at: not even nothing is committed, since a commit would write
-    // the head of a file that another program kept otherwise.
+    // Whole tables are only read: even an empty transaction is not committed, since a commit would
+    // write the head of a file that another program kept otherwise.
     let found = stream_plan(alloc, conn);
     if_open(conn, found)
 }
@@ -273,13 +273,13 @@ fn make_lacking<S: Alter>(
     match tables {
         Tables::Whole => Ok(()),
         Tables::Unindexed => make_indexes(tx),
-        Tables::First => renew(alloc, tx, true),
-        Tables::FirstUnindexed => renew(alloc, tx, false),
+        Tables::First => migrate_tables(alloc, tx, true),
+        Tables::FirstUnindexed => migrate_tables(alloc, tx, false),
     }
 }
 
-// Makes a room's tables of those of the first version.
-fn renew<S: Alter>(
+// Makes a room's tables of those of the first version, and sets the version.
+fn migrate_tables<S: Alter>(
     alloc: Global,
     tx: &mut Transaction<'_, S>,
     is_indexed: bool,

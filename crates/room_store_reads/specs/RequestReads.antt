@@ -1,9 +1,9 @@
 -- What a request reads: how much of each table, of its division's rows.
 use Rattle.std.specs.Ordering.{nat_cmp}
-use Rattle.std.specs.Prelude.{Bool, IfSome, None, Option, Some, false, int_le, int_lt, is_some, not, pos, true, ℕ, ◌&&◌}
+use Rattle.std.specs.Prelude.{Bool, IfSome, None, Option, Some, false, int_le, int_lt, is_some, pos, true, ℕ, ◌&&◌}
 use Rattle.std.specs.Prelude.{◌==◌, ◌||◌, ◌≡◌}
 use Rattle.room_types.specs.KeyedRows.{keep}
-use Rattle.room_types.specs.Codes.{is_active, is_normal}
+use Rattle.room_types.specs.Codes.{is_active, is_exception}
 use Rattle.room_types.specs.Keys.{callsign_cmp, pair_cmp, same_callsign}
 use Rattle.room_types.specs.Texts.{Callsign}
 use Rattle.room_types.specs.declared.asks.Ask.{Ask}
@@ -67,7 +67,7 @@ names_one x c n = false
 -- a report is read
 abbrev pub is_report : Reports → Report → Bool
 is_report reports.Nothing x = false
-is_report reports.Uncleared x = not (is_normal x.outcome) && not x.cleared
+is_report reports.Uncleared x = is_exception x
 is_report (reports.One r) x = names_one (reports.One r) x.callsign x.number
 
 -- the turn of the last order of the vehicle, if there is one

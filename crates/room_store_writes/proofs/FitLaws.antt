@@ -10,7 +10,7 @@ use Rattle.room_tables_schema.proofs.Comparisons.{is_Equal}
 use Rattle.room_types.proofs.KeyedLaws.{keyed_filter, keyed_put, row_below, row_filter}
 use Rattle.room_types.specs.KeyedRows.{IsBelowAll, IsKeyed, keep, row_at}
 use Rattle.room_types.specs.Keys.{callsign_cmp, vehicle_key}
-use Rattle.room_types.specs.Orders.{callsigns_total, exact_callsigns}
+use Rattle.room_types.specs.KeyLemmas.{callsigns_total, exact_callsigns}
 use Rattle.room_types.specs.Texts.{Callsign, Token}
 use Rattle.room_types.specs.declared.asks.Who.{Who}
 use Rattle.room_types.specs.declared.asks.Who.TheVariants.{Crew, Desk, Position}

@@ -1,4 +1,4 @@
--- Who may have a terminal, and the terminals of a room after those of one who were changed.
+-- Who may have a terminal, and the terminals of a room once those of one user are changed.
 use Rattle.std.specs.List.{list_any}
 use Rattle.std.specs.Ordering.{is_eq}
 use Rattle.std.specs.Prelude.{Bool, List, None, Option, Some, false, filter, not, true, ℕ, ◌==◌}

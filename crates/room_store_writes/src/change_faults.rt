@@ -1,4 +1,4 @@
-//! Whether one's terminals may be changed so.
+//! Whether the terminals of one user may be changed so.
 ghost use Rattle.std.specs.Prelude.{◌≡◌};
 ghost use Rattle.room_tables_schema.specs.DatabaseFaults.{fault_of};
 ghost use Rattle.room_store_writes.specs.TerminalChanges.{change_fault_of, fault_in, fault_to_give, fault_to_take, unknown_fault};
@@ -57,7 +57,7 @@ impl From<Error> for ChangeFault {
     }
 }
 
-/// Why a user may not have only this token, or none; nothing where it may.
+/// Why a user may not have only this token, or none; none where nothing speaks against it.
 pub fn fault_in(plan: &Plan, terminals: &[Terminal], change: &TokenChange) -> Option<ChangeFault>
     ensures { result ≡ fault_in plan.now.areas terminals.now change.now.who change.now.token }
 {

@@ -118,8 +118,8 @@ fn fill<S: Alter>(
     put_divisions(tx, plan)
 }
 
-// Puts the areas in a room that has none.
-fn put_areas<S: Alter>(tx: &mut Transaction<'_, S>, areas: &[Area]) -> Result<(), Fault>
+/// Puts the areas in a room that has none.
+pub fn put_areas<S: Alter>(tx: &mut Transaction<'_, S>, areas: &[Area]) -> Result<(), Fault>
     requires inside { MayWrite S.Store tx.old.conn.now }
     requires few { length areas.now ≤ most_areas }
     ensures same_reference { tx.new.conn.ghost_name ≡ tx.old.conn.ghost_name }

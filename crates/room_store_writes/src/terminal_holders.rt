@@ -1,4 +1,4 @@
-//! Who may have a terminal, and which token is one's.
+//! Who may have a terminal, and whether a user or a token has one.
 ghost use Rattle.std.specs.List.{list_any};
 ghost use Rattle.std.specs.Prelude.{◌≡◌};
 ghost use Rattle.room_store_writes.specs.TerminalHolders.{has_terminal, has_token, is_token_of, may_have, same_who};

@@ -1,4 +1,4 @@
-//! What becomes of a room's terminals where those of one who are changed. The contracts are the
+//! What becomes of a room's terminals where those of one user are changed. The contracts are the
 //! laws; the functions do nothing.
 ghost use Rattle.std.specs.Prelude.{◌≡◌, List, None, Option, Some, false};
 ghost use Rattle.room_model.specs.FleetRows.{AreTerminals, terminal_at};

@@ -8,7 +8,7 @@ use Rattle.room_tables_schema.proofs.ReadLaws.{still}
 use Rattle.room_tables_schema.proofs.Refusals.{keeps_then}
 use Rattle.room_tables.proofs.RoomReads.{was_clean}
 use Rattle.room_tables_schema.specs.Outcomes.{ReadsInside}
-use Rattle.room_tables_rows.specs.Writes.{Renews}
+use Rattle.room_tables_rows.specs.Writes.{RaisesVersion}
 
 module _ {S : Type 0} {g : Ghosts S} {a b c : Held S} {T E U F : Type 0} {x : T} where
   -- a read after another, which succeeds or fails
@@ -26,8 +26,9 @@ module _ {S : Type 0} {g : Ghosts S} {a b c : Held S} {T E U F : Type 0} {x : T}
   }
 
 -- what was read leaves a room that is renewed after it
-pub read_renews : (old mid new : State) → IsUnchanged old mid → Renews mid new → Renews old new
-read_renews old mid new same it =
+pub read_raises : (old mid new : State) → IsUnchanged old mid → RaisesVersion mid new
+    → RaisesVersion old new
+read_raises old mid new same it =
     let now = same.0.now_is in
     record {
       inside = record {

@@ -1,5 +1,5 @@
--- Whether the tables number their rows, and what a fault says; and, for callers, which room the
--- tables stand for and what writes make of it. whether all rows are numbered
+-- What is read and written of a room's tables, and why that fails.
+-- whether all rows are numbered
 pub mod Rowids
 -- what is found of a room
 pub mod FoundRows

@@ -10,7 +10,7 @@ ghost use Rattle.room_tables_schema.specs.Versions.{BeginsAsRoom};
 ghost use Rattle.room_tables_schema.specs.FileConnections.{HasRoomSchema, MayWrite, IsClean};
 ghost use Rattle.room_tables_rows.specs.RoomsInTables.{Stands, StandsFor, empty_room};
 ghost use Rattle.room_tables_rows.specs.MetaVersions.{IsOfVersion, OneShows};
-ghost use Rattle.room_tables_rows.specs.Writes.{Changes, Renews};
+ghost use Rattle.room_tables_rows.specs.Writes.{Changes, RaisesVersion};
 ghost use Rattle.room_tables_rows.specs.declared.meta_sql.TheConstants.{ALL_META, PUT_META};
 ghost use Rattle.room_tables.specs.Failures.{AreNotJustOne, ExplainsWhy, ExplainsWhyUnwritten, IfStorage};
 
@@ -95,7 +95,7 @@ pub fn put_meta<S: Alter>(tx: &mut Transaction<'_, S>, zone: &str) -> Result<(),
     ensures renews { IsClean S.Store tx.new.conn.now
         → OnOk result (StandsFor (state S.Store tx.old.conn.now).now.trees meta_table
         (version_row 1) (zone.now ∷ [])
-        → Renews (state S.Store tx.old.conn.now) (state S.Store tx.new.conn.now)) }
+        → RaisesVersion (state S.Store tx.old.conn.now) (state S.Store tx.new.conn.now)) }
     ensures writes { WritesInside S.Store tx.old.conn.now tx.new.conn.now result }
     ensures why { ExplainsWhyUnwritten S.Store tx.old.conn.now tx.new.conn.now result PUT_META.now
         (meta_row zone.now) }
@@ -108,7 +108,7 @@ pub fn put_meta<S: Alter>(tx: &mut Transaction<'_, S>, zone: &str) -> Result<(),
 pub fn update_version<S: Alter>(alloc: Global, tx: &mut Transaction<'_, S>) -> Result<(), Fault>
     requires inside { MayWrite S.Store tx.old.conn.now }
     ensures ok { IsClean S.Store tx.new.conn.now
-        → OnOk result (Renews (state S.Store tx.old.conn.now) (state S.Store tx.new.conn.now)) }
+        → OnOk result (RaisesVersion (state S.Store tx.old.conn.now) (state S.Store tx.new.conn.now)) }
     ensures writes { WritesInside S.Store tx.old.conn.now tx.new.conn.now result }
     ensures same_reference { tx.new.conn.ghost_name ≡ tx.old.conn.ghost_name }
 {

@@ -69,14 +69,12 @@ pub fn settle<S: Alter>(
     let Some(vehicle) = row_of::<Vehicle>(shown.as_slice())? else {
         return Ok(());
     };
-    put(
-        tx,
-        &Vehicle {
-            holder: division,
-            status: Status::Available,
-            ..vehicle
-        },
-    )
+    let available = Vehicle {
+        holder: division,
+        status: Status::Available,
+        ..vehicle
+    };
+    run(tx, PUT_VEHICLE, available.columns().as_slice())
 }
 
 // How a change is made: by a statement with these values; by one that inserts a row, or writes it

@@ -13,7 +13,7 @@ use Rattle.room_tables_schema.specs.Schema.{meta_table, room_schema}
 use Rattle.room_tables_rows.proofs.RowLaws.{offer_faithful, version_faithful}
 use Rattle.room_tables_rows.specs.MetaSql.{meta_row, version_row}
 use Rattle.room_tables_rows.specs.RoomsInTables.{Configuration, Stands, StandsFor, StandsInFirst}
-use Rattle.room_tables_rows.specs.Writes.{Renews}
+use Rattle.room_tables_rows.specs.Writes.{RaisesVersion}
 
 -- a version's row gives one zone
 pub one_zone : (version : ℕ) (trees : Trees) (zone other : List ℕ)
@@ -28,7 +28,7 @@ pub no_offers : (trees : Trees) (config : Configuration) (room : Room) → Stand
 no_offers trees config room h = (stands_for_one _ _ _ _ _ _ _ [] offer_faithful h.offers (holds_none _ _ [] refl)).0
 
 module _ (old : Trees) (mid new : State) (adds : AddsLast old mid.now.trees)
-    (renews : Renews mid new) (config : Configuration) (room : Room) where
+    (renews : RaisesVersion mid new) (config : Configuration) (room : Room) where
   pub moves : StandsInFirst old config room → Stands new.now.trees config room
   moves h =
       let only = renews.only.tables in

@@ -25,7 +25,8 @@ use Rattle.room_types.specs.declared.codes.Outcome.TheVariants.{Normal, Skipped,
 use Rattle.room_types.specs.declared.codes.State.{State}
 use Rattle.room_types.specs.declared.codes.State.TheVariants.{Active, Closed, Merged}
 use Rattle.room_tables_rows.specs.ColumnValues.{kind_in, status_in, button_in, outcome_in}
-use Rattle.room_tables_rows.specs.ReadableColumns.{all_stand, is_number, is_kind, is_status, is_button, is_outcome, is_or_null}
+use Rattle.room_tables_rows.specs.ReadableColumns.{all_stand, is_number, is_kind, is_status, is_button, is_outcome}
+use Rattle.room_tables_rows.specs.ReadableColumns.{is_or_null}
 use Rattle.room_tables_rows.specs.ReadableColumns.{is_serial, is_state, is_text}
 
 taken : {C : Type 0} {c : C} → None ≡ Some c → ⊥

@@ -10,7 +10,7 @@ use Rattle.room_tables_schema.proofs.Comparisons.{value_cmp-numbers, key_of_one,
 use Rattle.room_types.specs.Codes.{state_number, merged_into}
 use Rattle.room_types.specs.Keys.{callsign_cmp, pair_cmp, numbered_cmp, division_key, incident_key, call_key}
 use Rattle.room_types.specs.Keys.{vehicle_key, turn_key, assignment_key, point_key, loan_key, offer_key, report_key}
-use Rattle.room_types.specs.Orders.{pairs_total, numbered_total}
+use Rattle.room_types.specs.KeyLemmas.{pairs_total, numbered_total}
 use Rattle.room_types.specs.declared.asks.Who.{Who}
 use Rattle.room_types.specs.declared.asks.Who.TheVariants.{Desk, Crew, Position}
 use Rattle.room_types.specs.declared.codes.Kind.{Kind}

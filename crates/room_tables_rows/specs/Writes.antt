@@ -30,7 +30,7 @@ pub record AppendsArea (old new : State) (at : ℕ) (area : Area) : Type 0 where
       (record room { plan = room.plan ++ area ∷ [] })
 
 -- The tables gave the first version, and give this one. No other table changed.
-pub record Renews (old new : State) : Type 0 where
+pub record RaisesVersion (old new : State) : Type 0 where
   pub inside : Inside old new
   pub schema : new.now.schema ≡ room_schema
   pub only : Only room_schema meta_table.tree old.now new.now

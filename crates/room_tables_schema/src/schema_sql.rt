@@ -4,7 +4,8 @@
 //! A callsign or a token is TEXT, a note BLOB, all else INTEGER, a truth value as 0 or 1. Only what
 //! may be absent may be NULL.
 //!
-//! A column is written only here: `tools/tables.py` reads these texts, and writes `tables.rt`.
+//! A column is written only here: `tools/tables.py` reads these texts, and writes
+//! `schema_tables.rt`.
 
 const META: &str = "CREATE TABLE meta (\
     id INTEGER PRIMARY KEY NOT NULL, version INTEGER NOT NULL, zone TEXT NOT NULL\

@@ -1,5 +1,5 @@
 -- The numbers and names of kinds, statuses, buttons, outcomes and states, and tests of them.
-use Rattle.std.specs.Prelude.{◌≡◌, ℕ, Bool, true, false, List, Option, Some, None, IfSome, codes}
+use Rattle.std.specs.Prelude.{◌≡◌, ℕ, Bool, true, false, not, ◌&&◌, List, Option, Some, None, IfSome, codes}
 use Rattle.room_types.specs.declared.codes.Kind.{Kind}
 use Rattle.room_types.specs.declared.codes.Kind.TheVariants.{Ambulance, Car, Support}
 use Rattle.room_types.specs.declared.codes.Status.{Status}
@@ -11,6 +11,7 @@ use Rattle.room_types.specs.declared.codes.Outcome.{Outcome}
 use Rattle.room_types.specs.declared.codes.Outcome.TheVariants.{Normal, Skipped, Wrong, Late, Stale}
 use Rattle.room_types.specs.declared.codes.State.{State}
 use Rattle.room_types.specs.declared.codes.State.TheVariants.{Active, Closed, Merged}
+use Rattle.room_types.specs.declared.tables.Report.{Report}
 
 -- what is read from a label (a number, a name) is the one code that has it, and none where no code
 -- has it
@@ -111,6 +112,10 @@ outcome_name Stale = codes "stale"
 abbrev pub is_normal : Outcome → Bool
 is_normal Normal = true
 is_normal o = false
+
+-- an exception: the report was out of turn, and nobody has cleared it
+abbrev pub is_exception : Report → Bool
+is_exception x = not (is_normal x.outcome) && not x.cleared
 
 -- the vehicle does what the button says
 abbrev pub acts : Outcome → Bool

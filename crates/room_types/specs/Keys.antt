@@ -5,7 +5,7 @@ use Rattle.std.specs.declared.cmp.Ordering.TheVariants.{Less, Equal, Greater}
 use Rattle.std.specs.Ordering.{nat_cmp, ordering_then, is_eq}
 use Rattle.std.specs.Cmp.Lexicographic.{slice_cmp}
 use Rattle.room_types.specs.Texts.{Callsign}
-use Rattle.room_types.specs.declared.answers.Entry.{Entry}
+use Rattle.room_types.specs.declared.answers.QueueEntry.{QueueEntry}
 use Rattle.room_types.specs.declared.tables.Division.{Division}
 use Rattle.room_types.specs.declared.tables.Incident.{Incident}
 use Rattle.room_types.specs.declared.tables.Call.{Call}
@@ -28,7 +28,7 @@ option_callsign_cmp (Some c) None = Greater
 option_callsign_cmp (Some c) (Some e) = callsign_cmp c e
 
 -- by rank, since, number and callsign
-abbrev pub entry_cmp : Entry → Entry → Ordering
+abbrev pub entry_cmp : QueueEntry → QueueEntry → Ordering
 entry_cmp a b = ordering_then (nat_cmp a.rank b.rank)
     (ordering_then (nat_cmp a.since b.since)
     (ordering_then (nat_cmp a.number b.number) (option_callsign_cmp a.callsign b.callsign)))
@@ -73,7 +73,7 @@ abbrev pub report_key : Report → Callsign × ℕ
 report_key r = (r.callsign, r.number)
 
 -- an entry is its own key
-abbrev pub entry_key : Entry → Entry
+abbrev pub entry_key : QueueEntry → QueueEntry
 entry_key e = e
 
 -- the division lends or borrows

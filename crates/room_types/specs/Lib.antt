@@ -1,9 +1,10 @@
 pub mod KeyedRows
 pub mod Codes
 pub mod Crews
+pub mod KeyLemmas
 pub mod Keys
 pub mod Needs
-pub mod Orders
+pub mod Numerals
 pub mod RefusalStatuses
 pub mod SentVehicles
 pub mod Slices

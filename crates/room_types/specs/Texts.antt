@@ -2,7 +2,7 @@
 use Rattle.std.proofs.Common.{◌≡◌, ℕ, ◌-◌, ◌≤◌, Bool, List, ◌++◌, length, take, drop, replicate, arith}
 use Rattle.std.proofs.Common.{take-append-drop, length-take-le, nat_le}
 use Rattle.std.specs.List.{list_all}
-use Rattle.std.specs.Prelude.{◌&&◌, ◌||◌}
+use Rattle.std.specs.Prelude.{◌&&◌, ◌||◌, if◌then◌else◌, Option, Some, None}
 use Rattle.std.specs.Cmp.Lexicographic.{slice_cmp}
 use Rattle.std.specs.Ordering.{is_eq, nat_cmp}
 
@@ -29,6 +29,10 @@ is_token_letter b =
 abbrev pub is_callsign : List ℕ → Bool
 is_callsign text =
     nat_le 1 (length text) && nat_le (length text) 8 && list_all is_callsign_letter text
+
+-- the callsign that a text is
+abbrev pub callsign_of : List ℕ → Option Callsign
+callsign_of text = if is_callsign text then Some text else None
 
 -- 8 to 32 such letters
 abbrev pub is_token : List ℕ → Bool

@@ -1,7 +1,5 @@
 //! What is answered to a request, and the lines of the longer answers.
 ghost use Rattle.std.specs.Prelude.{◌≡◌, List, [], ◌∷◌, ◌++◌, length, IsTrue, ◌↔◌, OnOk, OnErr};
-ghost use Rattle.std.specs.Iterator.Adapters.{IterYieldsInOrder};
-ghost use Rattle.std.specs.Slice.Iter.{iter_rest};
 
 use crate::callsign::Callsign;
 use crate::codes::{Kind, Outcome, Status};
@@ -12,7 +10,6 @@ use room_place::places::Place;
 use room_place::plans::DivisionNumber;
 use std::alloc::{AllocError, Global};
 use std::marker::Model;
-use std::slice::Iter;
 
 /// The lines of an answer, seen as a list.
 #[derive(Drop)]
@@ -41,14 +38,6 @@ impl<L: Copy> Listed<L> {
         ensures { result.now ≡ self.now }
     {
         self.lines.as_slice()
-    }
-
-    /// The lines one after another.
-    pub fn iter(&self) -> Iter<'_, L>
-        ensures rest { iter_rest result ≡ self.now }
-        ensures runs { IterYieldsInOrder L }
-    {
-        self.lines.iter()
     }
 
     /// How many lines there are.
@@ -144,7 +133,7 @@ pub struct PointLine {
 /// Something that needs an eye. Entries stand in the order of their fields, none before any
 /// callsign.
 #[derive(Clone, Copy, PartialEq, Eq, PartialOrd, Ord)]
-pub struct Entry {
+pub struct QueueEntry {
     /// 1 to 8, by what it is about.
     pub rank: u8,
     /// The moment that it counts from.
@@ -191,7 +180,7 @@ pub enum Answer {
     /// The request was carried out, and there is nothing to show.
     Done,
     Vehicles(Listed<VehicleLine>),
-    Queue(Listed<Entry>),
+    Queue(Listed<QueueEntry>),
     Points(Listed<PointLine>),
     Loans(Listed<Loan>),
     Offers(Listed<Offer>),

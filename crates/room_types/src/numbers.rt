@@ -1,6 +1,9 @@
 //! The whole numbers of the room, each with its range in its type.
 use room_place::bounded_numbers::Bounded;
 
+/// The greatest `Moment`: the last second of 2099.
+pub const LAST_MOMENT: u32 = 4_102_444_799;
+
 /// A call taker's position: 1 to 99.
 pub type PositionNumber = Bounded<1, 99>;
 /// A standby point of a division: 1 to 99.

@@ -1,9 +1,9 @@
 //! By which key each row is kept, and which divisions own it.
 ghost use Rattle.std.specs.Prelude.{◌≡◌, true};
 ghost use Rattle.room_types.specs.Keys.{is_party, division_key, incident_key, call_key, vehicle_key, turn_key, assignment_key, point_key, loan_key, offer_key, report_key, entry_key, owns_division, owns_incident, owns_call, owns_vehicle, owns_turn, owns_assignment, owns_point, owns_loan, owns_offer, owns_report};
-ghost use Rattle.room_types.specs.Orders.{exact_callsigns, exact_pair, exact_numbered, exact_number, exact_entries};
+ghost use Rattle.room_types.specs.KeyLemmas.{exact_callsigns, exact_pair, exact_numbered, exact_number, exact_entries};
 
-use crate::answers::Entry;
+use crate::answers::QueueEntry;
 use crate::callsign::Callsign;
 use crate::numbers::{Number, PointNumber, PositionNumber};
 use crate::rows::Row;
@@ -200,8 +200,8 @@ impl Row for Report {
 }
 
 /// An entry is its own key, so that rows of entries are a set in order. It is not one division's.
-impl Row for Entry {
-    type Key = Entry;
+impl Row for QueueEntry {
+    type Key = QueueEntry;
 
     ghost key_of = { entry_key };
 
@@ -209,7 +209,7 @@ impl Row for Entry {
 
     ghost exact = { exact_entries };
 
-    fn key(&self) -> Entry {
+    fn key(&self) -> QueueEntry {
         *self
     }
 

@@ -98,7 +98,7 @@ impl<R: Row> Rows<R> {
         }
     }
 
-    /// Puts a row in its key's place, and answers the row of that key that was there before. Rows
+    /// Puts a row in its key's place, and returns the row of that key that was there before. Rows
     /// that come in key order are put at the end, at no search. The one refusal is `Memory`; it
     /// changes nothing.
     pub fn put(&mut self, row: R) -> Result<Option<R>, Refusal>
@@ -133,7 +133,7 @@ impl<R: Row> Rows<R> {
         }
     }
 
-    /// Takes the row of a key out, and answers it; none where no row has that key.
+    /// Takes the row of a key out, and returns it; none where no row has that key.
     pub fn take(&mut self, key: &R::Key) -> Option<R>
         ensures before { result ≡ row_at R.Key.cmp R.key_of self.old key.now }
         ensures removed { self.new ≡ drop_row R.Key.cmp R.key_of self.old key.now }

@@ -154,3 +154,15 @@ pub struct Report {
     /// Whether the desk has seen to it, where it was an exception.
     pub cleared: bool,
 }
+
+impl Report {
+    ghost use Rattle.std.specs.Prelude.{◌≡◌};
+    ghost use Rattle.room_types.specs.Codes.{is_exception};
+
+    /// Whether it was out of turn, and nobody has cleared it.
+    pub fn is_exception(&self) -> bool
+        ensures { result ≡ is_exception self.now }
+    {
+        !matches!(self.outcome, Outcome::Normal) && !self.cleared
+    }
+}

@@ -4,7 +4,7 @@ use Rattle.std.specs.List.{list_all}
 use Rattle.room_types.proofs.KeyedLaws.{keyed_filter}
 use Rattle.room_types.specs.KeyedRows.{IsKeyed}
 use Rattle.room_types.specs.Keys.{incident_key, owns_incident, pair_cmp}
-use Rattle.room_types.specs.Orders.{pairs_total}
+use Rattle.room_types.specs.KeyLemmas.{pairs_total}
 use Rattle.dispatch_room_archive.specs.JoinedReports.{AreOfBoth}
 use Rattle.dispatch_room_archive.proofs.JoinedLemmas.{all_passing, report_shown}
 use Rattle.dispatch_room_archive.proofs.joined_reports.joined_report.Goals as goal

@@ -5,11 +5,13 @@ use Rattle.dispatch_room_changes.proofs.init.init_by.Goals as goal
 
 pub returns-in_err-plan-clause-undone : goal.returns-in_err-plan-clause-undone
 returns-in_err-plan-clause-undone g c =
-    handed_on c.from_residual.result _ c.from_residual.ensures.1 (λ fault is. inl (rw is c.in_err-plan.ensures.none, refl))
+    handed_on c.from_residual.result _ c.from_residual.ensures.1
+    (λ fault is. inl (rw is c.in_err-plan.ensures.none, refl))
 
 pub returns-clause-done : goal.returns-clause-done
 returns-clause-done g c =
-    IfOk-weaker c.in_file.result _ _ (λ done is. (c.in_ok-plan.plan, c.in_ok-plan.ensures.plan, is)) c.in_file.ensures.done
+    IfOk-weaker c.in_file.result _ _ (λ done is. (c.in_ok-plan.plan, c.in_ok-plan.ensures.plan, is))
+    c.in_file.ensures.done
 
 pub returns-clause-undone : goal.returns-clause-undone
 returns-clause-undone g c =

@@ -7,16 +7,25 @@ pub returns-in_err-opened-in-Some-clause-undone : goal.returns-in_err-opened-in-
 returns-in_err-opened-in-Some-clause-undone g c =
     rw c.in-Some.is
     (handed_on c.from_residual.result _ c.from_residual.ensures.1
-    (λ fault is. inl (rw is c.in_err-opened-in-Some.ensures, refl)))
+    (λ fault is. inl (rw is c.in_err-opened-in-Some.ensures.fault, refl)))
 
 pub returns-in_ok-opened-in-Some-clause-done : goal.returns-in_ok-opened-in-Some-clause-done
 returns-in_ok-opened-in-Some-clause-done g c =
     rw c.in-Some.is
     (once_done c.in_file-in-Some.result _ _ c.in_file-in-Some.ensures.done
-    (λ is. (c.args.text.now, c.requires.text, is)))
+    (λ is. (
+      c.args.text.now,
+      c.requires.text,
+      (c.in_ok-opened-in-Some.ensures.chain.0, rw c.in_ok-opened-in-Some.ensures.chain.1 at is),
+    )))
 
 pub returns-in_ok-opened-in-Some-clause-undone : goal.returns-in_ok-opened-in-Some-clause-undone
 returns-in_ok-opened-in-Some-clause-undone g c =
     rw c.in-Some.is
-    (IfErr-weaker c.in_file-in-Some.result _ _ (λ fault is. inr (c.args.text.now, c.requires.text, is))
+    (IfErr-weaker c.in_file-in-Some.result _ _
+    (λ fault is. inr (
+      c.args.text.now,
+      c.requires.text,
+      (c.in_ok-opened-in-Some.ensures.chain.0, rw c.in_ok-opened-in-Some.ensures.chain.1 at is),
+    ))
     c.in_file-in-Some.ensures.undone)

@@ -5,7 +5,12 @@ use Rattle.dispatch_room_changes.proofs.kept_enrolments.end_kept.Goals as goal
 
 pub returns-in-Ok : goal.returns-in-Ok
 returns-in-Ok g c =
-    record { stays = c.keep_end.ensures.stays; kept = Ok tt; place = rw c.in-Ok.is at c.keep_end.ensures.place; is = refl }
+    record {
+      stays = c.keep_end.ensures.stays;
+      kept = Ok tt;
+      place = rw c.in-Ok.is at c.keep_end.ensures.place;
+      is = refl;
+    }
 
 pub returns-after-came : goal.returns-after-came
 returns-after-came g c =

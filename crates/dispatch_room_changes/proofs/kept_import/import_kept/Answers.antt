@@ -13,4 +13,5 @@ returns-clause-done g c =
 
 pub returns-clause-undone : goal.returns-clause-undone
 returns-clause-undone g c =
-    IfErr-weaker c.import_kept_by.result _ _ (λ fault is. inr (c.new-sheet.result.text.now, is)) c.import_kept_by.ensures.undone
+    IfErr-weaker c.import_kept_by.result _ _ (λ fault is. inr (c.new-sheet.result.text.now, is))
+    c.import_kept_by.ensures.undone

@@ -5,19 +5,25 @@ use Rattle.dispatch_room_changes.proofs.kept_import.import_kept_by.Goals as goal
 
 pub returns-in_err-lines-clause-undone : goal.returns-in_err-lines-clause-undone
 returns-in_err-lines-clause-undone g c =
-    handed_on c.from_residual.result _ c.from_residual.ensures.1 (λ fault is. inl (rw is c.in_err-lines.ensures.none, refl))
+    handed_on c.from_residual.result _ c.from_residual.ensures.1
+    (λ fault is. inl (rw is c.in_err-lines.ensures.none, refl))
 
 pub returns-in_err-opened-clause-undone : goal.returns-in_err-opened-clause-undone
 returns-in_err-opened-clause-undone g c =
     handed_on c.from_residual-in_err-opened.result _ c.from_residual-in_err-opened.ensures.1
-    (λ fault is. inr (inl (rw is c.in_err-opened.ensures, refl)))
+    (λ fault is. inr (inl (rw is c.in_err-opened.ensures.fault, refl)))
 
 pub returns-clause-done : goal.returns-clause-done
 returns-clause-done g c =
-    IfOk-weaker c.in_file.result _ _ (λ done is. (_, c.in_ok-lines.ensures.fleet, rw c.as_slice.ensures.value at is))
+    let chain = c.in_ok-opened.ensures.chain in
+    IfOk-weaker c.in_file.result _ _
+    (λ done is. (_, c.in_ok-lines.ensures.fleet, (chain.0, rw (c.as_slice.ensures.value, chain.1) at is)))
     c.in_file.ensures.done
 
 pub returns-clause-undone : goal.returns-clause-undone
 returns-clause-undone g c =
+    let chain = c.in_ok-opened.ensures.chain in
     IfErr-weaker c.in_file.result _ _
-    (λ fault is. inr (inr (_, c.in_ok-lines.ensures.fleet, rw c.as_slice.ensures.value at is))) c.in_file.ensures.undone
+    (λ fault is.
+    inr (inr (_, c.in_ok-lines.ensures.fleet, (chain.0, rw (c.as_slice.ensures.value, chain.1) at is))))
+    c.in_file.ensures.undone

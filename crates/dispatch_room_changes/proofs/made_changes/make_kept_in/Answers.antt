@@ -27,7 +27,6 @@ returns-in_err-remade-clause-fault g c =
       opened = c.in_ok-room.room;
       begun = c.keep_text.new.room;
       opens = c.in_ok-room.ensures.room;
-      from = c.args.list.now;
       to = c.keep_text.new.list;
       keeps = c.in-Ok.ensures.kept;
       loses = rw is c.in_err-remade.ensures.fault;

@@ -5,7 +5,8 @@ use Rattle.dispatch_room_changes.proofs.replan.replan_as.Goals as goal
 
 pub returns-in_err-plan-clause-undone : goal.returns-in_err-plan-clause-undone
 returns-in_err-plan-clause-undone g c =
-    handed_on c.from_residual.result _ c.from_residual.ensures.1 (λ fault is. inl (rw is c.in_err-plan.ensures.none, refl))
+    handed_on c.from_residual.result _ c.from_residual.ensures.1
+    (λ fault is. inl (rw is c.in_err-plan.ensures.none, refl))
 
 pub returns-clause-done : goal.returns-clause-done
 returns-clause-done g c =

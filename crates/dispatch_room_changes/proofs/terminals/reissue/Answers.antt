@@ -4,4 +4,5 @@ use Rattle.dispatch_room_changes.proofs.terminals.reissue.Goals as goal
 
 pub returns-clause-undone : goal.returns-clause-undone
 returns-clause-undone g c =
-    IfErr-weaker c.make_in_file.result _ _ (λ fault is. inr (c.args.change.token, refl, inl is)) c.make_in_file.ensures.undone
+    IfErr-weaker c.make_in_file.result _ _ (λ fault is. inr (c.args.change.token, refl, inl is))
+    c.make_in_file.ensures.undone

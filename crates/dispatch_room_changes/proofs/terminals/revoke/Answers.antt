@@ -5,20 +5,21 @@ use Rattle.dispatch_room_changes.proofs.terminals.revoke.Goals as goal
 
 pub returns-then-is_a_crew-clause-done : goal.returns-then-is_a_crew-clause-done
 returns-then-is_a_crew-clause-done g c =
-    IfOk-weaker c.silence.result _ _ (λ done is. (Some is.0, sym (sym c.is_a_crew.ensures ∙ c.if-is_a_crew.true), is.1))
-    c.silence.ensures.done
+    IfOk-weaker c.revoke_crew.result _ _
+    (λ done is. (Some is.0, sym (sym c.is_a_crew.ensures ∙ c.if-is_a_crew.true), is.1))
+    c.revoke_crew.ensures.done
 
 pub returns-then-is_a_crew-clause-undone : goal.returns-then-is_a_crew-clause-undone
 returns-then-is_a_crew-clause-undone g c =
     let crew : is_a_crew c.args.who ≡ true = sym c.is_a_crew.ensures ∙ c.if-is_a_crew.true in
-    rw crew c.silence.ensures.undone
+    rw crew c.revoke_crew.ensures.undone
 
 pub returns-clause-done : goal.returns-clause-done
 returns-clause-done g c =
-    IfOk-weaker c.withdraw.result _ _ (λ done is. (None, sym (sym c.is_a_crew.ensures ∙ c.if-is_a_crew.false), is))
-    c.withdraw.ensures.done
+    IfOk-weaker c.revoke_by.result _ _ (λ done is. (None, sym (sym c.is_a_crew.ensures ∙ c.if-is_a_crew.false), is))
+    c.revoke_by.ensures.done
 
 pub returns-clause-undone : goal.returns-clause-undone
 returns-clause-undone g c =
     let none : is_a_crew c.args.who ≡ false = sym c.is_a_crew.ensures ∙ c.if-is_a_crew.false in
-    rw none c.withdraw.ensures.undone
+    rw none c.revoke_by.ensures.undone

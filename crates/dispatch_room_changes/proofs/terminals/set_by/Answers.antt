@@ -10,7 +10,8 @@ returns-in_err-listed-clause-undone g c =
 
 pub returns-clause-done : goal.returns-clause-done
 returns-clause-done g c =
-    IfOk-weaker c.set.result _ _ (λ done is. (c.in_ok-listed.listed, c.in_ok-listed.ensures.given, is)) c.set.ensures.done
+    IfOk-weaker c.set.result _ _ (λ done is. (c.in_ok-listed.listed, c.in_ok-listed.ensures.given, is))
+    c.set.ensures.done
 
 pub returns-clause-undone : goal.returns-clause-undone
 returns-clause-undone g c =

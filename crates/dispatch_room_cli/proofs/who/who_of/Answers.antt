@@ -13,4 +13,5 @@ returns-in_err-new-2 c =
     rw c.from_residual-in_err-new-2.ensures (no_position c.args.text.now c.in-Some-strip_prefix.position.now
     (stripped (codes "position:") c.args.text.now c.in-Some-strip_prefix.position.now
     c.in-Some-strip_prefix.ensures.cases)
-    (out_of_range c.in-Some-strip_prefix.position.now _ 99 (omega arith) c.in_ok-number-2.ensures c.in_err-new-2.ensures))
+    (out_of_range c.in-Some-strip_prefix.position.now _ 99 (omega arith) c.in_ok-number-2.ensures
+    c.in_err-new-2.ensures))

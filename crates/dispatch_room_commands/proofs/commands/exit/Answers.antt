@@ -5,5 +5,5 @@ returns-after-file g c =
     rw c.in-Ok.is (
       c.perform-done.result,
       c.perform-done.ensures,
-      c.end.ensures,
+      c.end.ensures.status,
     )

@@ -10,5 +10,5 @@ returns c =
       new = _;
       served = is.0;
       is = is.2;
-      exits = c.end.ensures ∙ ap status_after is.1;
+      exits = c.end.ensures.status ∙ ap status_after is.1;
     }

@@ -2,5 +2,5 @@ use Rattle.std.proofs.Common.{arith}
 use Rattle.dispatch_room_journal.proofs.WritingLemmas.{line_short}
 use Rattle.dispatch_room_journal.proofs.entry_writer.put_line.Goals as goal
 
-pub add-requires : goal.add-requires
-add-requires g c = omega (arith, line_short c.args.line.now c.requires.is_one, c.add_line.ensures.len)
+pub append-requires : goal.append-requires
+append-requires g c = omega (arith, line_short c.args.line.now c.requires.is_one, c.add_line.ensures.len)

@@ -16,7 +16,8 @@ returns-in_default-clause-turn g c =
     let x = c.requires.front in
     let gone = taken _ (g.R.Source.left c.args.reader.now) _ _ c.args.entry.now.layout _ x.1 (Keeps-refl _) refl in (
       [],
-      refused_stops true _ _ (digits_of g.M.Digested.digest_of (g.M.Room.zone c.args.room.now)) _ _ _ _ c.args.entry.now.at x.0
+      refused_stops true _ _ (digits_of g.M.Digested.digest_of (g.M.Room.zone c.args.room.now)) _ _ _ _
+          c.args.entry.now.at x.0
           x.1.begins.0 _ false _ gone (Unavailable Memory) c.requires.sound refl
           (λ trust terminals room stood. stood)
           (inr (Memory, refl, inl refl)) (λ rest known wait bad. absurd (cc bad)),
@@ -30,7 +31,8 @@ returns-in-Err-clause-turn g c =
     c.remove.ensures.kept in
     rw c.read_fault.ensures (
       [],
-      unread_stops true _ _ (digits_of g.M.Digested.digest_of (g.M.Room.zone c.args.room.now)) _ _ _ _ c.args.entry.now.at x.0
+      unread_stops true _ _ (digits_of g.M.Digested.digest_of (g.M.Room.zone c.args.room.now)) _ _ _ _
+          c.args.entry.now.at x.0
           x.1.begins.0 _ false _ gone c.in-Err.fault refl
           (λ trust terminals room stood. stood) read.first
           (read_due _ _ _ _ c.in-Err.fault read.says),
@@ -64,7 +66,8 @@ settle-requires-clause-fits g c =
 pub returns-in-Ok-true-clause-turn : goal.returns-in-Ok-true-clause-turn
 returns-in-Ok-true-clause-turn g c =
     settled_played _ g.R.Source.has_failed g.R.Source.has_ended _ _ _ _
-    (digits_of g.M.Digested.digest_of (g.M.Room.zone c.args.room.now)) _ _ _ _ _ _ c.args.entry.now.at _ _ _ _ c.requires.front.1
+    (digits_of g.M.Digested.digest_of (g.M.Room.zone c.args.room.now)) _ _ _ _ _ _ c.args.entry.now.at _ _ _ _
+    c.requires.front.1
     (c.as_slice.ensures.value ∙ c.in-Ok.ensures.items_if_clones_equal (λ a b e. e)
     ∙ c.message.ensures (message c.args.entry.now.at c.requires.front.0) c.requires.front.1)
     c.remove.ensures.kept _ c.in-Ok-Some.field-0-is c.in-Ok-Some.ensures.read
@@ -73,7 +76,8 @@ returns-in-Ok-true-clause-turn g c =
 pub returns-in-Ok-false-clause-turn : goal.returns-in-Ok-false-clause-turn
 returns-in-Ok-false-clause-turn g c =
     settled_left _ g.R.Source.has_failed g.R.Source.has_ended _ _ _ _
-    (digits_of g.M.Digested.digest_of (g.M.Room.zone c.args.room.now)) _ _ _ _ _ _ c.args.entry.now.at _ _ _ _ c.requires.front.1
+    (digits_of g.M.Digested.digest_of (g.M.Room.zone c.args.room.now)) _ _ _ _ _ _ c.args.entry.now.at _ _ _ _
+    c.requires.front.1
     (c.as_slice.ensures.value ∙ c.in-Ok.ensures.items_if_clones_equal (λ a b e. e)
     ∙ c.message.ensures (message c.args.entry.now.at c.requires.front.0) c.requires.front.1)
     c.remove.ensures.kept _ c.in-Ok-Some.field-0-is c.in-Ok-Some.ensures.read
@@ -82,7 +86,8 @@ returns-in-Ok-false-clause-turn g c =
 pub returns-clause-turn : goal.returns-clause-turn
 returns-clause-turn g c =
     settled_fault _ g.R.Source.has_failed g.R.Source.has_ended _ _ _ _
-    (digits_of g.M.Digested.digest_of (g.M.Room.zone c.args.room.now)) _ _ _ _ _ _ c.args.entry.now.at _ _ _ _ c.requires.front.1
+    (digits_of g.M.Digested.digest_of (g.M.Room.zone c.args.room.now)) _ _ _ _ _ _ c.args.entry.now.at _ _ _ _
+    c.requires.front.1
     (c.as_slice.ensures.value ∙ c.in-Ok.ensures.items_if_clones_equal (λ a b e. e)
     ∙ c.message.ensures (message c.args.entry.now.at c.requires.front.0) c.requires.front.1)
     c.remove.ensures.kept _ c.in-Ok-Some.field-0-is c.in-Ok-Some.ensures.read

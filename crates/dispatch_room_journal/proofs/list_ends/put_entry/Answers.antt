@@ -1,5 +1,6 @@
 use Rattle.std.proofs.Common.{sym}
-use Rattle.dispatch_room_journal.proofs.PlainLemmas.{entry_comes, entry_put, failed_put, never_end, plain_put, shown_entry}
+use Rattle.dispatch_room_journal.proofs.PlainLemmas.{entry_comes, entry_put, failed_put, never_end, plain_put}
+use Rattle.dispatch_room_journal.proofs.PlainLemmas.{shown_entry}
 use Rattle.dispatch_room_journal.proofs.list_ends.put_entry.Goals as goal
 
 pub returns-in-Plain-clause-put : goal.returns-in-Plain-clause-put
@@ -12,7 +13,8 @@ pub returns-in-Plain-clause-failed : goal.returns-in-Plain-clause-failed
 returns-in-Plain-clause-failed g c = failed_put _ _ _ _ _ _ c.write_all.ensures
 
 pub put_after-requires-clause-comes : goal.put_after-requires-clause-comes
-put_after-requires-clause-comes g c = entry_comes c.in-Chain.link.has_ended c.args.entry.now (never_end c.args.entry.now c.requires.says)
+put_after-requires-clause-comes g c =
+    entry_comes c.in-Chain.link.has_ended c.args.entry.now (never_end c.args.entry.now c.requires.says)
 
 pub returns-in-Chain-clause-put : goal.returns-in-Chain-clause-put
 returns-in-Chain-clause-put g c =

@@ -12,7 +12,7 @@ returns-in_default-clause-answers g c = (
   [],
   [],
   nothing_done false _ _ _ _ _ _ None IsPlayed _ _ c.memory.result c.memory.ensures c.requires.reader c.requires.writer,
-  ([], ([], refl), Appends-none (g.W.Sink.held c.args.writer.now)),
+  ([], ([], refl), Appends-none (g.O.Write.contents c.args.writer.now.output.now)),
 )
 
 pub returns-clause-answers : goal.returns-clause-answers
@@ -21,7 +21,7 @@ returns-clause-answers g c = (
   [],
   nothing_done false _ _ _ _ _ _ None IsPlayed _ _ c.memory-in-Err.result c.memory-in-Err.ensures c.requires.reader
       c.requires.writer,
-  ([], ([], refl), Appends-none (g.W.Sink.held c.args.writer.now)),
+  ([], ([], refl), Appends-none (g.O.Write.contents c.args.writer.now.output.now)),
 )
 
 pub returns-in_default-clause-kept : goal.returns-in_default-clause-kept

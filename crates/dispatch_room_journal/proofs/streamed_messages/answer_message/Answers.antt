@@ -17,35 +17,42 @@ pub play-requires-clause-fits : goal.play-requires-clause-fits
 play-requires-clause-fits g c =
     let x = c.requires.front in
     let same = c.message.ensures (message c.args.entry.now.at x.0) x.1 in
-    let front : IsLayout c.args.inbox.now.kept c.args.entry.now.layout (message c.args.entry.now.at c.message.result.now) =
-    subst (λ (t : List ℕ). IsLayout c.args.inbox.now.kept c.args.entry.now.layout (message c.args.entry.now.at t)) (sym same) x.1 in
+    let front : IsLayout c.args.inbox.now.kept c.args.entry.now.layout
+    (message c.args.entry.now.at c.message.result.now) =
+    subst (λ (t : List ℕ). IsLayout c.args.inbox.now.kept c.args.entry.now.layout (message c.args.entry.now.at t))
+    (sym same) x.1 in
     front.begins.0.2
 
 pub returns-in-Err-clause-turn : goal.returns-in-Err-clause-turn
 returns-in-Err-clause-turn g c =
     let x = c.requires.front in
     let same = c.message.ensures (message c.args.entry.now.at x.0) x.1 in
-    let front : IsLayout c.args.inbox.now.kept c.args.entry.now.layout (message c.args.entry.now.at c.message.result.now) =
-    subst (λ (t : List ℕ). IsLayout c.args.inbox.now.kept c.args.entry.now.layout (message c.args.entry.now.at t)) (sym same) x.1 in
+    let front : IsLayout c.args.inbox.now.kept c.args.entry.now.layout
+    (message c.args.entry.now.at c.message.result.now) =
+    subst (λ (t : List ℕ). IsLayout c.args.inbox.now.kept c.args.entry.now.layout (message c.args.entry.now.at t))
+    (sym same) x.1 in
     let gone = taken _ (g.R.Source.left c.args.reader.now) _ _ c.args.entry.now.layout _ front (Keeps-refl _) refl in
     let plays = c.in-Err.ensures.plays in (
       [],
-      refused_stops false _ _ (digits_of g.M.Digested.digest_of (g.M.Room.zone c.args.room.now)) _ _ _ _ c.args.entry.now.at
+      refused_stops false _ _ (digits_of g.M.Digested.digest_of (g.M.Room.zone c.args.room.now)) _ _ _ _
+          c.args.entry.now.at
           c.message.result.now front.begins.0 _ _ _ gone c.in-Err.fault
           c.requires.reader c.requires.writer plays.0 plays.1
           (λ rest known never bad. absurd (cc never)),
       [],
       ([], refl),
-      Appends-none (g.W.Sink.held c.args.writer.now),
+      Appends-none (g.O.Write.contents c.args.writer.now.output.now),
     )
 
 pub returns-in-Err-put_frame-clause-turn : goal.returns-in-Err-put_frame-clause-turn
 returns-in-Err-put_frame-clause-turn g c =
     let x = c.requires.front in
     let same = c.message.ensures (message c.args.entry.now.at x.0) x.1 in
-    let front : IsLayout c.args.inbox.now.kept c.args.entry.now.layout (message c.args.entry.now.at c.message.result.now) =
-    subst (λ (t : List ℕ). IsLayout c.args.inbox.now.kept c.args.entry.now.layout (message c.args.entry.now.at t)) (sym same) x.1 in
-    let part = c.in-Err-put_frame.ensures.part in
+    let front : IsLayout c.args.inbox.now.kept c.args.entry.now.layout
+    (message c.args.entry.now.at c.message.result.now) =
+    subst (λ (t : List ℕ). IsLayout c.args.inbox.now.kept c.args.entry.now.layout (message c.args.entry.now.at t))
+    (sym same) x.1 in
+    let part = c.in-Err-put_frame.ensures.written.part in
     each_stops _ _ (digits_of g.M.Digested.digest_of (g.M.Room.zone c.args.room.now)) _ _ _ _ _ _ c.args.entry.now.at
     c.message.result.now c.in-Ok.response.items c.as_slice.result.now
     c.in-Ok.ensures.plays c.as_slice.ensures.value
@@ -56,9 +63,11 @@ pub returns-in-Ok-follow-clause-turn : goal.returns-in-Ok-follow-clause-turn
 returns-in-Ok-follow-clause-turn g c =
     let x = c.requires.front in
     let same = c.message.ensures (message c.args.entry.now.at x.0) x.1 in
-    let front : IsLayout c.args.inbox.now.kept c.args.entry.now.layout (message c.args.entry.now.at c.message.result.now) =
-    subst (λ (t : List ℕ). IsLayout c.args.inbox.now.kept c.args.entry.now.layout (message c.args.entry.now.at t)) (sym same) x.1 in
-    let wrote = c.in-Ok-put_frame.ensures.all in
+    let front : IsLayout c.args.inbox.now.kept c.args.entry.now.layout
+    (message c.args.entry.now.at c.message.result.now) =
+    subst (λ (t : List ℕ). IsLayout c.args.inbox.now.kept c.args.entry.now.layout (message c.args.entry.now.at t))
+    (sym same) x.1 in
+    let wrote = c.in-Ok-put_frame.ensures.written.all in
     let gone = taken _ (g.R.Source.left c.args.reader.now) _ _ c.args.entry.now.layout _ front (Keeps-refl _)
     c.remove.ensures.kept in
     let again = sym (c.as_slice-in-Ok-put_frame.ensures.value ∙ sym c.as_slice.ensures.value) in
@@ -66,7 +75,8 @@ returns-in-Ok-follow-clause-turn g c =
     (λ (t : List ℕ). FollowIs (prepend_known c.remove.new.self.kept (g.R.Source.left c.args.reader.now))
     (prepend_known c.follow.new.inbox.kept (g.R.Source.left c.follow.new.reader))
     (g.R.Source.has_failed c.follow.new.reader) t (Ok c.in-Ok-follow.field-0)) (sym again) c.in-Ok-follow.ensures in
-    let done = each_done _ _ (digits_of g.M.Digested.digest_of (g.M.Room.zone c.args.room.now)) _ _ _ _ _ _ c.args.entry.now.at
+    let done = each_done _ _ (digits_of g.M.Digested.digest_of (g.M.Room.zone c.args.room.now)) _ _ _ _ _ _
+    c.args.entry.now.at
     c.message.result.now c.in-Ok.response.items c.as_slice.result.now
     c.in-Ok.ensures.plays c.as_slice.ensures.value front.begins.0
     _ _ (g.R.Source.has_failed c.follow.new.reader) gone wrote.0 c.in-Ok-follow.field-0 followed in
@@ -76,9 +86,11 @@ pub returns-clause-turn : goal.returns-clause-turn
 returns-clause-turn g c =
     let x = c.requires.front in
     let same = c.message.ensures (message c.args.entry.now.at x.0) x.1 in
-    let front : IsLayout c.args.inbox.now.kept c.args.entry.now.layout (message c.args.entry.now.at c.message.result.now) =
-    subst (λ (t : List ℕ). IsLayout c.args.inbox.now.kept c.args.entry.now.layout (message c.args.entry.now.at t)) (sym same) x.1 in
-    let wrote = c.in-Ok-put_frame.ensures.all in
+    let front : IsLayout c.args.inbox.now.kept c.args.entry.now.layout
+    (message c.args.entry.now.at c.message.result.now) =
+    subst (λ (t : List ℕ). IsLayout c.args.inbox.now.kept c.args.entry.now.layout (message c.args.entry.now.at t))
+    (sym same) x.1 in
+    let wrote = c.in-Ok-put_frame.ensures.written.all in
     let gone = taken _ (g.R.Source.left c.args.reader.now) _ _ c.args.entry.now.layout _ front (Keeps-refl _)
     c.remove.ensures.kept in
     let again = sym (c.as_slice-in-Ok-put_frame.ensures.value ∙ sym c.as_slice.ensures.value) in

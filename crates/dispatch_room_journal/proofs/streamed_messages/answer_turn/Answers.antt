@@ -16,7 +16,7 @@ returns-in-Err-clause-turn g c =
       refl {a = c.args.progress.now},
       [],
       ([], refl),
-      Appends-none (g.W.Sink.held c.args.writer.now),
+      Appends-none (g.O.Write.contents c.args.writer.now.output.now),
     )
 
 pub returns-in-End-clause-turn : goal.returns-in-End-clause-turn
@@ -27,7 +27,7 @@ returns-in-End-clause-turn g c =
       no_progress c.args.progress.now,
       λ never. absurd (cc never),
       λ _. next.1,
-      Appends-none (g.W.Sink.held c.args.writer.now),
+      Appends-none (g.O.Write.contents c.args.writer.now.output.now),
     )
 
 pub returns-in-Head-clause-turn : goal.returns-in-Head-clause-turn
@@ -39,7 +39,7 @@ returns-in-Head-clause-turn g c =
       x.2,
       λ _. (x.3, c.requires.writer, refl {a = 1}),
       λ never. absurd (cc never),
-      Appends-none (g.W.Sink.held c.args.writer.now),
+      Appends-none (g.O.Write.contents c.args.writer.now.output.now),
     )
 
 pub returns-in-Err-answer_message-clause-turn : goal.returns-in-Err-answer_message-clause-turn

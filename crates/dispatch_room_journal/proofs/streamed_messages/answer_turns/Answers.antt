@@ -15,12 +15,13 @@ use Rattle.dispatch_room_journal.proofs.streamed_messages.answer_turns.Goals as 
 
 pub turns-init : goal.turns-init
 turns-init g c = record {
+  same_reference = refl;
   going = (
     [],
     passes_none _ _ _ _ _ _ _ _ _ IsPlayed (Keeps-prepend c.args.inbox.now.kept _ c.requires.empty)
         (λ trust terminals room stood. stood),
     new_progress _ c.new-progress.ensures,
-    Appends-none (g.W.Sink.held c.args.writer.now),
+    Appends-none (g.O.Write.contents c.args.writer.now.output.now),
     refl,
   );
   zone = refl;
@@ -36,6 +37,7 @@ turns-preserved g c =
     let going = c.turns.invariant.going in
     let turn = (rw c.turns.invariant.zone at c.in-Ok-true.ensures.turn) in
     let earlier = c.answer_turn.ensures.trusted in record {
+      same_reference = c.answer_turn.ensures.same_reference ∙ c.turns.invariant.same_reference;
       going = (
         going.0 ++ turn.0,
         passes_more _ _ _ _ _ earlier _ _ _ going.0 turn.0 _ _ _ IsPlayed going.1 _ (turn.3 c.in-Ok-true.field-0-test).2
@@ -85,7 +87,9 @@ returns-clause-answers g c =
       (
         [],
         ([], refl),
-        subst (λ (t : List ℕ). Appends (g.W.Sink.held c.args.writer.now) (g.W.Sink.held c.turns.writer) t)
+        subst
+            (λ (t : List ℕ). Appends (g.O.Write.contents c.args.writer.now.output.now)
+            (g.O.Write.contents c.turns.writer.output.now) t)
             (sym (append-nil (frames_of going.0))) going.3,
       ),
     )

@@ -42,7 +42,8 @@ pub returns-in-Ok-Some-Change-clause-lost : goal.returns-in-Ok-Some-Change-claus
 returns-in-Ok-Some-Change-clause-lost g c =
     let its =
     rw c.in-Ok-Some-Change.field-0-0-is at (rw c.in-Ok-Some-Change.field-0-is at c.in-Ok-Some-Change.ensures.listed) in
-    IfErr-weaker c.make_towards.result _ _ (λ fault is. (c.in-Ok-Some-Change.change, its, is)) c.make_towards.ensures.lost
+    IfErr-weaker c.make_towards.result _ _ (λ fault is. (c.in-Ok-Some-Change.change, its, is))
+    c.make_towards.ensures.lost
 
 pub returns-in-Ok-None-clause-fault : goal.returns-in-Ok-None-clause-fault
 returns-in-Ok-None-clause-fault g c =

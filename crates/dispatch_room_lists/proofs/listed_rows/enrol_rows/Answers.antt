@@ -107,6 +107,7 @@ returns-in-Err-enrol_row-clause-part g c clean terminals room is =
             subst (λ zone. ¬ IsHeadOf (digits_of digest_of zone) c.args.head.now now at) before.goes.zone
             (c.in-Ok-false.ensures.found.unmet looked c.in-Ok-false.field-0-test changed now at done.1))),
         subst (λ (p : Room × List Terminal). IsRoom g.S.Store c.enrol_row.new.room p.1 p.0)
-            (sym (enrolled_more rows i c.row-item.result (rw c.row-item.is (take_more rows i _ c.loop-row-test.true)) room terminals)) more,
+            (sym (enrolled_more rows i c.row-item.result (rw c.row-item.is (take_more rows i _ c.loop-row-test.true))
+            room terminals)) more,
       )
     ]

@@ -15,7 +15,8 @@ returns-in-Ok-clause-fault g c =
     let takes = rw c.new-rows.ensures.items at (rw c.in-Ok.is at c.take_rows.ensures.taken) in
     IfOk-weaker c.follow_by.result _ _
     (λ it why. IfErr-weaker it.0 _ _
-    (λ fault is. inr (inr (c.take_rows.new.rows.items, is.0, rw is.1 at takes, rw c.as_slice.ensures.value at is.2))) why)
+    (λ fault is. inr (inr (c.take_rows.new.rows.items, is.0, rw is.1 at takes, rw c.as_slice.ensures.value at is.2)))
+    why)
     c.follow_by.ensures.fault
 
 pub returns-in-Ok-clause-lost : goal.returns-in-Ok-clause-lost
@@ -26,4 +27,5 @@ returns-in-Ok-clause-lost g c =
     c.follow_by.ensures.lost
 
 pub returns-in-Err-Read-clause-fault : goal.returns-in-Err-Read-clause-fault
-returns-in-Err-Read-clause-fault g c = inl (refl, rw c.in-Err-Read.field-0-is at (rw c.in-Err-Read.is at c.take_rows.ensures.failed), refl)
+returns-in-Err-Read-clause-fault g c =
+    inl (refl, rw c.in-Err-Read.field-0-is at (rw c.in-Err-Read.is at c.take_rows.ensures.failed), refl)

@@ -18,4 +18,5 @@ returns-in_err-done-in-Room-clause-lost g c =
     (_, c.in-Room.is, c.in_err-done-in-Room.ensures.lost)
 
 pub returns-in-End-clause-by : goal.returns-in-End-clause-by
-returns-in-End-clause-by g c = rw c.in-End.is (end_by g.S.Store c.args.stage.room c.args.stage.room c.args.rows.now refl)
+returns-in-End-clause-by g c =
+    rw c.in-End.is (end_by g.S.Store c.args.stage.room c.args.stage.room c.args.rows.now refl)

@@ -10,13 +10,13 @@ returns-then-not-replay-clause-leg g c before = record {
 pub returns-in-Ok-clause-leg : goal.returns-in-Ok-clause-leg
 returns-in-Ok-clause-leg g c before = record {
   replayed = λ no. absurd (not_both c.args.course.now.replay.now.answers no c.if-not-replay.false);
-  answered = λ yes. rw c.begin.ensures at c.in-Ok.ensures.answers;
+  answered = λ yes. rw c.begin.ensures.output at c.in-Ok.ensures.answers;
 }
 
 pub returns-in-Err-clause-leg : goal.returns-in-Err-clause-leg
 returns-in-Err-clause-leg g c before = record {
   replayed = λ no. absurd (not_both c.args.course.now.replay.now.answers no c.if-not-replay.false);
-  answered = λ yes. rw c.begin.ensures at c.in-Err.ensures.answers;
+  answered = λ yes. rw c.begin.ensures.output at c.in-Err.ensures.answers;
 }
 
 pub returns-then-not-replay-clause-goes : goal.returns-then-not-replay-clause-goes

@@ -1,4 +1,4 @@
-use Rattle.std.proofs.Common.{Ok, arith, inl, inr}
+use Rattle.std.proofs.Common.{◌∙◌, Ok, arith, inl, inr}
 use Rattle.dispatch_room_lists.proofs.LegLemmas.{ends_here, first_leg, next_leg, so_many, spent_by}
 use Rattle.dispatch_room_lists.proofs.LegLemmas.{whole_leg}
 use Rattle.room_tables.proofs.ReadFailures.{holds_on}
@@ -8,6 +8,7 @@ pub loop-leg-init : goal.loop-leg-init
 loop-leg-init g c =
     let first = first_leg _ _ _ _ _ _ _ _ (c.replay_leg-came.ensures.leg 0) in
     record {
+      same_reference = c.replay_leg-came.ensures.same_reference;
       ready = c.replay_leg-came.ensures.goes.ready;
       set = rw (c.replay_leg-came.ensures.goes.zone, c.replay_leg-came.ensures.setting) c.requires.set;
       trusted = c.replay_leg-came.ensures.goes.trusted;
@@ -27,6 +28,7 @@ loop-leg-preserved g c =
     before.legs c.in-Ok.is before.many (rw c.in-Ok-true.field-0-test at between.3) followed.goes.trusted set
     c.saturating_add-before.ensures (next.leg c.saturating_add-before.result) in
     record {
+      same_reference = next.same_reference ∙ before.same_reference;
       ready = next.goes.ready;
       set = rw (next.goes.zone, next.setting) set;
       trusted = λ clean. before.trusted (followed.goes.trusted (next.goes.trusted clean));
@@ -72,7 +74,6 @@ returns-in_err-goes_on-clause-lost g c =
     let lost = c.in_err-goes_on.ensures.lost in
     holds_on c.from_residual.result _ _ c.from_residual.ensures.1 (record {
       stood = c.loop-leg.stage.room;
-      holds = _;
       before = c.loop-leg.before;
       replayed = c.in-Ok.replayed;
       leg = whole_leg _ _ _ _ _ _ _ _ _ _ _ (rw c.in-Ok.is at c.loop-leg.invariant.legs);

@@ -8,13 +8,14 @@ use Rattle.dispatch_room_lists.proofs.replayed_legs.replay_legs.Given as goal
 
 abbrev pub invariant-loop-leg : goal.invariant-loop-leg
 invariant-loop-leg g l = record {
+  same_reference : l.out.output.ghost_name ≡ l.fn.out.output.ghost_name;
   ready : IsReady g.S.Store l.stage.room;
   set : IsSetting l.stage.room.plan.zone l.course.replay.now.history l.stage.setting;
   trusted : IsClean g.S.Store l.stage.room.conn → IsClean g.S.Store l.fn.first.room.conn;
   legs : EndsLeg g.S.Store l.course.replay.now
       (begins_leg l.fn.first.room l.fn.first.setting (left_of g.R.Source.left l.fn.list)
-      (g.O.Write.contents l.fn.out.inner))
-      l.stage.room (g.O.Write.contents l.out.inner)
+      (g.O.Write.contents l.fn.out.output.now))
+      l.stage.room (g.O.Write.contents l.out.output.now)
       (g.R.Source.has_failed l.list.reader || l.list.passed == most_rows) l.out.failed l.before l.came;
   many : length legs.earlier + 1 ≡ l._leg;
 }

@@ -36,15 +36,13 @@ returns-clause-replayed g c =
             printed = is.printed;
           };
       answered = λ asked.
-          let is = said.answered asked in (
-            is.0,
-            record {
-              write_failed = is.1.write_failed;
-              result = is.1.result;
-              is = any_spent _ _ _ _ _ _ _ _ _ is.1.is;
-              ends = is.1.ends;
-            },
-          );
+          let is = said.answered asked in
+          record {
+            write_failed = is.write_failed;
+            result = is.result;
+            is = any_spent _ _ _ _ _ _ _ _ _ is.is;
+            ends = is.ends;
+          };
       ended = c.conclude-done.new.room;
       has_ended = _;
       ends = c.conclude-done.ensures;

@@ -21,7 +21,8 @@ returns-in-Err-clause-served g c =
           attended_more g.S.Store c.args.handler.now.setting _ _ before.calls (next.call ∷ []) _ _ _ before.attended
           next.attended;
       ends =
-          ends_after before.calls next.call c.args.part.now.terms.renews c.args.part.now.terms.connections c.in-Err.fault before.go_on
+          ends_after before.calls next.call c.args.part.now.terms.renews c.args.part.now.terms.connections
+          c.in-Err.fault before.go_on
           within (sym c.in-Err.is ∙ next.ends);
       kept = kept_ending g.S.Store c.args.handler.now.setting _ _ next.call _ _ _ _ before next.attended;
     }

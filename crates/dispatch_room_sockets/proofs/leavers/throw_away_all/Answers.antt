@@ -7,7 +7,8 @@ use Rattle.dispatch_room_sockets.proofs.leavers.throw_away_all.Goals as goal
 
 pub loop-leaver-init : goal.loop-leaver-init
 loop-leaver-init g c =
-    let count : c.len-leaver-end.result - 0 ≡ length c.args.leavers.now.items = omega (arith, c.len-leaver-end.ensures) in
+    let count : c.len-leaver-end.result - 0
+    ≡ length c.args.leavers.now.items = omega (arith, c.len-leaver-end.ensures) in
     record {
       in_time = none_yet c.args.now _ _ count;
       came = refl;

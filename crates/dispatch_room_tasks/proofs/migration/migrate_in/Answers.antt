@@ -30,7 +30,7 @@ returns-in-Ok-clause-migrated g c =
 pub returns-in-Err-clause-fault : goal.returns-in-Err-clause-fault
 returns-in-Err-clause-fault g c = record {
   fault = c.in-Err.fault;
-  failed = c.of_migrating.ensures;
+  failed = c.of_opening.ensures;
   released = c.in-Err._conn;
   left = c.in-Err.ensures.same_fault;
   untouched = c.in-Err.ensures.untouched;

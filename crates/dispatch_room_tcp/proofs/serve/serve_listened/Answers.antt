@@ -15,12 +15,10 @@ returns-clause-served g c =
             ap g.L.Listener.written (sym (same ∙ c.into_listener-listener.ensures.listener)),
           ))
           c.given_back.ensures.listener;
-      given = _;
-      gives = _;
       is = rw (sym c.given_back.ensures.done) at is;
     }
 
 pub returns-in_err-done-clause-fault : goal.returns-in_err-done-clause-fault
 returns-in_err-done-clause-fault g c =
     let written = rw c.new-callers.ensures.listener at c.in_err-done.ensures.fault in
-    handed_on c.from_residual.result _ c.from_residual.ensures.1 (λ fault is. (_, rw (← is) at written))
+    handed_on c.from_residual.result _ c.from_residual.ensures.1 (λ fault is. rw (← is) at written)

@@ -20,6 +20,7 @@ returns-clause-served g c =
         kept = journal;
         synced = rw c.new-log_and_journal.ensures.journal c.journal_of-journal.ensures.synced;
         of = rw c.new-log_and_journal.ensures.journal c.journal_of-journal.ensures.of;
+        goes_on = rw c.new-log_and_journal.ensures.journal c.journal_of-journal.ensures.goes_on;
       };
       served = _;
       ends = c.end_part-done.ensures.part;

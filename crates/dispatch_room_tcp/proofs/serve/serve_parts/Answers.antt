@@ -1,6 +1,7 @@
 use Rattle.std.proofs.Common.{◌∙◌, ap, inl, inr, refl, sym}
 use Rattle.dispatch_room_serving.proofs.CallerLemmas.{may_of, printed_once}
-use Rattle.dispatch_room_tcp.proofs.PartLemmas.{called_before, first_before, first_part, next_before, not_false, where_failed}
+use Rattle.dispatch_room_tcp.proofs.PartLemmas.{called_before, first_before, first_part, next_before, not_false}
+use Rattle.dispatch_room_tcp.proofs.PartLemmas.{where_failed}
 use Rattle.dispatch_room_disk.proofs.WorkLemmas.{handed_on}
 use Rattle.dispatch_room_tcp.proofs.serve.serve_parts.Goals as goal
 
@@ -8,7 +9,7 @@ pub loop-part-init : goal.loop-part-init
 loop-part-init g c = record {
   outside = c.in_ok-first.ensures.outside;
   listed = refl;
-  served = λ first is. first_part _ _ _ first _ _ is;
+  served = λ first is. first_part _ _ _ _ first _ _ is;
   prints = c.in_ok-first.ensures.prints;
 }
 
@@ -23,6 +24,7 @@ loop-part-preserved g c =
       served = λ first is. record {
         at = _;
         before = next_before _ _ _ first _ _ renews well (c.loop-part.invariant.served first is);
+        list = _;
         is = rw listed at c.in_ok-next.ensures.served;
       };
       prints =
@@ -36,7 +38,7 @@ returns-in_err-first-clause-fault g c =
     (λ fault is. record { at = _; before = first_before _ _ _ _; unopened = rw is c.in_err-first.ensures.fault })
 
 pub returns-then-not-terms_of-clause-served : goal.returns-then-not-terms_of-clause-served
-returns-then-not-terms_of-clause-served g c = inl (first_part _ _ _ _ _ _ c.in_ok-first.ensures.served)
+returns-then-not-terms_of-clause-served g c = inl (first_part _ _ _ _ _ _ _ c.in_ok-first.ensures.served)
 
 pub returns-then-is_err-clause-served : goal.returns-then-is_err-clause-served
 returns-then-is_err-clause-served g c = inl (c.loop-part.invariant.served _ c.in_ok-first.ensures.served)

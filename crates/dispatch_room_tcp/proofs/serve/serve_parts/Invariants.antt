@@ -10,7 +10,8 @@ invariant-loop-part g l = record {
   outside : l.conn.in_transaction ≡ false;
   listed : is_some l.list ≡ is_some l.initial.list;
   served : (first : Interval g.row.S.Denot)
-      → IsPart g.S.Store (watch_of (is_some l.initial.list) l.run.service.now) (terms_of l.run.service.now) first
+      → IsPart g.S.Store (watch_of (is_some l.initial.list) l.run.service.now) (terms_of l.run.service.now)
+      l.initial.list first
       (record {
         conn = l.initial.conn;
         heard = g.P.Callers.heard l.initial.callers;

@@ -1,8 +1,9 @@
 use Rattle.std.proofs.Common.{drop, subst, sym, ap, ◌+◌, ◌++◌, ◌∙◌, ◌≡◌}
 use Rattle.std.specs.Prelude.{filter}
 use Rattle.room_types.specs.Keys.{pair_cmp, point_key}
-use Rattle.room_types.specs.Orders.{pairs_total}
-use Rattle.room_alloc.specs.Candidates.{is_point_short, unplanned}
+use Rattle.room_types.specs.KeyLemmas.{pairs_total}
+use Rattle.room_model.specs.RoomSlices.{unplanned}
+use Rattle.room_alloc.specs.Candidates.{is_point_short}
 use Rattle.room_alloc.proofs.CandidateLaws.{drop_item, leave_out, put_passing}
 use Rattle.room_alloc.proofs.candidates.points_in_need.Goals as goal
 use Rattle.room_alloc.proofs.candidates.points_in_need.Goals.{then-is_short+in_ok-put, else-is_short}

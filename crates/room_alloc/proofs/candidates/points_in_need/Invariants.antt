@@ -1,6 +1,7 @@
 use Rattle.std.proofs.Common.{◌≡◌, ◌++◌, drop}
 use Rattle.std.specs.Prelude.{filter}
-use Rattle.room_alloc.specs.Candidates.{is_point_short, unplanned}
+use Rattle.room_model.specs.RoomSlices.{unplanned}
+use Rattle.room_alloc.specs.Candidates.{is_point_short}
 use Rattle.room_alloc.proofs.candidates.points_in_need.Given as goal
 
 abbrev pub invariant-loop-point : goal.invariant-loop-point

@@ -1,5 +1,6 @@
 use Rattle.std.proofs.Common.{IfOk, Ok, Err, Result, subst, sym, ◌≡◌}
-use Rattle.room_alloc.specs.Candidates.{AreShort, unplanned}
+use Rattle.room_model.specs.RoomSlices.{unplanned}
+use Rattle.room_alloc.specs.Candidates.{AreShort}
 use Rattle.room_alloc.proofs.CandidateLaws.{are_short}
 use Rattle.room_alloc.proofs.candidates.short_points.Goals as goal
 

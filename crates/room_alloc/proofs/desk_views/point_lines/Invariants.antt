@@ -1,6 +1,6 @@
 use Rattle.std.proofs.Common.{◌≡◌, ◌++◌, drop, map}
 use Rattle.room_model.specs.Points.{point_line}
-use Rattle.room_alloc.specs.Candidates.{unplanned}
+use Rattle.room_model.specs.RoomSlices.{unplanned}
 use Rattle.room_alloc.proofs.desk_views.point_lines.Given as goal
 
 abbrev pub invariant-loop-point : goal.invariant-loop-point

@@ -1,6 +1,6 @@
 use Rattle.std.proofs.Common.{◌≡◌, ◌++◌, drop, map}
 use Rattle.room_model.specs.Vehicles.{vehicle_line}
-use Rattle.room_alloc.specs.Candidates.{unplanned}
+use Rattle.room_model.specs.RoomSlices.{unplanned}
 use Rattle.room_alloc.proofs.desk_views.vehicle_lines.Given as goal
 
 abbrev pub invariant-loop-vehicle : goal.invariant-loop-vehicle

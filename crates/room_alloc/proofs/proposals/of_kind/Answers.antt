@@ -1,5 +1,5 @@
 use Rattle.std.proofs.Common.{refl, subst, sym, ◌∙◌, []}
-use Rattle.room_alloc.specs.Candidates.{unplanned}
+use Rattle.room_model.specs.RoomSlices.{unplanned}
 use Rattle.room_alloc.specs.Rings.{ArePlaced}
 use Rattle.room_alloc.proofs.RoundLaws.{are_apart, are_of_kind, proposed_so}
 use Rattle.room_alloc.proofs.proposals.of_kind.Goals as goal

@@ -197,7 +197,8 @@ returns-in-Err-clause-answers g c o shown = (
   ),
   kept_none g.N.Observer.came g.N.Observer.response
       (g.M.Room.is_trusted c.args.room.now → g.M.Room.is_kept c.args.room.now → g.M.Room.is_kept c.args.room.now) _
-      (Acts g.M.Room.step c.args.handler.now.setting (g.M.Room.is_trusted c.args.room.now) (g.M.Room.stands c.args.room.now)
+      (Acts g.M.Room.step c.args.handler.now.setting (g.M.Room.is_trusted c.args.room.now)
+      (g.M.Room.stands c.args.room.now)
       (g.M.Room.stands c.args.room.now)) c.args.arrived.now o shown c.in-Some.at c.in-Some.ensures.0 _ _
       c.in-Some.ensures.1
       _ _ _ (λ trust was. was) (λ trust terminals room stood. stood) c.in-Err.ensures.kept,
@@ -235,7 +236,8 @@ returns-in-Err-answering-clause-answers g c o shown = (
       (g.M.Room.is_trusted c.reply.new.room → g.M.Room.is_kept c.args.room.now → g.M.Room.is_kept c.reply.new.room)
       (Unmoved (g.M.Room.is_trusted c.reply.new.room) (g.M.Room.stands c.args.room.now)
       (g.M.Room.stands c.reply.new.room))
-      (Acts g.M.Room.step c.args.handler.now.setting (g.M.Room.is_trusted c.reply.new.room) (g.M.Room.stands c.args.room.now)
+      (Acts g.M.Room.step c.args.handler.now.setting (g.M.Room.is_trusted c.reply.new.room)
+      (g.M.Room.stands c.args.room.now)
       (g.M.Room.stands c.reply.new.room)) c.args.arrived.now o shown c.in-Some.at c.in-Some.ensures.0 _ _
       c.in-Some.ensures.1 c.as_slice-text.result.now c.in-Ok.bytes.items c.as_slice-text.ensures.value
       (λ trust terminals room stood. c.in-Ok.ensures.reply.says trust terminals room stood o shown)

@@ -1,7 +1,7 @@
 use Rattle.std.proofs.Common.{refl}
 use Rattle.std.specs.Fmt.{digits}
 use Rattle.serde_json.proofs.OnLiterals.{serde_json_on_literals}
-use Rattle.room_http.specs.Contents.{content}
+use Rattle.room_http.specs.AnswerJson.{content}
 use Rattle.room_http.specs.ReplyMessages.{field, fixed_bytes, line}
 use Rattle.room_http.proofs.fixed_answers.storage.Goals as goal
 

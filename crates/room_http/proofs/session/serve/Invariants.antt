@@ -16,7 +16,8 @@ invariant-messages g l = record {
         held = g.W.Sink.held l.initial.connection.writer;
         given = g.C.Clock.given l.initial.clock;
       })
-      (prepend_known l.inbox (g.R.Source.left l.connection.reader)) (g.W.Sink.held l.connection.writer) (g.C.Clock.given l.clock)
+      (prepend_known l.inbox (g.R.Source.left l.connection.reader)) (g.W.Sink.held l.connection.writer)
+      (g.C.Clock.given l.clock)
       (g.M.Room.is_trusted l.room) (g.M.Room.stands l.initial.room)
       (Stays (g.M.Room.is_kept l.initial.room) (g.M.Room.stands l.room) (g.M.Room.leaves_one_of l.room)) outs
       × Noted g.N.Observer.came g.N.Observer.response g.M.Room.step l.handler.setting
@@ -27,12 +28,17 @@ invariant-messages g l = record {
         held = g.W.Sink.held l.initial.connection.writer;
       })
       (prepend_known l.inbox (g.R.Source.left l.connection.reader))
-      (record { given = g.C.Clock.given l.clock; kept = g.N.Observer.held l.observer; held = g.W.Sink.held l.connection.writer })
+      (record {
+        given = g.C.Clock.given l.clock;
+        kept = g.N.Observer.held l.observer;
+        held = g.W.Sink.held l.connection.writer;
+      })
       (g.M.Room.is_trusted l.room) (g.M.Room.stands l.initial.room) (g.M.Room.stands l.room) outs answers;
   trusted : g.M.Room.is_trusted l.room → g.M.Room.is_trusted l.initial.room;
   kept : g.M.Room.is_trusted l.room → g.M.Room.is_kept l.initial.room → g.M.Room.is_kept l.room;
   spent : l.left ≤ l.budget;
-  reads : CountsBy (l.budget - l.left) (g.R.Source.reads l.initial.connection.reader) (g.R.Source.reads l.connection.reader);
+  reads : CountsBy (l.budget - l.left) (g.R.Source.reads l.initial.connection.reader)
+      (g.R.Source.reads l.connection.reader);
   reader : g.R.Source.has_failed l.connection.reader ≡ false;
   writer : g.W.Sink.has_failed l.connection.writer ≡ false;
   ready : g.M.Room.is_ready l.room;

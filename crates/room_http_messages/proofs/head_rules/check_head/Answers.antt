@@ -1,8 +1,10 @@
 use Rattle.std.proofs.Common.{◌∙◌, sym, map, refl}
 use Rattle.std.specs.Prelude.{◌==◌}
 use Rattle.httparse.specs.Spans.{header_bytes}
-use Rattle.room_http_messages.proofs.RuleLemmas.{breaks_host, breaks_coding, breaks_length, breaks_expectation, breaks_limit}
-use Rattle.room_http_messages.proofs.RuleLemmas.{breaks_none, second_fails, first_fails, is_other, not_too_long, too_long}
+use Rattle.room_http_messages.proofs.RuleLemmas.{breaks_host, breaks_coding, breaks_length, breaks_expectation}
+use Rattle.room_http_messages.proofs.RuleLemmas.{breaks_limit}
+use Rattle.room_http_messages.proofs.RuleLemmas.{breaks_none, second_fails, first_fails, is_other, not_too_long}
+use Rattle.room_http_messages.proofs.RuleLemmas.{too_long}
 use Rattle.room_http_messages.proofs.head_rules.check_head.Goals as goal
 
 pub returns-then-is_host_fault : goal.returns-then-is_host_fault

@@ -8,7 +8,7 @@ loop-digit-preserved c = record {
       all_digits_more _ _ c.loop-digit-test.true (sym c.is_ascii_digit.ensures.value ∙ c.if-not-is_ascii_digit.false)
       c.loop-digit.invariant.digits;
   value =
-      bounded_more _ _ _ _ _ c.loop-digit-test.true c.loop-digit.invariant.value
+      bounded_more _ _ _ _ _ _ c.loop-digit-test.true c.loop-digit.invariant.value
       (digit_is _ _ (sym c.is_ascii_digit.ensures.value ∙ c.if-not-is_ascii_digit.false) c.from.ensures)
       c.min-number.ensures;
 }

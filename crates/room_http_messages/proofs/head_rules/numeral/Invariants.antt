@@ -2,11 +2,10 @@ use Rattle.std.proofs.Common.{◌≡◌, true, take, min}
 use Rattle.std.specs.List.{list_all}
 use Rattle.std.specs.Char.{is_ascii_digit}
 use Rattle.std.specs.Str.Parse.{digits_value}
-use Rattle.room_http_messages.specs.declared.head_rules.TheConstants.{TOO_LONG}
 use Rattle.room_http_messages.proofs.head_rules.numeral.Given as goal
 
 abbrev pub invariant-loop-digit : goal.invariant-loop-digit
 invariant-loop-digit l = record {
   digits : list_all is_ascii_digit (take l.digit-index l.value) ≡ true;
-  value : l.number ≡ min (digits_value 10 (take l.digit-index l.value)) TOO_LONG;
+  value : l.number ≡ min (digits_value 10 (take l.digit-index l.value)) l.most;
 }

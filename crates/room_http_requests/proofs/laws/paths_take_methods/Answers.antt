@@ -1,6 +1,6 @@
 use Rattle.std.proofs.Common.{refl}
 use Rattle.matchit.proofs.OnLiterals.{matchit_on_literals}
-use Rattle.room_http_requests.specs.Routes.{path_at, table, target_of, with_path}
+use Rattle.room_http_requests.specs.Router.{path_at, table, target_of, with_path}
 use Rattle.room_http_requests.proofs.laws.paths_take_methods.Goals as goal
 
 pub returns-clause-plain : goal.returns-clause-plain

@@ -1,6 +1,6 @@
 use Rattle.std.proofs.Common.{arith, refl}
 use Rattle.matchit.proofs.OnLiterals.{matchit_on_literals}
-use Rattle.room_http_requests.specs.Routes.{path_at, table, target_of, with_path}
+use Rattle.room_http_requests.specs.Router.{path_at, table, target_of, with_path}
 use Rattle.room_http_requests.proofs.laws.targets_name_paths.Goals as goal
 
 pub returns-clause-listed : goal.returns-clause-listed

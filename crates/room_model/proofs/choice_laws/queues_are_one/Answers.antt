@@ -1,5 +1,5 @@
 use Rattle.room_types.specs.Keys.{entry_cmp, entry_key}
-use Rattle.room_types.specs.Orders.{entries_total}
+use Rattle.room_types.specs.KeyLemmas.{entries_total}
 use Rattle.room_model.proofs.OneList.{one_keyed}
 use Rattle.room_model.proofs.choice_laws.queues_are_one.Goals as goal
 

@@ -1,7 +1,8 @@
 use Rattle.std.proofs.Common.{ap, arith, length, refl, ◌++◌, ◌∙◌, ◌≡◌, ◌≤◌}
 use Rattle.std.specs.Prelude.{filter_map}
 use Rattle.room_model.specs.Queue.{exception, slow_turn, unread_turn}
-use Rattle.room_queue.specs.QueueEntries.{room, turn_ahead, unserved_seen}
+use Rattle.room_model.specs.RoomSlices.{unplanned}
+use Rattle.room_queue.specs.QueueEntries.{turn_ahead, unserved_seen}
 use Rattle.room_alloc.proofs.CandidateLaws.{drop_item}
 use Rattle.room_queue.proofs.SeenLaws.{noted, walked}
 use Rattle.room_queue.proofs.queues.push_sent.Goals as goal
@@ -36,7 +37,7 @@ loop-vehicle-2-preserved c =
     let rest = drop_item s.vehicles c.as_slice-vehicles.result.now c.loop-vehicle-2.vehicle-index
     c.vehicle-item-in-loop-vehicle-2.result c.as_slice-vehicles.ensures.all c.loop-vehicle-2-test.true
     c.vehicle-item-in-loop-vehicle-2.is in
-    noted (λ v. slow_turn d at (room s) v (turn_ahead d s v)) s.vehicles c.loop-vehicle-2.vehicle-index
+    noted (λ v. slow_turn d at (unplanned s) v (turn_ahead d s v)) s.vehicles c.loop-vehicle-2.vehicle-index
     c.vehicle-item-in-loop-vehicle-2.result c.slow.result c.loop-vehicle-2.seen.items
     c.push_entry-in-loop-vehicle-2.new.seen.items _ c.slow.ensures c.in_ok-push_entry-3.ensures rest
     c.loop-vehicle-2.invariant
@@ -68,9 +69,9 @@ returns c =
     ∙ ap (λ ys. ys ++ filter_map (λ v. unread_turn at v (turn_ahead d s v)) s.vehicles) e0 in
     let past2 : length s.vehicles
     ≤ c.loop-vehicle-2.vehicle-index = rw c.as_slice-vehicles.ensures.all at c.loop-vehicle-2-test.false in
-    let e2 = walked (λ v. slow_turn d at (room s) v (turn_ahead d s v)) s.vehicles _ c.loop-vehicle.seen.items
+    let e2 = walked (λ v. slow_turn d at (unplanned s) v (turn_ahead d s v)) s.vehicles _ c.loop-vehicle.seen.items
     c.loop-vehicle-2.seen.items past2 c.loop-vehicle-2.invariant
-    ∙ ap (λ ys. ys ++ filter_map (λ v. slow_turn d at (room s) v (turn_ahead d s v)) s.vehicles) e1 in
+    ∙ ap (λ ys. ys ++ filter_map (λ v. slow_turn d at (unplanned s) v (turn_ahead d s v)) s.vehicles) e1 in
     let past3 : length s.reports
     ≤ c.loop-report.report-index = rw c.as_slice-report-items.ensures.all at c.loop-report-test.false in
     let e3 = walked (exception d) s.reports _ c.loop-vehicle-2.seen.items c.loop-report.seen.items past3

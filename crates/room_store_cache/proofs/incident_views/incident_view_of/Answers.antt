@@ -1,7 +1,7 @@
 use Rattle.std.proofs.Common.{ap, arith, get_or, length, sym, take_all, ◌<◌, ◌∙◌, ◌≡◌, ◌≤◌}
 use Rattle.std.specs.Prelude.{filter, ◌==◌}
 use Rattle.room_types.specs.Keys.{incident_key, numbered_cmp, pair_cmp, turn_key}
-use Rattle.room_types.specs.Orders.{numbered_total}
+use Rattle.room_types.specs.KeyLemmas.{numbered_total}
 use Rattle.room_types.specs.declared.tables.Turn.{Turn}
 use Rattle.room_types.proofs.KeyedLaws.{without_failing}
 use Rattle.room_types.specs.KeyedRows.{row_at}

@@ -2,7 +2,7 @@ use Rattle.std.proofs.Common.{get_or, length, sym, ◌<◌, ◌∙◌, ◌≡◌
 use Rattle.room_store_cache.proofs.KeptLaws.{put_passing}
 use Rattle.room_store_cache.proofs.RecentLaws.{may_have}
 use Rattle.room_types.specs.Keys.{incident_key, pair_cmp}
-use Rattle.room_types.specs.Orders.{pairs_total}
+use Rattle.room_types.specs.KeyLemmas.{pairs_total}
 use Rattle.room_types.proofs.KeyedLaws.{without_failing}
 use Rattle.room_store_cache.proofs.recent_incidents.around.Goals as goal
 use Rattle.room_store_cache.proofs.recent_incidents.around.Goals.{then-may_link+in_ok-put, else-may_link}

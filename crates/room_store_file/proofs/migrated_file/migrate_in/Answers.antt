@@ -9,7 +9,7 @@ use Rattle.room_tables_schema.specs.Versions.{HasFirstTables}
 use Rattle.room_store_writes.proofs.CommitLaws.{on_ok, ok_then}
 use Rattle.room_store_file.proofs.FileLaws.{left_left, looked_on, moves_before}
 use Rattle.room_store_check_tables.proofs.StreamLaws.{nothing_then}
-use Rattle.room_store_file.proofs.TakeLaws.{any_fault, both_errs, first_is_old, none_moved, survives_less}
+use Rattle.room_store_file.proofs.TakeLaws.{any_fault, both_errs, first_is_old, none_opened, survives_less}
 use Rattle.room_store_check_tables.proofs.Findings.{none_found, none_ok}
 use Rattle.room_store_file.specs.OpenedFile.{HoldsFirstRoom, IsNewRoom, IsOldRoom, MayBeMoved}
 use Rattle.room_tables_schema.specs.FileConnections.{IsClean}
@@ -134,11 +134,11 @@ returns-in_err-is_room_of g c =
       not_old =
           λ clean.
           IfErr-weaker c.from_residual.result _ _ (λ e other. (λ is. absurd (other.0 is), λ is. absurd (other.1 is)))
-          (none_moved _ c.in_err-is_room_of.field-0.0 failed.1);
+          (none_opened _ c.in_err-is_room_of.field-0.0 failed.1);
       no_room =
           λ clean.
           IfErr-weaker c.from_residual.result _ _ (λ e other is. absurd (other.1 is))
-          (none_moved _ c.in_err-is_room_of.field-0.0 failed.1);
+          (none_opened _ c.in_err-is_room_of.field-0.0 failed.1);
       untouched = any_fault c.from_residual.result _ (λ e _. looked);
       ended = c.is_room_of.ensures.ended;
       survives =
@@ -161,11 +161,11 @@ returns-in_err-is_room_of-2 g c =
           λ clean.
           IfErr-weaker c.from_residual-in_err-is_room_of-2.result _ _
           (λ e other. (λ is. absurd (other.0 is), λ is. absurd (other.1 is)))
-          (none_moved _ c.in_err-is_room_of-2.field-0.0 failed.1);
+          (none_opened _ c.in_err-is_room_of-2.field-0.0 failed.1);
       no_room =
           λ clean.
           IfErr-weaker c.from_residual-in_err-is_room_of-2.result _ _ (λ e other is. absurd (other.1 is))
-          (none_moved _ c.in_err-is_room_of-2.field-0.0 failed.1);
+          (none_opened _ c.in_err-is_room_of-2.field-0.0 failed.1);
       untouched = any_fault c.from_residual-in_err-is_room_of-2.result _ (λ e _. looked);
       ended = c.is_room_of-2.ensures.ended;
       survives =

@@ -1,7 +1,7 @@
 use Rattle.std.proofs.Common.{inr, rules, sym, ◌∙◌, ◌≡◌}
 use Rattle.sqlite.specs.Held.{state}
 use Rattle.room_store_file.proofs.FileLaws.{may_be_moved, takes_moves}
-use Rattle.room_store_file.proofs.TakeLaws.{holds_first, moved_reported, survives_less}
+use Rattle.room_store_file.proofs.TakeLaws.{holds_first, open_reported, survives_less}
 use Rattle.room_store_file.specs.OpenedFile.{MayBeMoved, schema_of}
 use Rattle.room_store_file.proofs.migrated_file.move_tables.Goals as goal
 
@@ -14,12 +14,12 @@ returns-in-Ok-clause-moves g c clean =
 
 pub returns-in-Err-clause-no_room : goal.returns-in-Err-clause-no_room
 returns-in-Err-clause-no_room g c clean is has holds =
-    let none = moved_reported c.in-Err.fault (sym c.from.ensures ∙ is) in
+    let none = open_reported c.in-Err.fault (sym c.from.ensures ∙ is) in
     c.in-Err.ensures.no_room clean none (holds_first c.in-Some.tables _ c.in-Some.ensures.tables.1 holds)
 
 pub returns-in-Err-clause-untouched : goal.returns-in-Err-clause-untouched
 returns-in-Err-clause-untouched g c is =
-    c.in-Err.ensures.untouched (moved_reported c.in-Err.fault (sym c.from.ensures ∙ is))
+    c.in-Err.ensures.untouched (open_reported c.in-Err.fault (sym c.from.ensures ∙ is))
 
 pub returns-in-Ok-clause-survives : goal.returns-in-Ok-clause-survives
 returns-in-Ok-clause-survives g c =

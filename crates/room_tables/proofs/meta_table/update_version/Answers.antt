@@ -8,7 +8,7 @@ use Rattle.room_tables_schema.proofs.WriteLaws.{read_writes, unread}
 use Rattle.room_tables_schema.specs.Schema.{meta_table}
 use Rattle.room_tables_rows.specs.MetaSql.{version_row}
 use Rattle.room_tables_rows.specs.RoomsInTables.{StandsFor}
-use Rattle.room_tables.proofs.Inside.{read_renews}
+use Rattle.room_tables.proofs.Inside.{read_raises}
 use Rattle.room_tables.proofs.meta_table.update_version.Goals as goal
 
 pub returns-clause-ok : goal.returns-clause-ok
@@ -21,7 +21,7 @@ returns-clause-ok g c clean =
     (sym c.as_str.ensures.value) (c.in_ok-zone.ensures.found read) in
     let stated = subst (λ (db : Database). StandsFor db.trees meta_table (version_row 1) (c.as_str.result.now ∷ []))
     (sym same.0.now_is) found in
-    IfOk-weaker c.put_meta.result _ _ (λ _ renews. read_renews old mid _ same (renews stated))
+    IfOk-weaker c.put_meta.result _ _ (λ _ renews. read_raises old mid _ same (renews stated))
     (c.put_meta.ensures.renews clean)
 
 pub returns-clause-writes : goal.returns-clause-writes

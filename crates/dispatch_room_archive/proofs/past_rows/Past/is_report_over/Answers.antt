@@ -1,5 +1,4 @@
 use Rattle.std.proofs.Common.{Bool, ap, not, sym, ◌&&◌, ◌∙◌}
-use Rattle.dispatch_room_archive.specs.Successor.{is_last_report}
 use Rattle.dispatch_room_archive.proofs.PastLaws.{report_is}
 use Rattle.dispatch_room_archive.proofs.past_rows.Past.is_report_over.Goals as goal
 
@@ -9,4 +8,4 @@ returns-then-is_settled c plan =
     let x = c.args.report.now in
     ap (λ (y : Bool). y && not last) (sym (sym c.is_settled.ensures ∙ c.if-is_settled.true))
     ∙ report_is c.args.self.now.since c.args.self.now.rows.now plan x last
-    (c.is_last-is_last.ensures ∙ ap (is_last_report x.number) c.get.ensures)
+    c.is_last-is_last.ensures

@@ -10,4 +10,5 @@ returns-clause-done g c =
     (both c.joined_report_in.result _ _ c.joined_report_in.ensures.report c.joined_report_in.ensures.nothing))
 
 pub returns-clause-refused : goal.returns-clause-refused
-returns-clause-refused g c = IfErr-weaker c.joined_report_in.result _ _ (λ fault why. (why, refl)) c.joined_report_in.ensures.fault
+returns-clause-refused g c =
+    IfErr-weaker c.joined_report_in.result _ _ (λ fault why. (why, refl)) c.joined_report_in.ensures.fault

@@ -98,7 +98,8 @@ returns-in-Err-clause-leaves g c clean =
     (arith, c.test_file.ensures.survives.clean) in
     left_then _ _ _
     (left_failed _ _
-    (c.lemma_committed.ensures c.requires.ready.outside) (c.in-Err.ensures.reads.err early)) (c.test_file.ensures.leaves clean)
+    (c.lemma_committed.ensures c.requires.ready.outside) (c.in-Err.ensures.reads.err early))
+    (c.test_file.ensures.leaves clean)
 
 pub returns-in-Err-clause-same : goal.returns-in-Err-clause-same
 returns-in-Err-clause-same g c clean terminals room is =

@@ -8,7 +8,8 @@ use Rattle.room_store_cache.proofs.entries.Entries.put.Goals as goal
 pub invariant_of-self-clause-apart : goal.invariant_of-self-clause-apart
 invariant_of-self-clause-apart g c =
     let f = g.E.Entry.key_of in
-    let same = sym c.key.ensures ∙ g.met.E.Entry.exact _ _ (sym c.eq.ensures ∙ c.if-eq.true) ∙ c.key-in-loop-at.ensures in
+    let same = sym c.key.ensures ∙ g.met.E.Entry.exact _ _ (sym c.eq.ensures ∙ c.if-eq.true)
+    ∙ c.key-in-loop-at.ensures in
     subst (AllPairs (λ k l. k ≢ l))
     (sym (map-set_same f c.loop-at.self.kept.items c.loop-at.at _ _ (sym same ∙ ap f c.index.ensures)))
     c.loop-at.self.apart

@@ -11,7 +11,8 @@ pub invariant_of-self-else-is_err-clause-apart : goal.invariant_of-self-else-is_
 invariant_of-self-else-is_err-clause-apart g c =
     let f = g.E.Entry.key_of in
     subst (AllPairs (λ k l. k ≢ l))
-    (sym (map-set_same f c.loop-at.self.kept.items c.loop-at.at _ _ (c.apply.ensures.key ∙ ap f c.index_mut.ensures.value)))
+    (sym
+    (map-set_same f c.loop-at.self.kept.items c.loop-at.at _ _ (c.apply.ensures.key ∙ ap f c.index_mut.ensures.value)))
     c.loop-at.self.apart
 
 pub loop-at-preserved : goal.loop-at-preserved

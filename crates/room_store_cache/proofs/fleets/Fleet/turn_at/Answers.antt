@@ -1,6 +1,6 @@
 use Rattle.std.proofs.Common.{Some, subst, sym, ◌≡◌}
 use Rattle.room_types.specs.Keys.{numbered_cmp, turn_key}
-use Rattle.room_types.specs.Orders.{exact_numbered, numbered_total}
+use Rattle.room_types.specs.KeyLemmas.{exact_numbered, numbered_total}
 use Rattle.room_types.specs.KeyedRows.{row_at}
 use Rattle.room_model.proofs.Tests.{row_key}
 use Rattle.room_tables_schema.proofs.ReadLaws.{begins, fails, looked, succeeds}

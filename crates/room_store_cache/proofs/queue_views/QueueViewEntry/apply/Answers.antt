@@ -1,8 +1,8 @@
 use Rattle.std.proofs.Common.{◌∙◌}
 use Rattle.std.proofs.lemmas.Result.{on_ok_weaker}
 use Rattle.room_types.specs.Keys.{incident_key, numbered_cmp, pair_cmp, report_key}
-use Rattle.room_types.specs.Orders.{numbered_total, pairs_total}
-use Rattle.room_store_cache.specs.QueueViews.{is_exception, is_waiting}
+use Rattle.room_types.specs.KeyLemmas.{numbered_total, pairs_total}
+use Rattle.room_store_cache.specs.QueueViews.{is_own_exception, is_waiting}
 use Rattle.room_store_cache.proofs.KeptLaws.{pass_put}
 use Rattle.room_store_cache.proofs.queue_views.QueueViewEntry.apply.Goals as goal
 
@@ -24,6 +24,6 @@ returns-in-PutReport-clause-so c =
       incidents = known.incidents;
       exceptions =
           kept
-          ∙ pass_put numbered_cmp report_key numbered_total (is_exception x.division) x.exceptions room.reports
-          c.in-PutReport.report _ c.is_exception-is_shown.ensures in_order.reports known.exceptions;
+          ∙ pass_put numbered_cmp report_key numbered_total (is_own_exception x.division) x.exceptions room.reports
+          c.in-PutReport.report _ c.is_own_exception-is_shown.ensures in_order.reports known.exceptions;
     })) c.put_if-in-PutReport.ensures.put

@@ -2,7 +2,7 @@ use Rattle.std.proofs.Common.{◌&&◌, ◌∙◌}
 use Rattle.std.proofs.lemmas.Result.{on_ok_weaker}
 use Rattle.std.specs.Prelude.{◌==◌}
 use Rattle.room_types.specs.Keys.{call_key, numbered_cmp, pair_cmp, turn_key}
-use Rattle.room_types.specs.Orders.{numbered_total, pairs_total}
+use Rattle.room_types.specs.KeyLemmas.{numbered_total, pairs_total}
 use Rattle.room_store_cache.specs.ShownLists.{has}
 use Rattle.room_store_cache.proofs.KeptLaws.{pass_put}
 use Rattle.room_store_cache.proofs.shown_lists.ShownListEntry.apply.Goals as goal

@@ -2,7 +2,7 @@ use Rattle.std.proofs.Common.{ap, sym, ◌∙◌}
 use Rattle.std.proofs.lemmas.Result.{IfOk-weaker}
 use Rattle.room_types.specs.Keys.{incident_key, pair_cmp}
 use Rattle.room_types.specs.KeyedRows.{row_at}
-use Rattle.room_types.specs.Orders.{pairs_total}
+use Rattle.room_types.specs.KeyLemmas.{pairs_total}
 use Rattle.room_tables_schema.proofs.ReadLaws.{begins, ends_any}
 use Rattle.room_store_cache.proofs.Filters.{filter_as}
 use Rattle.room_store_reads.proofs.ReadFilters.{own_pair, pair_is}

@@ -1,4 +1,0 @@
-use Rattle.room_http.proofs.contents.HistoryToJson.write_json.Goals as goal
-
-pub returns : goal.returns
-returns g c = rw (← c.merged_into.ensures, ← c.number.ensures) c.write_object.ensures
