@@ -3,7 +3,9 @@
 //! over a room's file.
 #![tactic(auto)]
 
-ghost use Rattle.std.specs.Prelude.{◌≡◌, ◌≤◌, ◌<◌, ◌⊎◌, IfErr, IfOk, Err, length, map, string_bytes};
+ghost use Rattle.std.specs.Prelude.{◌≡◌, ◌≢◌, ◌≤◌, ◌<◌, IfErr, IfOk, Err};
+ghost use Rattle.std.specs.Prelude.{length, map, string_bytes};
+ghost use Rattle.std.specs.IoError.{error_kind};
 ghost use Rattle.dispatch_room_cli.specs.ExitStatus.{status_after};
 ghost use Rattle.dispatch_room_cli.specs.declared.exit_status.Failure.TheVariants.{Memory};
 ghost use Rattle.dispatch_room_commands.specs.DoneTasks.{IsCommand};
@@ -12,9 +14,9 @@ ghost use Rattle.dispatch_room_dry_run.specs.DryRunEnds.{IsRun};
 use dispatch_room_cli::exit_status::{Failure, end};
 use dispatch_room_commands::commands::{USAGE, command};
 use dispatch_room_dry_run::standard_streams::run;
-use std::io::Write;
+use std::env;
+use std::io::{self, ErrorKind, Write};
 use std::process::ExitCode;
-use std::{env, io};
 
 fn main(rt: HostRuntime) -> ExitCode {
     let words = arguments(&rt);
@@ -34,13 +36,15 @@ fn program<O: Write, E: Write>(
     ensures asked { IfOk words.now (λ words. 1 < length words.items
         → IsCommand (map string_bytes words.items) (O.contents out.old) (O.contents out.new)
         result) }
-    ensures unread { IfErr words.now (λ _.
-        (result ≡ USAGE) ⊎ (result ≡ status_after (Err Memory))) }
+    ensures unread { IfErr words.now (λ error. error_kind error ≡ ErrorKind.InvalidData
+        → result ≡ USAGE) }
+    ensures memory { IfErr words.now (λ error. error_kind error ≢ ErrorKind.InvalidData
+        → result ≡ status_after (Err Memory)) }
 {
     match words {
         Ok(words) if words.len() <= 1 => run(rt),
         Ok(words) => command(rt, rt.alloc(), words.as_slice(), out, err),
-        Err(error) if error.kind() == io::ErrorKind::InvalidData => {
+        Err(error) if error.kind() == ErrorKind::InvalidData => {
             let _ = writeln!(
                 err,
                 "error: invalid UTF-8 was detected in one or more arguments"

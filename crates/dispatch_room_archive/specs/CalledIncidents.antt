@@ -1,7 +1,8 @@
 -- The incidents that their calls keep in a new room.
 use Rattle.std.specs.BTreeSet.{BTreeSet, contains}
 use Rattle.std.specs.List.{list_any}
-use Rattle.std.specs.Prelude.{Bool, List, None, Option, Some, filter, nat_le, not, true, ℕ, ◌&&◌, ◌==◌, ◌||◌, ◌≡◌}
+use Rattle.std.specs.Prelude.{Bool, List, None, Option, Some, filter, nat_le, not, true, ℕ, ◌&&◌}
+use Rattle.std.specs.Prelude.{◌==◌, ◌||◌, ◌≡◌}
 use Rattle.room_types.specs.Keys.{pair_cmp}
 use Rattle.room_types.specs.declared.tables.Call.{Call}
 use Rattle.room_model.specs.Queries.{greatest_serial}

@@ -4,8 +4,10 @@ use Rattle.std.specs.Prelude.{List, None, [], map, ℕ, ◌++◌, ◌≡◌}
 use Rattle.room_types.specs.KeyedRows.{row_at}
 use Rattle.room_types.specs.Keys.{division_key}
 use Rattle.room_types.specs.declared.changes.Change.{Change}
-use Rattle.room_types.specs.declared.changes.Change.TheVariants.{PutAssignment, PutCall, PutDivision, PutIncident}
-use Rattle.room_types.specs.declared.changes.Change.TheVariants.{PutLoan, PutOffer, PutPoint, PutReport, PutTurn}
+use Rattle.room_types.specs.declared.changes.Change.TheVariants.{PutAssignment, PutCall}
+use Rattle.room_types.specs.declared.changes.Change.TheVariants.{PutDivision, PutIncident}
+use Rattle.room_types.specs.declared.changes.Change.TheVariants.{PutLoan, PutOffer, PutPoint}
+use Rattle.room_types.specs.declared.changes.Change.TheVariants.{PutReport, PutTurn}
 use Rattle.room_types.specs.declared.changes.Change.TheVariants.{PutVehicle}
 use Rattle.room_model.specs.Room.{Room}
 

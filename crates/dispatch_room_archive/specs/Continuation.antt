@@ -1,5 +1,6 @@
 -- How a room and the one that was made of it go on, when both get the same events.
-use Rattle.std.specs.Prelude.{Bool, List, None, Ok, Option, Some, [], false, int_lt, is_some, pos, true, ℕ, ◌<◌, ◌||◌}
+use Rattle.std.specs.Prelude.{Bool, List, None, Ok, Option, Some, [], false, int_lt, is_some, pos}
+use Rattle.std.specs.Prelude.{true, ℕ, ◌<◌, ◌||◌}
 use Rattle.std.specs.Prelude.{◌∷◌, ◌≡◌}
 use Rattle.room_types.specs.KeyedRows.{keep, put_row}
 use Rattle.room_types.specs.Codes.{is_active, is_normal}
@@ -20,7 +21,8 @@ use Rattle.room_model.specs.Queries.{incident_of, kept_call, kept_report, last_s
 use Rattle.room_model.specs.Reports.{report_row}
 use Rattle.room_model.specs.Room.{Room}
 use Rattle.room_model.specs.Step.{answer_to, room_after}
-use Rattle.room_model.specs.WorkingRows.{NamedIncidents, NoIncident, OneIncident, TwoIncidents, incidents_named}
+use Rattle.room_model.specs.WorkingRows.{NamedIncidents, NoIncident, OneIncident, TwoIncidents}
+use Rattle.room_model.specs.WorkingRows.{incidents_named}
 use Rattle.dispatch_room_archive.specs.Successor.{Behind, without}
 use Rattle.room_types.specs.declared.asks.Ask.TheVariants as ask
 

@@ -1,6 +1,7 @@
 -- What is reported of a room's file: how much the room has, or what is wrong.
 use Rattle.std.specs.Io.KnownBytes.{Appends}
-use Rattle.std.specs.Prelude.{Err, IsSome, List, Ok, Option, Result, codes, decimal, ℕ, ◌++◌, ◌≡◌, ◌⊎◌}
+use Rattle.std.specs.Prelude.{Err, IsSome, List, Ok, Option, Result, codes, decimal, ℕ, ◌++◌, ◌≡◌}
+use Rattle.std.specs.Prelude.{◌⊎◌}
 use Rattle.jiff.specs.Words.{read_whole}
 use Rattle.sqlite.specs.Held.{Held, state}
 use Rattle.sqlite_trees.specs.declared.store.Store.{Ghosts}
@@ -12,8 +13,10 @@ use Rattle.room_store_file.specs.declared.examined_file.Wrong.TheVariants as wro
 use Rattle.dispatch_room_cli.specs.declared.exit_status.Done.{Done}
 use Rattle.dispatch_room_cli.specs.declared.exit_status.Done.TheVariants.{Whole}
 use Rattle.dispatch_room_cli.specs.declared.exit_status.Failure.{Failure}
-use Rattle.dispatch_room_cli.specs.declared.exit_status.Failure.TheVariants.{File, Memory, Network, Storage, Version}
+use Rattle.dispatch_room_cli.specs.declared.exit_status.Failure.TheVariants.{File, Memory, Network}
+use Rattle.dispatch_room_cli.specs.declared.exit_status.Failure.TheVariants.{Storage, Version}
 use Rattle.room_tables_schema.specs.FileConnections.{IsClean}
+use Rattle.dispatch_room_archive.specs.FindingTexts.{wrong_text}
 
 -- ---- how much a room has
 abbrev pub plan_text : Summary → List ℕ
@@ -73,18 +76,35 @@ pub record HasFault {S : Type 0} (g : Ghosts S) (old new : Held S)
   pub explains : IsClean g new → ExplainsFile (state g old) (state g new) wrong
   pub why : IsClean g new → HasCause g old new wrong
 
--- or it holds a room whose days can't be reckoned
+-- the line of a plan whose zone is no rule
+abbrev pub no_rule_text : List ℕ
+no_rule_text = codes "its zone is no rule of a time zone\n"
+
+-- a line of its words is written, or, where memory was refused, nothing
+abbrev pub PrintsWrong : Option (List ℕ) → Option (List ℕ) → Wrong → Type 0
+PrintsWrong before after x =
+    Appends before after (wrong_text x ++ codes "\n") ⊎ ((x ≡ wrong.Memory) × (after ≡ before))
+
+-- what is wrong with the file is what was written
+pub record HasPrintedFault {S : Type 0} (g : Ghosts S) (old new : Held S)
+    (before after : Option (List ℕ)) (failure : Failure) : Type 0 where
+  pub fault : HasFault g old new failure
+  pub text : PrintsWrong before after fault.wrong
+
+-- or it holds a room whose days can't be reckoned, and that was written
 pub record HasNoRule {S : Type 0} (g : Ghosts S) (old new : Held S)
-    (failure : Failure) : Type 0 where
+    (before after : Option (List ℕ)) (failure : Failure) : Type 0 where
   pub failed : failure ≡ File
   pub plan : Layout
   pub summary : Summary
   pub holds : IsClean g new → IsSummaryOf (state g old).now.trees plan summary
   pub no_rule : ¬ IsSome (read_whole plan.zone)
+  pub text : Appends before after no_rule_text
 
 -- what came of looking at the file of a database, unless the output fails
 abbrev pub HasChecked : {S : Type 0} → Ghosts S → Held S → Held S → Option (List ℕ)
     → Option (List ℕ) → Result Done Failure → Type 0
 HasChecked g old new before after (Ok done) = (done ≡ Whole) × HasPrintedRoom g old new before after
 HasChecked g old new before after (Err failure) =
-    (failure ≡ Network) ⊎ (HasFault g old new failure ⊎ HasNoRule g old new failure)
+    (failure ≡ Network) ⊎ (HasPrintedFault g old new before after failure
+    ⊎ HasNoRule g old new before after failure)

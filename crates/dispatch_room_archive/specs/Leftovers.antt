@@ -1,8 +1,10 @@
 -- Which rows stay behind, by the rows themselves, and the changes that put the others.
 use Rattle.std.specs.Prelude.{Bool, List, filter, map, not, ℕ, ◌&&◌, ◌++◌}
 use Rattle.room_types.specs.declared.changes.Change.{Change}
-use Rattle.room_types.specs.declared.changes.Change.TheVariants.{PutAssignment, PutCall, PutDivision, PutIncident}
-use Rattle.room_types.specs.declared.changes.Change.TheVariants.{PutLoan, PutOffer, PutPoint, PutReport, PutTurn}
+use Rattle.room_types.specs.declared.changes.Change.TheVariants.{PutAssignment, PutCall}
+use Rattle.room_types.specs.declared.changes.Change.TheVariants.{PutDivision, PutIncident}
+use Rattle.room_types.specs.declared.changes.Change.TheVariants.{PutLoan, PutOffer, PutPoint}
+use Rattle.room_types.specs.declared.changes.Change.TheVariants.{PutReport, PutTurn}
 use Rattle.room_types.specs.declared.changes.Change.TheVariants.{PutVehicle}
 use Rattle.room_types.specs.declared.tables.Call.{Call}
 use Rattle.room_types.specs.declared.tables.Report.{Report}

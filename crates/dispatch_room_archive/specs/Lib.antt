@@ -12,6 +12,8 @@ pub mod Leftovers
 pub mod JoinedReports
 -- the report of a division's day
 pub mod TimesReport
+-- what is wrong with a file, in words
+pub mod FindingTexts
 -- what is reported of a file that is checked
 pub mod Examination
 -- what a room leaves to a new one, and the new one

@@ -1,6 +1,7 @@
 -- What a room leaves to a new one, the new one that is made of it, and what is reported of it.
 use Rattle.std.specs.Io.KnownBytes.{Appends}
-use Rattle.std.specs.Prelude.{Bool, Err, IsSome, List, None, Ok, Option, Result, codes, decimal, false, filter, length}
+use Rattle.std.specs.Prelude.{Bool, Err, IsSome, List, None, Ok, Option, Result, codes, decimal}
+use Rattle.std.specs.Prelude.{false, filter, length}
 use Rattle.std.specs.Prelude.{map, pos, true, ℕ, ℤ, ◌+◌, ◌++◌, ◌<ℤ◌, ◌<◌, ◌≡◌, ◌≢◌, ◌≤◌, ◌⊎◌}
 use Rattle.jiff.specs.Placed.{IsPosixZone}
 use Rattle.jiff.specs.Words.{read_whole}
@@ -12,7 +13,8 @@ use Rattle.sqlite_trees.specs.Tree.{Trees}
 use Rattle.sqlite_trees.specs.declared.store.Store.{Ghosts}
 use Rattle.room_place.specs.Plans.{Layout}
 use Rattle.room_types.specs.declared.changes.Change.{Change}
-use Rattle.room_types.specs.declared.changes.Change.TheVariants.{PutCall, PutIncident, PutReport, PutTurn}
+use Rattle.room_types.specs.declared.changes.Change.TheVariants.{PutCall, PutIncident, PutReport}
+use Rattle.room_types.specs.declared.changes.Change.TheVariants.{PutTurn}
 use Rattle.room_http_time.specs.Dates.{day_of}
 use Rattle.room_model.specs.FleetRows.{AreTerminals}
 use Rattle.room_model.specs.Room.{IsInOrder, Room}
@@ -30,7 +32,8 @@ use Rattle.room_tables_schema.specs.Schema.{no_schema}
 use Rattle.dispatch_room_cli.specs.declared.exit_status.Done.{Done}
 use Rattle.dispatch_room_cli.specs.declared.exit_status.Done.TheVariants.{Whole}
 use Rattle.dispatch_room_cli.specs.declared.exit_status.Failure.{Failure}
-use Rattle.dispatch_room_cli.specs.declared.exit_status.Failure.TheVariants.{Day, File, Memory, Network, Storage}
+use Rattle.dispatch_room_cli.specs.declared.exit_status.Failure.TheVariants.{Day, File, Memory}
+use Rattle.dispatch_room_cli.specs.declared.exit_status.Failure.TheVariants.{Network, Storage}
 use Rattle.dispatch_room_archive.specs.Examination.{HasFault}
 use Rattle.dispatch_room_archive.specs.TimesReport.{IsSpanOf}
 use Rattle.dispatch_room_archive.specs.declared.renewal.Successor.{Successor}

@@ -1,5 +1,6 @@
 -- The report of a division's day.
-use Rattle.std.specs.Prelude.{IfErr, IfOk, IsSome, List, None, Ok, Result, Some, Vec, [], false, map, pos, true, ℕ, ℤ}
+use Rattle.std.specs.Prelude.{IfErr, IfOk, IsSome, List, None, Ok, Result, Some, Vec, [], false}
+use Rattle.std.specs.Prelude.{map, pos, true, ℕ, ℤ}
 use Rattle.std.specs.Prelude.{◌≡◌}
 use Rattle.std.specs.Global.{Global}
 use Rattle.jiff.specs.Placed.{IsPosixZone}
@@ -21,7 +22,8 @@ use Rattle.room_model.specs.Room.{Room}
 use Rattle.room_store.specs.StoredRoom.{IsRoom}
 use Rattle.room_store.specs.declared.store.Store.{Store}
 use Rattle.dispatch_room_cli.specs.declared.exit_status.Failure.{Failure}
-use Rattle.dispatch_room_cli.specs.declared.exit_status.Failure.TheVariants.{Day, Division, Memory, Storage}
+use Rattle.dispatch_room_cli.specs.declared.exit_status.Failure.TheVariants.{Day, Division, Memory}
+use Rattle.dispatch_room_cli.specs.declared.exit_status.Failure.TheVariants.{Storage}
 use Rattle.dispatch_room_csv.specs.DayReport.{report_of}
 use Rattle.dispatch_room_tasks.specs.OpenedRoom.{IsOpened}
 

@@ -1,22 +1,36 @@
 //! `check`: how much the room of a database has, or what is wrong with its file first.
-ghost use Rattle.std.specs.Prelude.{◌≡◌, ◌⊎◌, Err, IsSome, false, IfErr, IfOk, OnOk};
+ghost use Rattle.std.specs.Prelude.{
+  ◌++◌,
+  ◌≡◌,
+  ◌⊎◌,
+  Err,
+  IfErr,
+  IfOk,
+  IsSome,
+  OnOk,
+  codes,
+  false,
+};
 ghost use Rattle.std.specs.Io.KnownBytes.{Appends};
 ghost use Rattle.jiff.specs.Words.{read_whole};
 ghost use Rattle.sqlite.specs.Held.{state};
 ghost use Rattle.room_store_check_tables.specs.HeldRooms.{WritesNothing};
 ghost use Rattle.dispatch_room_cli.specs.declared.exit_status.Done.TheVariants.{Whole};
 ghost use Rattle.dispatch_room_cli.specs.declared.exit_status.Failure.TheVariants.{File, Network};
+ghost use Rattle.dispatch_room_archive.specs.FindingTexts.{wrong_text};
 ghost use Rattle.dispatch_room_archive.specs.Examination.{
   HasChecked,
   PrintsSummary,
   calls_text,
   failure_of,
   fleet_text,
+  no_rule_text,
   plan_text,
   reports_text,
   summary_text,
 };
 
+use crate::finding_texts::WrongText;
 use dispatch_room_cli::exit_status::{Done, Failure};
 use room_http_time::zones::Zone;
 use room_place::plans::Plan;
@@ -56,7 +70,8 @@ fn print_room<O: Write>(plan: &Plan, summary: &Summary, out: &mut O) -> Result<D
     ensures whole { IfOk result (λ done. done ≡ Whole) }
     ensures rule { OnOk result (IsSome (read_whole plan.now.zone)) }
     ensures fault { IfErr result (λ fault. (fault ≡ Network)
-        ⊎ ((fault ≡ File) × ¬ IsSome (read_whole plan.now.zone))) }
+        ⊎ ((fault ≡ File) × ¬ IsSome (read_whole plan.now.zone)
+        × Appends (O.contents out.old) (O.contents out.new) no_rule_text)) }
 {
     if Zone::read(plan.zone()).is_err() {
         return match writeln!(out, "its zone is no rule of a time zone") {
@@ -70,12 +85,15 @@ fn print_room<O: Write>(plan: &Plan, summary: &Summary, out: &mut O) -> Result<D
     }
 }
 
-// Reports what is wrong with a file, by which the program fails.
+// Prints a line of what is wrong with a file, by which the program fails.
 fn print_wrong<O: Write>(wrong: Wrong, out: &mut O) -> Result<Done, Failure>
-    ensures { (result ≡ Err (failure_of wrong)) ⊎ (result ≡ Err Network) }
+    ensures { ((result ≡ Err (failure_of wrong))
+        × Appends (O.contents out.old) (O.contents out.new) (wrong_text wrong ++ codes "\n"))
+        ⊎ (result ≡ Err Network) }
 {
-    match writeln!(out, "{wrong}") {
-        Ok(()) => Err(failure_of(wrong)),
+    let shown = WrongText { wrong };
+    match writeln!(out, "{shown}") {
+        Ok(()) => Err(failure_of(shown.wrong)),
         Err(_) => Err(Failure::Network),
     }
 }

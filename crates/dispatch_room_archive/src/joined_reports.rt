@@ -9,7 +9,9 @@ ghost use Rattle.room_types.specs.declared.refusal_statuses.Refusal.TheVariants.
 ghost use Rattle.room_model.specs.RoomSlices.{room_of};
 ghost use Rattle.room_store_check_tables.specs.HeldRooms.{WritesNothing};
 ghost use Rattle.dispatch_room_cli.specs.declared.exit_status.Failure.TheVariants.{Memory};
-ghost use Rattle.dispatch_room_archive.specs.JoinedReports.{AreOfBoth, ExplainsNoDay, IsDayIn, IsDayOf, IsReportOfBoth, JoinsDay, JoinsNone, LacksDay};
+ghost use Rattle.dispatch_room_archive.specs.JoinedReports.{AreOfBoth, ExplainsNoDay, IsDayIn};
+ghost use Rattle.dispatch_room_archive.specs.JoinedReports.{IsDayOf, IsReportOfBoth, JoinsDay};
+ghost use Rattle.dispatch_room_archive.specs.JoinedReports.{JoinsNone, LacksDay};
 ghost use Rattle.room_tables_schema.specs.FileConnections.{IsClean};
 
 use crate::division_days::DivisionDay;

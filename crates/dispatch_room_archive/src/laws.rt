@@ -22,7 +22,10 @@ ghost use Rattle.room_model.specs.Step.{answer_to, decided, room_after};
 ghost use Rattle.room_model.specs.RoomAgreements.{IsWellFormed};
 ghost use Rattle.dispatch_room_archive.specs.Successor.{Behind, left_behind, renewed};
 ghost use Rattle.dispatch_room_archive.specs.Composition.{IsBare, puts};
-ghost use Rattle.dispatch_room_archive.specs.Continuation.{AreAnsweredAlike, IsSuccessor, IsTakenLate, NoneRepeatsThePast, asks_of_the_past, names_behind, repeats_the_past};
+ghost use Rattle.dispatch_room_archive.specs.Continuation.{AreAnsweredAlike, IsSuccessor};
+ghost use Rattle.dispatch_room_archive.specs.Continuation.{IsTakenLate, NoneRepeatsThePast};
+ghost use Rattle.dispatch_room_archive.specs.Continuation.{asks_of_the_past, names_behind};
+ghost use Rattle.dispatch_room_archive.specs.Continuation.{repeats_the_past};
 
 /// A well-formed room that is renewed is well-formed, and its terminals fit the new room.
 pub fn a_renewed_room_is_well_formed()

@@ -10,6 +10,7 @@
 pub mod called_incidents;
 pub mod division_days;
 pub mod examination;
+mod finding_texts;
 pub mod joined_reports;
 pub mod laws;
 pub mod past_rows;

@@ -21,14 +21,18 @@ use std::alloc::{AllocError, Global};
 #[derive(Drop)]
 pub struct Past<'a> {
     pub since: Moment,
-    pub rows: &'a DivisionRows,
+    pub rows: &'a DivisionRows<'a>,
     called: Called,
     pub ghost calls: { AreCalled since rows.now.calls rows.now.calls called },
 }
 
 impl<'a> Past<'a> {
     /// Of these rows.
-    pub fn of(alloc: Global, since: Moment, rows: &'a DivisionRows) -> Result<Past<'a>, AllocError>
+    pub fn of(
+        alloc: Global,
+        since: Moment,
+        rows: &'a DivisionRows<'a>,
+    ) -> Result<Past<'a>, AllocError>
         ensures { IfOk result (λ past. (past.since ≡ since) × (past.rows.now ≡ rows.now)) }
     {
         let called = Called::since(alloc, since, &rows.calls)?;

@@ -10,7 +10,7 @@ ghost use Rattle.dispatch_room_archive.specs.Leftovers.{is_call_over, is_report_
 
 use crate::past_rows::Past;
 use room_types::changes::Change;
-use room_types::rows::{Row, Rows};
+use room_types::rows::{Part, Row, Rows};
 use room_types::tables::{
     Assignment, Call, Division, Incident, Loan, Offer, Point, Report, Turn, Vehicle,
 };
@@ -37,7 +37,7 @@ pub(crate) trait Leaves: Put {
 }
 
 /// Puts all rows of a table, after the changes that are there.
-pub(crate) fn put_all<R: Put>(changes: &mut Vec<Change>, rows: &Rows<R>) -> Result<(), AllocError>
+pub(crate) fn put_all<R: Put>(changes: &mut Vec<Change>, rows: &Part<R>) -> Result<(), AllocError>
     ensures { OnOk result (changes.new.items ≡ changes.old.items ++ map R.put_of rows.now) }
 {
     for row in rows.as_slice() {

@@ -1,5 +1,6 @@
 //! `renew`: what a room leaves to a new one, and the new one that is made of it.
-ghost use Rattle.std.specs.Prelude.{◌≡◌, ◌+◌, ◌<◌, ◌≤◌, false, filter, length, IfErr, IfNone, IfOk, IfSome, IsOk, OnErr};
+ghost use Rattle.std.specs.Prelude.{◌≡◌, ◌+◌, ◌<◌, ◌≤◌, false, filter, length, IfErr, IfNone, IfOk};
+ghost use Rattle.std.specs.Prelude.{IfSome, IsOk, OnErr};
 ghost use Rattle.sqlite.specs.Held.{state};
 ghost use Rattle.room_http_time.specs.Days.{zone_of};
 ghost use Rattle.room_model.specs.RoomSlices.{room_of};

@@ -6,7 +6,8 @@ ghost use Rattle.room_model.specs.Room.{Room};
 ghost use Rattle.room_store.specs.StoredRoom.{IsReady, IsRoom};
 ghost use Rattle.room_http_time.specs.Dates.{day_of};
 ghost use Rattle.room_http_time.specs.Days.{zone_of};
-ghost use Rattle.dispatch_room_archive.specs.TimesReport.{ExplainsReport, HasReported, IsAskable, IsDayReport, IsSpanOf, report_in};
+ghost use Rattle.dispatch_room_archive.specs.TimesReport.{ExplainsReport, HasReported, IsAskable};
+ghost use Rattle.dispatch_room_archive.specs.TimesReport.{IsDayReport, IsSpanOf, report_in};
 ghost use Rattle.dispatch_room_tasks.specs.OpenedRoom.{IsUnopened};
 ghost use Rattle.room_tables_schema.specs.FileConnections.{IsClean};
 

@@ -16,7 +16,7 @@ use Rattle.dispatch_room_board.specs.declared.cell_layout.Column.TheVariants.{Le
 use Rattle.dispatch_room_board.specs.declared.board_pages.Paint.{Paint}
 use Rattle.dispatch_room_board.specs.declared.board_pages.Paint.TheVariants.{Plain, Title, Alarm}
 use Rattle.dispatch_room_board.specs.declared.board_pages.TheConstants.{WIDEST}
-use Rattle.dispatch_room_board.specs.declared.board_tables.TableLayout.{TableLayout}
+use Rattle.dispatch_room_board.specs.declared.table_layouts.TableLayout.{TableLayout}
 use Rattle.dispatch_room_board.specs.BoardCells.{counts_text, kind_text, left_text, named_text, place_text, since_text}
 use Rattle.dispatch_room_board.specs.BoardCells.{status_text}
 use Rattle.dispatch_room_board.specs.CellLayout.{row_of, width_of}

@@ -5,8 +5,8 @@ ghost use Rattle.dispatch_room_board.specs.Members.{HasMember, IsRead};
 ghost use Rattle.dispatch_room_board.specs.AnswerRows.{AreRows, IsList};
 
 use crate::answer_contents::FromAnswer;
-use crate::board_tables::Tabled;
 use crate::json_members::FromJson;
+use crate::table_layouts::Tabled;
 use room_types::answers::Listed;
 use serde_json::Value;
 use std::alloc::{AllocError, Global};

@@ -7,10 +7,10 @@ ghost use Rattle.dispatch_room_board.specs.declared.board_pages.Paint.TheVariant
 
 use crate::board_cells::{BoardCell, since};
 use crate::board_pages::{Page, Paint};
-use crate::board_tables::{TableLayout, Tabled};
 use crate::cell_layout::Column;
 use crate::cell_layout::Column::{Left, Right};
 use crate::json_members::{FromJson, member};
+use crate::table_layouts::{TableLayout, Tabled};
 use room_place::places::Place;
 use room_types::needs::Needs;
 use room_types::note::Note;

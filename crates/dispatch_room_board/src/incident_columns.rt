@@ -5,10 +5,10 @@ ghost use Rattle.dispatch_room_board.specs.BoardTables.{incident_table, lacks, s
 
 use crate::board_cells::{BoardCell, since};
 use crate::board_pages::Page;
-use crate::board_tables::{TableLayout, Tabled, alarm};
 use crate::cell_layout::Column;
 use crate::cell_layout::Column::{Left, Right};
 use crate::json_members::{FromJson, member};
+use crate::table_layouts::{TableLayout, Tabled, alarm};
 use room_types::answers::IncidentLine;
 use room_types::needs::Counts;
 use room_types::numbers::{Moment, Need};

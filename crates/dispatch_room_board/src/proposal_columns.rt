@@ -4,10 +4,10 @@ ghost use Rattle.dispatch_room_board.specs.BoardTables.{proposal_table};
 
 use crate::board_cells::{BoardCell, kind};
 use crate::board_pages::Page;
-use crate::board_tables::{TableLayout, Tabled, alarm};
 use crate::cell_layout::Column;
 use crate::cell_layout::Column::{Left, Right};
 use crate::json_members::{FromJson, member};
+use crate::table_layouts::{TableLayout, Tabled, alarm};
 use room_types::answers::Proposal;
 use room_types::numbers::Moment;
 use serde_json::Value;

@@ -7,10 +7,10 @@ ghost use Rattle.dispatch_room_board.specs.BoardTables.{entry_table, matter_of, 
 
 use crate::board_cells::{BoardCell, since};
 use crate::board_pages::{Page, Paint};
-use crate::board_tables::{TableLayout, Tabled};
 use crate::cell_layout::Column;
 use crate::cell_layout::Column::{Left, Right};
 use crate::json_members::{FromJson, member};
+use crate::table_layouts::{TableLayout, Tabled};
 use room_types::answers::QueueEntry;
 use room_types::callsign::Callsign;
 use room_types::numbers::Moment;

@@ -5,10 +5,10 @@ ghost use Rattle.dispatch_room_board.specs.Histories.{IsTurnLine, ended_by, turn
 
 use crate::board_cells::{BoardCell, after, since};
 use crate::board_pages::{Page, Paint};
-use crate::board_tables::{TableLayout, Tabled};
 use crate::cell_layout::Column;
 use crate::cell_layout::Column::{Left, Right};
 use crate::json_members::{FromJson, member};
+use crate::table_layouts::{TableLayout, Tabled};
 use room_types::callsign::Callsign;
 use room_types::codes::Kind;
 use room_types::numbers::{Moment, Number};

@@ -6,10 +6,10 @@ ghost use Rattle.dispatch_room_board.specs.BoardTables.{is_overdue, sent_text, s
 
 use crate::board_cells::{BoardCell, kind, left, status};
 use crate::board_pages::Page;
-use crate::board_tables::{TableLayout, Tabled, alarm};
 use crate::cell_layout::Column;
 use crate::cell_layout::Column::{Left, Right};
 use crate::json_members::{FromJson, member};
+use crate::table_layouts::{TableLayout, Tabled, alarm};
 use room_types::answers::VehicleLine;
 use room_types::numbers::Moment;
 use serde_json::Value;

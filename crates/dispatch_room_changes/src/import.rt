@@ -6,7 +6,6 @@ ghost use Rattle.dispatch_room_changes.specs.DoneChanges.{IsImportOf};
 ghost use Rattle.dispatch_room_changes.specs.ChangeTasks.{Enrols, EnrolsNone};
 ghost use Rattle.dispatch_room_changes.specs.TerminalFiles.{GivesNoFleet};
 
-use crate::files::read_text;
 use dispatch_room_cli::exit_status::{Done, Failure};
 use dispatch_room_csv::fleet_file::{FleetLine, read_fleet};
 use dispatch_room_csv::fleet_file_faults::explain_fleet;
@@ -14,45 +13,48 @@ use dispatch_room_csv::sheets::Sheet;
 use dispatch_room_disk::room_files::{RoomFile, RoomTask};
 use dispatch_room_tasks::enrolment::enrol_in;
 use dispatch_room_tasks::opened_room::TaskResult;
-use dispatch_room_tcp::hosts::Host;
+use dispatch_room_tcp::hosts::Machine;
 use sqlite::{Alter, Connection};
 use std::alloc::Global;
 use std::io::Write;
 
 /// Enrols the good rows of a fleet in order, and reports what became of each row. Where a row is
 /// bad or refused, the other rows are enrolled all the same.
-pub fn import<O: Write>(
-    host: Host<'_>,
+pub fn import<M: Machine, O: Write>(
+    machine: M,
     file: &str,
     fleet: &str,
     out: &mut O,
 ) -> Result<Done, Failure>
-    ensures done { IfOk result (IsImport (O.contents out.old) (O.contents out.new)) }
-    ensures undone { IfErr result (FailsImport (O.contents out.old) (O.contents out.new)) }
+    ensures done { IfOk result (λ done. IsImport (M.paths machine) (O.contents out.old)
+        (O.contents out.new) done file.now fleet.now) }
+    ensures undone { IfErr result (λ fault. FailsImport (M.paths machine) (O.contents out.old)
+        (O.contents out.new) fault file.now fleet.now) }
 {
-    let text = read_text(host, fleet)?;
+    let host = machine.host();
+    let text = machine.read_text(fleet)?;
     let sheet = Sheet::new(host.alloc, host.explainer, fleet, text.as_slice());
-    import_by(host, file, sheet, out)
+    import_by(machine, file, sheet, out)
 }
 
 // Enrols the good rows of the fleet that a text gives.
-fn import_by<O: Write>(
-    host: Host<'_>,
+fn import_by<M: Machine, O: Write>(
+    machine: M,
     file: &str,
     sheet: Sheet<'_>,
     out: &mut O,
 ) -> Result<Done, Failure>
-    ensures done { IfOk result (λ done. IsImportOf (O.contents out.old) (O.contents out.new) done
-        sheet.entry.text.now) }
-    ensures undone { IfErr result (λ fault. FailsImportOf (O.contents out.old)
-        (O.contents out.new) fault sheet.entry.text.now) }
+    ensures done { IfOk result (λ done. IsImportOf (M.paths machine) (O.contents out.old)
+        (O.contents out.new) done file.now sheet.entry.text.now) }
+    ensures undone { IfErr result (λ fault. FailsImportOf (M.paths machine) (O.contents out.old)
+        (O.contents out.new) fault file.now sheet.entry.text.now) }
 {
     let lines = lines_in(sheet)?;
     let enrolment = Enrolment {
         sheet,
         lines: lines.as_slice(),
     };
-    host.in_file(RoomFile::Kept(file), enrolment, out)
+    machine.in_file(RoomFile::Kept(file), enrolment, out)
 }
 
 /// The rows that a file of a fleet has. Explains why where it has none.

@@ -5,7 +5,6 @@ ghost use Rattle.dispatch_room_changes.specs.DoneChanges.{FailsInit, FailsInitOf
 ghost use Rattle.dispatch_room_changes.specs.ChangeTasks.{Creates, CreatesNone};
 ghost use Rattle.dispatch_room_changes.specs.TerminalFiles.{GivesNoPlan};
 
-use crate::files::read_text;
 use dispatch_room_cli::exit_status::{Done, Failure};
 use dispatch_room_csv::plan_file::{PlanFile, read_plan};
 use dispatch_room_csv::plan_file_faults::explain_plan;
@@ -13,37 +12,45 @@ use dispatch_room_csv::sheets::Sheet;
 use dispatch_room_disk::room_files::{RoomFile, RoomTask};
 use dispatch_room_tasks::creation::create_in;
 use dispatch_room_tasks::opened_room::TaskResult;
-use dispatch_room_tcp::hosts::Host;
+use dispatch_room_tcp::hosts::Machine;
 use sqlite::{Alter, Connection};
 use std::alloc::Global;
 use std::io::Write;
 
 /// Creates the room of a plan in a file that has nothing, and prints what it has, also where the
 /// file can't be closed afterwards. A file that it makes is private to its owner.
-pub fn init<O: Write>(host: Host<'_>, file: &str, plan: &str, out: &mut O) -> Result<Done, Failure>
-    ensures done { IfOk result (IsInit (O.contents out.old) (O.contents out.new)) }
-    ensures undone { IfErr result (FailsInit (O.contents out.old) (O.contents out.new)) }
+pub fn init<M: Machine, O: Write>(
+    machine: M,
+    file: &str,
+    plan: &str,
+    out: &mut O,
+) -> Result<Done, Failure>
+    ensures done { IfOk result (λ done. IsInit (M.paths machine) (O.contents out.old)
+        (O.contents out.new) done file.now plan.now) }
+    ensures undone { IfErr result (λ fault. FailsInit (M.paths machine) (O.contents out.old)
+        (O.contents out.new) fault file.now plan.now) }
 {
-    let text = read_text(host, plan)?;
+    let host = machine.host();
+    let text = machine.read_text(plan)?;
     let sheet = Sheet::new(host.alloc, host.explainer, plan, text.as_slice());
-    init_by(host, file, sheet, out)
+    init_by(machine, file, sheet, out)
 }
 
 // Creates the room of the plan that a text gives.
-fn init_by<O: Write>(
-    host: Host<'_>,
+fn init_by<M: Machine, O: Write>(
+    machine: M,
     file: &str,
     sheet: Sheet<'_>,
     out: &mut O,
 ) -> Result<Done, Failure>
-    ensures done { IfOk result (λ done. IsInitOf (O.contents out.old) (O.contents out.new) done
-        sheet.entry.text.now) }
-    ensures undone { IfErr result (λ fault. FailsInitOf (O.contents out.old) (O.contents out.new)
-        fault sheet.entry.text.now) }
+    ensures done { IfOk result (λ done. IsInitOf (M.paths machine) (O.contents out.old)
+        (O.contents out.new) done file.now sheet.entry.text.now) }
+    ensures undone { IfErr result (λ fault. FailsInitOf (M.paths machine) (O.contents out.old)
+        (O.contents out.new) fault file.now sheet.entry.text.now) }
 {
     let plan = plan_in(sheet)?;
     let creation = Creation { plan: &plan };
-    host.in_file(RoomFile::New(file), creation, out)
+    machine.in_file(RoomFile::New(file), creation, out)
 }
 
 /// The plan that a file gives. Explains why where it gives none.

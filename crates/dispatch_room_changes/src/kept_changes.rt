@@ -1,5 +1,5 @@
 //! A change of a room, made in its file, and kept in a list before it, where there is one.
-ghost use Rattle.std.specs.Prelude.{IfErr, OnOk, is_some};
+ghost use Rattle.std.specs.Prelude.{IfErr, OnOk};
 ghost use Rattle.dispatch_room_changes.specs.DoneChanges.{IsMade, IsUnmade};
 ghost use Rattle.dispatch_room_changes.specs.ChangeTasks.{Changes, ChangesKept, HoldsNoRoom};
 ghost use Rattle.dispatch_room_changes.specs.ChangeTasks.{LosesKeptRoom};
@@ -14,13 +14,12 @@ use dispatch_room_disk::room_files::{RoomFile, RoomTask};
 use dispatch_room_lists::room_changes::{RoomChange, make};
 use dispatch_room_serving::journal_files::{OpenedList, SystemFile};
 use dispatch_room_tasks::opened_room::TaskResult;
-use dispatch_room_tcp::hosts::Host;
+use dispatch_room_tcp::hosts::Machine;
 use sqlite::{Alter, Connection};
 use std::alloc::Global;
 use std::io::Write;
 
-/// The file of a room that is changed, and the list in which that is kept before, where there is
-/// one.
+/// The file of a room that is changed, and the list that keeps the change first, if there is one.
 #[derive(Clone, Copy)]
 pub struct ChangedFile<'a> {
     pub file: &'a str,
@@ -31,8 +30,8 @@ pub struct ChangedFile<'a> {
 /// the disk, between the digest of the room before the change and that of the room after it. Where
 /// the text can't be kept, nothing is changed; where only the last digest can't be, the change
 /// stays, and the next start keeps that digest.
-pub fn make_in_file<O: Write, E: Write>(
-    host: Host<'_>,
+pub fn make_in_file<M: Machine, O: Write, E: Write>(
+    machine: M,
     place: ChangedFile<'_>,
     change: &RoomChange,
     text: &[u8],
@@ -40,30 +39,47 @@ pub fn make_in_file<O: Write, E: Write>(
     err: &mut E,
 ) -> Result<(), Failure>
     requires text { IsTextOf change.now text.now }
-    ensures done { OnOk result
-        (IsMade (O.contents out.old) (O.contents out.new) (is_some place.entry.list) change.now) }
-    ensures undone { IfErr result (λ fault. IsUnmade (O.contents out.old) (O.contents out.new)
-        fault (is_some place.entry.list) change.now) }
+    ensures done { OnOk result (IsMade (M.paths machine) (O.contents out.old)
+        (O.contents out.new) place.entry change.now) }
+    ensures undone { IfErr result (λ fault. IsUnmade (M.paths machine) (O.contents out.old)
+        (O.contents out.new) fault place.entry change.now) }
+{
+    let explainer = machine.host().explainer;
+    make_by(machine, explainer, place, change, text, out, err)
+}
+
+// Makes a change in the room of a file, where `explainer` explains why it can't be made.
+fn make_by<M: Machine, O: Write, E: Write>(
+    machine: M,
+    explainer: Explainer<'_>,
+    place: ChangedFile<'_>,
+    change: &RoomChange,
+    text: &[u8],
+    out: &mut O,
+    err: &mut E,
+) -> Result<(), Failure>
+    requires text { IsTextOf change.now text.now }
+    ensures done { OnOk result (IsMade (M.paths machine) (O.contents out.old)
+        (O.contents out.new) place.entry change.now) }
+    ensures undone { IfErr result (λ fault. IsUnmade (M.paths machine) (O.contents out.old)
+        (O.contents out.new) fault place.entry change.now) }
 {
     let file = RoomFile::Kept(place.file);
     match place.list {
         None => {
-            let making = Making {
-                explainer: host.explainer,
-                change,
-            };
-            host.in_file(file, making, out)
+            let making = Making { explainer, change };
+            machine.in_file(file, making, out)
         }
         Some(path) => {
-            let opened = opened_list(host, path, err)?;
+            let opened = opened_list(machine, path, err)?;
             let making = KeptMaking {
-                explainer: host.explainer,
+                explainer,
                 change,
                 text,
                 path,
                 opened: &opened,
             };
-            host.in_file(file, making, out)
+            machine.in_file(file, making, out)
         }
     }
 }

@@ -7,7 +7,6 @@ ghost use Rattle.dispatch_room_changes.specs.DoneChanges.{FailsKeptImport, Fails
 ghost use Rattle.dispatch_room_changes.specs.DoneChanges.{IsKeptImport, IsKeptImportOf};
 ghost use Rattle.dispatch_room_changes.specs.ChangeTasks.{EnrolsKept, EnrolsNone};
 
-use crate::files::read_text;
 use crate::import::lines_in;
 use crate::kept_enrolments::{Fleet, import_in};
 use crate::kept_fleets::FleetList;
@@ -17,7 +16,7 @@ use dispatch_room_disk::room_files::{RoomFile, RoomTask};
 use dispatch_room_journal::list_ends::ListEnd;
 use dispatch_room_serving::journal_files::{OpenedList, SystemFile};
 use dispatch_room_tasks::opened_room::TaskResult;
-use dispatch_room_tcp::hosts::Host;
+use dispatch_room_tcp::hosts::Machine;
 use sqlite::{Alter, Connection};
 use std::alloc::Global;
 use std::io::Write;
@@ -25,40 +24,43 @@ use std::io::Write;
 /// Enrols a fleet as `import` does, once it lasts in a list: between the digest of the room before
 /// and that of the room after. Where the fleet can't be kept, nothing is enrolled; where only the
 /// last digest can't be, the rows stay, and the next start keeps that digest.
-pub fn import_kept<'a, O: Write, E: Write>(
-    host: Host<'a>,
+pub fn import_kept<'a, M: Machine, O: Write, E: Write>(
+    machine: M,
     file: &str,
     fleet: &'a str,
     path: &'a str,
     out: &mut O,
     err: &mut E,
 ) -> Result<Done, Failure>
-    ensures done { IfOk result (IsKeptImport (O.contents out.old) (O.contents out.new)) }
-    ensures undone { IfErr result (FailsKeptImport (O.contents out.old) (O.contents out.new)) }
+    ensures done { IfOk result (λ done. IsKeptImport (M.paths machine) (O.contents out.old)
+        (O.contents out.new) done file.now fleet.now path.now) }
+    ensures undone { IfErr result (λ fault. FailsKeptImport (M.paths machine)
+        (O.contents out.old) (O.contents out.new) fault file.now fleet.now path.now) }
 {
-    let text = read_text(host, fleet)?;
+    let host = machine.host();
+    let text = machine.read_text(fleet)?;
     let sheet = Sheet::new(host.alloc, host.explainer, fleet, text.as_slice());
-    import_kept_by(host, file, sheet, path, out, err)
+    import_kept_by(machine, file, sheet, path, out, err)
 }
 
 // Enrols the fleet that a text gives, once it lasts in a list.
-fn import_kept_by<'a, O: Write, E: Write>(
-    host: Host<'a>,
+fn import_kept_by<'a, M: Machine, O: Write, E: Write>(
+    machine: M,
     file: &str,
     sheet: Sheet<'a>,
     path: &'a str,
     out: &mut O,
     err: &mut E,
 ) -> Result<Done, Failure>
-    ensures done { IfOk result (λ done. IsKeptImportOf (O.contents out.old) (O.contents out.new)
-        done sheet.entry.text.now) }
-    ensures undone { IfErr result (λ fault. FailsKeptImportOf (O.contents out.old)
-        (O.contents out.new) fault sheet.entry.text.now) }
+    ensures done { IfOk result (λ done. IsKeptImportOf (M.paths machine) (O.contents out.old)
+        (O.contents out.new) done file.now path.now sheet.entry.text.now) }
+    ensures undone { IfErr result (λ fault. FailsKeptImportOf (M.paths machine)
+        (O.contents out.old) (O.contents out.new) fault file.now path.now sheet.entry.text.now) }
 {
     let lines = lines_in(sheet)?;
-    let opened = opened_list(host, path, err)?;
+    let opened = opened_list(machine, path, err)?;
     let fleet = Fleet {
-        explainer: host.explainer,
+        explainer: machine.host().explainer,
         sheet,
         lines: lines.as_slice(),
     };
@@ -67,19 +69,24 @@ fn import_kept_by<'a, O: Write, E: Write>(
         path,
         opened: &opened,
     };
-    host.in_file(RoomFile::Kept(file), enrolment, out)
+    machine.in_file(RoomFile::Kept(file), enrolment, out)
 }
 
 /// The list at a path, which goes on as a chain: else it has no room for rows.
-pub fn opened_list<E: Write>(host: Host<'_>, path: &str, err: &mut E) -> Result<OpenedList, Failure>
+pub fn opened_list<M: Machine, E: Write>(
+    machine: M,
+    path: &str,
+    err: &mut E,
+) -> Result<OpenedList, Failure>
+    ensures list { IfOk result ((M.paths machine).list path.now) }
     ensures chain { IfOk result (λ opened. (link : Link) × (opened.end ≡ Chain link)) }
     ensures fault { IfErr result (λ fault. (fault ≡ failure.Memory) ⊎ (fault ≡ failure.Journal)) }
 {
-    let opened = host.open_journal(path, err)?;
+    let opened = machine.open_journal(path, err)?;
     match opened.end {
         ListEnd::Chain(_) => Ok(opened),
         ListEnd::Plain => {
-            host.explainer.explain(format_args!(
+            machine.host().explainer.explain(format_args!(
                 "{path} is a list of version 1, which keeps no change: rename it, and a new one \
                  begins"
             ));

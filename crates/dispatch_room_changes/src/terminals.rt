@@ -11,7 +11,6 @@ ghost use Rattle.dispatch_room_changes.specs.DoneChanges.{IsSet, IsSetting, IsSe
 ghost use Rattle.dispatch_room_changes.specs.DoneChanges.{IsTerminals, is_a_crew, reissue_of};
 ghost use Rattle.dispatch_room_changes.specs.ChangeTasks.{HoldsNoRoom, Lists};
 
-use crate::files::read_text;
 use crate::kept_changes::{ChangedFile, make_in_file};
 use crate::terminal_files::terminals_in;
 use dispatch_room_cli::exit_status::{Done, Failure};
@@ -23,7 +22,7 @@ use dispatch_room_lists::room_changes::RoomChange;
 use dispatch_room_tasks::listed_terminals::list_in;
 use dispatch_room_tasks::opened_room::TaskResult;
 use dispatch_room_tasks::random_tokens::{RANDOM, token_of};
-use dispatch_room_tcp::hosts::Host;
+use dispatch_room_tcp::hosts::{Host, Machine};
 use room_store_writes::change_faults::TokenChange;
 use room_types::asks::Who;
 use room_types::fleet::Terminal;
@@ -34,45 +33,45 @@ use std::io::Write;
 use std::random::RandomSource;
 
 /// Lists who has a terminal, or changes the terminals of one.
-pub fn terminals<O: Write, E: Write>(
-    host: Host<'_>,
+pub fn terminals<M: Machine, O: Write, E: Write>(
+    machine: M,
     place: ChangedFile<'_>,
     wanted: Terminals,
     out: &mut O,
     err: &mut E,
 ) -> Result<Done, Failure>
     ensures done { IfOk result (λ done.
-        IsTerminals (O.contents out.old) (O.contents out.new) done (is_some place.entry.list)
+        IsTerminals (M.paths machine) (O.contents out.old) (O.contents out.new) done place.entry
         wanted) }
-    ensures undone { IfErr result (λ fault. FailsTerminals (O.contents out.old)
-        (O.contents out.new) fault (is_some place.entry.list) wanted) }
+    ensures undone { IfErr result (λ fault. FailsTerminals (M.paths machine) (O.contents out.old)
+        (O.contents out.new) fault place.entry wanted) }
 {
     match wanted {
-        Terminals::List => host.in_file(RoomFile::Kept(place.file), Listing, out),
-        Terminals::New(who) => give_token(host, place, who, out, err),
-        Terminals::Revoke(who) => revoke(host, place, who, out, err),
+        Terminals::List => machine.in_file(RoomFile::Kept(place.file), Listing, out),
+        Terminals::New(who) => give_token(machine, place, who, out, err),
+        Terminals::Revoke(who) => revoke(machine, place, who, out, err),
     }
 }
 
 // Gives a user a new token, and then prints it.
-fn give_token<O: Write, E: Write>(
-    host: Host<'_>,
+fn give_token<M: Machine, O: Write, E: Write>(
+    machine: M,
     place: ChangedFile<'_>,
     who: Who,
     out: &mut O,
     err: &mut E,
 ) -> Result<Done, Failure>
-    ensures done { IfOk result (λ done. IsTerminals (O.contents out.old) (O.contents out.new) done
-        (is_some place.entry.list) (wanted.New who)) }
-    ensures undone { IfErr result (λ fault. FailsReissue (O.contents out.old) (O.contents out.new)
-        fault (is_some place.entry.list) who true) }
+    ensures done { IfOk result (λ done. IsTerminals (M.paths machine) (O.contents out.old)
+        (O.contents out.new) done place.entry (wanted.New who)) }
+    ensures undone { IfErr result (λ fault. FailsReissue (M.paths machine) (O.contents out.old)
+        (O.contents out.new) fault place.entry who true) }
 {
-    let token = new_token(host)?;
+    let token = new_token(machine.host())?;
     let change = TokenChange {
         who,
         token: Some(token),
     };
-    reissue(host, place, change, out, err)?;
+    reissue(machine, place, change, out, err)?;
     match writeln!(out, "{}", token.as_str()) {
         Ok(()) => Ok(Done::Whole),
         Err(_) => Err(Failure::Network),
@@ -81,44 +80,45 @@ fn give_token<O: Write, E: Write>(
 
 // Takes a user's terminal away. A vehicle's crew always has one, so it gets a token that is not
 // printed.
-fn revoke<O: Write, E: Write>(
-    host: Host<'_>,
+fn revoke<M: Machine, O: Write, E: Write>(
+    machine: M,
     place: ChangedFile<'_>,
     who: Who,
     out: &mut O,
     err: &mut E,
 ) -> Result<Done, Failure>
-    ensures done { IfOk result (λ done. IsTerminals (O.contents out.old) (O.contents out.new) done
-        (is_some place.entry.list) (wanted.Revoke who)) }
-    ensures undone { IfErr result (λ fault. FailsReissue (O.contents out.old) (O.contents out.new)
-        fault (is_some place.entry.list) who (is_a_crew who)) }
+    ensures done { IfOk result (λ done. IsTerminals (M.paths machine) (O.contents out.old)
+        (O.contents out.new) done place.entry (wanted.Revoke who)) }
+    ensures undone { IfErr result (λ fault. FailsReissue (M.paths machine) (O.contents out.old)
+        (O.contents out.new) fault place.entry who (is_a_crew who)) }
 {
     if is_a_crew(&who) {
-        return revoke_crew(host, place, who, out, err);
+        return revoke_crew(machine, place, who, out, err);
     }
     let change = TokenChange { who, token: None };
-    revoke_by(host, place, change, out, err)
+    revoke_by(machine, place, change, out, err)
 }
 
 // Gives a user a token that is not printed.
-fn revoke_crew<O: Write, E: Write>(
-    host: Host<'_>,
+fn revoke_crew<M: Machine, O: Write, E: Write>(
+    machine: M,
     place: ChangedFile<'_>,
     who: Who,
     out: &mut O,
     err: &mut E,
 ) -> Result<Done, Failure>
-    ensures done { IfOk result (λ done. (token : TokenText) × IsReissued (O.contents out.old)
-        (O.contents out.new) done (is_some place.entry.list) who (Some token) (codes "revoked\n")) }
-    ensures undone { IfErr result (λ fault. FailsReissue (O.contents out.old) (O.contents out.new)
-        fault (is_some place.entry.list) who true) }
+    ensures done { IfOk result (λ done. (token : TokenText)
+        × IsReissued (M.paths machine) (O.contents out.old) (O.contents out.new) done place.entry
+        who (Some token) (codes "revoked\n")) }
+    ensures undone { IfErr result (λ fault. FailsReissue (M.paths machine) (O.contents out.old)
+        (O.contents out.new) fault place.entry who true) }
 {
-    let token = new_token(host)?;
+    let token = new_token(machine.host())?;
     let change = TokenChange {
         who,
         token: Some(token),
     };
-    revoke_by(host, place, change, out, err)
+    revoke_by(machine, place, change, out, err)
 }
 
 fn is_a_crew(who: &Who) -> bool
@@ -128,19 +128,19 @@ fn is_a_crew(who: &Who) -> bool
 }
 
 // Gives a user a token that is not printed, or none, and reports it.
-fn revoke_by<O: Write, E: Write>(
-    host: Host<'_>,
+fn revoke_by<M: Machine, O: Write, E: Write>(
+    machine: M,
     place: ChangedFile<'_>,
     change: TokenChange,
     out: &mut O,
     err: &mut E,
 ) -> Result<Done, Failure>
-    ensures done { IfOk result (λ done. IsReissued (O.contents out.old) (O.contents out.new) done
-        (is_some place.entry.list) change.who change.token (codes "revoked\n")) }
-    ensures undone { IfErr result (λ fault. FailsReissue (O.contents out.old) (O.contents out.new)
-        fault (is_some place.entry.list) change.who (is_some change.token)) }
+    ensures done { IfOk result (λ done. IsReissued (M.paths machine) (O.contents out.old)
+        (O.contents out.new) done place.entry change.who change.token (codes "revoked\n")) }
+    ensures undone { IfErr result (λ fault. FailsReissue (M.paths machine) (O.contents out.old)
+        (O.contents out.new) fault place.entry change.who (is_some change.token)) }
 {
-    reissue(host, place, change, out, err)?;
+    reissue(machine, place, change, out, err)?;
     match writeln!(out, "revoked") {
         Ok(()) => Ok(Done::Whole),
         Err(_) => Err(Failure::Network),
@@ -148,80 +148,82 @@ fn revoke_by<O: Write, E: Write>(
 }
 
 // Leaves a user only this token, or none, and prints nothing yet.
-fn reissue<O: Write, E: Write>(
-    host: Host<'_>,
+fn reissue<M: Machine, O: Write, E: Write>(
+    machine: M,
     place: ChangedFile<'_>,
     change: TokenChange,
     out: &mut O,
     err: &mut E,
 ) -> Result<(), Failure>
-    ensures done { OnOk result (IsMade (O.contents out.old) (O.contents out.new)
-        (is_some place.entry.list) (reissue_of change.who change.token)) }
-    ensures undone { IfErr result (λ fault. FailsReissue (O.contents out.old) (O.contents out.new)
-        fault (is_some place.entry.list) change.who (is_some change.token)) }
+    ensures done { OnOk result (IsMade (M.paths machine) (O.contents out.old)
+        (O.contents out.new) place.entry (reissue_of change.who change.token)) }
+    ensures undone { IfErr result (λ fault. FailsReissue (M.paths machine) (O.contents out.old)
+        (O.contents out.new) fault place.entry change.who (is_some change.token)) }
 {
-    let Ok(text) = token_text(host.alloc, &change) else {
+    let Ok(text) = token_text(machine.host().alloc, &change) else {
         return Err(Failure::Memory);
     };
     let change = RoomChange::Token(change);
-    make_in_file(host, place, &change, text.as_slice(), out, err)
+    make_in_file(machine, place, &change, text.as_slice(), out, err)
 }
 
 /// Gives all that a plan's or a fleet's file names the terminals that it gives them, and reports
 /// how many these are.
-pub fn set_terminals<O: Write, E: Write>(
-    host: Host<'_>,
+pub fn set_terminals<M: Machine, O: Write, E: Write>(
+    machine: M,
     place: ChangedFile<'_>,
     csv: &str,
     out: &mut O,
     err: &mut E,
 ) -> Result<Done, Failure>
     ensures done { IfOk result (λ done.
-        IsSetting (O.contents out.old) (O.contents out.new) done (is_some place.entry.list)) }
-    ensures undone { IfErr result (λ fault.
-        FailsSetting (O.contents out.old) (O.contents out.new) fault (is_some place.entry.list)) }
+        IsSetting (M.paths machine) (O.contents out.old) (O.contents out.new) done place.entry
+        csv.now) }
+    ensures undone { IfErr result (λ fault. FailsSetting (M.paths machine) (O.contents out.old)
+        (O.contents out.new) fault place.entry csv.now) }
 {
-    let text = read_text(host, csv)?;
+    let host = machine.host();
+    let text = machine.read_text(csv)?;
     let sheet = Sheet::new(host.alloc, host.explainer, csv, text.as_slice());
-    set_by(host, place, sheet, out, err)
+    set_by(machine, place, sheet, out, err)
 }
 
 // Gives all that a file's text names the terminals that it gives them.
-fn set_by<O: Write, E: Write>(
-    host: Host<'_>,
+fn set_by<M: Machine, O: Write, E: Write>(
+    machine: M,
     place: ChangedFile<'_>,
     sheet: Sheet<'_>,
     out: &mut O,
     err: &mut E,
 ) -> Result<Done, Failure>
-    ensures done { IfOk result (λ done. IsSettingOf (O.contents out.old) (O.contents out.new) done
-        (is_some place.entry.list) sheet.entry.text.now) }
-    ensures undone { IfErr result (λ fault. FailsSettingOf (O.contents out.old)
-        (O.contents out.new) fault (is_some place.entry.list) sheet.entry.text.now) }
+    ensures done { IfOk result (λ done. IsSettingOf (M.paths machine) (O.contents out.old)
+        (O.contents out.new) done place.entry sheet.entry.text.now) }
+    ensures undone { IfErr result (λ fault. FailsSettingOf (M.paths machine) (O.contents out.old)
+        (O.contents out.new) fault place.entry sheet.entry.text.now) }
 {
     let listed = terminals_in(sheet)?;
-    set(host, place, listed, out, err)
+    set(machine, place, listed, out, err)
 }
 
 // Gives all that a list names its terminals.
-fn set<O: Write, E: Write>(
-    host: Host<'_>,
+fn set<M: Machine, O: Write, E: Write>(
+    machine: M,
     place: ChangedFile<'_>,
     listed: Vec<Terminal>,
     out: &mut O,
     err: &mut E,
 ) -> Result<Done, Failure>
     ensures done { IfOk result (λ done.
-        IsSet (O.contents out.old) (O.contents out.new) done (is_some place.entry.list) listed) }
-    ensures undone { IfErr result (λ fault. FailsSettingBy (O.contents out.old)
-        (O.contents out.new) fault (is_some place.entry.list) listed) }
+        IsSet (M.paths machine) (O.contents out.old) (O.contents out.new) done place.entry listed) }
+    ensures undone { IfErr result (λ fault. FailsSettingBy (M.paths machine) (O.contents out.old)
+        (O.contents out.new) fault place.entry listed) }
 {
-    let Ok(text) = terminals_text(host.alloc, listed.as_slice()) else {
+    let Ok(text) = terminals_text(machine.host().alloc, listed.as_slice()) else {
         return Err(Failure::Memory);
     };
     let count = listed.len();
     let change = RoomChange::Terminals(listed);
-    make_in_file(host, place, &change, text.as_slice(), out, err)?;
+    make_in_file(machine, place, &change, text.as_slice(), out, err)?;
     match writeln!(out, "set: terminals {count}") {
         Ok(()) => Ok(Done::Whole),
         Err(_) => Err(Failure::Network),

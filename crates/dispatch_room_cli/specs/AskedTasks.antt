@@ -48,7 +48,8 @@ module _ (given : List Row) where
 
   -- a number of so many bits is given
   abbrev pub HasNumber : ℕ → Text → ℕ → Type 0
-  HasNumber bits name number = (text : Text) × (one_of name given ≡ Some text) × Writes bits text number
+  HasNumber bits name number =
+      (text : Text) × (one_of name given ≡ Some text) × Writes bits text number
 
   abbrev pub HasNoNumber : ℕ → Text → Type 0
   HasNoNumber bits name = (number : ℕ) → ¬ HasNumber bits name number
@@ -73,7 +74,8 @@ module _ (given : List Row) where
   -- the journal of what is served, where one is given
   abbrev pub IsJournal : Text → Option Journal → Type 0
   IsJournal file None = HasNone (codes "journal")
-  IsJournal file (Some journal) = Has (codes "journal") journal.list.now × IsApart file journal.list.now
+  IsJournal file (Some journal) =
+      Has (codes "journal") journal.list.now × IsApart file journal.list.now
       × (IsTrue journal.is_synced ↔ Has (codes "journal-sync") (codes "always"))
       × (IsTrue journal.keeps_questions ↔ Has (codes "journal-of") (codes "all"))
 
@@ -118,7 +120,8 @@ module _ (given : List Row) where
   abbrev pub IsColor : Color → Type 0
   IsColor color.Always = Has (codes "color") (codes "always")
   IsColor color.Never = Has (codes "color") (codes "never")
-  IsColor color.Auto = (¬ Has (codes "color") (codes "always")) × (¬ Has (codes "color") (codes "never"))
+  IsColor color.Auto =
+      (¬ Has (codes "color") (codes "always")) × (¬ Has (codes "color") (codes "never"))
 
   -- which served room is looked at, and how
   pub record IsLook (look : Look) : Type 0 where
@@ -130,7 +133,8 @@ module _ (given : List Row) where
 
   -- what the command of this name asks for over this file
   abbrev pub IsOver : Text → Text → Task → Type 0
-  IsOver name file (Init own plan) = (name ≡ codes "init") × (own.now ≡ file) × Has (codes "PLAN") plan.now
+  IsOver name file (Init own plan) =
+      (name ≡ codes "init") × (own.now ≡ file) × Has (codes "PLAN") plan.now
   IsOver name file (Import own fleet list) =
       (name ≡ codes "import") × (own.now ≡ file) × Has (codes "FLEET") fleet.now × IsList file list
   IsOver name file (Replan own plan list) =
@@ -140,7 +144,8 @@ module _ (given : List Row) where
   IsOver name file (Digest own) = (name ≡ codes "digest") × (own.now ≡ file)
   IsOver name file (Serve own service) =
       (name ≡ codes "serve") × (own.now ≡ file) × IsService file service
-  IsOver name file (Replay own replay) = (name ≡ codes "replay") × (own.now ≡ file) × IsReplay replay
+  IsOver name file (Replay own replay) =
+      (name ≡ codes "replay") × (own.now ≡ file) × IsReplay replay
   IsOver name file (Times own division day) =
       (name ≡ codes "times") × (own.now ≡ file) × HasNumber 16 (codes "DIVISION") division
       × Has (codes "DAY") day.now × HasNone (codes "and")
@@ -151,8 +156,8 @@ module _ (given : List Row) where
       (name ≡ codes "terminals") × (own.now ≡ file) × IsWanted wanted × HasNone (codes "from")
       × IsList file list
   IsOver name file (SetTerminals own csv list) =
-      (name ≡ codes "terminals") × (own.now ≡ file) × IsWanted wanted.List × Has (codes "from") csv.now
-      × IsList file list
+      (name ≡ codes "terminals") × (own.now ≡ file) × IsWanted wanted.List
+      × Has (codes "from") csv.now × IsList file list
   IsOver name file other = ⊥
 
   -- what the command of this name asks for
@@ -176,7 +181,8 @@ module _ (given : List Row) where
   IsAmiss file (mistake.TwoChanges one other) = AreGiven (codes "new") (codes "revoke")
       ⊎ (AreGiven (codes "new") (codes "from") ⊎ AreGiven (codes "revoke") (codes "from"))
   IsAmiss file mistake.NoChange =
-      HasNone (codes "new") × HasNone (codes "revoke") × HasNone (codes "from") × (¬ HasNone (codes "journal"))
+      HasNone (codes "new") × HasNone (codes "revoke") × HasNone (codes "from")
+      × (¬ HasNone (codes "journal"))
   IsAmiss file (mistake.OfDatabase list own) =
       (own.now ≡ file) × Has (codes "journal") list.now × IsOfDatabase own.now list.now
   IsAmiss file other = ⊥

@@ -20,7 +20,12 @@ rule_by bare Flag = record bare { long = Some bare.id; action = Some SetTrue }
 rule_by bare (Needed value parser) =
     record bare { long = Some bare.id; value_names = 1; parser = Some parser; required = true }
 rule_by bare (Named value parser default) =
-    record bare { long = Some bare.id; value_names = 1; parser = Some parser; defaults = texts default.now }
+    record bare {
+      long = Some bare.id;
+      value_names = 1;
+      parser = Some parser;
+      defaults = texts default.now;
+    }
 
 abbrev pub rule_of_word : Word → Rule
 rule_of_word word = rule_by (new_rule word.name.now) word.kind
@@ -63,7 +68,10 @@ pub record AreCommands (forms : List CommandForm) (commands : List Command) : Ty
 -- the program before it has commands: its words have to name one
 abbrev pub bare_program : App
 bare_program = record (new_app (codes "dispatch_room")) {
-  top = record (new_shape (codes "dispatch_room")) { has_version = true; subcommand_required = true };
+  top = record (new_shape (codes "dispatch_room")) {
+    has_version = true;
+    subcommand_required = true;
+  };
 }
 
 -- the program with these commands

@@ -41,7 +41,8 @@ manner_of (Needed value parser) = needed (values_of parser)
 manner_of (Named value parser default) = named (values_of parser) (texts default.now)
 
 abbrev pub line_of : CommandForm → Line
-line_of form = (form.name.now, map (λ (word : Word). (word.name.now, manner_of word.kind)) form.words.now)
+line_of form =
+    (form.name.now, map (λ (word : Word). (word.name.now, manner_of word.kind)) form.words.now)
 
 -- a word at its place that may be any text, an option that may, and the option that explains a
 -- failure
@@ -68,34 +69,45 @@ patience = limit (codes "patience") 1 3600 (codes "2" ∷ [])
 
 abbrev serve_words : List (Text × Manner)
 serve_words = text (codes "FILE") ∷ text (codes "ADDRESS")
-    ∷ limit (codes "connections") 1 18446744073709551615 [] ∷ limit (codes "idle") 1 60000 (codes "200" ∷ [])
-    ∷ limit (codes "keep") 1 3600 (codes "75" ∷ []) ∷ patience ∷ switch (codes "history") ∷ switch (codes "log")
-    ∷ option (codes "journal") ∷ choice (codes "journal-of") (codes "all" ∷ codes "changes" ∷ []) (codes "all")
-    ∷ choice (codes "journal-sync") (codes "always" ∷ codes "system" ∷ []) (codes "system") ∷ explain ∷ []
+    ∷ limit (codes "connections") 1 18446744073709551615 []
+    ∷ limit (codes "idle") 1 60000 (codes "200" ∷ [])
+    ∷ limit (codes "keep") 1 3600 (codes "75" ∷ [])
+    ∷ patience ∷ switch (codes "history") ∷ switch (codes "log") ∷ option (codes "journal")
+    ∷ choice (codes "journal-of") (codes "all" ∷ codes "changes" ∷ []) (codes "all")
+    ∷ choice (codes "journal-sync") (codes "always" ∷ codes "system" ∷ []) (codes "system")
+    ∷ explain ∷ []
 
 abbrev replay_words : List (Text × Manner)
-replay_words = text (codes "FILE") ∷ limit (codes "until") 0 4102444799 [] ∷ switch (codes "answers")
-    ∷ switch (codes "history") ∷ switch (codes "open") ∷ switch (codes "digest") ∷ explain ∷ []
+replay_words = text (codes "FILE") ∷ limit (codes "until") 0 4102444799 []
+    ∷ switch (codes "answers") ∷ switch (codes "history") ∷ switch (codes "open") ∷ switch (codes "digest") ∷ explain
+    ∷ []
 
 abbrev board_words : List (Text × Manner)
-board_words = text (codes "ADDRESS") ∷ text (codes "TOKEN") ∷ limit (codes "incident") 1 2147483647 []
-    ∷ patience
-    ∷ choice (codes "color") (codes "auto" ∷ codes "always" ∷ codes "never" ∷ []) (codes "auto") ∷ explain ∷ []
+board_words = text (codes "ADDRESS") ∷ text (codes "TOKEN")
+    ∷ limit (codes "incident") 1 2147483647 [] ∷ patience
+    ∷ choice (codes "color") (codes "auto" ∷ codes "always" ∷ codes "never" ∷ []) (codes "auto")
+    ∷ explain ∷ []
 
 abbrev divisions : Values
-divisions = among (codes "1" ∷ codes "2" ∷ codes "3" ∷ codes "4" ∷ codes "5" ∷ codes "6" ∷ codes "7" ∷ codes "8"
-    ∷ codes "9" ∷ [])
+divisions = among (codes "1" ∷ codes "2" ∷ codes "3" ∷ codes "4" ∷ codes "5" ∷ codes "6"
+    ∷ codes "7" ∷ codes "8" ∷ codes "9" ∷ [])
 
 -- all commands
 abbrev pub command_lines : List Line
 command_lines = (codes "init", text (codes "FILE") ∷ text (codes "PLAN") ∷ explain ∷ [])
-    ∷ (codes "import", text (codes "FILE") ∷ text (codes "FLEET") ∷ option (codes "journal") ∷ explain ∷ [])
+    ∷ (
+      codes "import",
+      text (codes "FILE") ∷ text (codes "FLEET") ∷ option (codes "journal") ∷ explain ∷ [],
+    )
     ∷ (
       codes "terminals",
       text (codes "FILE") ∷ option (codes "new") ∷ option (codes "revoke")
           ∷ option (codes "from") ∷ option (codes "journal") ∷ explain ∷ [],
     )
-    ∷ (codes "replan", text (codes "FILE") ∷ text (codes "PLAN") ∷ option (codes "journal") ∷ explain ∷ [])
+    ∷ (
+      codes "replan",
+      text (codes "FILE") ∷ text (codes "PLAN") ∷ option (codes "journal") ∷ explain ∷ [],
+    )
     ∷ (codes "migrate", text (codes "FILE") ∷ explain ∷ [])
     ∷ (codes "check", text (codes "FILE") ∷ explain ∷ [])
     ∷ (codes "digest", text (codes "FILE") ∷ explain ∷ [])
@@ -103,7 +115,10 @@ command_lines = (codes "init", text (codes "FILE") ∷ text (codes "PLAN") ∷ e
     ∷ (codes "serve", serve_words)
     ∷ (codes "replay", replay_words)
     ∷ (codes "verify", text (codes "LIST") ∷ explain ∷ [])
-    ∷ (codes "renew", text (codes "OLD") ∷ text (codes "NEW") ∷ (codes "since", needed any) ∷ explain ∷ [])
+    ∷ (
+      codes "renew",
+      text (codes "OLD") ∷ text (codes "NEW") ∷ (codes "since", needed any) ∷ explain ∷ [],
+    )
     ∷ (codes "board", board_words)
     ∷ (
       codes "times",

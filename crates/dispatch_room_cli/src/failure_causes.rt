@@ -1,4 +1,5 @@
 //! Explains failures where that is asked for.
+ghost use Rattle.std.specs.Prelude.{◌≡◌};
 
 use std::fmt::Display;
 
@@ -11,12 +12,16 @@ pub struct Explainer<'a> {
 }
 
 impl<'a> Explainer<'a> {
-    pub fn new(rt: &'a HostRuntime, is_wanted: bool) -> Explainer<'a> {
+    pub fn new(rt: &'a HostRuntime, is_wanted: bool) -> Explainer<'a>
+        ensures { result.is_wanted ≡ is_wanted }
+    {
         Explainer { rt, is_wanted }
     }
 
     /// Whether failures are explained. Only then need a cause be looked for.
-    pub fn is_wanted(self) -> bool {
+    pub fn is_wanted(self) -> bool
+        ensures { result ≡ self.entry.is_wanted }
+    {
         self.is_wanted
     }
 

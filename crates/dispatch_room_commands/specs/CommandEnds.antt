@@ -61,7 +61,8 @@ PrintsBoard heard proposes colour old new done =
 
 -- The board of what was heard is not shown, for lack of memory, and nothing is written; or it is
 -- one that ends badly, or the output failed.
-abbrev pub FailsToPrint : List ℕ → Bool → Bool → Option (List ℕ) → Option (List ℕ) → Failure → Type 0
+abbrev pub FailsToPrint : List ℕ → Bool → Bool → Option (List ℕ) → Option (List ℕ) → Failure
+    → Type 0
 FailsToPrint heard proposes colour old new fault =
     ((fault ≡ Memory) × (new ≡ old))
     ⊎ ((fault ≡ Network) × ((board : Board) × IsBoard heard proposes colour board))

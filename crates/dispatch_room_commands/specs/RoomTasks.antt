@@ -1,6 +1,6 @@
 -- What each command does in the database of a room's file, over any storage.
 use Rattle.std.specs.Global.{Global}
-use Rattle.std.specs.Prelude.{IfOk, IsOk, List, OnOk, Option, Vec, ℕ, ◌≡◌, ◌⊎◌}
+use Rattle.std.specs.Prelude.{IfOk, IsOk, List, None, OnOk, Vec, ℕ, ◌≡◌, ◌⊎◌}
 use Rattle.sqlite.specs.Held.{state}
 use Rattle.room_store_check_tables.specs.HeldRooms.{WritesNothing}
 use Rattle.dispatch_room_disk.specs.RoomFiles.{Refusing, Saying}
@@ -92,12 +92,12 @@ ReportsBoth newer = λ S g old new before after done.
 abbrev pub ReportsNone : Refusing
 ReportsNone = λ S g conn before after fault. JoinsNone g conn fault × (after ≡ before)
 
--- a list was replayed to the room, or its messages answered
+-- a list from standard input, whose text is not known, was replayed to the room, or its messages
+-- were answered
 abbrev pub Replays : How → Saying Done
-Replays how = λ S g old new before after done.
-    (list : Option (List ℕ)) × HasReplayed g old new how list before after done
+Replays how = λ S g old new before after done. HasReplayed g old new how None before after done
 
 -- no room was opened, and nothing is printed; or, behind a leg of a list, none was opened again
 abbrev pub ReplaysNone : How → Refusing
 ReplaysNone how = λ S g conn before after fault. (IsUnopened g conn fault × (after ≡ before))
-    ⊎ ((list : Option (List ℕ)) × LosesReplayed g conn how list before after fault)
+    ⊎ LosesReplayed g conn how None before after fault

@@ -1,11 +1,11 @@
 //! `board`: a served room is asked as a desk, and what the desk sees is shown.
-ghost use Rattle.std.specs.Prelude.{◌≡◌, ◌*◌, Bool, IfErr, IfOk, IfSome, OnOk, SomeIff, false, true};
+ghost use Rattle.std.specs.Prelude.{◌≡◌, ◌*◌, ◌⊎◌, ℕ, List, IfErr, IfOk, IfSome, SomeIff, false, is_some, true};
 ghost use Rattle.std.specs.Duration.{as_nanos};
-ghost use Rattle.std.specs.Io.KnownBytes.{Consumes};
 ghost use Rattle.room_types.specs.Texts.{is_token};
-ghost use Rattle.dispatch_room_board.specs.Requests.{Sends, requests};
+ghost use Rattle.dispatch_room_cli.specs.declared.exit_status.Failure.TheVariants.{Memory};
 ghost use Rattle.dispatch_room_commands.specs.CommandEnds.{FailsToPrint, IsColour, PrintsBoard, end_of_board};
 ghost use Rattle.dispatch_room_commands.specs.DoneTasks.{FailsBoard, IsBoardOf};
+ghost use Rattle.dispatch_room_commands.specs.HeardRooms.{IsHeard};
 
 use dispatch_room_board::boards::{Reached, board_of};
 use dispatch_room_board::exchange::{hear, send};
@@ -39,17 +39,8 @@ pub fn board<O: Write>(host: Host<'_>, look: &Look<'_>, out: &mut O) -> Result<D
     let Some(asker) = asker_of(look) else {
         return Err(Failure::Input);
     };
-    let Ok(heard) = heard(host, look, &asker) else {
-        return Err(Failure::Memory);
-    };
     let colour = has_colour(host.rt, look.color);
-    print(
-        host.alloc,
-        heard.as_slice(),
-        look.incident.is_some(),
-        colour,
-        out,
-    )
+    show(host.alloc, &asker, called(host, look), colour, out)
 }
 
 // Who asks, and of which incident: nobody where the text is no token.
@@ -62,6 +53,37 @@ fn asker_of(look: &Look<'_>) -> Option<Asker>
         token,
         incident: look.incident,
     })
+}
+
+// Shows the board of what is heard of a room on the sides of a connection to it.
+fn show<R: Source + Drop, W: Sink + Drop, O: Write>(
+    alloc: Global,
+    asker: &Asker,
+    sides: Option<(R, W)>,
+    colour: bool,
+    out: &mut O,
+) -> Result<Done, Failure>
+    requires { IfSome sides (λ sides. W.has_failed sides.1 ≡ false) }
+    ensures done { IfOk result (λ done. (heard : List ℕ)
+        × IsHeard R.left R.has_failed W.held W.has_failed sides asker.now heard
+        × PrintsBoard heard (is_some asker.now.incident) colour (O.contents out.old)
+        (O.contents out.new) done) }
+    ensures undone { IfErr result (λ fault.
+        ((fault ≡ Memory) × (O.contents out.new ≡ O.contents out.old)) ⊎ ((heard : List ℕ)
+        × IsHeard R.left R.has_failed W.held W.has_failed sides asker.now heard
+        × FailsToPrint heard (is_some asker.now.incident) colour (O.contents out.old)
+        (O.contents out.new) fault)) }
+{
+    let Ok(heard) = hear_on(alloc, asker, sides) else {
+        return Err(Failure::Memory);
+    };
+    print(
+        alloc,
+        heard.as_slice(),
+        asker.incident.is_some(),
+        colour,
+        out,
+    )
 }
 
 // Prints the board of what was heard.
@@ -108,14 +130,6 @@ fn has_colour(rt: &HostRuntime, color: Color) -> bool
     }
 }
 
-// What is heard of a room within the time that was granted: nothing where it takes no connection.
-fn heard(host: Host<'_>, look: &Look<'_>, asker: &Asker) -> Result<Vec<u8>, AllocError> {
-    match called(host, look) {
-        Some((mut reader, mut writer)) => ask(host.alloc, asker, &mut reader, &mut writer),
-        None => Ok(Vec::new(host.alloc)),
-    }
-}
-
 // The sides of a connection to a room, where it takes one. All that is said on it ends within the
 // time that was granted.
 fn called<'a>(host: Host<'a>, look: &Look<'_>) -> Option<(CallReader<'a>, CallWriter<'a>)>
@@ -129,19 +143,22 @@ fn called<'a>(host: Host<'a>, look: &Look<'_>) -> Option<(CallReader<'a>, CallWr
     call(host.rt, host.explainer, look.address, patience)
 }
 
-// Asks a room, and hears what it says: also where it doesn't take all that is asked.
-fn ask<R: Source, W: Sink>(
+// Asks a room on the sides of a connection to it, and hears what it says: also where it doesn't take
+// all that is asked. Nothing is heard where there is no connection.
+fn hear_on<R: Source + Drop, W: Sink + Drop>(
     alloc: Global,
     asker: &Asker,
-    reader: &mut R,
-    writer: &mut W,
+    sides: Option<(R, W)>,
 ) -> Result<Vec<u8>, AllocError>
-    requires { W.has_failed writer.old ≡ false }
-    ensures asked { OnOk result ((is_whole : Bool) × Sends W.held W.has_failed writer.old writer.new
-        (requests asker.now.token asker.now.incident) is_whole) }
-    ensures heard { IfOk result (λ heard.
-        Consumes (R.left reader.old) (R.left reader.new) heard.items) }
+    requires { IfSome sides (λ sides. W.has_failed sides.1 ≡ false) }
+    ensures { IfOk result (λ heard.
+        IsHeard R.left R.has_failed W.held W.has_failed sides asker.now heard.items) }
 {
-    let _sent = send(alloc, asker, writer)?;
-    hear(alloc, reader)
+    match sides {
+        Some((mut reader, mut writer)) => {
+            let _sent = send(alloc, asker, &mut writer)?;
+            hear(alloc, &mut reader)
+        }
+        None => Ok(Vec::new(alloc)),
+    }
 }

@@ -7,17 +7,19 @@ use dispatch_room_archive::examination::check_in;
 use dispatch_room_cli::exit_status::{Done, Failure};
 use dispatch_room_disk::room_files::{RoomFile, RoomTask};
 use dispatch_room_tasks::opened_room::TaskResult;
-use dispatch_room_tcp::hosts::Host;
+use dispatch_room_tcp::hosts::Machine;
 use sqlite::{Alter, Connection};
 use std::alloc::Global;
 use std::io::Write;
 
 /// Prints what the room of a file has, or what is wrong with the file first. No row is written.
-pub fn check<O: Write>(host: Host<'_>, file: &str, out: &mut O) -> Result<Done, Failure>
-    ensures done { IfOk result (IsCheck (O.contents out.old) (O.contents out.new)) }
-    ensures undone { IfErr result (FailsCheck (O.contents out.old) (O.contents out.new)) }
+pub fn check<M: Machine, O: Write>(machine: M, file: &str, out: &mut O) -> Result<Done, Failure>
+    ensures done { IfOk result (λ done.
+        IsCheck (M.paths machine) (O.contents out.old) (O.contents out.new) done file.now) }
+    ensures undone { IfErr result (λ fault.
+        FailsCheck (M.paths machine) (O.contents out.old) (O.contents out.new) fault file.now) }
 {
-    host.in_file(RoomFile::Kept(file), Examination, out)
+    machine.in_file(RoomFile::Kept(file), Examination, out)
 }
 
 // The room is looked at.

@@ -1,10 +1,11 @@
 //! The commands over a room's file: what they write, and the exit status.
-ghost use Rattle.std.specs.Prelude.{◌≡◌, MatchResult, Result, map, string_bytes};
+ghost use Rattle.std.specs.Prelude.{◌≡◌, MatchResult, Result, map, string_bytes, true};
 ghost use Rattle.clap.specs.Words.{kind_of};
 ghost use Rattle.clap.specs.declared.error.Error.{Error as Mistake};
 ghost use Rattle.clap.specs.declared.error.ErrorKind.TheVariants.{OutOfMemory};
 ghost use Rattle.dispatch_room_commands.specs.CommandEnds.{IsHelpDone, IsWordsOutput, IsWordsStatus, is_mistake};
 ghost use Rattle.dispatch_room_commands.specs.DoneTasks.{FailsTask, IsAskedBy, IsExit, IsTask};
+ghost use Rattle.dispatch_room_tcp.specs.Hosts.{unknown};
 ghost use Rattle.dispatch_room_cli.specs.declared.tasks.Task.{Task as Asked};
 
 use crate::board::board;
@@ -31,7 +32,7 @@ use dispatch_room_cli::argument_parser;
 use dispatch_room_cli::exit_status::{Done, Failure, end};
 use dispatch_room_cli::failure_causes::Explainer;
 use dispatch_room_cli::tasks::Task;
-use dispatch_room_tcp::hosts::Host;
+use dispatch_room_tcp::hosts::{Host, Machine};
 use dispatch_room_tcp::serve::serve_file;
 use std::alloc::Global;
 use std::io::{IsTerminal, Write};
@@ -78,7 +79,7 @@ pub fn command<'a, W: Asks<'a>, O: Write, E: Write>(
     err: &mut E,
 ) -> u8
     ensures { (asked : Result Asked Mistake) × W.reads words asked
-        × IsExit asked (O.contents out.old) (O.contents out.new) result }
+        × IsExit unknown asked (O.contents out.old) (O.contents out.new) result }
 {
     let host = Host {
         rt,
@@ -89,25 +90,29 @@ pub fn command<'a, W: Asks<'a>, O: Write, E: Write>(
 }
 
 // Failures are explained on a terminal, and where that is asked for.
-fn explainer_of(rt: &HostRuntime, is_asked_for: bool) -> Explainer<'_> {
+fn explainer_of(rt: &HostRuntime, is_asked_for: bool) -> Explainer<'_>
+    ensures { is_asked_for ≡ true → result.is_wanted ≡ true }
+{
     Explainer::new(rt, is_asked_for || rt.stderr().is_terminal())
 }
 
 // Does a task, or reports what the words are in its place, and returns the exit status.
-fn exit<O: Write, E: Write>(
-    host: Host<'_>,
+fn exit<M: Machine, O: Write, E: Write>(
+    machine: M,
     asked: Result<Task<'_>, Error>,
     out: &mut O,
     err: &mut E,
 ) -> u8
-    ensures { IsExit asked.entry (O.contents out.old) (O.contents out.new) result }
+    ensures { IsExit (M.paths machine) asked.entry (O.contents out.old) (O.contents out.new)
+        result }
 {
     match asked {
         Ok(task) => {
+            let host = machine.host();
             if let Some(file) = task.file() {
                 warn(host.rt, file, err);
             }
-            let done = perform(host, &task, out, err);
+            let done = perform(machine, &task, out, err);
             explain(host.explainer, &task, &done);
             end(done, err)
         }
@@ -126,59 +131,60 @@ fn warn<E: Write>(rt: &HostRuntime, file: &str, err: &mut E) {
     }
 }
 
-fn perform<O: Write, E: Write>(
-    host: Host<'_>,
+fn perform<M: Machine, O: Write, E: Write>(
+    machine: M,
     task: &Task<'_>,
     out: &mut O,
     err: &mut E,
 ) -> Result<Done, Failure>
     ensures { MatchResult result
-        (λ done. IsTask (O.contents out.old) (O.contents out.new) done task.now)
-        (λ fault. FailsTask (O.contents out.old) (O.contents out.new) fault task.now) }
+        (λ done. IsTask (M.paths machine) (O.contents out.old) (O.contents out.new) done task.now)
+        (λ fault. FailsTask (M.paths machine) (O.contents out.old) (O.contents out.new) fault
+        task.now) }
 {
     match *task {
-        Task::Init { file, plan } => init(host, file, plan, out),
+        Task::Init { file, plan } => init(machine, file, plan, out),
         Task::Import {
             file,
             fleet,
             list: None,
-        } => import(host, file, fleet, out),
+        } => import(machine, file, fleet, out),
         Task::Import {
             file,
             fleet,
             list: Some(list),
-        } => import_kept(host, file, fleet, list, out, err),
+        } => import_kept(machine, file, fleet, list, out, err),
         Task::Replan { file, plan, list } => {
-            replan(host, ChangedFile { file, list }, plan, out, err)
+            replan(machine, ChangedFile { file, list }, plan, out, err)
         }
-        Task::Migrate { file } => migrate(host, file, out),
-        Task::Check { file } => check(host, file, out),
-        Task::Digest { file } => digest(host, file, out),
-        Task::Restore { copy, file } => restore(host, copy, file, out),
-        Task::Serve { file, service } => serve_file(host, file, service, out, err),
+        Task::Migrate { file } => migrate(machine, file, out),
+        Task::Check { file } => check(machine, file, out),
+        Task::Digest { file } => digest(machine, file, out),
+        Task::Restore { copy, file } => restore(machine, copy, file, out),
+        Task::Serve { file, service } => serve_file(machine, file, service, out, err),
         Task::Replay {
             file,
             replay: ref how,
-        } => replay(host, file, how, out, err),
-        Task::Renew { file, new, since } => renew(host, file, new, since, out),
-        Task::Verify { list } => verify_list(host, list, out),
-        Task::Board { ref look } => board(host, look, out),
+        } => replay(machine, file, how, out, err),
+        Task::Renew { file, new, since } => renew(machine, file, new, since, out),
+        Task::Verify { list } => verify_list(machine, list, out),
+        Task::Board { ref look } => board(machine.host(), look, out),
         Task::Times {
             file,
             division,
             day,
-        } => times(host, file, division, day, out),
+        } => times(machine, file, division, day, out),
         Task::JoinedTimes {
             file,
             older,
             division,
             day,
-        } => joined_times(host, file, older, division, day, out),
+        } => joined_times(machine, file, older, division, day, out),
         Task::Terminals { file, wanted, list } => {
-            terminals(host, ChangedFile { file, list }, wanted, out, err)
+            terminals(machine, ChangedFile { file, list }, wanted, out, err)
         }
         Task::SetTerminals { file, csv, list } => {
-            set_terminals(host, ChangedFile { file, list }, csv, out, err)
+            set_terminals(machine, ChangedFile { file, list }, csv, out, err)
         }
     }
 }

@@ -7,17 +7,19 @@ use dispatch_room_cli::exit_status::{Done, Failure};
 use dispatch_room_disk::room_files::{RoomFile, RoomTask};
 use dispatch_room_lists::digest_lines::print_digest;
 use dispatch_room_tasks::opened_room::{TaskResult, open_room};
-use dispatch_room_tcp::hosts::Host;
+use dispatch_room_tcp::hosts::Machine;
 use sqlite::{Alter, Connection};
 use std::alloc::Global;
 use std::io::Write;
 
 /// Prints the digest of the room of a file, which stays as it is.
-pub fn digest<O: Write>(host: Host<'_>, file: &str, out: &mut O) -> Result<Done, Failure>
-    ensures done { IfOk result (IsDigest (O.contents out.old) (O.contents out.new)) }
-    ensures undone { IfErr result (FailsDigest (O.contents out.old) (O.contents out.new)) }
+pub fn digest<M: Machine, O: Write>(machine: M, file: &str, out: &mut O) -> Result<Done, Failure>
+    ensures done { IfOk result (λ done.
+        IsDigest (M.paths machine) (O.contents out.old) (O.contents out.new) done file.now) }
+    ensures undone { IfErr result (λ fault.
+        FailsDigest (M.paths machine) (O.contents out.old) (O.contents out.new) fault file.now) }
 {
-    host.in_file(RoomFile::Kept(file), Digesting, out)
+    machine.in_file(RoomFile::Kept(file), Digesting, out)
 }
 
 // The digest is printed.

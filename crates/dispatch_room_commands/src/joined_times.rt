@@ -8,7 +8,7 @@ use dispatch_room_archive::joined_reports::{day_in, joined_report_in};
 use dispatch_room_cli::exit_status::{Done, Failure};
 use dispatch_room_disk::room_files::{RoomFile, RoomTask};
 use dispatch_room_tasks::opened_room::TaskResult;
-use dispatch_room_tcp::hosts::Host;
+use dispatch_room_tcp::hosts::Machine;
 use room_place::plans::DivisionNumber;
 use sqlite::{Alter, Connection};
 use std::alloc::Global;
@@ -16,8 +16,8 @@ use std::io::{self, Write};
 
 /// Writes the activation times of a division's day as CSV, by the room of a file and by the older
 /// one that it was made of. No row of either is written.
-pub fn joined_times<O: Write>(
-    host: Host<'_>,
+pub fn joined_times<M: Machine, O: Write>(
+    machine: M,
     file: &str,
     older: &str,
     division: DivisionNumber,
@@ -25,14 +25,16 @@ pub fn joined_times<O: Write>(
     out: &mut O,
 ) -> Result<Done, Failure>
     ensures done { IfOk result (λ done.
-        IsJoinedTimes (O.contents out.old) (O.contents out.new) done division day.now) }
+        IsJoinedTimes (M.paths machine) (O.contents out.old) (O.contents out.new) done
+        file.now older.now division day.now) }
     ensures undone { IfErr result (λ fault.
-        FailsJoinedTimes (O.contents out.old) (O.contents out.new) fault division day.now) }
+        FailsJoinedTimes (M.paths machine) (O.contents out.old) (O.contents out.new) fault
+        file.now older.now division day.now) }
 {
     let finding = Finding { division, day };
-    let newer = host.in_file(RoomFile::Kept(file), finding, &mut io::sink())?;
+    let newer = machine.in_file(RoomFile::Kept(file), finding, &mut io::sink())?;
     let joining = Joining { newer: &newer };
-    let report = host.in_file(RoomFile::Kept(older), joining, &mut io::sink())?;
+    let report = machine.in_file(RoomFile::Kept(older), joining, &mut io::sink())?;
     match out.write_all(report.as_slice()) {
         Ok(()) => Ok(Done::Whole),
         Err(_) => Err(Failure::Network),

@@ -7,17 +7,19 @@ use dispatch_room_cli::exit_status::{Done, Failure};
 use dispatch_room_disk::room_files::{RoomFile, RoomTask};
 use dispatch_room_tasks::migration::migrate_in;
 use dispatch_room_tasks::opened_room::TaskResult;
-use dispatch_room_tcp::hosts::Host;
+use dispatch_room_tcp::hosts::Machine;
 use sqlite::{Alter, Connection};
 use std::alloc::Global;
 use std::io::{self, Write};
 
 /// Moves the room of a file from the first version to this one, and reports that it did.
-pub fn migrate<O: Write>(host: Host<'_>, file: &str, out: &mut O) -> Result<Done, Failure>
-    ensures done { IfOk result (IsMigrate (O.contents out.old) (O.contents out.new)) }
-    ensures undone { IfErr result (FailsMigrate (O.contents out.old) (O.contents out.new)) }
+pub fn migrate<M: Machine, O: Write>(machine: M, file: &str, out: &mut O) -> Result<Done, Failure>
+    ensures done { IfOk result (λ done.
+        IsMigrate (M.paths machine) (O.contents out.old) (O.contents out.new) done file.now) }
+    ensures undone { IfErr result (λ fault.
+        FailsMigrate (M.paths machine) (O.contents out.old) (O.contents out.new) fault file.now) }
 {
-    host.in_file(RoomFile::Old(file), Move, &mut io::sink())?;
+    machine.in_file(RoomFile::Old(file), Move, &mut io::sink())?;
     match writeln!(out, "migrated") {
         Ok(()) => Ok(Done::Whole),
         Err(_) => Err(Failure::Network),

@@ -7,29 +7,31 @@ use dispatch_room_archive::renewal::{Successor, begin_in, left_in};
 use dispatch_room_cli::exit_status::{Done, Failure};
 use dispatch_room_disk::room_files::{RoomFile, RoomTask};
 use dispatch_room_tasks::opened_room::TaskResult;
-use dispatch_room_tcp::hosts::Host;
+use dispatch_room_tcp::hosts::Machine;
 use sqlite::{Alter, Connection};
 use std::alloc::Global;
 use std::io::{self, Write};
 
 /// Makes a room in a file that has nothing, of what the room of another file leaves since a day,
 /// and reports how much it has. No row of the other file is written.
-pub fn renew<O: Write>(
-    host: Host<'_>,
-    old: &str,
-    new: &str,
+pub fn renew<M: Machine, O: Write>(
+    machine: M,
+    file: &str,
+    successor: &str,
     since: &str,
     out: &mut O,
 ) -> Result<Done, Failure>
     ensures done { IfOk result (λ done.
-        IsRenew (O.contents out.old) (O.contents out.new) done since.now) }
+        IsRenew (M.paths machine) (O.contents out.old) (O.contents out.new) done
+        file.now successor.now since.now) }
     ensures undone { IfErr result (λ fault.
-        FailsRenew (O.contents out.old) (O.contents out.new) fault since.now) }
+        FailsRenew (M.paths machine) (O.contents out.old) (O.contents out.new) fault
+        file.now successor.now since.now) }
 {
     let leaving = Leaving { since };
-    let left = host.in_file(RoomFile::Kept(old), leaving, &mut io::sink())?;
+    let left = machine.in_file(RoomFile::Kept(file), leaving, &mut io::sink())?;
     let beginning = Beginning { left: &left };
-    host.in_file(RoomFile::New(new), beginning, out)
+    machine.in_file(RoomFile::New(successor), beginning, out)
 }
 
 // What a room leaves is read.

@@ -9,7 +9,7 @@ use dispatch_room_disk::room_files::{RoomFile, RoomTask};
 use dispatch_room_lists::replayed_legs::Course;
 use dispatch_room_lists::replayed_lists::replay_from;
 use dispatch_room_tasks::opened_room::TaskResult;
-use dispatch_room_tcp::hosts::Host;
+use dispatch_room_tcp::hosts::{Host, Machine};
 use room_http_messages::standard_wires::Wire;
 use sqlite::{Alter, Connection};
 use std::alloc::Global;
@@ -18,7 +18,26 @@ use std::io::Write;
 /// Does to the room of a file what a list from standard input says, and prints how many messages
 /// that were, and the room's digest where it is wanted; or writes the answer to each message, as
 /// soon as it is given.
-pub fn replay<O: Write, E: Write>(
+pub fn replay<M: Machine, O: Write, E: Write>(
+    machine: M,
+    file: &str,
+    replay: &Replay,
+    out: &mut O,
+    err: &mut E,
+) -> Result<Done, Failure>
+    ensures done { IfOk result (λ done.
+        IsReplay (M.paths machine) (O.contents out.old) (O.contents out.new) done
+        file.now replay.now) }
+    ensures undone { IfErr result (λ fault.
+        FailsReplay (M.paths machine) (O.contents out.old) (O.contents out.new) fault
+        file.now replay.now) }
+{
+    replay_on(machine, machine.host(), file, replay, out, err)
+}
+
+// Does so with the explainer and the standard input of the machine's host.
+fn replay_on<M: Machine, O: Write, E: Write>(
+    machine: M,
     host: Host<'_>,
     file: &str,
     replay: &Replay,
@@ -26,12 +45,14 @@ pub fn replay<O: Write, E: Write>(
     err: &mut E,
 ) -> Result<Done, Failure>
     ensures done { IfOk result (λ done.
-        IsReplay (O.contents out.old) (O.contents out.new) done replay.now) }
+        IsReplay (M.paths machine) (O.contents out.old) (O.contents out.new) done
+        file.now replay.now) }
     ensures undone { IfErr result (λ fault.
-        FailsReplay (O.contents out.old) (O.contents out.new) fault replay.now) }
+        FailsReplay (M.paths machine) (O.contents out.old) (O.contents out.new) fault
+        file.now replay.now) }
 {
     let replaying = Replaying { host, replay, err };
-    host.in_file(RoomFile::Kept(file), replaying, out)
+    machine.in_file(RoomFile::Kept(file), replaying, out)
 }
 
 // A list is replayed.

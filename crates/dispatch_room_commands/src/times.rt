@@ -7,27 +7,29 @@ use dispatch_room_archive::times_report::report_in;
 use dispatch_room_cli::exit_status::{Done, Failure};
 use dispatch_room_disk::room_files::{RoomFile, RoomTask};
 use dispatch_room_tasks::opened_room::TaskResult;
-use dispatch_room_tcp::hosts::Host;
+use dispatch_room_tcp::hosts::Machine;
 use room_place::plans::DivisionNumber;
 use sqlite::{Alter, Connection};
 use std::alloc::Global;
 use std::io::{self, Write};
 
 /// Writes the activation times of a division's day as CSV.
-pub fn times<O: Write>(
-    host: Host<'_>,
+pub fn times<M: Machine, O: Write>(
+    machine: M,
     file: &str,
     division: DivisionNumber,
     day: &str,
     out: &mut O,
 ) -> Result<Done, Failure>
     ensures done { IfOk result (λ done.
-        IsTimes (O.contents out.old) (O.contents out.new) done division day.now) }
+        IsTimes (M.paths machine) (O.contents out.old) (O.contents out.new) done
+        file.now division day.now) }
     ensures undone { IfErr result (λ fault.
-        FailsTimes (O.contents out.old) (O.contents out.new) fault division day.now) }
+        FailsTimes (M.paths machine) (O.contents out.old) (O.contents out.new) fault
+        file.now division day.now) }
 {
     let reporting = Report { division, day };
-    let report = host.in_file(RoomFile::Kept(file), reporting, &mut io::sink())?;
+    let report = machine.in_file(RoomFile::Kept(file), reporting, &mut io::sink())?;
     match out.write_all(report.as_slice()) {
         Ok(()) => Ok(Done::Whole),
         Err(_) => Err(Failure::Network),

@@ -1,9 +1,9 @@
 //! `verify`: how much a list holds, or the first record at which it is no list.
-ghost use Rattle.std.specs.Prelude.{◌≡◌, ◌≢◌, ◌⊎◌, ◌||◌, ◌==◌, Some, false, IfErr, IfOk, OnOk};
+ghost use Rattle.std.specs.Prelude.{◌≡◌, ◌||◌, ◌==◌, Some, false, IfErr, IfOk, OnOk};
 ghost use Rattle.std.specs.Io.KnownBytes.{Appends};
 ghost use Rattle.dispatch_room_journal.specs.ReadSteps.{ends_well, left_in, most_rows};
 ghost use Rattle.dispatch_room_cli.specs.declared.exit_status.Done.TheVariants.{Whole};
-ghost use Rattle.dispatch_room_cli.specs.declared.exit_status.Failure.TheVariants.{Input, Memory, Network};
+ghost use Rattle.dispatch_room_cli.specs.declared.exit_status.Failure.TheVariants.{Network};
 ghost use Rattle.dispatch_room_commands.specs.DoneTasks.{FailsVerify, FailsVerifyOf, IsVerify, IsVerifyOf};
 ghost use Rattle.dispatch_room_commands.specs.VerifiedLists.{fails_by, span_text, tally_text};
 
@@ -13,48 +13,25 @@ use dispatch_room_journal::journal_inbox::JournalInbox;
 use dispatch_room_journal::list_source::ListSource;
 use dispatch_room_journal::list_tallies::{Flaw, Span, Tally};
 use dispatch_room_journal::verification::verify;
-use dispatch_room_tcp::hosts::Host;
+use dispatch_room_tcp::hosts::Machine;
 use room_http_messages::sources::Source;
-use room_http_messages::standard_wires::Wire;
 use std::alloc::Global;
-use std::fs::File;
-use std::io::{ErrorKind, Write};
+use std::io::Write;
 
 /// Prints how many messages a list has, when the first came and the last, and whether the list
 /// ended well; or fails at the first record at which it is no list.
-pub fn verify_list<O: Write>(host: Host<'_>, path: &str, out: &mut O) -> Result<Done, Failure>
-    ensures done { IfOk result (IsVerify (O.contents out.old) (O.contents out.new)) }
-    ensures undone { IfErr result (FailsVerify (O.contents out.old) (O.contents out.new)) }
+pub fn verify_list<M: Machine, O: Write>(
+    machine: M,
+    path: &str,
+    out: &mut O,
+) -> Result<Done, Failure>
+    ensures done { IfOk result (λ done. IsVerify (M.paths machine) (O.contents out.old)
+        (O.contents out.new) done path.now) }
+    ensures undone { IfErr result (λ fault. FailsVerify (M.paths machine) (O.contents out.old)
+        (O.contents out.new) fault path.now) }
 {
-    let file = opened(host, path)?;
-    verify_in(host.alloc, &mut ListSource::new(Wire::new(&file)), out)
-}
-
-// The file of a list.
-fn opened(host: Host<'_>, path: &str) -> Result<File, Failure>
-    ensures { IfErr result (λ fault. (fault ≡ Memory) ⊎ (fault ≡ Input)) }
-{
-    match File::open(host.rt, path) {
-        Ok(file) => Ok(file),
-        Err(error) => {
-            if error.kind() != ErrorKind::OutOfMemory {
-                host.explainer.explain(format_args!("{path}: {error}"));
-            }
-            Err(unopened(error.kind()))
-        }
-    }
-}
-
-// What an error of the system is of a list that can't be opened.
-fn unopened(kind: ErrorKind) -> Failure
-    ensures memory { kind ≡ ErrorKind.OutOfMemory → result ≡ Memory }
-    ensures input { kind ≢ ErrorKind.OutOfMemory → result ≡ Input }
-{
-    if kind == ErrorKind::OutOfMemory {
-        Failure::Memory
-    } else {
-        Failure::Input
-    }
+    let list = machine.open_list(path)?;
+    verify_in(machine.host().alloc, &mut ListSource::new(list), out)
 }
 
 // Prints what a list holds that is read.

@@ -1,5 +1,7 @@
 //! A text file of rows, whose faults are explained with the lines on which they stand.
 
+ghost use Rattle.std.specs.Prelude.{◌≡◌};
+
 use crate::csv_records::has_names;
 use csv::{ReaderBuilder, StringRecord};
 use dispatch_room_cli::failure_causes::Explainer;
@@ -17,12 +19,9 @@ pub struct Sheet<'a> {
 }
 
 impl<'a> Sheet<'a> {
-    pub fn new(
-        alloc: Global,
-        explainer: Explainer<'a>,
-        path: &'a str,
-        text: &'a [u8],
-    ) -> Sheet<'a> {
+    pub fn new(alloc: Global, explainer: Explainer<'a>, path: &'a str, text: &'a [u8]) -> Sheet<'a>
+        ensures { result.text.now ≡ text.now }
+    {
         Sheet {
             alloc,
             explainer,

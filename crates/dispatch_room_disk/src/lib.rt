@@ -4,8 +4,11 @@
 
 mod file_causes;
 mod holders;
+pub mod laws;
 mod new_files;
 mod new_logs;
 mod opened_files;
+mod openings;
 pub mod restored_files;
 pub mod room_files;
+pub mod systems;

@@ -24,20 +24,22 @@ use std::os::unix::fs::OpenOptionsExt;
 // and a row has some hundred bytes. Left to choose, the database makes pages of 4,096.
 const PAGE: usize = 512;
 
-/// Makes the file of a room where none is there, and begins an empty database in it where it holds
-/// none.
-pub fn make_file(rt: &HostRuntime, explainer: Explainer<'_>, path: &str) -> Result<(), Failure>
+/// Begins an empty database in the file of a room where it holds none.
+pub(crate) fn begin_in(
+    rt: &HostRuntime,
+    explainer: Explainer<'_>,
+    path: &str,
+) -> Result<(), Failure>
     ensures { IfErr result IsFileFault }
 {
-    make_private(rt, path)?;
     let (files, options) = open_files(rt, explainer, path, Unknown)?;
     let (begun, _files) = begin(rt.alloc(), explainer, path, files, options);
     begun
 }
 
-// Makes a file that only its owner reads and writes, where none is there; its log gets the same
-// mode. Why it can't be made is reported by what opens it.
-fn make_private(rt: &HostRuntime, path: &str) -> Result<(), Failure>
+/// Makes a file that only its owner reads and writes, where none is there; its log gets the same
+/// mode. Why it can't be made is reported by what opens it.
+pub(crate) fn make_private(rt: &HostRuntime, path: &str) -> Result<(), Failure>
     ensures { IfErr result IsFileFault }
 {
     made(&private_options().open(rt, path))

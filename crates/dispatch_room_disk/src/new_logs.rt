@@ -1,5 +1,6 @@
 //! The log that is made beside a room's file as the file is opened: it goes again where nothing
 //! comes of that.
+ghost use Rattle.std.specs.Prelude.{◌≡◌, ◌&&◌, nat_eq};
 
 use std::fs;
 use std::io::ErrorKind;
@@ -20,9 +21,15 @@ pub(crate) fn lacked_log(rt: &HostRuntime, path: &str) -> Option<String> {
 pub(crate) fn remove_unused(rt: &HostRuntime, lacked: Option<String>) {
     if let Some(log) = lacked
         && let Ok(found) = fs::symlink_metadata(rt, log.as_str())
-        && found.is_file()
-        && found.len() == 0
+        && is_unused(found.is_file(), found.len())
     {
         let _ = fs::remove_file(rt, log.as_str());
     }
+}
+
+// Whether a log has no pages.
+fn is_unused(is_file: bool, len: u64) -> bool
+    ensures { result ≡ is_file && nat_eq len 0 }
+{
+    is_file && len == 0
 }

@@ -1,10 +1,13 @@
 //! A copy of a room, put in the place of a file.
-ghost use Rattle.std.specs.Prelude.{◌≡◌, ◌≢◌, ◌⊎◌, IfErr, IsErrAnd, IsOk, OnOk};
+ghost use Rattle.std.specs.Prelude.{◌≡◌, ◌≢◌, ◌⊎◌, [], ◌∷◌, ◌++◌, IfErr, IsErrAnd, IsOk, List, None, OnOk, Option, Bool, map};
 ghost use Rattle.std.specs.IoError.{error_kind};
 ghost use Rattle.dispatch_room_cli.specs.declared.exit_status.Failure.TheVariants as failure;
 ghost use Rattle.dispatch_room_disk.specs.DiskFaults.{IsFaultBy, IsFileFault};
+ghost use Rattle.dispatch_room_disk.specs.FileSteps.{Does, Follows};
+ghost use Rattle.dispatch_room_disk.specs.ReplacingSteps.{Step, copied, distinguished, ends, held, looked, put, putting, removed, replacing, set_aside, setting_aside, synced};
 
 use crate::file_causes::explain_unopened;
+use crate::systems::System;
 use dispatch_room_cli::database_names::ENDS;
 use dispatch_room_cli::exit_status::Failure;
 use dispatch_room_cli::failure_causes::Explainer;
@@ -14,38 +17,86 @@ use std::fs::{self, OpenOptions};
 use std::io::{self, ErrorKind};
 use std::os::unix::fs::{MetadataExt, OpenOptionsExt};
 
+/// The calls of the system by which a copy is put in the place of a file.
+pub trait Replacing {
+    /// The lock of a file.
+    type Held: Drop;
+
+    // What was done, where that is known.
+    ghost done: { Self → Option (List Step) };
+
+    /// Refuses a copy that is the file itself.
+    fn distinguish(&mut self, copy: &str, path: &str) -> Result<(), Failure>
+        ensures done { Follows (distinguished copy.now path.now ∷ []) (done self.old)
+            (done self.new) result }
+        ensures fault { IfErr result (λ fault. fault ≡ failure.File) };
+
+    /// Locks the files that are there, so that nobody serves them meanwhile. A file that is
+    /// damaged, or beside which another program left a journal, is no hindrance.
+    fn hold(&mut self, path: &str) -> Result<Self::Held, Failure>
+        ensures done { Follows (held path.now ∷ []) (done self.old) (done self.new) result }
+        ensures fault { IfErr result IsFileFault };
+
+    /// Copies a file whole to FILE.new, which only its owner may read, and which is on the disk
+    /// then.
+    fn copy(&mut self, copy: &str, path: &str) -> io::Result<()>
+        ensures done { Follows (copied copy.now path.now ∷ []) (done self.old) (done self.new)
+            result };
+
+    /// Whether there is a file.
+    fn is_there(&mut self, path: &str) -> bool
+        ensures done { Does (looked path.now result ∷ []) (done self.old) (done self.new) };
+
+    /// Removes what was set aside before, where it is there.
+    fn remove(&mut self, path: &str, end: &str) -> io::Result<()>
+        ensures done { Follows (removed path.now end.now ∷ []) (done self.old) (done self.new)
+            result };
+
+    /// Sets aside a file, or one beside it, where it is there.
+    fn set_aside(&mut self, path: &str, end: &str) -> io::Result<()>
+        ensures done { Follows (set_aside path.now end.now ∷ []) (done self.old) (done self.new)
+            result };
+
+    /// Gives the copy the name of the file.
+    fn put(&mut self, path: &str) -> io::Result<()>
+        ensures done { Follows (put path.now ∷ []) (done self.old) (done self.new) result };
+
+    /// Brings the names of the file's folder to the disk.
+    fn sync(&mut self, path: &str) -> io::Result<()>
+        ensures done { Follows (synced path.now ∷ []) (done self.old) (done self.new) result };
+}
+
 /// Puts a copy of a room in the place of a file, where neither is served. What was there goes to
 /// FILE.old, with its log: first the file, then its log, and then the copy comes. So whenever this
 /// is stopped there is no file, or one beside which lies no log of another.
-pub fn put_in_place(
-    rt: &HostRuntime,
+pub fn put_in_place<R: Replacing>(
+    calls: &mut R,
     explainer: Explainer<'_>,
     copy: &str,
     path: &str,
 ) -> Result<(), Failure>
-    ensures { IfErr result (λ fault. (fault ≡ failure.File) ⊎ IsFileFault fault) }
+    ensures done { (there : Bool) × Follows (replacing copy.now path.now there)
+        (R.done calls.old) (R.done calls.new) result }
+    ensures fault { IfErr result (λ fault. (fault ≡ failure.File) ⊎ IsFileFault fault) }
 {
-    if is_same(rt, copy, path) {
-        explainer.explain(format_args!("{path} is the copy itself"));
-        return Err(Failure::File);
-    }
-    let held = hold(rt, explainer, path)?;
-    let put = put(rt, copy, path);
+    calls.distinguish(copy, path)?;
+    let held = calls.hold(path)?;
+    let put = put_copy(calls, copy, path);
     drop(held);
-    if let Err(error) = &put {
-        explainer.explain(format_args!("{path}: {error}"));
-    }
-    put_by(&put)
+    put_by(explainer, path, &put)
 }
 
-// What is reported of what came of it.
-fn put_by(put: &io::Result<()>) -> Result<(), Failure>
+// What is reported of what came of it. Explains why where it failed.
+fn put_by(explainer: Explainer<'_>, path: &str, put: &io::Result<()>) -> Result<(), Failure>
     ensures done { OnOk put.now (IsOk result) }
     ensures fault { IfErr put.now (λ error. IsErrAnd result (IsFaultBy (error_kind error))) }
 {
     match put {
         Ok(()) => Ok(()),
-        Err(error) => Err(fault_by(error.kind())),
+        Err(error) => {
+            explainer.explain(format_args!("{path}: {error}"));
+            Err(fault_by(error.kind()))
+        }
     }
 }
 
@@ -61,6 +112,101 @@ fn fault_by(kind: ErrorKind) -> Failure
     }
 }
 
+// Makes the new file beside the old one, moves the old one away, and gives the new one its name.
+fn put_copy<R: Replacing>(calls: &mut R, copy: &str, path: &str) -> io::Result<()>
+    ensures { (there : Bool) × Follows (putting copy.now path.now there) (R.done calls.old)
+        (R.done calls.new) result }
+{
+    calls.copy(copy, path)?;
+    set_aside(calls, path)?;
+    calls.sync(path)?;
+    calls.put(path)?;
+    calls.sync(path)
+}
+
+// Moves away what is there. A log may lie there without a file.
+fn set_aside<R: Replacing>(calls: &mut R, path: &str) -> io::Result<()>
+    ensures { (there : Bool) × Follows (setting_aside path.now there) (R.done calls.old)
+        (R.done calls.new) result }
+{
+    if !calls.is_there(path) {
+        return set_aside_ends(calls, path);
+    }
+    remove_old(calls, path)?;
+    calls.set_aside(path, "")?;
+    set_aside_ends(calls, path)
+}
+
+fn set_aside_ends<R: Replacing>(calls: &mut R, path: &str) -> io::Result<()>
+    ensures { Follows (map (set_aside path.now) ends) (R.done calls.old) (R.done calls.new)
+        result }
+{
+    for end in ENDS {
+        calls.set_aside(path, end)?;
+    }
+    Ok(())
+}
+
+// Removes what an earlier restore left of the file that was there before it, its log first.
+fn remove_old<R: Replacing>(calls: &mut R, path: &str) -> io::Result<()>
+    ensures { Follows (map (removed path.now) ends ++ removed path.now [] ∷ [])
+        (R.done calls.old) (R.done calls.new) result }
+{
+    for end in ENDS {
+        calls.remove(path, end)?;
+    }
+    calls.remove(path, "")
+}
+
+// What was done with a file of the system no contract can say.
+impl<'a> Replacing for System<'a> {
+    type Held = Option<Files<File>>;
+
+    ghost done = { λ _. None };
+
+    fn distinguish(&mut self, copy: &str, path: &str) -> Result<(), Failure> {
+        if is_same(self.rt, copy, path) {
+            self.explainer
+                .explain(format_args!("{path} is the copy itself"));
+            return Err(Failure::File);
+        }
+        Ok(())
+    }
+
+    fn hold(&mut self, path: &str) -> Result<Option<Files<File>>, Failure> {
+        hold(self.rt, self.explainer, path)
+    }
+
+    fn copy(&mut self, copy: &str, path: &str) -> io::Result<()> {
+        let new = format!(in self.rt.alloc(); "{path}.new")?;
+        copy_whole(self.rt, copy, new.as_str())
+    }
+
+    fn is_there(&mut self, path: &str) -> bool {
+        fs::symlink_metadata(self.rt, path).is_ok()
+    }
+
+    fn remove(&mut self, path: &str, end: &str) -> io::Result<()> {
+        let old = format!(in self.rt.alloc(); "{path}.old{end}")?;
+        unless_missing(fs::remove_file(self.rt, old.as_str()))
+    }
+
+    fn set_aside(&mut self, path: &str, end: &str) -> io::Result<()> {
+        let from = format!(in self.rt.alloc(); "{path}{end}")?;
+        let to = format!(in self.rt.alloc(); "{path}.old{end}")?;
+        unless_missing(fs::rename(self.rt, from.as_str(), to.as_str()))
+    }
+
+    fn put(&mut self, path: &str) -> io::Result<()> {
+        let new = format!(in self.rt.alloc(); "{path}.new")?;
+        fs::rename(self.rt, new.as_str(), path)
+    }
+
+    fn sync(&mut self, path: &str) -> io::Result<()> {
+        sync_folder(self.rt, path)
+    }
+}
+
 // Whether both paths lead to one file.
 fn is_same(rt: &HostRuntime, one: &str, other: &str) -> bool {
     match (fs::metadata(rt, one), fs::metadata(rt, other)) {
@@ -69,8 +215,7 @@ fn is_same(rt: &HostRuntime, one: &str, other: &str) -> bool {
     }
 }
 
-// The files that are there, locked, so that nobody serves them meanwhile. A file that is damaged,
-// or beside which another program left a journal, is no hindrance.
+// The files that are there, locked.
 fn hold(
     rt: &HostRuntime,
     explainer: Explainer<'_>,
@@ -92,25 +237,6 @@ fn hold(
     }
 }
 
-// Makes the new file beside the old one, moves the old one away, and gives the new one its name.
-fn put(rt: &HostRuntime, copy: &str, path: &str) -> io::Result<()> {
-    let new = format!(in rt.alloc(); "{path}.new")?;
-    let old = format!(in rt.alloc(); "{path}.old")?;
-    copy_whole(rt, copy, new.as_str())?;
-    if fs::symlink_metadata(rt, path).is_ok() {
-        remove_all(rt, old.as_str())?;
-        fs::rename(rt, path, old.as_str())?;
-    }
-    for end in &ENDS {
-        let from = format!(in rt.alloc(); "{path}{end}")?;
-        let to = format!(in rt.alloc(); "{old}{end}")?;
-        unless_missing(fs::rename(rt, from.as_str(), to.as_str()))?;
-    }
-    sync_folder(rt, path)?;
-    fs::rename(rt, new.as_str(), path)?;
-    sync_folder(rt, path)
-}
-
 // Copies a file whole to another one, which only its owner may read, and which is on the disk then.
 fn copy_whole(rt: &HostRuntime, from: &str, to: &str) -> io::Result<()> {
     unless_missing(fs::remove_file(rt, to))?;
@@ -122,15 +248,6 @@ fn copy_whole(rt: &HostRuntime, from: &str, to: &str) -> io::Result<()> {
         .open(rt, to)?;
     io::copy(&mut source, &mut target)?;
     target.sync_all()
-}
-
-// Removes what an earlier restore left of the file that was there before it, its log first.
-fn remove_all(rt: &HostRuntime, old: &str) -> io::Result<()> {
-    for end in &ENDS {
-        let path = format!(in rt.alloc(); "{old}{end}")?;
-        unless_missing(fs::remove_file(rt, path.as_str()))?;
-    }
-    unless_missing(fs::remove_file(rt, old))
 }
 
 // What was done, where it is done too if there was no such file.

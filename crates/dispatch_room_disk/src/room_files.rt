@@ -1,16 +1,19 @@
 //! The file of a room: found or made, opened, worked in, and closed.
-ghost use Rattle.std.specs.Prelude.{◌≡◌, ◌⊎◌, Err, Ok, true, false, IfErr, IfOk, IsOk, IsTrue, OnOk};
+ghost use Rattle.std.specs.Prelude.{◌≡◌, ◌⊎◌, Err, Ok, None, true, false, IfErr, IfOk, IsOk, IsTrue, OnOk};
 ghost use Rattle.std.specs.IoError.{error_kind};
 ghost use Rattle.sqlite.specs.Files.{file_state};
 ghost use Rattle.sqlite.specs.State.{HasCleanDisk};
 ghost use Rattle.dispatch_room_cli.specs.declared.exit_status.Failure.TheVariants as failure;
 ghost use Rattle.dispatch_room_disk.specs.DiskFaults.{IsFileFault, IsUnfoundBy, fault_of};
 ghost use Rattle.dispatch_room_disk.specs.RoomFiles.{IsConnected, IsCopiedOut, IsDone, IsDoneInFile, IsFound, IsUnclosed, IsUndone, IsUndoneInFile, IsUnharmed, Refusing, Saying};
+ghost use Rattle.dispatch_room_disk.specs.SystemFiles.{system};
 
 use crate::file_causes::{explain_failed, explain_unbegun, explain_undone};
-use crate::new_files::make_file;
+use crate::new_files::{begin_in, make_private};
 use crate::new_logs::{lacked_log, remove_unused};
 use crate::opened_files::open_files;
+use crate::openings::{Opening, opened};
+use crate::systems::System;
 use dispatch_room_cli::exit_status::Failure;
 use dispatch_room_cli::failure_causes::Explainer;
 use dispatch_room_tasks::opened_room::TaskResult;
@@ -168,16 +171,36 @@ fn connect(
     ensures fault { IfErr result (λ fault. (fault ≡ failure.File) ⊎ IsFileFault fault) }
 {
     let lacked = lacked_log(rt, file.path());
-    match file {
-        RoomFile::Kept(path) | RoomFile::Old(path) => {
-            let begun = is_begun(rt, path);
-            explain_unbegun(explainer, path, &begun);
-            found(begun)?;
-        }
-        RoomFile::New(path) => make_file(rt, explainer, path)?,
-    }
-    let (files, options) = open_files(rt, explainer, file.path(), Unknown)?;
+    let (files, options) = opened(&mut System { rt, explainer }, file)?;
     connection(rt, explainer, file.path(), lacked, files, options)
+}
+
+// What was done with a file of the system no contract can say.
+impl<'a> Opening for System<'a> {
+    type Opened = (Files<File>, Options);
+
+    ghost done = { λ _. None };
+
+    ghost usable = { λ _ opened. IsTrue (system.is_usable opened.0.log)
+        × IsTrue (system.is_usable opened.0.db) };
+
+    fn find(&mut self, path: &str) -> Result<(), Failure> {
+        let begun = is_begun(self.rt, path);
+        explain_unbegun(self.explainer, path, &begun);
+        found(begun)
+    }
+
+    fn make(&mut self, path: &str) -> Result<(), Failure> {
+        make_private(self.rt, path)
+    }
+
+    fn begin(&mut self, path: &str) -> Result<(), Failure> {
+        begin_in(self.rt, self.explainer, path)
+    }
+
+    fn open(&mut self, path: &str) -> Result<(Files<File>, Options), Failure> {
+        open_files(self.rt, self.explainer, path, Unknown)
+    }
 }
 
 // A connection to the database that files hold. Where they hold none, a log that was lacked is

@@ -1,7 +1,8 @@
 -- What the text of a chain decides.
 use Rattle.std.specs.Prelude.{◌≡◌, ◌≢◌, ◌⊎◌, ⊤, ℕ, List, [], ◌∷◌, ◌++◌, length, Bool, true, false}
 use Rattle.std.specs.List.{flat_map}
-use Rattle.dispatch_room_journal.specs.Chains.{IsBody, chain_text, first_check, is_end, last_check, opening, said_by}
+use Rattle.dispatch_room_journal.specs.Chains.{IsBody, chain_text, first_check, is_end, last_check}
+use Rattle.dispatch_room_journal.specs.Chains.{opening, said_by}
 use Rattle.dispatch_room_journal.specs.RecordFronts.{comes_next, list_says}
 use Rattle.dispatch_room_journal.specs.declared.read_progress.Reach.TheVariants.{Full}
 

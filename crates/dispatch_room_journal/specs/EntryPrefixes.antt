@@ -2,8 +2,10 @@
 use Rattle.std.specs.Prelude.{◌≡◌, ℕ, ◌+◌, List, length, drop}
 use Rattle.dispatch_room_journal.specs.declared.entry_prefixes.EntryLayout.{EntryLayout}
 use Rattle.dispatch_room_journal.specs.declared.entry_prefixes.EntryPrefix.{EntryPrefix}
-use Rattle.dispatch_room_journal.specs.declared.entry_prefixes.EntryPrefix.TheVariants.{Whole, Part, Foreign}
-use Rattle.dispatch_room_journal.specs.Entries.{Entry, line_text, line_of, text_of, IsPart, IsForeign, Begins}
+use Rattle.dispatch_room_journal.specs.declared.entry_prefixes.EntryPrefix.TheVariants.{Whole, Part}
+use Rattle.dispatch_room_journal.specs.declared.entry_prefixes.EntryPrefix.TheVariants.{Foreign}
+use Rattle.dispatch_room_journal.specs.Entries.{Entry, line_text, line_of, text_of, IsPart}
+use Rattle.dispatch_room_journal.specs.Entries.{IsForeign, Begins}
 
 -- where the entry at the front of the bytes is: what its line says, where its line has ended, and
 -- where it ends

@@ -2,7 +2,8 @@
 use Rattle.std.specs.Prelude.{◌≡◌, ℕ, List, Option}
 use Rattle.dispatch_room_journal.specs.declared.read_progress.Mode.{Mode}
 use Rattle.dispatch_room_journal.specs.declared.read_progress.Reel.{Reel}
-use Rattle.dispatch_room_journal.specs.declared.read_progress.Mode.TheVariants.{Fresh, Plain, Chain, Done}
+use Rattle.dispatch_room_journal.specs.declared.read_progress.Mode.TheVariants.{Fresh, Plain, Chain}
+use Rattle.dispatch_room_journal.specs.declared.read_progress.Mode.TheVariants.{Done}
 use Rattle.dispatch_room_journal.specs.declared.read_progress.Reach.TheVariants.{Full, Leg}
 use Rattle.dispatch_room_journal.specs.declared.record_fronts.Link.{Link}
 use Rattle.dispatch_room_journal.specs.declared.row_runs.Behind.{Behind}

@@ -1,6 +1,8 @@
 -- How far a list was read, and what is left to be given of what it says.
-use Rattle.std.specs.Prelude.{◌≡◌, ◌⊎◌, ⊤, ℕ, zero, suc, ◌+◌, ◌-◌, ◌*◌, ◌<◌, ◌≤◌, List, [], ◌∷◌, ◌++◌, length, take}
-use Rattle.std.specs.Prelude.{drop, Bool, true, false, cond, is_err, ◌||◌, if◌then◌else◌, Option, MatchResult, Result}
+use Rattle.std.specs.Prelude.{◌≡◌, ◌⊎◌, ⊤, ℕ, zero, suc, ◌+◌, ◌-◌, ◌*◌, ◌<◌, ◌≤◌, List, [], ◌∷◌}
+use Rattle.std.specs.Prelude.{◌++◌, length, take}
+use Rattle.std.specs.Prelude.{drop, Bool, true, false, cond, is_err, ◌||◌, if◌then◌else◌, Option}
+use Rattle.std.specs.Prelude.{MatchResult, Result}
 use Rattle.std.specs.Prelude.{Ok}
 use Rattle.std.specs.Prelude.{Err, None, Some}
 use Rattle.std.specs.Option.{option_map}
@@ -8,13 +10,16 @@ use Rattle.std.specs.Io.KnownBytes.{Consumes, IsAtEnd, Keeps}
 use Rattle.dispatch_room_journal.specs.declared.record_inbox.TheConstants.{RECORD_ROOM}
 use Rattle.dispatch_room_journal.specs.declared.record_fronts.Link.{Link}
 use Rattle.dispatch_room_journal.specs.declared.read_progress.Mode.{Mode}
-use Rattle.dispatch_room_journal.specs.declared.read_progress.Mode.TheVariants.{Fresh, Plain, Chain, Done}
+use Rattle.dispatch_room_journal.specs.declared.read_progress.Mode.TheVariants.{Fresh, Plain, Chain}
+use Rattle.dispatch_room_journal.specs.declared.read_progress.Mode.TheVariants.{Done}
 use Rattle.dispatch_room_journal.specs.declared.read_progress.Step.{Step}
 use Rattle.dispatch_room_journal.specs.declared.read_progress.Reach.{Reach}
 use Rattle.dispatch_room_journal.specs.declared.read_progress.Reach.TheVariants.{Full, Leg}
-use Rattle.dispatch_room_journal.specs.declared.read_progress.Step.TheVariants.{Ended, More, Moved, Passed, Wrong}
+use Rattle.dispatch_room_journal.specs.declared.read_progress.Step.TheVariants.{Ended, More, Moved}
+use Rattle.dispatch_room_journal.specs.declared.read_progress.Step.TheVariants.{Passed, Wrong}
 use Rattle.dispatch_room_journal.specs.declared.record_fronts.Front.{Front}
-use Rattle.dispatch_room_journal.specs.declared.record_fronts.Front.TheVariants.{Empty, Short, Whole}
+use Rattle.dispatch_room_journal.specs.declared.record_fronts.Front.TheVariants.{Empty, Short}
+use Rattle.dispatch_room_journal.specs.declared.record_fronts.Front.TheVariants.{Whole}
 use Rattle.dispatch_room_journal.specs.declared.record_fronts.Front.TheVariants.{Wrong as NoFront}
 use Rattle.dispatch_room_journal.specs.Chains.{is_row, sha256_digits}
 use Rattle.dispatch_room_journal.specs.RecordFronts.{body_in, front_of, list_says, says}

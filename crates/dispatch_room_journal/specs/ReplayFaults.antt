@@ -1,5 +1,6 @@
 -- Why a replay stops: what follows the turns that were done with, and what has failed.
-use Rattle.std.specs.Prelude.{◌≡◌, ◌⊎◌, ⊤, ℕ, ◌<◌, List, [], ◌∷◌, length, decimal, Bool, true, false, Option, Some}
+use Rattle.std.specs.Prelude.{◌≡◌, ◌⊎◌, ⊤, ℕ, ◌<◌, List, [], ◌∷◌, length, decimal, Bool, true}
+use Rattle.std.specs.Prelude.{false, Option, Some}
 use Rattle.std.specs.Prelude.{None}
 use Rattle.room_types.specs.declared.refusal_statuses.Refusal.{Refusal}
 use Rattle.room_http_messages.specs.Messages.{WholeMessage, HasMessage}
@@ -8,11 +9,14 @@ use Rattle.room_model.specs.declared.digests.Miss.{Miss}
 use Rattle.room_model.specs.declared.digests.Miss.TheVariants as miss
 use Rattle.room_model.specs.declared.digests.Head.{Head}
 use Rattle.dispatch_room_journal.specs.declared.entry_reader.EntryFault.{EntryFault}
-use Rattle.dispatch_room_journal.specs.declared.entry_reader.EntryFault.TheVariants.{Cut, Foreign, Read}
+use Rattle.dispatch_room_journal.specs.declared.entry_reader.EntryFault.TheVariants.{Cut, Foreign}
+use Rattle.dispatch_room_journal.specs.declared.entry_reader.EntryFault.TheVariants.{Read}
 use Rattle.dispatch_room_journal.specs.Entries.{room, message, answer, Begins, IsPart, IsForeign}
 use Rattle.dispatch_room_journal.specs.declared.replay_faults.ReplayFault.{ReplayFault}
-use Rattle.dispatch_room_journal.specs.declared.replay_faults.ReplayFault.TheVariants.{Bad, Differs, OtherRoom}
-use Rattle.dispatch_room_journal.specs.declared.replay_faults.ReplayFault.TheVariants.{ReadFailed, WriteFailed}
+use Rattle.dispatch_room_journal.specs.declared.replay_faults.ReplayFault.TheVariants.{Bad, Differs}
+use Rattle.dispatch_room_journal.specs.declared.replay_faults.ReplayFault.TheVariants.{OtherRoom}
+use Rattle.dispatch_room_journal.specs.declared.replay_faults.ReplayFault.TheVariants.{ReadFailed}
+use Rattle.dispatch_room_journal.specs.declared.replay_faults.ReplayFault.TheVariants.{WriteFailed}
 use Rattle.dispatch_room_journal.specs.declared.replay_faults.ReplayFault.TheVariants.{Unavailable}
 use Rattle.dispatch_room_journal.specs.JournalRecords.{status_in}
 use Rattle.dispatch_room_journal.specs.ReplayedTurns.{Open, Play, Turn, tried}

@@ -1,5 +1,6 @@
 -- What a journal and a room decide by themselves.
-use Rattle.std.specs.Prelude.{◌≡◌, ◌≤◌, ◌⊎◌, ℕ, ◌-◌, ◌^◌, min, List, [], ◌∷◌, ◌++◌, length, count_by, All, Bool, true}
+use Rattle.std.specs.Prelude.{◌≡◌, ◌≤◌, ◌⊎◌, ℕ, ◌-◌, ◌^◌, min, List, [], ◌∷◌, ◌++◌, length}
+use Rattle.std.specs.Prelude.{count_by, All, Bool, true}
 use Rattle.std.specs.Prelude.{Option, Some, None, Result, MatchResult}
 use Rattle.room_types.specs.declared.fleet.Terminal.{Terminal}
 use Rattle.room_model.specs.FleetRows.{AreTerminals}
@@ -15,12 +16,15 @@ use Rattle.room_http.specs.Promises.{Promises}
 use Rattle.room_http.specs.Runs.{Exchange, IsRunOf}
 use Rattle.room_http.specs.Dialogues.{Timed}
 use Rattle.dispatch_room_journal.specs.declared.replay_faults.ReplayFault.{ReplayFault}
-use Rattle.dispatch_room_journal.specs.declared.replay_faults.ReplayFault.TheVariants.{Bad, Differs, OtherRoom}
-use Rattle.dispatch_room_journal.specs.declared.replay_faults.ReplayFault.TheVariants.{ReadFailed, WriteFailed}
+use Rattle.dispatch_room_journal.specs.declared.replay_faults.ReplayFault.TheVariants.{Bad, Differs}
+use Rattle.dispatch_room_journal.specs.declared.replay_faults.ReplayFault.TheVariants.{OtherRoom}
+use Rattle.dispatch_room_journal.specs.declared.replay_faults.ReplayFault.TheVariants.{ReadFailed}
+use Rattle.dispatch_room_journal.specs.declared.replay_faults.ReplayFault.TheVariants.{WriteFailed}
 use Rattle.dispatch_room_journal.specs.declared.replay_faults.ReplayFault.TheVariants.{Unavailable}
 use Rattle.dispatch_room_journal.specs.declared.replay_faults.Stopped.{Stopped}
 use Rattle.dispatch_room_journal.specs.declared.replayed_journal.Replayed.{Replayed}
-use Rattle.dispatch_room_journal.specs.ReplayedTurns.{Turn, answers_of, entries_of, arrivals_of, bytes_of, has_message}
+use Rattle.dispatch_room_journal.specs.ReplayedTurns.{Turn, answers_of, entries_of, arrivals_of}
+use Rattle.dispatch_room_journal.specs.ReplayedTurns.{bytes_of, has_message}
 use Rattle.dispatch_room_journal.specs.ReplayedTurns.{ends_open, IsTurn, IsReplayed, IsPlayed}
 use Rattle.dispatch_room_journal.specs.ReplayedTurns.{IsBegun, AreBy, AreTurns, EndsAt}
 use Rattle.dispatch_room_journal.specs.Replays.{DigitsOf, IsReplay, LeadsDialogue, Replays}

@@ -1,5 +1,6 @@
 -- What each step of a replay does.
-use Rattle.std.specs.Prelude.{◌≡◌, ◌⊎◌, ℕ, ◌-◌, ◌^◌, ⊤, min, count_by, List, [], ◌∷◌, ◌++◌, length, decimal, All, Bool}
+use Rattle.std.specs.Prelude.{◌≡◌, ◌⊎◌, ℕ, ◌-◌, ◌^◌, ⊤, min, count_by, List, [], ◌∷◌, ◌++◌, length}
+use Rattle.std.specs.Prelude.{decimal, All, Bool}
 use Rattle.std.specs.Prelude.{true, false, Vec, Option, Some, None, Result, Ok, Err}
 use Rattle.std.specs.Io.KnownBytes.{Consumes, Keeps, IsAtEnd}
 use Rattle.room_types.specs.declared.fleet.Terminal.{Terminal}
@@ -10,22 +11,31 @@ use Rattle.room_http.specs.Dialogues.{IsReplyTo}
 use Rattle.room_http.specs.KeptMessages.{Unmoved}
 use Rattle.room_model.specs.declared.digests.Head.{Head}
 use Rattle.dispatch_room_journal.specs.declared.entry_lines.EntryLine.{EntryLine}
-use Rattle.dispatch_room_journal.specs.Entries.{Entry, room, message, answer, IsEntry, line_of, texts_of, Begins}
+use Rattle.dispatch_room_journal.specs.Entries.{Entry, room, message, answer, IsEntry, line_of}
+use Rattle.dispatch_room_journal.specs.Entries.{texts_of, Begins}
 use Rattle.dispatch_room_journal.specs.EntryPrefixes.{IsLayout}
 use Rattle.dispatch_room_journal.specs.declared.replay_faults.ReplayFault.{ReplayFault}
-use Rattle.dispatch_room_journal.specs.declared.replay_faults.ReplayFault.TheVariants.{Bad, Differs, OtherRoom}
+use Rattle.dispatch_room_journal.specs.declared.replay_faults.ReplayFault.TheVariants.{Bad, Differs}
+use Rattle.dispatch_room_journal.specs.declared.replay_faults.ReplayFault.TheVariants.{OtherRoom}
 use Rattle.dispatch_room_journal.specs.declared.next_entry.Next.{Next}
 use Rattle.dispatch_room_journal.specs.declared.next_entry.Next.TheVariants as next
 use Rattle.dispatch_room_journal.specs.declared.journal_messages.MessageOutcome.{MessageOutcome}
-use Rattle.dispatch_room_journal.specs.declared.journal_messages.MessageOutcome.TheVariants.{Played, LeftOut, Last}
+use Rattle.dispatch_room_journal.specs.declared.journal_messages.MessageOutcome.TheVariants.{Played}
+use Rattle.dispatch_room_journal.specs.declared.journal_messages.MessageOutcome.TheVariants.{LeftOut}
+use Rattle.dispatch_room_journal.specs.declared.journal_messages.MessageOutcome.TheVariants.{Last}
 use Rattle.dispatch_room_journal.specs.JournalRecords.{status_in}
-use Rattle.dispatch_room_journal.specs.ReplayedTurns.{Open, Play, Turn, tried, timed, entries_in, entries_of}
-use Rattle.dispatch_room_journal.specs.ReplayedTurns.{has_message, is_left_out, ends_open, ends_unanswered, IsPlay}
+use Rattle.dispatch_room_journal.specs.ReplayedTurns.{Open, Play, Turn, tried, timed, entries_in}
+use Rattle.dispatch_room_journal.specs.ReplayedTurns.{entries_of}
+use Rattle.dispatch_room_journal.specs.ReplayedTurns.{has_message, is_left_out, ends_open}
+use Rattle.dispatch_room_journal.specs.ReplayedTurns.{ends_unanswered, IsPlay}
 use Rattle.dispatch_room_journal.specs.ReplayedTurns.{IsTurn, IsReplayed, IsBy}
-use Rattle.dispatch_room_journal.specs.ReplayedTurns.{AreBy, StartsBy, HasNoStatus, BeginsWith, EndsAt}
+use Rattle.dispatch_room_journal.specs.ReplayedTurns.{AreBy, StartsBy, HasNoStatus, BeginsWith}
+use Rattle.dispatch_room_journal.specs.ReplayedTurns.{EndsAt}
 use Rattle.dispatch_room_journal.specs.declared.replay_progress.Progress.{Progress}
-use Rattle.dispatch_room_journal.specs.ReplayFaults.{IsNoMessage, IsUnavailableFault, Refuses, Explains, IsDueTo}
-use Rattle.dispatch_room_journal.specs.Replays.{DigitsOf, Leads, LeadsElsewhere, MeetsHead, WouldMiss, IsHeadOf}
+use Rattle.dispatch_room_journal.specs.ReplayFaults.{IsNoMessage, IsUnavailableFault, Refuses}
+use Rattle.dispatch_room_journal.specs.ReplayFaults.{Explains, IsDueTo}
+use Rattle.dispatch_room_journal.specs.Replays.{DigitsOf, Leads, LeadsElsewhere, MeetsHead}
+use Rattle.dispatch_room_journal.specs.Replays.{WouldMiss, IsHeadOf}
 
 -- the room has the digest of this head
 abbrev pub IsAt : DigitsOf → Type 0 → (List Terminal → Room → Type 0) → Head → Type 0

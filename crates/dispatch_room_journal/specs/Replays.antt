@@ -1,5 +1,6 @@
 -- What a replay does: the turns of a journal, and the room after them.
-use Rattle.std.specs.Prelude.{◌≡◌, ◌⊎◌, ℕ, ◌+◌, ◌-◌, ◌^◌, ⊤, min, List, [], ◌∷◌, ◌++◌, length, All, count_by, Bool}
+use Rattle.std.specs.Prelude.{◌≡◌, ◌⊎◌, ℕ, ◌+◌, ◌-◌, ◌^◌, ⊤, min, List, [], ◌∷◌, ◌++◌, length, All}
+use Rattle.std.specs.Prelude.{count_by, Bool}
 use Rattle.std.specs.Prelude.{true, false, Option, Some, None, Result, Ok, Err}
 use Rattle.room_types.specs.declared.fleet.Terminal.{Terminal}
 use Rattle.room_model.specs.Room.{Room}
@@ -14,13 +15,17 @@ use Rattle.room_model.specs.declared.digests.Head.{Head}
 use Rattle.dispatch_room_journal.specs.Entries.{Begins}
 use Rattle.dispatch_room_journal.specs.Entries as entry
 use Rattle.dispatch_room_journal.specs.declared.replay_faults.ReplayFault.{ReplayFault}
-use Rattle.dispatch_room_journal.specs.declared.replay_faults.ReplayFault.TheVariants.{Bad, Differs, OtherRoom}
-use Rattle.dispatch_room_journal.specs.declared.replay_faults.ReplayFault.TheVariants.{ReadFailed, WriteFailed}
+use Rattle.dispatch_room_journal.specs.declared.replay_faults.ReplayFault.TheVariants.{Bad, Differs}
+use Rattle.dispatch_room_journal.specs.declared.replay_faults.ReplayFault.TheVariants.{OtherRoom}
+use Rattle.dispatch_room_journal.specs.declared.replay_faults.ReplayFault.TheVariants.{ReadFailed}
+use Rattle.dispatch_room_journal.specs.declared.replay_faults.ReplayFault.TheVariants.{WriteFailed}
 use Rattle.dispatch_room_journal.specs.declared.replay_faults.ReplayFault.TheVariants.{Unavailable}
 use Rattle.dispatch_room_journal.specs.declared.replay_faults.Stopped.{Stopped}
 use Rattle.dispatch_room_journal.specs.declared.replayed_journal.Replayed.{Replayed}
-use Rattle.dispatch_room_journal.specs.ReplayedTurns.{Open, Play, Turn, compared, answered, caught_up, tried, left_out}
-use Rattle.dispatch_room_journal.specs.ReplayedTurns.{timed, entries_of, arrivals_of, bytes_of, has_message, ends_open}
+use Rattle.dispatch_room_journal.specs.ReplayedTurns.{Open, Play, Turn, compared, answered}
+use Rattle.dispatch_room_journal.specs.ReplayedTurns.{caught_up, tried, left_out}
+use Rattle.dispatch_room_journal.specs.ReplayedTurns.{timed, entries_of, arrivals_of, bytes_of}
+use Rattle.dispatch_room_journal.specs.ReplayedTurns.{has_message, ends_open}
 use Rattle.dispatch_room_journal.specs.ReplayedTurns.{ends_unanswered, IsReplayed}
 use Rattle.dispatch_room_journal.specs.ReplayedTurns.{HasNoStatus, BeginsWith, AreTurns, EndsAt}
 use Rattle.dispatch_room_journal.specs.ReplayFaults.{Explains, IsDueTo}

@@ -1,5 +1,6 @@
 -- The rows of a file in a list, and what stands behind them.
-use Rattle.std.specs.Prelude.{◌≡◌, ◌≢◌, ◌||◌, ℕ, List, [], ◌++◌, Bool, true, false, Option, Some, Result, Ok, Err, IfOk}
+use Rattle.std.specs.Prelude.{◌≡◌, ◌≢◌, ◌||◌, ℕ, List, [], ◌++◌, Bool, true, false, Option, Some}
+use Rattle.std.specs.Prelude.{Result, Ok, Err, IfOk}
 use Rattle.std.specs.Prelude.{vec_len}
 use Rattle.std.specs.List.{flat_map}
 use Rattle.std.specs.Io.KnownBytes.{Appends, prepend_known}
@@ -8,11 +9,13 @@ use Rattle.dispatch_room_journal.specs.declared.list_ends.ListEnd.{ListEnd}
 use Rattle.dispatch_room_journal.specs.declared.list_ends.ListEnd.TheVariants.{Chain, Plain}
 use Rattle.dispatch_room_journal.specs.declared.record_fronts.Link.{Link}
 use Rattle.dispatch_room_journal.specs.declared.row_runs.Behind.{Behind}
-use Rattle.dispatch_room_journal.specs.declared.row_runs.Behind.TheVariants.{End, Other, Room, Unread}
+use Rattle.dispatch_room_journal.specs.declared.row_runs.Behind.TheVariants.{End, Other, Room}
+use Rattle.dispatch_room_journal.specs.declared.row_runs.Behind.TheVariants.{Unread}
 use Rattle.dispatch_room_journal.specs.declared.row_runs.RowsFault.{RowsFault}
 use Rattle.dispatch_room_journal.specs.declared.row_runs.RowsFault.TheVariants.{Memory, Read}
 use Rattle.dispatch_room_journal.specs.Entries.{IsEntry, room, text_of}
-use Rattle.dispatch_room_journal.specs.Chains.{IsBody, end_body, is_end, is_row, next_check, record_text, row_body}
+use Rattle.dispatch_room_journal.specs.Chains.{IsBody, end_body, is_end, is_row, next_check}
+use Rattle.dispatch_room_journal.specs.Chains.{record_text, row_body}
 use Rattle.dispatch_room_journal.specs.Chains.{row_line}
 use Rattle.dispatch_room_journal.specs.Chains.{sha256_digits}
 use Rattle.dispatch_room_journal.specs.RecordFronts.{comes_next}

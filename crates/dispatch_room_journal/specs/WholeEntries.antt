@@ -1,7 +1,8 @@
 -- Where the whole entries of a journal end.
 use Rattle.std.specs.Prelude.{◌≡◌, ◌⊎◌, ℕ, List, [], ◌++◌, length, min, All, Bool, true}
 use Rattle.dispatch_room_journal.specs.declared.entry_reader.EntryFault.{EntryFault}
-use Rattle.dispatch_room_journal.specs.declared.entry_reader.EntryFault.TheVariants.{Cut, Foreign, Read}
+use Rattle.dispatch_room_journal.specs.declared.entry_reader.EntryFault.TheVariants.{Cut, Foreign}
+use Rattle.dispatch_room_journal.specs.declared.entry_reader.EntryFault.TheVariants.{Read}
 use Rattle.dispatch_room_journal.specs.Entries.{Entry, IsEntry, IsForeign, IsPart, texts_of}
 
 -- the greatest number of bytes that is counted

@@ -1,18 +1,22 @@
 -- Where the whole records of a list end.
-use Rattle.std.specs.Prelude.{◌≡◌, ◌≢◌, ◌⊎◌, ◌≤◌, ◌<◌, ◌*◌, ◌+◌, ℕ, List, [], ◌∷◌, ◌++◌, length, min, take, All, Bool}
+use Rattle.std.specs.Prelude.{◌≡◌, ◌≢◌, ◌⊎◌, ◌≤◌, ◌<◌, ◌*◌, ◌+◌, ℕ, List, [], ◌∷◌, ◌++◌, length}
+use Rattle.std.specs.Prelude.{min, take, All, Bool}
 use Rattle.std.specs.Prelude.{true, false, Option}
 use Rattle.std.specs.Io.KnownBytes.{Consumes, IsAtEnd, Keeps}
 use Rattle.std.specs.Str.{bytes_eq}
 use Rattle.dispatch_room_journal.specs.Entries.{Entry, IsEntry, text_of}
 use Rattle.dispatch_room_journal.specs.WholeEntries.{most_bytes}
 use Rattle.dispatch_room_journal.specs.declared.entry_reader.EntryFault.{EntryFault}
-use Rattle.dispatch_room_journal.specs.declared.entry_reader.EntryFault.TheVariants.{Cut, Foreign, Read}
+use Rattle.dispatch_room_journal.specs.declared.entry_reader.EntryFault.TheVariants.{Cut, Foreign}
+use Rattle.dispatch_room_journal.specs.declared.entry_reader.EntryFault.TheVariants.{Read}
 use Rattle.dispatch_room_journal.specs.declared.record_fronts.Front.TheVariants.{Short, Wrong}
 use Rattle.dispatch_room_journal.specs.declared.record_fronts.Link.{Link}
 use Rattle.dispatch_room_journal.specs.declared.whole_records.ListForm.{ListForm}
-use Rattle.dispatch_room_journal.specs.declared.whole_records.ListForm.TheVariants.{Chain, New, Plain}
+use Rattle.dispatch_room_journal.specs.declared.whole_records.ListForm.TheVariants.{Chain, New}
+use Rattle.dispatch_room_journal.specs.declared.whole_records.ListForm.TheVariants.{Plain}
 use Rattle.dispatch_room_journal.specs.declared.whole_records.WholeChain.{WholeChain}
-use Rattle.dispatch_room_journal.specs.Chains.{chain_text, first_check, is_no_entry, opening, sha256_digits}
+use Rattle.dispatch_room_journal.specs.Chains.{chain_text, first_check, is_no_entry, opening}
+use Rattle.dispatch_room_journal.specs.Chains.{sha256_digits}
 use Rattle.dispatch_room_journal.specs.RecordFronts.{front_of}
 use Rattle.dispatch_room_journal.specs.RecordRuns.{Runs, first_link}
 

@@ -1,8 +1,9 @@
 //! A message of a journal, and what becomes of it.
-ghost use Rattle.std.specs.Prelude.{◌≡◌, ℕ, List, false};
+ghost use Rattle.std.specs.Prelude.{◌≡◌, ℕ, List, Ok, false, true};
 ghost use Rattle.std.specs.Io.KnownBytes.{prepend_known};
 ghost use Rattle.dispatch_room_journal.specs.Entries.{message};
 ghost use Rattle.dispatch_room_journal.specs.EntryPrefixes.{IsLayout};
+ghost use Rattle.dispatch_room_journal.specs.declared.journal_messages.MessageOutcome.TheVariants.{Last};
 ghost use Rattle.dispatch_room_journal.specs.Replays.{UnlessUnavailable, digits_of};
 ghost use Rattle.dispatch_room_journal.specs.ReplaySteps.{MessageIs};
 
@@ -48,6 +49,7 @@ pub fn replay_message<R: Source, M: Digested>(
         (prepend_known inbox.old.kept (R.left reader.old))
         (prepend_known inbox.new.kept (R.left reader.new)) (R.has_failed reader.new)
         entry.now.at result }
+    ensures ended { result ≡ Ok Last → R.has_ended reader.new ≡ true }
     ensures kept { M.is_trusted room.new → UnlessUnavailable result (M.is_kept room.old
         → M.is_kept room.new) }
 {

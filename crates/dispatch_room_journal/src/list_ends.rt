@@ -1,6 +1,7 @@
 //! How a list goes on.
 ghost use Rattle.std.specs.Prelude.{◌≡◌, ◌≤◌, [], false, true, is_err, length, OnOk};
-ghost use Rattle.dispatch_room_journal.specs.Chains.{IsBody, is_no_entry, row_body, said_by, shown_by};
+ghost use Rattle.dispatch_room_journal.specs.Chains.{IsBody, is_no_entry, row_body, said_by};
+ghost use Rattle.dispatch_room_journal.specs.Chains.{shown_by};
 ghost use Rattle.dispatch_room_journal.specs.RowRuns.{PutsBody, PutsEnd, PutsEntry, PutsRow};
 ghost use Rattle.dispatch_room_journal.specs.RecordFronts.{comes_next};
 ghost use Rattle.dispatch_room_journal.specs.PlainTexts.{PutsKnown};

@@ -1,12 +1,15 @@
 //! What the records of a list say, as a source.
-ghost use Rattle.std.specs.Prelude.{◌≡◌, ◌||◌, ◌==◌, ◌+◌, ◌<◌, ◌≤◌, is_err, None, Ok, IfOk, length, false, true};
+ghost use Rattle.std.specs.Prelude.{◌≡◌, ◌||◌, ◌==◌, ◌+◌, ◌<◌, ◌≤◌, is_err, None, Ok, IfOk, length};
+ghost use Rattle.std.specs.Prelude.{false, true};
 ghost use Rattle.std.specs.Io.KnownBytes.{ReadConsumes, prepend_known};
 ghost use Rattle.std.specs.Option.{option_map};
 ghost use Rattle.room_http_messages.specs.Streams.{found_end};
 ghost use Rattle.dispatch_room_journal.specs.Chains.{sha256_digits};
 ghost use Rattle.dispatch_room_journal.specs.RecordFronts.{list_says};
-ghost use Rattle.dispatch_room_journal.specs.ReadSteps.{Advances, Nearer, PassesRows, done_of, ends_well, last_of, left_in};
-ghost use Rattle.dispatch_room_journal.specs.ReadSteps.{most_rows, reach_of, rest_of, rows_next, rows_of};
+ghost use Rattle.dispatch_room_journal.specs.ReadSteps.{Advances, Nearer, PassesRows, done_of};
+ghost use Rattle.dispatch_room_journal.specs.ReadSteps.{ends_well, last_of, left_in};
+ghost use Rattle.dispatch_room_journal.specs.ReadSteps.{most_rows, reach_of, rest_of, rows_next};
+ghost use Rattle.dispatch_room_journal.specs.ReadSteps.{rows_of};
 ghost use Rattle.dispatch_room_journal.specs.RowRuns.{is_read};
 ghost use Rattle.dispatch_room_journal.specs.Legs.{TakesIn, left_to};
 ghost use Rattle.dispatch_room_journal.specs.declared.record_inbox.TheConstants.{RECORD_ROOM};
@@ -67,6 +70,13 @@ impl<R: Source> ListSource<R> {
             has_ended: false,
             passed: 0,
         }
+    }
+
+    /// What it is read from.
+    pub fn reader(&self) -> &R
+        ensures { result.now ≡ self.now.reader }
+    {
+        &self.reader
     }
 
     /// Whether the last record that was read says that the list ended well.

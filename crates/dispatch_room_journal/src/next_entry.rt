@@ -1,6 +1,7 @@
 //! What stands next in a journal.
-ghost use Rattle.std.specs.Prelude.{◌≡◌, ◌↔◌, false, IsTrue};
+ghost use Rattle.std.specs.Prelude.{◌≡◌, ◌↔◌, None, Ok, false, true, IsTrue};
 ghost use Rattle.std.specs.Io.KnownBytes.{prepend_known};
+ghost use Rattle.dispatch_room_journal.specs.declared.next_entry.Next.TheVariants.{End};
 ghost use Rattle.dispatch_room_journal.specs.ReplayFaults.{read_fault};
 ghost use Rattle.dispatch_room_journal.specs.Replays.{UnlessUnavailable, digits_of};
 ghost use Rattle.dispatch_room_journal.specs.ReplaySteps.{NextIs};
@@ -71,6 +72,7 @@ pub fn next_entry<R: Source, M: Digested>(
         (M.stands room.old) (M.stands room.new) (prepend_known inbox.old.kept (R.left reader.old))
         (prepend_known inbox.new.kept (R.left reader.new)) (R.has_failed reader.new) until.now
         is_begun inbox.new.kept result }
+    ensures ended { until.now ≡ None → result ≡ Ok End → R.has_ended reader.new ≡ true }
     ensures kept { M.is_trusted room.new → UnlessUnavailable result (M.is_kept room.old
         → M.is_kept room.new) }
 {

@@ -1,10 +1,13 @@
 //! Steps in a list that was read so far.
-ghost use Rattle.std.specs.Prelude.{◌≡◌, ◌≤◌, ◌<◌, ◌+◌, ◌-◌, ◌++◌, [], ℕ, List, length, drop, take, true, false};
+ghost use Rattle.std.specs.Prelude.{◌≡◌, ◌≤◌, ◌<◌, ◌+◌, ◌-◌, ◌++◌, [], ℕ, List, length, drop, take};
+ghost use Rattle.std.specs.Prelude.{true, false};
 ghost use Rattle.dispatch_room_journal.specs.Chains.{is_end, is_no_entry};
 ghost use Rattle.dispatch_room_journal.specs.RecordFronts.{body_in};
-ghost use Rattle.dispatch_room_journal.specs.ReadSteps.{EndIs, StepIs, last_of, left_of, reach_of, rest_of, rows_by, rows_next};
+ghost use Rattle.dispatch_room_journal.specs.ReadSteps.{EndIs, StepIs, last_of, left_of, reach_of};
+ghost use Rattle.dispatch_room_journal.specs.ReadSteps.{rest_of, rows_by, rows_next};
 ghost use Rattle.dispatch_room_journal.specs.declared.record_headers.TheConstants.{HEADER};
-ghost use Rattle.dispatch_room_journal.specs.declared.read_progress.Mode.TheVariants.{Chain, Fresh, Plain};
+ghost use Rattle.dispatch_room_journal.specs.declared.read_progress.Mode.TheVariants.{Chain, Fresh};
+ghost use Rattle.dispatch_room_journal.specs.declared.read_progress.Mode.TheVariants.{Plain};
 
 use crate::read_progress::{Mode, Reach, Reel, Step};
 use crate::record_fronts::{

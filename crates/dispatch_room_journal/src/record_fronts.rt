@@ -1,7 +1,8 @@
 //! What is at the front of the bytes of a chain.
 ghost use Rattle.std.specs.Prelude.{◌≡◌, ◌≤◌, ◌+◌, ◌-◌, length, take};
 ghost use Rattle.std.specs.Str.{bytes_eq};
-ghost use Rattle.dispatch_room_journal.specs.Chains.{is_end, is_whole_line, is_row, is_no_entry, next_check, sha256_digits};
+ghost use Rattle.dispatch_room_journal.specs.Chains.{is_end, is_whole_line, is_row, is_no_entry};
+ghost use Rattle.dispatch_room_journal.specs.Chains.{next_check, sha256_digits};
 ghost use Rattle.dispatch_room_journal.specs.RecordFronts.{Stays, body_in, comes_next, front_of};
 ghost use Rattle.dispatch_room_journal.specs.RecordFronts.{number_in, sized_front, whole_front};
 ghost use Rattle.dispatch_room_journal.specs.declared.record_headers.TheConstants.{HEADER};

@@ -1,7 +1,8 @@
 //! Records written to a sink.
 ghost use Rattle.std.specs.Prelude.{◌≡◌, false};
 ghost use Rattle.room_http_messages.specs.Streams.{WritesAll};
-ghost use Rattle.dispatch_room_journal.specs.Chains.{IsBody, next_check, opening, record_text, sha256_digits};
+ghost use Rattle.dispatch_room_journal.specs.Chains.{IsBody, next_check, opening, record_text};
+ghost use Rattle.dispatch_room_journal.specs.Chains.{sha256_digits};
 
 use crate::record_fronts::OPENING;
 use crate::record_headers::{CHECK_DIGITS, check_after, header_of};

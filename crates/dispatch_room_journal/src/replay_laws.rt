@@ -1,7 +1,8 @@
 //! What a journal and a room decide by themselves. Each law is the contract of a function that does
 //! nothing.
 ghost use Rattle.std.specs.Prelude.{ℕ, List};
-ghost use Rattle.dispatch_room_journal.specs.ReplayLaws.{IsKept, IsOneAnswering, IsOneReplay, IsTheRoom, IsWhole, IsWholeUpTo};
+ghost use Rattle.dispatch_room_journal.specs.ReplayLaws.{IsKept, IsOneAnswering, IsOneReplay};
+ghost use Rattle.dispatch_room_journal.specs.ReplayLaws.{IsTheRoom, IsWhole, IsWholeUpTo};
 ghost use Rattle.dispatch_room_journal.specs.Replays.{digits_of};
 
 use room_model::digests::Digested;

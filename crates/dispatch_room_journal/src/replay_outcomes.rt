@@ -2,7 +2,8 @@
 ghost use Rattle.std.specs.Prelude.{◌≡◌};
 ghost use Rattle.std.specs.Prelude.{◌≤◌, length};
 ghost use Rattle.room_http_messages.specs.declared.limits.TheConstants.{INBOX_ROOM};
-ghost use Rattle.dispatch_room_journal.specs.declared.entry_lines.EntryLine.TheVariants.{Answer, Room};
+ghost use Rattle.dispatch_room_journal.specs.declared.entry_lines.EntryLine.TheVariants.{Answer};
+ghost use Rattle.dispatch_room_journal.specs.declared.entry_lines.EntryLine.TheVariants.{Room};
 ghost use Rattle.dispatch_room_journal.specs.Replays.{UnlessUnavailable, digits_of};
 ghost use Rattle.dispatch_room_journal.specs.ReplaySteps.{Settles};
 

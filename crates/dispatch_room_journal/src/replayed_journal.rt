@@ -1,9 +1,10 @@
 //! A journal, replayed.
-ghost use Rattle.std.specs.Prelude.{◌≡◌, ◌+◌, [], false, min};
+ghost use Rattle.std.specs.Prelude.{◌≡◌, ◌+◌, [], None, Ok, OnOk, false, min, true};
 ghost use Rattle.std.specs.Io.KnownBytes.{prepend_known};
 ghost use Rattle.room_types.specs.declared.refusal_statuses.Refusal.TheVariants.{Memory};
 ghost use Rattle.dispatch_room_journal.specs.declared.replay_faults.ReplayFault.TheVariants.{Unavailable};
-ghost use Rattle.dispatch_room_journal.specs.Replays.{Replays, UnlessStopped, UnlessUnavailable, digits_of};
+ghost use Rattle.dispatch_room_journal.specs.Replays.{Replays, UnlessStopped, UnlessUnavailable};
+ghost use Rattle.dispatch_room_journal.specs.Replays.{digits_of};
 ghost use Rattle.dispatch_room_journal.specs.ReplaySteps.{TakesTurn};
 ghost use Rattle.dispatch_room_journal.specs.ReplayedTurns.{IsReplayed};
 
@@ -32,7 +33,7 @@ pub struct Replayed {
 /// Replays a journal to a room that stands where it begins: each message that has a status is
 /// played at its moment, and its answer's status compared. A message that has none is played where
 /// the journal goes on at a room that comes from it. It stops before the first message that is
-/// later than `until`.
+/// later than `until`. Where no `until` is given, it ends well only where the journal has ended.
 pub fn replay<R: Source, M: Digested>(
     alloc: Global,
     reader: &mut R,
@@ -49,6 +50,7 @@ pub fn replay<R: Source, M: Digested>(
         (M.is_trusted room.new)
         (M.stands room.old) (M.stands room.new) (R.left reader.old) until.now
         (R.has_failed reader.new) result }
+    ensures ended { until.now ≡ None → OnOk result (R.has_ended reader.new ≡ true) }
     ensures kept { M.is_trusted room.new → UnlessStopped result (M.is_kept room.old
         → M.is_kept room.new) }
 {
@@ -79,6 +81,7 @@ fn replay_turns<R: Source, M: Digested>(
         (M.is_trusted room.new)
         (M.stands room.old) (M.stands room.new) (R.left reader.old) until.now
         (R.has_failed reader.new) result }
+    ensures ended { until.now ≡ None → OnOk result (R.has_ended reader.new ≡ true) }
     ensures kept { M.is_trusted room.new → UnlessStopped result (M.is_kept room.old
         → M.is_kept room.new) }
 {
@@ -112,6 +115,7 @@ fn replay_turn<R: Source, M: Digested>(
         (prepend_known inbox.old.kept (R.left reader.old))
         (prepend_known inbox.new.kept (R.left reader.new)) until.now IsReplayed progress.old
         progress.new (R.has_failed reader.new) result }
+    ensures ended { until.now ≡ None → result ≡ Ok false → R.has_ended reader.new ≡ true }
     ensures kept { M.is_trusted room.new → UnlessUnavailable result (M.is_kept room.old
         → M.is_kept room.new) }
 {

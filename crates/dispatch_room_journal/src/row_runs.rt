@@ -1,5 +1,6 @@
 //! Rows of a file that stand in a list, one after another.
-ghost use Rattle.std.specs.Prelude.{◌≡◌, ◌<◌, ◌≤◌, ◌++◌, false, is_err, length, Err, IfErr, IfOk, OnOk, vec_len};
+ghost use Rattle.std.specs.Prelude.{◌≡◌, ◌<◌, ◌≤◌, ◌++◌, false, is_err, length, Err, IfErr, IfOk};
+ghost use Rattle.std.specs.Prelude.{OnOk, vec_len};
 ghost use Rattle.std.specs.Io.KnownBytes.{prepend_known};
 ghost use Rattle.dispatch_room_journal.specs.Chains.{row_body, row_line};
 ghost use Rattle.dispatch_room_journal.specs.RowRuns.{HeadIs, IsRow, TakesKnown, is_read};

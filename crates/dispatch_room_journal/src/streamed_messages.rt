@@ -1,9 +1,10 @@
 //! The messages of a journal, each played as soon as it is whole.
-ghost use Rattle.std.specs.Prelude.{◌≡◌, [], ℕ, List, false, None};
+ghost use Rattle.std.specs.Prelude.{◌≡◌, [], ℕ, List, Ok, OnOk, false, true, None};
 ghost use Rattle.std.specs.Io.KnownBytes.{prepend_known};
 ghost use Rattle.dispatch_room_journal.specs.Entries.{message};
 ghost use Rattle.dispatch_room_journal.specs.EntryPrefixes.{IsLayout};
-ghost use Rattle.dispatch_room_journal.specs.AnswerFrames.{AnswersEach, AnswersTurn, EachIs, FollowIs};
+ghost use Rattle.dispatch_room_journal.specs.AnswerFrames.{AnswersEach, AnswersTurn, EachIs};
+ghost use Rattle.dispatch_room_journal.specs.AnswerFrames.{FollowIs};
 ghost use Rattle.dispatch_room_journal.specs.Replays.{UnlessStopped, UnlessUnavailable, digits_of};
 
 use crate::answer_frames::put_frame;
@@ -116,6 +117,7 @@ fn answer_turn<R: Source, O: Write, M: Digested>(
         (prepend_known inbox.new.kept (R.left reader.new)) (O.contents writer.old.output.now)
         (O.contents writer.new.output.now) progress.old progress.new (R.has_failed reader.new)
         writer.new.failed result }
+    ensures ended { result ≡ Ok false → R.has_ended reader.new ≡ true }
     ensures kept { M.is_trusted room.new → UnlessUnavailable result (M.is_kept room.old
         → M.is_kept room.new) }
 {
@@ -161,6 +163,7 @@ fn answer_turns<R: Source, O: Write, M: Digested>(
         (M.stands room.old) (M.stands room.new) (R.left reader.old)
         (O.contents writer.old.output.now) (O.contents writer.new.output.now)
         (R.has_failed reader.new) writer.new.failed result }
+    ensures ended { OnOk result (R.has_ended reader.new ≡ true) }
     ensures kept { M.is_trusted room.new → UnlessStopped result (M.is_kept room.old
         → M.is_kept room.new) }
 {
@@ -177,7 +180,8 @@ fn answer_turns<R: Source, O: Write, M: Digested>(
 
 /// Plays each message of a journal as soon as it is whole, to a room that stands where the journal
 /// begins, and writes each answer in its frame. A status that follows a message is compared with
-/// that of its answer, and a head with the room. Returns the number of messages.
+/// that of its answer, and a head with the room. Returns the number of messages, once the journal
+/// has ended.
 pub fn answer_each<R: Source, O: Write, M: Digested>(
     alloc: Global,
     reader: &mut R,
@@ -197,6 +201,7 @@ pub fn answer_each<R: Source, O: Write, M: Digested>(
         (M.stands room.old) (M.stands room.new) (R.left reader.old)
         (O.contents writer.old.output.now) (O.contents writer.new.output.now)
         (R.has_failed reader.new) writer.new.failed result }
+    ensures ended { OnOk result (R.has_ended reader.new ≡ true) }
     ensures kept { M.is_trusted room.new → UnlessStopped result (M.is_kept room.old
         → M.is_kept room.new) }
 {

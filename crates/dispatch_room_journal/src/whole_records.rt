@@ -1,10 +1,12 @@
 //! Where the whole records of a chain end.
-ghost use Rattle.std.specs.Prelude.{◌≡◌, ◌↔◌, ◌≤◌, ◌<◌, ℕ, List, [], false, length, is_err, take, IsTrue, Some, MatchResult};
+ghost use Rattle.std.specs.Prelude.{◌≡◌, ◌↔◌, ◌≤◌, ◌<◌, ℕ, List, [], false, length, is_err, take};
+ghost use Rattle.std.specs.Prelude.{IsTrue, Some, MatchResult};
 ghost use Rattle.std.specs.Io.KnownBytes.{IsAtEnd, Keeps, prepend_known};
 ghost use Rattle.dispatch_room_journal.specs.declared.entry_reader.EntryFault.TheVariants.{Read};
 ghost use Rattle.std.specs.Str.{bytes_eq};
 ghost use Rattle.dispatch_room_journal.specs.Chains.{opening};
-ghost use Rattle.dispatch_room_journal.specs.WholeRecords.{EndsChain, FailsChain, FailsForm, GivesMore, IsForm, IsFull, SaysEntry};
+ghost use Rattle.dispatch_room_journal.specs.WholeRecords.{EndsChain, FailsChain, FailsForm};
+ghost use Rattle.dispatch_room_journal.specs.WholeRecords.{GivesMore, IsForm, IsFull, SaysEntry};
 ghost use Rattle.dispatch_room_journal.specs.declared.record_inbox.TheConstants.{RECORD_ROOM};
 
 use crate::entry_prefixes::{self, EntryLayout, EntryPrefix};

@@ -20,12 +20,15 @@ use Rattle.dispatch_room_cli.specs.declared.exit_status.Failure.{Failure}
 use Rattle.dispatch_room_cli.specs.declared.exit_status.Failure.TheVariants as failure
 use Rattle.dispatch_room_journal.specs.ReplayFaults.{IsUnavailableFault}
 use Rattle.dispatch_room_journal.specs.declared.replay_faults.ReplayFault.{ReplayFault}
-use Rattle.dispatch_room_journal.specs.declared.replay_faults.ReplayFault.TheVariants.{Bad, OtherRoom, Unavailable}
+use Rattle.dispatch_room_journal.specs.declared.replay_faults.ReplayFault.TheVariants.{Bad}
+use Rattle.dispatch_room_journal.specs.declared.replay_faults.ReplayFault.TheVariants.{OtherRoom}
+use Rattle.dispatch_room_journal.specs.declared.replay_faults.ReplayFault.TheVariants.{Unavailable}
 use Rattle.dispatch_room_tasks.specs.RowOutcomes.{good_rows}
 use Rattle.dispatch_room_lists.specs.RoomChanges.{IsNoTerminals, IsTextOf, LosesRoom, Remakes}
 use Rattle.dispatch_room_lists.specs.StoodRooms.{Stays, digits_in}
 use Rattle.dispatch_room_lists.specs.declared.listed_changes.ListedChange.{ListedChange}
-use Rattle.dispatch_room_lists.specs.declared.listed_changes.ListedChange.TheVariants.{Change, Fleet}
+use Rattle.dispatch_room_lists.specs.declared.listed_changes.ListedChange.TheVariants.{Change}
+use Rattle.dispatch_room_lists.specs.declared.listed_changes.ListedChange.TheVariants.{Fleet}
 use Rattle.dispatch_room_lists.specs.declared.room_changes.RoomChange.{RoomChange}
 use Rattle.room_tables_schema.specs.FileConnections.{IsClean}
 

@@ -1,5 +1,6 @@
 -- What a replay ends with.
-use Rattle.std.specs.Prelude.{Bool, Err, List, Ok, Option, Result, codes, decimal, false, true, ℕ, ◌&&◌, ◌++◌, ◌-◌, ◌≡◌}
+use Rattle.std.specs.Prelude.{Bool, Err, List, Ok, Option, Result, codes, decimal, false, true, ℕ}
+use Rattle.std.specs.Prelude.{◌&&◌, ◌++◌, ◌-◌, ◌≡◌}
 use Rattle.std.specs.Io.KnownBytes.{Appends}
 use Rattle.sqlite_trees.specs.declared.store.Store.{Ghosts}
 use Rattle.room_store.specs.declared.store.Store.{Store}
@@ -17,8 +18,8 @@ module _ (before after : Option (List ℕ)) where
       × Appends before after (codes "replayed " ++ (decimal (number - 1) ++ codes "\n"))
   PrintsBefore number (Err fault) = fault ≡ Network
 
-  -- Where the list may be cut off, a record that is none is the one that is: it is left out. Else
-  -- a replay comes to what it came to.
+  -- Where the list may be cut off, a record that can't be read is the one that was: it is left
+  -- out. Else the replay comes to the same, and nothing is printed.
   abbrev pub IsLeftOut : Bool → Result Done Failure → Result Done Failure → Type 0
   IsLeftOut true (Err (Record number)) done = PrintsBefore number done
   IsLeftOut may_be_cut came done = (done ≡ came) × (after ≡ before)
@@ -31,8 +32,9 @@ module _ {S : Type 0} (g : Ghosts S) (old new : Store S) where
   EndsWithDigest wanted before after ended done =
       (done ≡ ended) × (after ≡ before) × (new ≡ old)
 
-  -- A replay ends so that came to this: at a list that ended, and that may be open, a record that
-  -- is none was cut off.
+  -- How a replay ends that came to this. Where each message is answered, nothing more is done. Else
+  -- a record that is cut off is left out where that may be, and the digest is printed where it is
+  -- wanted.
   abbrev pub ConcludesBy : Bool → Bool → Bool → Result Done Failure → Option (List ℕ)
       → Option (List ℕ) → Result Done Failure → Type 0
   ConcludesBy true may_be_cut wanted came before after done =
@@ -42,6 +44,7 @@ module _ {S : Type 0} (g : Ghosts S) (old new : Store S) where
       × IsLeftOut before between may_be_cut came ended
       × EndsWithDigest wanted between after ended done
 
+  -- a list may be cut off where it may be open, and its end was found
   abbrev pub Concludes : How → Result Done Failure → Bool → Option (List ℕ) → Option (List ℕ)
       → Result Done Failure → Type 0
   Concludes how came has_ended before after done =

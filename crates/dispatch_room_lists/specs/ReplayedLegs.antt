@@ -1,7 +1,8 @@
 -- A list with changes among its messages, replayed leg by leg: each leg as a list without changes
 -- is, and between two of them a change is made.
-use Rattle.std.specs.Prelude.{Bool, Err, IfOk, List, [], Ok, Option, Result, ⊤, false, length, min, true, ℕ, ◌+◌, ◌-◌}
-use Rattle.std.specs.Prelude.{◌<◌, ◌^◌, ◌∷◌, ◌≡◌, ◌⊎◌}
+use Rattle.std.specs.Prelude.{Bool, Err, IfOk, List, [], None, Ok, Option, Result, ⊤, false, length}
+use Rattle.std.specs.Prelude.{min, true, ℕ, ◌+◌}
+use Rattle.std.specs.Prelude.{◌-◌, ◌<◌, ◌^◌, ◌∷◌, ◌≡◌, ◌⊎◌}
 use Rattle.std.specs.Io.KnownBytes.{prepend_known}
 use Rattle.sqlite_trees.specs.declared.store.Store.{Ghosts}
 use Rattle.room_types.specs.declared.refusal_statuses.Refusal.TheVariants.{Memory}
@@ -19,7 +20,8 @@ use Rattle.dispatch_room_journal.specs.ReadSteps.{left_in}
 use Rattle.dispatch_room_journal.specs.Replays as replay
 use Rattle.dispatch_room_journal.specs.declared.list_source.ListSource.{ListSource}
 use Rattle.dispatch_room_journal.specs.declared.replay_faults.ReplayFault.{ReplayFault}
-use Rattle.dispatch_room_journal.specs.declared.replay_faults.ReplayFault.TheVariants.{ReadFailed, Unavailable}
+use Rattle.dispatch_room_journal.specs.declared.replay_faults.ReplayFault.TheVariants.{ReadFailed}
+use Rattle.dispatch_room_journal.specs.declared.replay_faults.ReplayFault.TheVariants.{Unavailable}
 use Rattle.dispatch_room_journal.specs.declared.replay_faults.Stopped.{Stopped}
 use Rattle.dispatch_room_journal.specs.declared.replayed_journal.Replayed.{Replayed}
 use Rattle.dispatch_room_journal.specs.declared.row_runs.Behind.{Behind}
@@ -80,14 +82,33 @@ module _ {R : Type 0} (left : R → Option (List ℕ)) where
       → TakesIn old.reel.mode new.reel.mode (prepend_known old.reel.inbox (left old.reader))
       (prepend_known new.reel.inbox (left new.reader)) before rows which)
 
-  -- No leg follows the one that was read last: no rows stand behind it, or it was not read to its
-  -- end, or nothing stands behind the rows.
-  pub record IsSpent (new : ListSource R) : Type 0 where
-    pub old : ListSource R
-    pub rows : List ℕ
-    pub which : Behind
-    pub takes : TakesBehind old new [] rows which
-    pub last : (rows ≡ []) ⊎ (which ≡ behind.Unread) ⊎ (which ≡ behind.End)
+-- each leg is read to its end: no moment is given up to which it is replayed, or its messages are
+-- answered
+abbrev pub ReadsAll : How → Type 0
+ReadsAll how = (how.answers ≡ true) ⊎ (how.until ≡ None)
+
+-- These rows stand behind a leg of a list, and this behind them, and then so much is left of the
+-- leg that follows: so they were taken of the list as the leg was left, which was read to its end
+-- where each leg is.
+pub record StandsBehind {L : Type 0} (left : L → Option (List ℕ)) (has_ended : L → Bool)
+    (Takes : L → L → List ℕ → List ℕ → Behind → Type 0) (how : How) (rows : List ℕ)
+    (which : Behind) (next : Option (List ℕ)) : Type 0 where
+  pub read : L
+  pub now : L
+  pub ended : ReadsAll how → has_ended read ≡ true
+  pub takes : Takes read now [] rows which
+  pub is_left : next ≡ left now
+
+-- any rows, where nothing is said of how a list is read
+abbrev pub AnyBehind : List ℕ → Behind → Option (List ℕ) → Type 0
+AnyBehind rows which next = ⊤
+
+-- No leg follows the one that was read last: no rows stand behind it, or none were taken, or
+-- nothing stands behind them.
+abbrev pub IsSpent : (List ℕ → Behind → Option (List ℕ) → Type 0) → Type 0
+IsSpent Stands = (rows : List ℕ) × (which : Behind) × (next : Option (List ℕ))
+    × Stands rows which next
+    × ((rows ≡ []) ⊎ (which ≡ behind.Unread) ⊎ (which ≡ behind.End))
 
 module _ {S : Type 0} (g : Ghosts S) where
   -- What is done with the rows behind a leg, and whether another leg follows. Where a head stands
@@ -125,77 +146,81 @@ module _ {S : Type 0} (g : Ghosts S) where
           (IsRoom g at.store) (IsRoom g last) at.left at.held holds read_failed write_failed
           (count_in came)
 
-    -- A leg was replayed whole, and what stands behind it was followed. The next begins here, its
-    -- answers behind those that are written, in the zone that the room has then.
-    pub record Passes (at now : Waypoint S) : Type 0 where
-      pub last : Store S
-      pub replayed : Replayed
-      pub leg : IsLeg at last now.held false false (Ok replayed)
-      pub rows : List ℕ
-      pub behind : Behind
-      pub between : FollowsBy last now.store rows behind true
-      pub is_set : IsSetting now.store.plan.zone how.history now.setting
-      pub clean : IsClean g now.store.conn → IsClean g last.conn
-      pub messages : now.messages ≡ sum_of at.messages replayed.messages
+    module _ (Stands : List ℕ → Behind → Option (List ℕ) → Type 0) where
+      -- A leg was replayed whole, and what stands behind it was followed. The next begins here,
+      -- its answers behind those that are written, in the zone that the room has then.
+      pub record Passes (at now : Waypoint S) : Type 0 where
+        pub last : Store S
+        pub replayed : Replayed
+        pub leg : IsLeg at last now.held false false (Ok replayed)
+        pub rows : List ℕ
+        pub behind : Behind
+        pub stands : Stands rows behind now.left
+        pub between : FollowsBy last now.store rows behind true
+        pub is_set : IsSetting now.store.plan.zone how.history now.setting
+        pub clean : IsClean g now.store.conn → IsClean g last.conn
+        pub messages : now.messages ≡ sum_of at.messages replayed.messages
 
-    -- these legs were passed, the last of them first
-    abbrev pub ArePassed : List (Waypoint S) → Waypoint S → Waypoint S → Type 0
-    ArePassed [] first now = now ≡ first
-    ArePassed (at ∷ earlier) first now = ArePassed earlier first at × Passes at now
+      -- these legs were passed, the last of them first
+      abbrev pub ArePassed : List (Waypoint S) → Waypoint S → Waypoint S → Type 0
+      ArePassed [] first now = now ≡ first
+      ArePassed (at ∷ earlier) first now = ArePassed earlier first at × Passes at now
 
-    -- this leg was the last, and came to this
-    pub record EndsLeg (first : Waypoint S) (last : Store S) (holds : Option (List ℕ))
-        (read_failed write_failed : Bool) (before : ℕ) (came : Result Replayed Stopped)
-        : Type 0 where
-      pub at : Waypoint S
-      pub earlier : List (Waypoint S)
-      pub are : ArePassed earlier first at
-      pub is : IsLeg at last holds read_failed write_failed came
-      pub before_is : at.messages ≡ before
+      -- this leg was the last, and came to this
+      pub record EndsLeg (first : Waypoint S) (last : Store S) (holds : Option (List ℕ))
+          (read_failed write_failed : Bool) (before : ℕ) (came : Result Replayed Stopped)
+          : Type 0 where
+        pub at : Waypoint S
+        pub earlier : List (Waypoint S)
+        pub are : ArePassed earlier first at
+        pub is : IsLeg at last holds read_failed write_failed came
+        pub before_is : at.messages ≡ before
 
-    -- Behind a leg that was replayed whole the rows could not be read, or not followed.
-    pub record StopsBetween (first : Waypoint S) (last : Store S) (holds : Option (List ℕ))
-        (read_failed : Bool) (result : Result Replayed Stopped) : Type 0 where
-      pub stood : Store S
-      pub before : ℕ
-      pub replayed : Replayed
-      pub leg : EndsLeg first stood holds false false before (Ok replayed)
-      pub clean : IsClean g last.conn → IsClean g stood.conn
-      pub fault : ReplayFault
-      pub why : StopsBehind (λ rows which. ⊤) read_failed stood last fault
-      pub failed : result ≡ Err (record {
-        fault = fault;
-        number = sum_of (sum_of before replayed.messages) 1;
-      })
+      -- Behind a leg that was replayed whole the rows could not be read, or not followed.
+      pub record StopsBetween (first : Waypoint S) (last : Store S) (holds : Option (List ℕ))
+          (read_failed : Bool) (result : Result Replayed Stopped) : Type 0 where
+        pub stood : Store S
+        pub before : ℕ
+        pub replayed : Replayed
+        pub leg : EndsLeg first stood holds false false before (Ok replayed)
+        pub clean : IsClean g last.conn → IsClean g stood.conn
+        pub fault : ReplayFault
+        pub why : StopsBehind (λ rows which. (next : Option (List ℕ)) × Stands rows which next)
+            read_failed stood last fault
+        pub failed : result ≡ Err (record {
+          fault = fault;
+          number = sum_of (sum_of before replayed.messages) 1;
+        })
 
-    -- A list was replayed leg by leg: so its last leg came to it, or it stopped between two. Where
-    -- the last leg was replayed whole, the list is spent, unless more legs than are counted were
-    -- replayed.
-    abbrev pub ReplaysLegs : Waypoint S → Store S → Option (List ℕ) → Bool → Bool → Type 0
-        → Result Replayed Stopped → Type 0
-    ReplaysLegs first last holds read_failed write_failed spent result =
-        ((before : ℕ) × (came : Result Replayed Stopped)
-        × (ends : EndsLeg first last holds read_failed write_failed before came)
-        × (result ≡ in_all before came)
-        × IfOk came (λ _. spent ⊎ (length ends.earlier ≡ 2 ^ 64 - 2)))
-        ⊎ StopsBetween first last holds read_failed result
+      -- A list was replayed leg by leg: so its last leg came to it, or it stopped between two.
+      -- Where the last leg was replayed whole, the list is spent, unless more legs than are counted
+      -- were replayed.
+      abbrev pub ReplaysLegs : Waypoint S → Store S → Option (List ℕ) → Bool → Bool
+          → Result Replayed Stopped → Type 0
+      ReplaysLegs first last holds read_failed write_failed result =
+          ((before : ℕ) × (came : Result Replayed Stopped)
+          × (ends : EndsLeg first last holds read_failed write_failed before came)
+          × (result ≡ in_all before came)
+          × IfOk came (λ _. IsSpent Stands ⊎ (length ends.earlier ≡ 2 ^ 64 - 2)))
+          ⊎ StopsBetween first last holds read_failed result
 
-    -- so it was, and the store that it came to is ready again
-    pub record PlaysLegs (first : Waypoint S) (last : Store S) (holds : Option (List ℕ))
-        (read_failed write_failed : Bool) (spent : Type 0) (result : Result Replayed Stopped)
-        : Type 0 where
-      pub ready : IsReady g last
-      pub trusted : IsClean g last.conn → IsClean g first.store.conn
-      pub legs : ReplaysLegs first last holds read_failed write_failed spent result
+      -- so it was, and the store that it came to is ready again
+      pub record PlaysLegs (first : Waypoint S) (last : Store S) (holds : Option (List ℕ))
+          (read_failed write_failed : Bool) (result : Result Replayed Stopped) : Type 0 where
+        pub ready : IsReady g last
+        pub trusted : IsClean g last.conn → IsClean g first.store.conn
+        pub legs : ReplaysLegs first last holds read_failed write_failed result
 
-    -- Behind a leg that was replayed whole no room was opened again, for this, before a change that
-    -- stands there, or after it.
-    pub record LosesLeg (first : Waypoint S) (holds : Option (List ℕ)) (fault : Failure)
-        : Type 0 where
-      pub stood : Store S
-      pub before : ℕ
-      pub replayed : Replayed
-      pub leg : EndsLeg first stood holds false false before (Ok replayed)
-      pub rows : List ℕ
-      pub head : Head
-      pub lost : LosesText g stood rows head fault
+      -- Behind a leg that was replayed whole no room was opened again, for this, before a change
+      -- that stands there, or after it.
+      pub record LosesLeg (first : Waypoint S) (holds : Option (List ℕ)) (fault : Failure)
+          : Type 0 where
+        pub stood : Store S
+        pub before : ℕ
+        pub replayed : Replayed
+        pub leg : EndsLeg first stood holds false false before (Ok replayed)
+        pub rows : List ℕ
+        pub head : Head
+        pub next : Option (List ℕ)
+        pub stands : Stands rows (behind.Room head) next
+        pub lost : LosesText g stood rows head fault

@@ -1,11 +1,13 @@
 -- A list that is replayed to the room of a database, and what is reported of it.
-use Rattle.std.specs.Prelude.{Bool, Err, List, Ok, Option, Result, ⊤, false, true, ℕ, ◌≡◌, None, codes, decimal, ◌++◌}
+use Rattle.std.specs.Prelude.{Bool, Err, List, Ok, Option, Result, false, true, ℕ, ◌≡◌, None, codes}
+use Rattle.std.specs.Prelude.{decimal, ◌++◌}
 use Rattle.std.specs.Io.KnownBytes.{Appends}
 use Rattle.dispatch_room_cli.specs.ExitStatus.{refused}
 use Rattle.dispatch_room_cli.specs.declared.exit_status.Done.{Done}
 use Rattle.dispatch_room_cli.specs.declared.exit_status.Done.TheVariants.{Whole}
 use Rattle.dispatch_room_cli.specs.declared.exit_status.Failure.{Failure}
-use Rattle.dispatch_room_cli.specs.declared.exit_status.Failure.TheVariants.{Differs, Network, OtherRoom, Record}
+use Rattle.dispatch_room_cli.specs.declared.exit_status.Failure.TheVariants.{Differs, Network}
+use Rattle.dispatch_room_cli.specs.declared.exit_status.Failure.TheVariants.{OtherRoom, Record}
 use Rattle.dispatch_room_journal.specs.declared.replay_faults.ReplayFault.{ReplayFault}
 use Rattle.dispatch_room_journal.specs.declared.replay_faults.ReplayFault.TheVariants as replay
 use Rattle.dispatch_room_journal.specs.declared.replay_faults.Stopped.{Stopped}
@@ -17,9 +19,11 @@ use Rattle.room_store.specs.StoredRoom.{IsReady}
 use Rattle.room_store.specs.declared.store.Store.{Store}
 use Rattle.dispatch_room_tasks.specs.OpenedRoom.{OpensRoom}
 use Rattle.dispatch_room_journal.specs.declared.replayed_journal.Replayed.{Replayed}
+use Rattle.dispatch_room_journal.specs.declared.row_runs.Behind.{Behind}
 use Rattle.dispatch_room_cli.specs.declared.tasks.Replay.{Replay as How}
 use Rattle.dispatch_room_lists.specs.ReplayEnds.{Concludes}
-use Rattle.dispatch_room_lists.specs.ReplayedLegs.{LosesLeg, ReplaysLegs, begins_leg, count_in}
+use Rattle.dispatch_room_lists.specs.ReplayedLegs.{AnyBehind, LosesLeg, ReplaysLegs, begins_leg}
+use Rattle.dispatch_room_lists.specs.ReplayedLegs.{count_in}
 use Rattle.room_tables_schema.specs.FileConnections.{IsClean}
 
 -- why a replay stopped at a record, as the program reports it
@@ -52,40 +56,45 @@ EndsAs (Err stopped) done = done ≡ Err (failure_of stopped)
 -- What is done with a list in a store that is first this and then that, first in this setting, and
 -- so.
 module _ {S : Type 0} (g : Ghosts S) (how : How) (first : Store S) (setting : Setting)
-    (last : Store S) (list before after : Option (List ℕ)) (read_failed : Bool) (spent : Type 0)
+    (last : Store S) (list before after : Option (List ℕ)) (read_failed : Bool)
+    (Stands : List ℕ → Behind → Option (List ℕ) → Type 0)
     (done : Result Done Failure) where
   -- it is replayed leg by leg, and how much it was is reported
   pub record IsReplayed : Type 0 where
     pub write_failed : Bool
     pub result : Result Replayed Stopped
-    pub is : ReplaysLegs g how (begins_leg first setting list None) last None read_failed
-        write_failed spent result
+    pub is : ReplaysLegs g how Stands (begins_leg first setting list None) last None read_failed
+        write_failed result
     pub printed : PrintsReplayed result before after done
 
   -- each of its messages is answered, leg by leg, and the answers are written
   pub record AreAnswered : Type 0 where
     pub write_failed : Bool
     pub result : Result Replayed Stopped
-    pub is : ReplaysLegs g how (begins_leg first setting list before) last after read_failed
-        write_failed spent result
+    pub is : ReplaysLegs g how Stands (begins_leg first setting list before) last after read_failed
+        write_failed result
     pub ends : EndsAs (count_in result) done
 
 -- the one or the other is done, as it was asked, and the store is ready again
 pub record IsPlayed {S : Type 0} (g : Ghosts S) (how : How) (first : Store S) (setting : Setting)
-    (last : Store S) (list before after : Option (List ℕ)) (read_failed : Bool) (spent : Type 0)
+    (last : Store S) (list before after : Option (List ℕ)) (read_failed : Bool)
+    (Stands : List ℕ → Behind → Option (List ℕ) → Type 0)
     (done : Result Done Failure) : Type 0 where
   pub ready : IsReady g last
   pub trusted : IsClean g last.conn → IsClean g first.conn
   pub replayed : how.answers ≡ false
-      → IsReplayed g how first setting last list before after read_failed spent done
+      → IsReplayed g how first setting last list before after read_failed Stands done
   pub answered : how.answers ≡ true
-      → AreAnswered g how first setting last list before after read_failed spent done
+      → AreAnswered g how first setting last list before after read_failed Stands done
 
 -- This list was replayed to the room, or its messages answered, as it was asked: what is written
 -- behind what the output held is these answers. Then the replay ended, with the digest of the room
--- where no answers were asked for.
-pub record HasReplayed {S : Type 0} (g : Ghosts S) (old new : Held S) (how : How)
-    (list before after : Option (List ℕ)) (done : Result Done Failure) : Type 0 where
+-- where no answers were asked for. Where the list was found to have ended, a record that is cut off
+-- may be left out.
+pub record HasReplayedList {S : Type 0} (g : Ghosts S) (old new : Held S) (how : How)
+    (list before after : Option (List ℕ)) (read_failed has_ended : Bool)
+    (Stands : List ℕ → Behind → Option (List ℕ) → Type 0)
+    (done : Result Done Failure) : Type 0 where
   pub first : Store S
   pub last : Store S
   pub setting : Setting
@@ -93,30 +102,41 @@ pub record HasReplayed {S : Type 0} (g : Ghosts S) (old new : Held S) (how : How
   pub is_set : IsSetting first.plan.zone how.history setting
   pub came : Result Done Failure
   pub between : Option (List ℕ)
-  pub read_failed : Bool
   pub replayed : how.answers ≡ false
-      → IsReplayed g how first setting last list before between read_failed ⊤ came
+      → IsReplayed g how first setting last list before between read_failed Stands came
   pub answered : how.answers ≡ true
-      → AreAnswered g how first setting last list before between read_failed ⊤ came
+      → AreAnswered g how first setting last list before between read_failed Stands came
   pub ended : Store S
-  pub has_ended : Bool
   pub ends : Concludes g last ended how came has_ended between after done
   pub closed : new ≡ ended.conn
 
 -- Behind a leg of a list no room was opened again, for this. Where answers are asked for, those to
 -- the legs before it are written behind what the output held; else nothing is printed.
 pub record LosesPlayed {S : Type 0} (g : Ghosts S) (how : How) (first : Store S) (setting : Setting)
-    (list before after : Option (List ℕ)) (fault : Failure) : Type 0 where
+    (list before after : Option (List ℕ))
+    (Stands : List ℕ → Behind → Option (List ℕ) → Type 0) (fault : Failure) : Type 0 where
   pub unprinted : how.answers ≡ false → (after ≡ before)
-      × LosesLeg g how (begins_leg first setting list None) None fault
+      × LosesLeg g how Stands (begins_leg first setting list None) None fault
   pub answered : how.answers ≡ true
-      → LosesLeg g how (begins_leg first setting list before) after fault
+      → LosesLeg g how Stands (begins_leg first setting list before) after fault
 
 -- no room was opened, or, behind a leg of a list, none was opened again
-pub record LosesReplayed {S : Type 0} (g : Ghosts S) (old : Held S) (how : How)
-    (list before after : Option (List ℕ)) (fault : Failure) : Type 0 where
+pub record LosesList {S : Type 0} (g : Ghosts S) (old : Held S) (how : How)
+    (list before after : Option (List ℕ))
+    (Stands : List ℕ → Behind → Option (List ℕ) → Type 0) (fault : Failure) : Type 0 where
   pub first : Store S
   pub setting : Setting
   pub opens : IsClean g first.conn → OpensRoom g old first
   pub is_set : IsSetting first.plan.zone how.history setting
-  pub loses : LosesPlayed g how first setting list before after fault
+  pub loses : LosesPlayed g how first setting list before after Stands fault
+
+-- the same, where nothing is said of how the list is read
+abbrev pub HasReplayed : {S : Type 0} → Ghosts S → Held S → Held S → How → Option (List ℕ)
+    → Option (List ℕ) → Option (List ℕ) → Result Done Failure → Type 0
+HasReplayed g old new how list before after done = (read_failed has_ended : Bool)
+    × HasReplayedList g old new how list before after read_failed has_ended AnyBehind done
+
+abbrev pub LosesReplayed : {S : Type 0} → Ghosts S → Held S → How → Option (List ℕ)
+    → Option (List ℕ) → Option (List ℕ) → Failure → Type 0
+LosesReplayed g old how list before after fault =
+    LosesList g old how list before after AnyBehind fault

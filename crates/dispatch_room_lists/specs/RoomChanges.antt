@@ -55,7 +55,8 @@ pub record IsNoTerminals (text : List ℕ) : Type 0 where
 -- ---- the lines under its header
 -- the lines are those of no list of terminals
 abbrev pub AreNoLines : List ℕ → Type 0
-AreNoLines lines = (listed : List Terminal) → All IsTerminal listed → lines ≢ flat_map line_of listed
+AreNoLines lines =
+    (listed : List Terminal) → All IsTerminal listed → lines ≢ flat_map line_of listed
 
 -- the lines are not the one of someone who has no token
 abbrev pub IsOfNoOne : List ℕ → Type 0
@@ -64,7 +65,8 @@ IsOfNoOne lines = (who : Who) → IsWho who → lines ≢ terminal_line who []
 -- where the lines are those of a list of terminals, they are read as these
 abbrev pub AreReadAs : List ℕ → List Terminal → Type 0
 AreReadAs lines found =
-    (listed : List Terminal) → All IsTerminal listed → lines ≡ flat_map line_of listed → found ≡ listed
+    (listed : List Terminal) → All IsTerminal listed → lines ≡ flat_map line_of listed
+    → found ≡ listed
 
 -- a line, without its end, is that of this terminal (44 is the code of a comma)
 pub record IsEntry (line : List ℕ) (terminal : Terminal) : Type 0 where

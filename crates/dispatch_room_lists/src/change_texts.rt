@@ -1,5 +1,6 @@
 //! The text by which a list has a change of a room.
-ghost use Rattle.std.specs.Prelude.{◌≡◌, ◌++◌, flat_map, unwrap_or, IfNone, IfOk, IfSome, MatchOption, OnOk, []};
+ghost use Rattle.std.specs.Prelude.{◌≡◌, ◌++◌, flat_map, unwrap_or, IfNone, IfOk, IfSome};
+ghost use Rattle.std.specs.Prelude.{MatchOption, OnOk, []};
 ghost use Rattle.std.specs.Prelude.{string_bytes};
 ghost use Rattle.dispatch_room_lists.specs.ListedRows.{IsNoChange};
 ghost use Rattle.dispatch_room_lists.specs.RoomChanges.{AddsLine, AreNoLines, AreReadAs, IsEntry};

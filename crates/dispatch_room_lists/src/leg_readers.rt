@@ -1,29 +1,49 @@
-//! A list that is read leg by leg, and whether a read of it failed.
-ghost use Rattle.std.specs.Prelude.{◌≡◌, ◌==◌, ◌||◌, None, IfOk, false};
+//! A list that is read leg by leg, and what is known of the reads of it.
+ghost use Rattle.std.specs.Prelude.{◌≡◌, ◌==◌, ◌||◌, Bool, None, IfOk, List, ℕ, false};
 ghost use Rattle.std.specs.Option.{option_map};
 ghost use Rattle.dispatch_room_journal.specs.Chains.{sha256_digits};
 ghost use Rattle.dispatch_room_journal.specs.ReadSteps.{left_in, most_rows};
 ghost use Rattle.dispatch_room_journal.specs.RecordFronts.{list_says};
 ghost use Rattle.dispatch_room_journal.specs.RowRuns.{is_read};
-ghost use Rattle.dispatch_room_journal.specs.declared.list_source.ListSource.{ListSource as List};
+ghost use Rattle.dispatch_room_journal.specs.declared.list_source.ListSource.{ListSource as List_};
 ghost use Rattle.dispatch_room_journal.specs.declared.read_progress.Reach.TheVariants.{Leg};
+ghost use Rattle.dispatch_room_journal.specs.declared.row_runs.Behind.{Behind as Which};
 ghost use Rattle.dispatch_room_lists.specs.ReplayedLegs.{TakesBehind, left_of};
 
+use crate::noted_sources::NotedSource;
 use dispatch_room_journal::list_source::ListSource;
 use dispatch_room_journal::row_runs::{Behind, RowsFault};
 use room_http_messages::sources::{ReadFailed, Source};
 use std::marker::Model;
 
-/// A list that is read leg by leg, and whether a read of it failed.
+/// A list that is read leg by leg: a read gives the bytes of a leg up to its end.
+pub trait Legs: Source {
+    // What stands behind a leg was taken, and the lines of its rows put behind others.
+    ghost takes: { Self → Self → List ℕ → List ℕ → Which → Type 0 };
+
+    // Whether the end of the whole list was found.
+    ghost found_end: { Self → Bool };
+
+    /// Takes the rows that stand behind a leg which was read to its end, unless a read failed.
+    fn take_rows(&mut self, rows: &mut Vec<u8>) -> Result<Behind, RowsFault>
+        ensures failed { Self.has_failed self.new ≡ is_read result }
+        ensures taken { IfOk result (takes self.old self.new rows.old.items rows.new.items) };
+
+    /// Whether the end of the whole list was found.
+    fn has_found_end(&self) -> bool
+        ensures { result ≡ found_end self.now };
+}
+
+/// The legs of a list that is read from a source.
 #[derive(Drop)]
 pub struct LegReader<R: Source> {
-    list: ListSource<R>,
+    list: ListSource<NotedSource<R>>,
     failed: bool,
 }
 
 // It knows of each read that failed.
 impl<R: Source> Model for LegReader<R> {
-    ghost Value = { List R };
+    ghost Value = { List_ R };
 
     ghost view = { λ reader. reader.list };
 
@@ -34,30 +54,16 @@ impl<R: Source> Model for LegReader<R> {
 impl<R: Source> LegReader<R> {
     /// What a list says of which nothing was read: its first leg.
     pub fn new(reader: R) -> LegReader<R>
-        requires { R.has_failed reader ≡ false }
+        requires sound { R.has_failed reader ≡ false }
+        requires unread { R.has_ended reader ≡ false }
         ensures sound { (R.has_failed result.reader || result.passed == most_rows) ≡ false }
         ensures left { left_of R.left result
             ≡ option_map (list_says sha256_digits Leg) (R.left reader) }
     {
         LegReader {
-            list: ListSource::by_legs(reader),
+            list: ListSource::by_legs(NotedSource::new(reader)),
             failed: false,
         }
-    }
-
-    /// Takes the rows that stand behind a leg which was read to its end, unless a read failed.
-    pub fn take_rows(&mut self, rows: &mut Vec<u8>) -> Result<Behind, RowsFault>
-        ensures failed { (R.has_failed self.new.reader || self.new.passed == most_rows)
-            ≡ is_read result }
-        ensures taken { IfOk result
-            (TakesBehind R.left self.old self.new rows.old.items rows.new.items) }
-    {
-        if self.failed {
-            return Err(RowsFault::Read);
-        }
-        let taken = self.list.take_rows(rows);
-        self.failed = matches!(taken, Err(RowsFault::Read));
-        taken
     }
 }
 
@@ -77,5 +83,24 @@ impl<R: Source> Source for LegReader<R> {
             self.failed = true;
         }
         read
+    }
+}
+
+impl<R: Source> Legs for LegReader<R> {
+    ghost takes = { TakesBehind R.left };
+
+    ghost found_end = { λ list. R.has_ended list.reader };
+
+    fn take_rows(&mut self, rows: &mut Vec<u8>) -> Result<Behind, RowsFault> {
+        if self.failed {
+            return Err(RowsFault::Read);
+        }
+        let taken = self.list.take_rows(rows);
+        self.failed = matches!(taken, Err(RowsFault::Read));
+        taken
+    }
+
+    fn has_found_end(&self) -> bool {
+        self.list.reader().has_ended()
     }
 }

@@ -6,9 +6,10 @@
 pub mod change_texts;
 pub mod digest_lines;
 mod followed_rows;
-mod leg_readers;
+pub mod leg_readers;
 mod listed_changes;
 mod listed_rows;
+mod noted_sources;
 mod replay_ends;
 pub mod replayed_legs;
 pub mod replayed_lists;

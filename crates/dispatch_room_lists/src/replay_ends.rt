@@ -7,44 +7,9 @@ ghost use Rattle.dispatch_room_lists.specs.ReplayEnds.{Concludes, IsLeftOut};
 use crate::digest_lines::print_digest;
 use dispatch_room_cli::exit_status::{Done, Failure};
 use dispatch_room_cli::tasks::Replay;
-use room_http_messages::sources::{ReadFailed, Source};
 use room_store::store::Store;
 use sqlite::Alter;
 use std::io::Write;
-
-/// A source that notes where a read finds its end.
-#[derive(Drop)]
-pub struct Noted<'a, R> {
-    reader: R,
-    has_ended: &'a mut bool,
-}
-
-impl<'a, R> Noted<'a, R> {
-    /// A source of which nothing was read.
-    pub fn new(reader: R, has_ended: &'a mut bool) -> Noted<'a, R>
-        ensures { result.reader ≡ reader }
-    {
-        Noted { reader, has_ended }
-    }
-}
-
-impl<'a, R: Source> Source for Noted<'a, R> {
-    ghost left = { λ noted. R.left noted.reader };
-
-    ghost reads = { λ noted. R.reads noted.reader };
-
-    ghost has_failed = { λ noted. R.has_failed noted.reader };
-
-    ghost has_ended = { λ noted. R.has_ended noted.reader };
-
-    fn read(&mut self, buf: &mut [u8]) -> Result<usize, ReadFailed> {
-        let read = self.reader.read(buf);
-        if let Ok(0) = read {
-            *self.has_ended = true;
-        }
-        read
-    }
-}
 
 /// How a replay ends whose last step in a room ended so. Where the list may be open and has ended
 /// within a record, that is left out, and it is reported how much was replayed. Then the digest of

@@ -1,21 +1,19 @@
 //! A list with changes among its messages, replayed leg by leg.
-ghost use Rattle.std.specs.Prelude.{◌≡◌, ◌==◌, ◌||◌, [], Err, List, Ok, ℕ, IfErr, IfOk, OnOk};
-ghost use Rattle.std.specs.Prelude.{false};
+ghost use Rattle.std.specs.Prelude.{◌≡◌, [], Err, List, Ok, ℕ, IfErr, IfOk, OnOk, false, true};
 ghost use Rattle.room_http.specs.Settings.{IsSetting};
 ghost use Rattle.room_store.specs.StoredRoom.{IsReady};
-ghost use Rattle.dispatch_room_journal.specs.ReadSteps.{most_rows};
 ghost use Rattle.room_model.specs.declared.digests.Head.{Head};
 ghost use Rattle.dispatch_room_journal.specs.declared.row_runs.Behind.{Behind as Which};
 ghost use Rattle.dispatch_room_journal.specs.declared.row_runs.Behind.TheVariants.{Room};
 ghost use Rattle.dispatch_room_lists.specs.ListedRows.{IsUnfollowed, LosesText};
-ghost use Rattle.dispatch_room_lists.specs.ReplayedLegs.{FollowsBy, IsLeg, IsSpent, LosesLeg};
-ghost use Rattle.dispatch_room_lists.specs.ReplayedLegs.{PlaysLegs, StopsBehind};
-ghost use Rattle.dispatch_room_lists.specs.ReplayedLegs.{TakesBehind, begins_leg, in_all, left_of};
-ghost use Rattle.dispatch_room_lists.specs.ReplayedLegs.{sum_of};
+ghost use Rattle.dispatch_room_lists.specs.ReplayedLegs.{FollowsBy, IsLeg, LosesLeg, ReadsAll};
+ghost use Rattle.dispatch_room_lists.specs.ReplayedLegs.{PlaysLegs, StandsBehind, StopsBehind};
+ghost use Rattle.dispatch_room_lists.specs.ReplayedLegs.{begins_leg};
+ghost use Rattle.dispatch_room_lists.specs.ReplayedLegs.{in_all, sum_of};
 ghost use Rattle.dispatch_room_lists.specs.StoodRooms.{GoesOn, StageGoesOn};
 
 use crate::followed_rows::{Followed, Stage, follow};
-use crate::leg_readers::LegReader;
+use crate::leg_readers::Legs;
 use dispatch_room_cli::exit_status::Failure;
 use dispatch_room_cli::failure_causes::Explainer;
 use dispatch_room_cli::tasks::Replay;
@@ -45,25 +43,26 @@ pub type Played<T, S> = Result<(T, Store<S>), Failure>;
 /// Replays the legs of a list, one after another, in a room, and makes the change that stands
 /// between two of them; or answers each record of them. Where no room is opened again for a change,
 /// or after it, that ends the replay.
-pub fn replay_legs<S: Alter + Drop, R: Source, O: Write, E: Write>(
+pub fn replay_legs<S: Alter + Drop, L: Legs, O: Write, E: Write>(
     course: &Course<'_>,
-    list: &mut LegReader<R>,
+    list: &mut L,
     first: Stage<S>,
     out: &mut AnswerWriter<'_, O>,
     err: &mut E,
 ) -> Played<Result<Replayed, Stopped>, S>
-    requires list { (R.has_failed list.old.reader || list.old.passed == most_rows) ≡ false }
+    requires list { L.has_failed list.old ≡ false }
     requires ready { IsReady S.Store first.room }
     requires set { IsSetting first.room.plan.zone course.now.replay.now.history first.setting }
     ensures same_reference { out.new.output.ghost_name ≡ out.old.output.ghost_name }
     ensures played { IfOk result (λ played. PlaysLegs S.Store course.now.replay.now
-        (begins_leg first.room first.setting (left_of R.left list.old)
-        (O.contents out.old.output.now)) played.1 (O.contents out.new.output.now)
-        (R.has_failed list.new.reader || list.new.passed == most_rows) out.new.failed
-        (IsSpent R.left list.new) played.0) }
+        (StandsBehind L.left L.has_ended L.takes course.now.replay.now)
+        (begins_leg first.room first.setting (L.left list.old) (O.contents out.old.output.now))
+        played.1 (O.contents out.new.output.now) (L.has_failed list.new) out.new.failed
+        played.0) }
     ensures lost { IfErr result (LosesLeg S.Store course.now.replay.now
-        (begins_leg first.room first.setting (left_of R.left list.old)
-        (O.contents out.old.output.now)) (O.contents out.new.output.now)) }
+        (StandsBehind L.left L.has_ended L.takes course.now.replay.now)
+        (begins_leg first.room first.setting (L.left list.old) (O.contents out.old.output.now))
+        (O.contents out.new.output.now)) }
 {
     let mut stage = first;
     let mut before = 0;
@@ -144,6 +143,8 @@ fn replay_leg<S: Alter, R: Source, O: Write>(
         })
         stage.new.room (O.contents out.new.output.now) (R.has_failed list.new) out.new.failed
         result }
+    ensures ended { ReadsAll course.now.replay.now
+        → OnOk result (R.has_ended list.new ≡ true) }
 {
     let replay = course.replay;
     let setting = stage.setting;
@@ -163,24 +164,23 @@ fn replay_leg<S: Alter, R: Source, O: Write>(
 
 // Takes and follows the rows behind a leg that was replayed whole. Returns whether a leg follows.
 #[tactic(auto, using(crate::proofs::DueLemmas::stage_stays))]
-fn follow_between<S: Alter + Drop, R: Source, E: Write>(
+fn follow_between<S: Alter + Drop, L: Legs, E: Write>(
     course: &Course<'_>,
-    list: &mut LegReader<R>,
+    list: &mut L,
     stage: Stage<S>,
     err: &mut E,
 ) -> Followed<bool, S>
     requires ready { IsReady S.Store stage.room }
     ensures goes { IfOk result (λ it. StageGoesOn S.Store stage it.1) }
-    ensures sound { IfOk result (λ it. OnOk it.0 ((R.has_failed list.new.reader
-        || list.new.passed == most_rows) ≡ false)) }
+    ensures sound { IfOk result (λ it. OnOk it.0 (L.has_failed list.new ≡ false)) }
     ensures between { IfOk result (λ it. IfOk it.0 (λ goes_on.
-        (rows : List ℕ) × (which : Which) × TakesBehind R.left list.old list.new [] rows which
+        (rows : List ℕ) × (which : Which) × L.takes list.old list.new [] rows which
         × FollowsBy S.Store stage.room it.1.room rows which goes_on)) }
     ensures fault { IfOk result (λ it. IfErr it.0 (StopsBehind S.Store
-        (TakesBehind R.left list.old list.new [])
-        (R.has_failed list.new.reader || list.new.passed == most_rows) stage.room it.1.room)) }
+        (L.takes list.old list.new [])
+        (L.has_failed list.new) stage.room it.1.room)) }
     ensures lost { IfErr result (λ fault. (rows : List ℕ) × (head : Head)
-        × TakesBehind R.left list.old list.new [] rows (Room head)
+        × L.takes list.old list.new [] rows (Room head)
         × LosesText S.Store stage.room rows head fault) }
 {
     let mut rows = Vec::new(course.alloc);

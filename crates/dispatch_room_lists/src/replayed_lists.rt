@@ -1,20 +1,21 @@
 //! A list that is replayed to the room of a database, and what is reported of it.
-ghost use Rattle.std.specs.Prelude.{◌≡◌, ◌==◌, ◌⊎◌, ◌||◌, Ok, false, IfErr, IfOk};
+ghost use Rattle.std.specs.Prelude.{◌≡◌, ◌⊎◌, Ok, false, IfErr, IfOk};
 ghost use Rattle.std.specs.Option.{option_map};
 ghost use Rattle.room_http.specs.Settings.{IsSetting};
 ghost use Rattle.room_store.specs.StoredRoom.{IsReady};
 ghost use Rattle.dispatch_room_journal.specs.Chains.{sha256_digits};
-ghost use Rattle.dispatch_room_journal.specs.ReadSteps.{most_rows};
 ghost use Rattle.dispatch_room_journal.specs.RecordFronts.{list_says};
 ghost use Rattle.dispatch_room_journal.specs.declared.read_progress.Reach.TheVariants.{Leg};
 ghost use Rattle.dispatch_room_tasks.specs.OpenedRoom.{IsUnopened};
-ghost use Rattle.dispatch_room_lists.specs.ReplayedLegs.{IsSpent, count_in, left_of};
-ghost use Rattle.dispatch_room_lists.specs.ReplayedLists.{EndsAs, HasReplayed, IsPlayed, PrintsReplayed};
-ghost use Rattle.dispatch_room_lists.specs.ReplayedLists.{LosesPlayed, LosesReplayed, failure_of};
+ghost use Rattle.dispatch_room_lists.specs.ReplayedLegs.{StandsBehind, count_in};
+ghost use Rattle.dispatch_room_lists.specs.ReplayedLists.{EndsAs, HasReplayed, HasReplayedList};
+ghost use Rattle.dispatch_room_lists.specs.ReplayedLists.{IsPlayed, LosesList, LosesPlayed};
+ghost use Rattle.dispatch_room_lists.specs.ReplayedLists.{LosesReplayed, PrintsReplayed};
+ghost use Rattle.dispatch_room_lists.specs.ReplayedLists.{failure_of};
 
 use crate::followed_rows::Stage;
-use crate::leg_readers::LegReader;
-use crate::replay_ends::{Noted, conclude};
+use crate::leg_readers::{LegReader, Legs};
+use crate::replay_ends::conclude;
 use crate::replayed_legs::{Course, Played, replay_legs};
 use dispatch_room_cli::exit_status::{Done, Failure, refused};
 use dispatch_room_journal::answer_writers::AnswerWriter;
@@ -39,6 +40,7 @@ pub fn replay_from<S: Alter + Drop, R: Source + Drop, O: Write, E: Write>(
 ) -> TaskResult<Done, S>
     requires outside { conn.in_transaction ≡ false }
     requires reads { R.has_failed reader ≡ false }
+    requires unread { R.has_ended reader ≡ false }
     ensures replayed { IfOk result (λ worked. HasReplayed S.Store conn worked.1
         course.now.replay.now (option_map (list_says sha256_digits Leg) (R.left reader))
         (O.contents out.old) (O.contents out.new) worked.0) }
@@ -47,6 +49,32 @@ pub fn replay_from<S: Alter + Drop, R: Source + Drop, O: Write, E: Write>(
         ⊎ LosesReplayed S.Store conn course.now.replay.now
         (option_map (list_says sha256_digits Leg) (R.left reader)) (O.contents out.old)
         (O.contents out.new) fault) }
+{
+    let mut list = LegReader::new(reader);
+    replay_list(course, conn, &mut list, out, err)
+}
+
+/// Does to the room of a database what a list says of which nothing was read. The list is read to
+/// its end, except where it is replayed to a moment or the replay fails. A record that is cut off
+/// may be left out only where that end was found.
+pub fn replay_list<S: Alter + Drop, L: Legs, O: Write, E: Write>(
+    course: &Course<'_>,
+    conn: Connection<S>,
+    list: &mut L,
+    out: &mut O,
+    err: &mut E,
+) -> TaskResult<Done, S>
+    requires outside { conn.in_transaction ≡ false }
+    requires reads { L.has_failed list.old ≡ false }
+    ensures replayed { IfOk result (λ worked. HasReplayedList S.Store conn worked.1
+        course.now.replay.now (L.left list.old) (O.contents out.old) (O.contents out.new)
+        (L.has_failed list.new) (L.found_end list.new)
+        (StandsBehind L.left L.has_ended L.takes course.now.replay.now) worked.0) }
+    ensures lost { IfErr result (λ fault. (IsUnopened S.Store conn fault
+        × (O.contents out.new ≡ O.contents out.old))
+        ⊎ LosesList S.Store conn course.now.replay.now (L.left list.old) (O.contents out.old)
+        (O.contents out.new) (StandsBehind L.left L.has_ended L.takes course.now.replay.now)
+        fault) }
 {
     let (room, zone) = open_room(course.alloc, conn)?;
     let replay = course.replay;
@@ -57,32 +85,30 @@ pub fn replay_from<S: Alter + Drop, R: Source + Drop, O: Write, E: Write>(
             history: replay.history,
         },
     };
-    let mut has_ended = false;
-    let mut list = LegReader::new(Noted::new(reader, &mut has_ended));
-    let (came, mut room) = replay_in(course, &mut list, stage, out, err)?;
-    drop(list);
-    let done = conclude(&mut room, replay, came, has_ended, out, err);
+    let (came, mut room) = replay_in(course, list, stage, out, err)?;
+    let done = conclude(&mut room, replay, came, list.has_found_end(), out, err);
     Ok((done, room.close()))
 }
 
 // Replays a list in a room, and reports how much that was, or answers each record. The room is
 // given back.
-fn replay_in<R: Source, S: Alter + Drop, O: Write, E: Write>(
+fn replay_in<L: Legs, S: Alter + Drop, O: Write, E: Write>(
     course: &Course<'_>,
-    list: &mut LegReader<R>,
+    list: &mut L,
     stage: Stage<S>,
     out: &mut O,
     err: &mut E,
 ) -> Played<Result<Done, Failure>, S>
-    requires list { (R.has_failed list.old.reader || list.old.passed == most_rows) ≡ false }
+    requires list { L.has_failed list.old ≡ false }
     requires ready { IsReady S.Store stage.room }
     requires set { IsSetting stage.room.plan.zone course.now.replay.now.history stage.setting }
     ensures played { IfOk result (λ it. IsPlayed S.Store course.now.replay.now stage.room
-        stage.setting it.1 (left_of R.left list.old) (O.contents out.old) (O.contents out.new)
-        (R.has_failed list.new.reader || list.new.passed == most_rows) (IsSpent R.left list.new)
-        it.0) }
+        stage.setting it.1 (L.left list.old) (O.contents out.old) (O.contents out.new)
+        (L.has_failed list.new)
+        (StandsBehind L.left L.has_ended L.takes course.now.replay.now) it.0) }
     ensures lost { IfErr result (LosesPlayed S.Store course.now.replay.now stage.room stage.setting
-        (left_of R.left list.old) (O.contents out.old) (O.contents out.new)) }
+        (L.left list.old) (O.contents out.old) (O.contents out.new)
+        (StandsBehind L.left L.has_ended L.takes course.now.replay.now)) }
 {
     if course.replay.answers {
         let mut writer = AnswerWriter::new(out);

@@ -1,5 +1,6 @@
 -- What a journal holds, what of it lasts, and when it has failed.
-use Rattle.std.specs.Prelude.{◌≡◌, ◌⊎◌, ℕ, List, Bool, true, false, Option, None, Some, option_and_then}
+use Rattle.std.specs.Prelude.{◌≡◌, ◌⊎◌, ℕ, List, Bool, true, false, Option, None, Some}
+use Rattle.std.specs.Prelude.{option_and_then}
 use Rattle.std.specs.Prelude.{Err, IsErr, IsNone, Ok, Result}
 use Rattle.dispatch_room_cli.specs.declared.exit_status.Done.{Done}
 use Rattle.dispatch_room_cli.specs.declared.exit_status.Failure.{Failure}
@@ -32,9 +33,9 @@ abbrev pub failed_by : {W : Type 0} → Option (Journal W) → Bool
 failed_by None = false
 failed_by (Some journal) = journal.has_failed
 
--- How a service ends with its journal, where serving ended so. Well: serving did, and that was kept.
--- With a fault: it is that of serving, and nothing more is kept; or serving ended well, that could
--- not be kept, and the journal has failed.
+-- How a service ends with its journal, where serving ended so. Well: serving did, and that was
+-- kept. With a fault: it is that of serving, and nothing more is kept; or serving ended well, that
+-- could not be kept, and the journal has failed.
 abbrev pub EndsAfter : {W : Type 0} → (W → W → Type 0) → Option (Journal W) → Option (Journal W)
     → Result Done Failure → Result Done Failure → Type 0
 EndsAfter ends old new (Ok done) (Ok whole) = (whole ≡ done) × EndsBy ends old new

@@ -1,5 +1,6 @@
 -- What of a room's service is kept where questions are not.
-use Rattle.std.specs.Prelude.{◌≡◌, ◌||◌, ℕ, List, [], ◌∷◌, All, Bool, true, false, bytes_eq, codes, filter}
+use Rattle.std.specs.Prelude.{◌≡◌, ◌||◌, ℕ, List, [], ◌∷◌, All, Bool, true, false, bytes_eq, codes}
+use Rattle.std.specs.Prelude.{filter}
 use Rattle.std.specs.Prelude.{if◌then◌else◌, not}
 use Rattle.room_types.specs.declared.fleet.Terminal.{Terminal}
 use Rattle.room_model.specs.Digests.{DigitsOf}
@@ -14,7 +15,8 @@ use Rattle.room_http.specs.declared.settings.Setting.{Setting}
 use Rattle.dispatch_room_journal.specs.Entries.{IsEntry, texts_of}
 use Rattle.dispatch_room_journal.specs.JournalRecords.{answer_text, message_text}
 use Rattle.dispatch_room_journal.specs.ReplayLaws.{answers_to_messages}
-use Rattle.dispatch_room_journal.specs.ReplayedTurns.{IsReplayed, IsTurn, Turn, answers_of, entries_of}
+use Rattle.dispatch_room_journal.specs.ReplayedTurns.{IsReplayed, IsTurn, Turn, answers_of}
+use Rattle.dispatch_room_journal.specs.ReplayedTurns.{entries_of}
 use Rattle.dispatch_room_journal.specs.Replays.{IsReplay}
 
 -- by this method only questions are asked

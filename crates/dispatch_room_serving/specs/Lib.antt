@@ -22,3 +22,5 @@ pub mod Lists
 pub mod OpenedLists
 -- what a stop leaves of the line before a record
 pub mod LeftRecords
+-- the place of a list that is kept
+pub mod ListPlaces

@@ -1,5 +1,6 @@
 -- The list that a room's service keeps over all its starts, and that it can be replayed.
-use Rattle.std.specs.Prelude.{◌≡◌, ◌⊎◌, ◌≤◌, ℕ, List, [], ◌∷◌, ◌++◌, length, All, Bool, MatchResult, None, Option}
+use Rattle.std.specs.Prelude.{◌≡◌, ◌⊎◌, ◌≤◌, ℕ, List, [], ◌∷◌, ◌++◌, length, All, Bool, MatchResult}
+use Rattle.std.specs.Prelude.{None, Option}
 use Rattle.std.specs.Prelude.{Result, true, Some}
 use Rattle.std.specs.List.{flat_map}
 use Rattle.jiff.specs.Placed.{IsPosixZone}
@@ -27,11 +28,13 @@ use Rattle.dispatch_room_journal.specs.ReplayLaws.{IsExcused, answers_to_message
 use Rattle.dispatch_room_journal.specs.Replays.{IsReplay, Replays}
 use Rattle.dispatch_room_journal.specs.declared.replay_faults.Stopped.{Stopped}
 use Rattle.dispatch_room_journal.specs.declared.replayed_journal.Replayed.{Replayed}
-use Rattle.dispatch_room_journal.specs.ReplayedTurns.{IsBegun, IsReplayed, IsTurn, Turn, answers_of, ends_open}
+use Rattle.dispatch_room_journal.specs.ReplayedTurns.{IsBegun, IsReplayed, IsTurn, Turn, answers_of}
+use Rattle.dispatch_room_journal.specs.ReplayedTurns.{ends_open}
 use Rattle.dispatch_room_journal.specs.ReplayedTurns.{entries_of}
 use Rattle.dispatch_room_serving.specs.Connections.{Conversation, Service}
 use Rattle.dispatch_room_serving.specs.ServedRoom.{IsHead, ServesRoom}
-use Rattle.dispatch_room_serving.specs.Starts.{AreStarts, IsStart, IsTrusted, OfLast, Start, connections, left_by}
+use Rattle.dispatch_room_serving.specs.Starts.{AreStarts, IsStart, IsTrusted, OfLast, Start}
+use Rattle.dispatch_room_serving.specs.Starts.{connections, left_by}
 use Rattle.room_tables_schema.specs.FileConnections.{IsClean}
 
 -- what stands in the list as a start opens it, which are whole records, and at the end of the start

@@ -1,5 +1,6 @@
 -- What the log has of what was asked and answered.
-use Rattle.std.specs.Prelude.{◌≡◌, ℕ, List, [], ◌∷◌, ◌++◌, Bool, true, false, ◌*ℤ◌, pos, Option, Some, None}
+use Rattle.std.specs.Prelude.{◌≡◌, ℕ, List, [], ◌∷◌, ◌++◌, Bool, true, false, ◌*ℤ◌, pos, Option}
+use Rattle.std.specs.Prelude.{Some, None}
 use Rattle.std.specs.Io.KnownBytes.{Appends}
 use Rattle.jiff.specs.Words.{civil_nanos}
 use Rattle.jiff.specs.declared.civil.datetimes.DateTime.{DateTime}

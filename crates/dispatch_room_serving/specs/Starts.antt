@@ -19,7 +19,8 @@ use Rattle.room_tables.specs.RoomsInTables.{Configuration, Stands}
 use Rattle.dispatch_room_cli.specs.declared.exit_status.Done.{Done}
 use Rattle.dispatch_room_cli.specs.declared.exit_status.Failure.{Failure}
 use Rattle.dispatch_room_tasks.specs.OpenedRoom.{OpensRoom}
-use Rattle.dispatch_room_serving.specs.Connections.{AreAttended, AreJoined, AreKept, Conversation, GoOnBefore}
+use Rattle.dispatch_room_serving.specs.Connections.{AreAttended, AreJoined, AreKept, Conversation}
+use Rattle.dispatch_room_serving.specs.Connections.{GoOnBefore}
 use Rattle.dispatch_room_serving.specs.Connections.{HasServed, Service, connected, together}
 use Rattle.dispatch_room_serving.specs.ServedRoom.{Looks, LooksOnly, ServesRoom}
 use Rattle.room_tables_schema.specs.FileConnections.{IsClean}

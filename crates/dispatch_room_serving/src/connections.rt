@@ -1,7 +1,8 @@
 //! The connections of a room, served one after another.
-ghost use Rattle.std.specs.Prelude.{◌≡◌};
+ghost use Rattle.std.specs.Prelude.{◌≡◌, ◌&&◌, None};
 ghost use Rattle.room_store.specs.StoredRoom.{IsReady};
 ghost use Rattle.dispatch_room_serving.specs.Connections.{AttendsNext, Serves, done_or, fault_by};
+ghost use Rattle.dispatch_room_serving.specs.ListPlaces.{has_left};
 
 use crate::callers::Callers;
 use crate::list_places::{Finding, standing};
@@ -18,7 +19,8 @@ use sqlite::Alter;
 pub const MOST_READS: u32 = 100_000;
 
 /// Serves a room to so many calls, one after another, each as `serve_next` does. Where it may end
-/// before, it does as soon as a look before a call finds the list no more as it was.
+/// before, it does as soon as a look before a call finds the list moved or truncated, and only
+/// then.
 pub fn serve_each<S: Alter, P: Callers, C: Clock, N: Observer>(
     handler: &Handler,
     callers: &mut P,
@@ -50,8 +52,9 @@ pub fn serve_each<S: Alter, P: Callers, C: Clock, N: Observer>(
             store = room.new;
           };
         })
-        part.old.terms.renews part.old.terms.connections result }
+        (part.old.terms.renews && has_left part.new.place) part.old.terms.connections result }
     ensures prints { P.prints callers.new ≡ P.prints callers.old }
+    ensures none { part.old.place ≡ None → part.new.place ≡ None }
 {
     let terms = part.terms;
     for _connection in 0..terms.connections {

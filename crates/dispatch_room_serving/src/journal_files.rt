@@ -1,5 +1,7 @@
 //! The file of a journal: what a crash cut off is taken away, and entries are put behind the rest.
-ghost use Rattle.std.specs.Prelude.{◌≡◌, ◌↔◌, ◌⊎◌, ◌≤◌, ◌+◌, ℕ, List, false, if◌then◌else◌, length, min, nat_lt};
+ghost use Rattle.std.specs.Prelude.{◌≡◌, ◌↔◌, ◌⊎◌, ◌≤◌, ◌+◌, ℕ, List, false, if◌then◌else◌};
+ghost use Rattle.std.specs.Prelude.{length, min, nat_lt};
+ghost use Rattle.std.specs.Io.KnownBytes.{WriteAppends};
 ghost use Rattle.std.specs.Option.{option_map};
 ghost use Rattle.dispatch_room_journal.specs.Chains.{sha256_digits};
 ghost use Rattle.dispatch_room_journal.specs.PlainTexts.{StandsKnown, plain_of};
@@ -9,7 +11,8 @@ ghost use Rattle.dispatch_room_journal.specs.declared.list_ends.ListEnd.{ListEnd
 ghost use Rattle.dispatch_room_journal.specs.declared.record_headers.TheConstants.{HEADER};
 ghost use Rattle.dispatch_room_journal.specs.declared.list_ends.ListEnd.TheVariants.{Chain};
 ghost use Rattle.dispatch_room_journal.specs.declared.whole_records.ListForm.TheVariants as Form;
-ghost use Rattle.std.specs.Prelude.{Bool, Option, Some, None, IfErr, IfOk, IsTrue, MatchResult, is_some, refl};
+ghost use Rattle.std.specs.Prelude.{Bool, Option, Some, None, IfErr, IfOk, IsTrue, MatchResult};
+ghost use Rattle.std.specs.Prelude.{is_ok, is_some, refl};
 ghost use Rattle.dispatch_room_cli.specs.declared.exit_status.Failure.TheVariants as failure;
 ghost use Rattle.dispatch_room_journal.specs.WholeEntries.{EndsWhole};
 ghost use Rattle.dispatch_room_serving.specs.Journals.{IsUnread};
@@ -375,6 +378,31 @@ impl<'a> SystemFile<'a> {
         }
     }
 
+    // Writes some of the first bytes to a file, and explains why where it can't.
+    fn write_to<F: Write>(&self, file: &mut F, buf: &[u8]) -> Result<usize, Error>
+        ensures bound { IfOk result (λ count. count ≤ length buf.now) }
+        ensures bytes { WriteAppends (F.contents file.old) (F.contents file.new) result buf.now }
+    {
+        let written = file.write(buf);
+        if let Err(error) = &written {
+            self.explain(error);
+        }
+        written
+    }
+
+    // Whether what a file holds lasts after a sync. Explains why where it doesn't.
+    fn lasts(&self, synced: Result<(), Error>) -> bool
+        ensures { result ≡ is_ok synced }
+    {
+        match synced {
+            Ok(()) => true,
+            Err(error) => {
+                self.explain(&error);
+                false
+            }
+        }
+    }
+
     fn explain(&self, error: &Error) {
         let path = self.path;
         self.explainer.explain(format_args!("{path}: {error}"));
@@ -385,11 +413,7 @@ impl<'a> SystemFile<'a> {
 impl<'a> Write for SystemFile<'a> {
     fn write(&mut self, buf: &[u8]) -> Result<usize, Error> {
         let mut file = self.file;
-        let written = file.write(buf);
-        if let Err(error) = &written {
-            self.explain(error);
-        }
-        written
+        self.write_to(&mut file, buf)
     }
 
     fn flush(&mut self) -> Result<(), Error> {
@@ -403,13 +427,7 @@ impl<'a> Lasting for SystemFile<'a> {
     ghost is_known = { false };
 
     fn make_last(&mut self) -> bool {
-        match self.file.sync_data() {
-            Ok(()) => true,
-            Err(error) => {
-                self.explain(&error);
-                false
-            }
-        }
+        self.lasts(self.file.sync_data())
     }
 
     ghost known = { λ _. refl };

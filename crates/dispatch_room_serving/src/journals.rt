@@ -1,6 +1,7 @@
 //! A journal of what is served: each message before the room acts on it, and its answer's status
 //! before the answer is written.
-ghost use Rattle.std.specs.Prelude.{◌≡◌, ◌&&◌, ◌||◌, ℕ, List, [], Bool, false, is_err, Option, IsTrue, OnOk, ⊤};
+ghost use Rattle.std.specs.Prelude.{◌≡◌, ◌&&◌, ◌||◌, ℕ, List, [], Bool, false, is_err, Option};
+ghost use Rattle.std.specs.Prelude.{IsTrue, OnOk, ⊤};
 ghost use Rattle.room_http.specs.Arrivals.{IsBounded};
 ghost use Rattle.room_http.specs.KeptMessages.{KeepsAll, came_of, response_of};
 ghost use Rattle.dispatch_room_journal.specs.Entries.{Entry, IsDigest, IsEntry, message, text_of};
@@ -18,7 +19,7 @@ use room_types::numbers::Moment;
 
 /// Where the entries of a journal are kept.
 pub trait Keeper {
-    // The text of the entries that it keeps, and of rows that stand among them, where that is known.
+    // The text of the entries that it keeps, and of rows among them, where that is known.
     ghost held: { Self → Option (List ℕ) };
 
     // The text of what of them it keeps wherever the machine stops, where that is known.

@@ -1,6 +1,7 @@
 //! What holds of a room's service over all its starts. Each law is the contract of a function that
 //! does nothing.
-ghost use Rattle.dispatch_room_serving.specs.KeptChanges.{ChangesAreTheRoom, QuestionsChangeNothing};
+ghost use Rattle.dispatch_room_serving.specs.KeptChanges.{ChangesAreTheRoom};
+ghost use Rattle.dispatch_room_serving.specs.KeptChanges.{QuestionsChangeNothing};
 ghost use Rattle.dispatch_room_serving.specs.Lists.{
   ListIsReplayed,
   ListIsTheRoom,

@@ -1,4 +1,7 @@
 //! The place of a list that is kept: whether it still stands there.
+ghost use Rattle.std.specs.Prelude.{◌≡◌, ◌≢◌, false, true, IfOk, None};
+ghost use Rattle.dispatch_room_serving.specs.ListPlaces.{finding_of, has_left};
+ghost use Rattle.dispatch_room_serving.specs.declared.list_places.Finding.TheVariants.{There};
 
 use std::alloc::Global;
 use std::fs;
@@ -20,8 +23,8 @@ pub enum Finding {
     Elsewhere,
 }
 
-/// The place of a list: its path, which file of the system was opened there, and how many bytes
-/// that had at the last look.
+/// The place of a list: its path, which file of the system was opened there, how many bytes that
+/// had at the last look, and whether a look found it moved or truncated.
 #[derive(Clone, Copy)]
 pub struct ListPlace<'a> {
     rt: &'a HostRuntime,
@@ -29,11 +32,14 @@ pub struct ListPlace<'a> {
     device: u64,
     inode: u64,
     bytes: u64,
+    has_left: bool,
 }
 
 impl<'a> ListPlace<'a> {
     /// The place at which this file was opened.
-    pub fn new(rt: &'a HostRuntime, path: &'a str, file: &File) -> Result<ListPlace<'a>, Error> {
+    pub fn new(rt: &'a HostRuntime, path: &'a str, file: &File) -> Result<ListPlace<'a>, Error>
+        ensures { IfOk result (λ place. place.has_left ≡ false) }
+    {
         let found = file.metadata()?;
         Ok(ListPlace {
             rt,
@@ -41,19 +47,35 @@ impl<'a> ListPlace<'a> {
             device: found.dev(),
             inode: found.ino(),
             bytes: found.len(),
+            has_left: false,
         })
     }
 
     /// What a look finds there, by one question to the system.
-    pub fn look(&mut self) -> Finding {
+    pub fn look(&mut self) -> Finding
+        ensures left { result ≢ There → self.new.has_left ≡ true }
+        ensures stands { result ≡ There → self.new.has_left ≡ self.old.has_left }
+    {
+        let found = self.find();
+        match found {
+            Finding::There => {}
+            Finding::Truncated | Finding::Elsewhere => self.has_left = true,
+        }
+        found
+    }
+
+    // What a look finds there, without a note that the list was moved or truncated.
+    fn find(&mut self) -> Finding
+        ensures same { self.new.has_left ≡ self.old.has_left }
+    {
         match fs::metadata(self.rt, self.path) {
-            Ok(found) if found.dev() != self.device || found.ino() != self.inode => {
-                Finding::Elsewhere
-            }
-            Ok(found) if found.len() < self.bytes => Finding::Truncated,
             Ok(found) => {
-                self.bytes = found.len();
-                Finding::There
+                let is_same = found.dev() == self.device && found.ino() == self.inode;
+                let finding = finding_of(is_same, found.len(), self.bytes);
+                if finding == Finding::There {
+                    self.bytes = found.len();
+                }
+                finding
             }
             Err(error) if error.kind() == ErrorKind::NotFound => Finding::Elsewhere,
             Err(_) => Finding::There,
@@ -82,8 +104,26 @@ impl<'a> ListPlace<'a> {
     }
 }
 
+// What stands at the place of a list that had `bytes` bytes: its file or another one, of `len`.
+fn finding_of(is_same: bool, len: u64, bytes: u64) -> Finding
+    ensures { result ≡ finding_of is_same len bytes }
+{
+    if !is_same {
+        Finding::Elsewhere
+    } else if len < bytes {
+        Finding::Truncated
+    } else {
+        Finding::There
+    }
+}
+
 /// What a look finds of a list, where one is kept.
-pub fn standing(place: &mut Option<ListPlace<'_>>) -> Finding {
+pub fn standing(place: &mut Option<ListPlace<'_>>) -> Finding
+    ensures left { result ≢ There → has_left place.new ≡ true }
+    ensures stands { result ≡ There → has_left place.new ≡ has_left place.old }
+    ensures unlooked { place.old ≡ None → result ≡ There }
+    ensures none { place.old ≡ None → place.new ≡ None }
+{
     match place {
         Some(place) => place.look(),
         None => Finding::There,

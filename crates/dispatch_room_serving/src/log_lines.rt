@@ -1,5 +1,6 @@
 //! The line of a message in the log.
-ghost use Rattle.std.specs.Prelude.{◌≡◌, ◌<◌, ◌*ℤ◌, pos, Some};
+ghost use Rattle.std.specs.Prelude.{◌≡◌, ◌<◌, ◌*ℤ◌, ◌++◌, Some, codes, pos};
+ghost use Rattle.std.specs.Fmt.{◌++?◌};
 ghost use Rattle.jiff.specs.Words.{civil_nanos};
 ghost use Rattle.dispatch_room_serving.specs.LogLines.{asker_text, path_of, visible, visible_byte};
 ghost use Rattle.dispatch_room_serving.specs.Logs.{asked_by, request_text, text_of};
@@ -96,6 +97,22 @@ impl<'a> fmt::Display for LogLine<'a> {
         write!(f, "{}Z {} ", self.at, self.asker)?;
         write!(f, "{} {} ", self.request, self.status)?;
         write!(f, "{} ms", self.millis)
+    }
+}
+
+/// A message whose body was refused, and what is wrong with it.
+#[derive(Clone, Copy)]
+pub struct RefusedBody<'a, F> {
+    pub request: Request<'a>,
+    pub fault: F,
+}
+
+impl<'a, F: fmt::Display> fmt::Display for RefusedBody<'a, F> {
+    ghost output = { λ body. Some (request_text (asked_by body.request) ++ codes ": ")
+        ++? F.output body.fault };
+
+    fn fmt<W: fmt::Write>(&self, f: &mut fmt::Formatter<W>) -> fmt::Result {
+        write!(f, "{}: {}", self.request, self.fault)
     }
 }
 

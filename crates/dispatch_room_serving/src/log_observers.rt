@@ -4,7 +4,8 @@ ghost use Rattle.room_http.specs.Arrivals.{IsBounded};
 ghost use Rattle.room_http.specs.KeptMessages.{KeepsAll, came_of, response_of};
 ghost use Rattle.dispatch_room_journal.specs.Entries.{IsDigest};
 ghost use Rattle.dispatch_room_journal.specs.JournalRecords.{answer_text, message_text, room_text};
-ghost use Rattle.dispatch_room_serving.specs.Journals.{EndsAfter, EndsBy, PutsBy, failed_by, held_by};
+ghost use Rattle.dispatch_room_serving.specs.Journals.{EndsAfter, EndsBy, PutsBy, failed_by};
+ghost use Rattle.dispatch_room_serving.specs.Journals.{held_by};
 ghost use Rattle.dispatch_room_serving.specs.KeptChanges.{is_kept};
 ghost use Rattle.dispatch_room_serving.specs.LoggedLines.{Logs};
 

@@ -1,14 +1,16 @@
 //! A log of what is served: a line for each message.
-ghost use Rattle.std.specs.Prelude.{◌≡◌, [], None, false};
+ghost use Rattle.std.specs.Prelude.{◌≡◌, ◌-◌, ◌/◌, [], IfSome, None, codes, false};
+ghost use Rattle.std.specs.Duration.{as_nanos};
+ghost use Rattle.dispatch_room_journal.specs.JournalRecords.{status_in};
 ghost use Rattle.dispatch_room_serving.specs.LoggedLines.{Logs, PutsAll, PutsLine, request_of};
 ghost use Rattle.dispatch_room_serving.specs.Logs.{asked_by};
 
-use crate::log_lines::{Asker, LogLine, Request, Visible, path_of, utc};
+use crate::log_lines::{Asker, LogLine, RefusedBody, Request, Visible, path_of, utc};
 use dispatch_room_cli::failure_causes::Explainer;
 use dispatch_room_journal::answer_statuses::status_in;
 use room_http::arrivals::Arrived;
 use room_http::observers::{Asked, Observer, Unkept};
-use room_http_requests::body_faults::fault_of;
+use room_http_requests::body_faults::{BodyFault, fault_of};
 use room_http_requests::router::Routes;
 use room_types::numbers::Moment;
 use std::alloc::Global;
@@ -75,7 +77,7 @@ impl<'a, E: Write, T: Clock> Log<'a, E, T> {
             status: Visible {
                 bytes: status_in(answer),
             },
-            millis: self.now().saturating_sub(self.began).as_millis(),
+            millis: millis_between(self.began, self.now()),
         };
         match format!(in self.alloc; "{line}\n") {
             Ok(line) => put_all(self.out, line.as_bytes()),
@@ -84,18 +86,35 @@ impl<'a, E: Write, T: Clock> Log<'a, E, T> {
     }
 }
 
-// Explains what is wrong with a body that was refused for it: no other message is answered with
-// this status.
-fn explain_body(alloc: Global, explainer: Explainer<'_>, asked: &Asked<'_>, answer: &[u8]) {
+// The milliseconds from one time of a clock to another.
+fn millis_between(began: Duration, now: Duration) -> u128
+    ensures { result ≡ (as_nanos now - as_nanos began) / 1_000_000 }
+{
+    now.saturating_sub(began).as_millis()
+}
+
+// What is wrong with a body that was refused for it: no other message is answered with this status.
+fn refused_body<'a>(
+    alloc: Global,
+    asked: &Asked<'a>,
+    answer: &[u8],
+) -> Option<RefusedBody<'a, BodyFault>>
+    ensures request { IfSome result (λ body.
+        asked_by body.request ≡ request_of asked.now.arrived.now) }
+    ensures status { IfSome result (λ body. status_in answer.now ≡ codes "400") }
+{
     if status_in(answer) == b"400".as_slice()
         && let Arrived::Message { message, .. } = asked.arrived
         && let Ok(routes) = Routes::new(alloc)
         && let Ok(target) = routes.route(true, message.method, message.target)
         && let Some(fault) = fault_of(alloc, &target, message.body)
     {
-        let request = request_of(asked.arrived);
-        explainer.explain(format_args!("{request}: {fault}"));
+        return Some(RefusedBody {
+            request: request_of(asked.arrived),
+            fault,
+        });
     }
+    None
 }
 
 // Writes all the bytes, and returns whether it could. A write that a signal interrupts is tried
@@ -161,7 +180,9 @@ impl<'a, E: Write, T: Clock> Observer for Log<'a, E, T> {
     fn answered(&mut self, asked: &Asked<'_>, answer: &[u8]) {
         if self.goes_on {
             self.goes_on = self.put(asked, answer);
-            explain_body(self.alloc, self.explainer, asked, answer);
+            if let Some(body) = refused_body(self.alloc, asked, answer) {
+                self.explainer.explain(body);
+            }
         }
     }
 }

@@ -1,9 +1,10 @@
 //! The room of a database, opened and served to those who call.
-ghost use Rattle.std.specs.Prelude.{◌≡◌, false, true, IfErr, IfOk, MatchResult, OnErr};
+ghost use Rattle.std.specs.Prelude.{◌≡◌, ◌&&◌, false, true, IfErr, IfOk, MatchResult, None, OnErr};
 ghost use Rattle.dispatch_room_cli.specs.declared.exit_status.Failure.TheVariants.{Journal};
 ghost use Rattle.room_store.specs.StoredRoom.{IsReady};
 ghost use Rattle.dispatch_room_tasks.specs.OpenedRoom.{IsUnopened};
 ghost use Rattle.dispatch_room_serving.specs.Callers.{Prints};
+ghost use Rattle.dispatch_room_serving.specs.ListPlaces.{has_left};
 ghost use Rattle.dispatch_room_serving.specs.ServedRoom.{Announces, Attends, ServesRoom};
 
 use crate::callers::Callers;
@@ -44,7 +45,7 @@ pub struct ServedPart<'a> {
 /// observer, the callers begin, and each is served from the room that the one before left, in the
 /// zone of the room's plan, with the paths of history or without. Where no room is opened, none of
 /// them is heard. It is the same for each observer. Where the terms say so, it ends before, once a
-/// look at the place of the list finds it there no more, or cut.
+/// look at the place of the list finds it moved or truncated, and only then.
 pub fn serve_in<S: Alter + Drop, P: Callers, C: Clock, N: JournalObserver>(
     alloc: Global,
     conn: Connection<S>,
@@ -77,11 +78,12 @@ pub fn serve_in<S: Alter + Drop, P: Callers, C: Clock, N: JournalObserver>(
             store = store;
           };
         })
-        part.old.terms.renews part.old.terms.connections) }
+        (part.old.terms.renews && has_left part.new.place) part.old.terms.connections) }
     ensures prints { IfOk result (λ worked.
         Prints (P.prints callers.old) (P.prints callers.new) worked.0) }
     ensures unheard { OnErr result ((callers.new ≡ callers.old) × (clock.new ≡ clock.old)) }
     ensures fault { IfErr result (IsUnopened S.Store conn) }
+    ensures none { part.old.place ≡ None → part.new.place ≡ None }
 {
     let (mut room, zone) = open_room(alloc, conn)?;
     let setting = Setting {
@@ -137,8 +139,9 @@ fn begin_and_serve<S: Alter, P: Callers, C: Clock, N: JournalObserver>(
             store = room.new;
           };
         })
-        part.old.terms.renews part.old.terms.connections result }
+        (part.old.terms.renews && has_left part.new.place) part.old.terms.connections result }
     ensures prints { Prints (P.prints callers.old) (P.prints callers.new) result }
+    ensures none { part.old.place ≡ None → part.new.place ≡ None }
 {
     if let Err(fault) = announce(room, journal_observer) {
         return Err(fault);

@@ -5,5 +5,7 @@ pub mod SweepLaws
 mod LeaverLaws
 mod HistoryLaws
 mod TurnLaws
+mod PieceTurnLaws
+mod RoundLaws
 mod PauseLaws
 mod LookaheadLaws

@@ -13,11 +13,13 @@ pub mod Pieces
 pub mod CallerHistories
 -- whose turn it is of those who are to be served
 pub mod Turns
+-- who is given at a door, and what becomes of them
+pub mod PieceTurns
 -- those who are parted from
 pub mod Departures
 -- how long it is waited for someone to move
 pub mod Pauses
--- one round of looks
+-- rounds of looks
 pub mod Rounds
 -- what stands ahead in a stream
 pub mod Lookaheads

@@ -1,5 +1,5 @@
 //! The door of a room: its sockets, and the system's set of those that move.
-ghost use Rattle.std.specs.Prelude.{◌≡◌, true};
+ghost use Rattle.std.specs.Prelude.{◌≡◌, false, true};
 ghost use Rattle.dispatch_room_sockets.specs.Lookaheads.{StandsAhead, heard_of};
 
 use crate::entrances::Entrance;
@@ -210,7 +210,9 @@ impl<'a> Door<'a> {
     }
 
     /// Lets the moves of one not be reported any longer.
-    pub(crate) fn release(&self, client: &mut Client) {
+    pub(crate) fn release(&self, client: &mut Client)
+        ensures { client.new ≡ record client.old { is_watched = false } }
+    {
         if client.is_watched {
             let fd = client.stream.as_raw_fd();
             let _ = self.poll.registry().deregister(&mut SourceFd(&fd));

@@ -1,14 +1,13 @@
 //! A connection is served in pieces: each is whole requests, and between two of them others are
 //! served.
 ghost use Rattle.std.specs.Prelude.{◌≡◌, ◌*◌, ◌-◌, ◌≤◌, ◌||◌, if◌then◌else◌, IfOk, IfSome, None, false, is_err, length, true};
-ghost use Rattle.std.specs.Prelude.{◌≢◌, take};
+ghost use Rattle.std.specs.Prelude.{◌≢◌, option_map, take};
 ghost use Rattle.std.specs.Duration.{as_nanos};
 ghost use Rattle.std.specs.Io.KnownBytes.{ReadConsumes, prepend_known};
-ghost use Rattle.dispatch_room_sockets.specs.CallerHistories.{ComesBack};
-ghost use Rattle.dispatch_room_sockets.specs.Departures.{Departs};
 ghost use Rattle.dispatch_room_sockets.specs.Lookaheads.{StandsAhead};
 ghost use Rattle.dispatch_room_sockets.specs.Pieces.{Begins, GivesAhead, given_of};
-ghost use Rattle.dispatch_room_sockets.specs.Turns.{WaitsAgain, is_turn_over};
+ghost use Rattle.dispatch_room_sockets.specs.PieceTurns.{GivesPiece, TakesBack};
+ghost use Rattle.dispatch_room_sockets.specs.Turns.{is_turn_over};
 ghost use Rattle.dispatch_room_sockets.specs.declared.lookaheads.Lookahead.TheVariants.{Nothing};
 ghost use Rattle.room_http_messages.specs.Streams.{found_end, known_count};
 
@@ -283,7 +282,22 @@ impl<'a> Source for PieceReader<'a> {
 /// What is written to on a connection.
 pub type PieceWriter<'a> = SocketWriter<'a, SharedStream, HostRuntime>;
 
-/// The two sides of the next piece, where someone is to be served.
+// What is written to in a turn of one who is to be served, and the moment that it is. Without memory
+// or a clock nobody can be served for a while.
+fn begin_turn(rt: &HostRuntime, client: &Client) -> Option<(SharedStream, Duration)>
+    ensures { IfSome result (λ it. it.0.stream.value ≡ client.now.stream.value) }
+{
+    match (SharedStream::new(&client.stream), rt.monotonic()) {
+        (Ok(stream), Ok(now)) => Some((stream, now)),
+        _ => {
+            thread::sleep(rt, Duration::from_millis(PAUSE));
+            None
+        }
+    }
+}
+
+/// The two sides of the next piece, where someone is to be served: what is written goes to whom it
+/// is read from. Where they can't be made, nobody is given.
 pub fn next_piece<'a>(
     rt: &'a HostRuntime,
     waiting: &mut Waiting<Door<'a>>,
@@ -293,9 +307,17 @@ pub fn next_piece<'a>(
     ensures writer { IfSome result (λ sides. sides.1.failed ≡ false) }
     ensures patient { IfSome result (λ sides. (sides.1.patience ≡ patience)
         × (as_nanos sides.1.last ≡ u64.MAX * 1_000_000_000)) }
+    ensures same_stream { IfSome result (λ sides.
+        sides.1.stream.stream.value ≡ sides.0.kept.caller.stream.value) }
+    ensures given { GivesPiece waiting.old.line.items waiting.new.line.items
+        waiting.old.ready.items waiting.new.ready.items waiting.old.next waiting.new.next
+        (option_map (λ sides. sides.0.kept) result) }
+    ensures times { (waiting.new.keep ≡ waiting.old.keep)
+        × (waiting.new.patience ≡ waiting.old.patience) }
 {
+    waiting.hear();
+    let (stream, now) = begin_turn(rt, &waiting.first()?.caller)?;
     let mut kept = waiting.next()?;
-    let now = rt.monotonic().ok()?;
     let pause = if waiting.is_awaited() {
         Duration::ZERO
     } else {
@@ -304,13 +326,6 @@ pub fn next_piece<'a>(
     let door = waiting.entrance();
     door.release(&mut kept.caller);
     let elsewhere = door.set();
-    let Ok(stream) = SharedStream::new(&kept.caller.stream) else {
-        // Without memory nobody can be served.
-        thread::sleep(rt, Duration::from_millis(PAUSE));
-        kept.caller.refresh();
-        waiting.take_back(kept);
-        return None;
-    };
     // Each answer has its patience: there is no last moment for all of them.
     let last = Duration::from_secs(u64::MAX);
     let writer = SocketWriter::new(stream, rt, patience, last);
@@ -324,22 +339,14 @@ pub fn take_back<'a>(
     reader: PieceReader<'a>,
     writer: PieceWriter<'a>,
 )
-    ensures dropped { (if writer.entry.failed then None else writer.entry.until) ≡ None
-        → waiting.new ≡ waiting.old }
-    ensures back { ComesBack reader.entry.kept.number waiting.old.line.items waiting.new.line.items
-        waiting.old.ready.items waiting.old.next }
-    ensures parted { reader.entry.is_paused ≡ false →
-        waiting.new.line.items ≡ waiting.old.line.items }
-    ensures waits { reader.entry.is_paused ≡ true → waiting.new.leavers ≡ waiting.old.leavers }
-    ensures again { reader.entry.is_paused ≡ true → WaitsAgain waiting.old.keep
-        reader.entry.kept.number (record reader.entry.kept.caller { is_fresh = true })
-        waiting.old.line.items waiting.new.line.items }
-    ensures departs { reader.entry.is_paused ≡ false →
-        IfSome (if writer.entry.failed then None else writer.entry.until) (λ until.
-        Departs (record reader.entry.kept.caller { is_fresh = true }) until
-        waiting.old.leavers.items waiting.new.leavers.items) }
+    ensures taken { TakesBack waiting.old.keep reader.entry.kept reader.entry.is_paused
+        (if writer.entry.failed then None else writer.entry.until) waiting.old.line.items
+        waiting.new.line.items waiting.old.ready.items waiting.old.next
+        waiting.old.leavers.items waiting.new.leavers.items }
     ensures same { (waiting.new.ready.items ≡ waiting.old.ready.items)
         × (waiting.new.next ≡ waiting.old.next) }
+    ensures times { (waiting.new.keep ≡ waiting.old.keep)
+        × (waiting.new.patience ≡ waiting.old.patience) }
 {
     let Some(until) = writer.answered() else {
         return;

@@ -1,4 +1,5 @@
 //! A stream that both sides of a connection hold, and whose reads and writes don't block.
+ghost use Rattle.std.specs.Prelude.{◌≡◌, IfOk};
 
 use crate::readiness::has_room_before;
 use std::alloc::{AllocError, Global};
@@ -19,7 +20,9 @@ pub struct SharedStream {
 
 impl SharedStream {
     /// The stream of a connection.
-    pub(crate) fn new(stream: &Rc<TcpStream>) -> Result<SharedStream, AllocError> {
+    pub(crate) fn new(stream: &Rc<TcpStream>) -> Result<SharedStream, AllocError>
+        ensures { IfOk result (λ it. it.stream.value ≡ stream.now.value) }
+    {
         Ok(SharedStream {
             stream: stream.clone()?,
             wait: Cell::new(None),

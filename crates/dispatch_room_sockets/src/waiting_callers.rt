@@ -48,11 +48,11 @@ pub struct Waiting<E: Entrance> {
 
 impl<E: Entrance> Waiting<E> {
     ghost use Rattle.dispatch_room_sockets.specs.CallerHistories.{AreInTime, ComesBack, GivesNext};
-    ghost use Rattle.dispatch_room_sockets.specs.Rounds.{IsRound};
+    ghost use Rattle.dispatch_room_sockets.specs.Rounds.{HasRounds, IsRound, queues};
     ghost use Rattle.dispatch_room_sockets.specs.Turns.{IsInTurn, WaitsAgain};
     ghost use Rattle.dispatch_room_sockets.specs.Departures.{Departs};
     ghost use Rattle.dispatch_room_sockets.specs.Pauses.{IsLeast, limits};
-    ghost use Rattle.std.specs.Prelude.{[], None, ◌<◌, ◌==◌, not};
+    ghost use Rattle.std.specs.Prelude.{[], ◌∷◌, ◌++◌, ◌≢◌, ◌<◌, ◌==◌, IfSome, IsSome, drop, length, not, option_to_list};
     ghost use Rattle.std.specs.Duration.{as_nanos};
 
     /// Nobody waits yet where they come in. Each may be silent so long, and a request may take so
@@ -84,20 +84,53 @@ impl<E: Entrance> Waiting<E> {
     pub fn next(&mut self) -> Option<Kept<E::Caller>>
         ensures given { GivesNext self.old.line.items self.old.ready.items self.old.next
             self.new.line.items self.new.ready.items self.new.next result }
+        ensures rounds { HasRounds
+            (queues self.old.keep self.old.patience self.old.line.items self.old.ready.items
+            self.old.next (E.came self.old.entrance) (E.heard self.old.entrance))
+            (queues self.new.keep self.new.patience self.new.line.items
+            (option_to_list result ++ self.new.ready.items) self.new.next
+            (E.came self.new.entrance) (E.heard self.new.entrance)) }
         ensures in_turn { IsInTurn self.old.line.items self.new.line.items self.old.ready.items
             self.new.ready.items result }
+        ensures room { IsSome result
+            → length self.new.line.items + length self.new.ready.items < 1024 }
+        ensures times { (self.new.keep ≡ self.old.keep) × (self.new.patience ≡ self.old.patience) }
+    {
+        self.hear();
+        self.ready.pop_front()
+    }
+
+    /// Where nobody is to be served yet, looks at all, and then waits for a while.
+    pub(crate) fn hear(&mut self)
+        ensures rounds { HasRounds
+            (queues self.old.keep self.old.patience self.old.line.items self.old.ready.items
+            self.old.next (E.came self.old.entrance) (E.heard self.old.entrance))
+            (queues self.new.keep self.new.patience self.new.line.items self.new.ready.items
+            self.new.next (E.came self.new.entrance) (E.heard self.new.entrance)) }
+        ensures stay { length self.old.ready.items ≢ 0 → self.new ≡ self.old }
+        ensures times { (self.new.keep ≡ self.old.keep) × (self.new.patience ≡ self.old.patience) }
     {
         if self.ready.is_empty() {
             self.look_around();
         }
-        self.ready.pop_front()
+    }
+
+    /// The next who is to be served, where someone is.
+    pub(crate) fn first(&self) -> Option<&Kept<E::Caller>>
+        ensures first { IfSome result (λ kept. self.now.ready.items
+            ≡ kept.now ∷ drop 1 self.now.ready.items) }
+    {
+        self.ready.front()
     }
 
     // Looks at all once all are watched, and where nobody is to be served by then, waits until
     // someone moves. So who calls is heard beside those who ask without a pause.
     fn look_around(&mut self)
-        ensures given { GivesNext self.old.line.items self.old.ready.items self.old.next
-            self.new.line.items self.new.ready.items self.new.next None }
+        ensures rounds { HasRounds
+            (queues self.old.keep self.old.patience self.old.line.items self.old.ready.items
+            self.old.next (E.came self.old.entrance) (E.heard self.old.entrance))
+            (queues self.new.keep self.new.patience self.new.line.items self.new.ready.items
+            self.new.next (E.came self.new.entrance) (E.heard self.new.entrance)) }
     {
         self.watch_all();
         if self.ready.is_empty() {
@@ -108,8 +141,11 @@ impl<E: Entrance> Waiting<E> {
 
     // Where not all are watched, looks at all as they have moved by now, so that they are.
     fn watch_all(&mut self)
-        ensures given { GivesNext self.old.line.items self.old.ready.items self.old.next
-            self.new.line.items self.new.ready.items self.new.next None }
+        ensures rounds { HasRounds
+            (queues self.old.keep self.old.patience self.old.line.items self.old.ready.items
+            self.old.next (E.came self.old.entrance) (E.heard self.old.entrance))
+            (queues self.new.keep self.new.patience self.new.line.items self.new.ready.items
+            self.new.next (E.came self.new.entrance) (E.heard self.new.entrance)) }
     {
         if !self.are_watched() {
             self.wait(Duration::ZERO);
@@ -137,8 +173,11 @@ impl<E: Entrance> Waiting<E> {
     // Waits until someone moves, at most this long, and looks at all. Closing connections are read
     // before the wait, so that nobody who calls meanwhile waits for them.
     fn wait(&mut self, pause: Duration)
-        ensures given { GivesNext self.old.line.items self.old.ready.items self.old.next
-            self.new.line.items self.new.ready.items self.new.next None }
+        ensures rounds { HasRounds
+            (queues self.old.keep self.old.patience self.old.line.items self.old.ready.items
+            self.old.next (E.came self.old.entrance) (E.heard self.old.entrance))
+            (queues self.new.keep self.new.patience self.new.line.items self.new.ready.items
+            self.new.next (E.came self.new.entrance) (E.heard self.new.entrance)) }
     {
         self.throw_away();
         self.entrance.wait(pause);
@@ -149,8 +188,10 @@ impl<E: Entrance> Waiting<E> {
 
     // Throws away what those have said who are parted from.
     fn throw_away(&mut self)
-        ensures same { (self.new.line.items ≡ self.old.line.items)
-            × (self.new.ready.items ≡ self.old.ready.items) × (self.new.next ≡ self.old.next) }
+        ensures same { queues self.new.keep self.new.patience self.new.line.items self.new.ready.items
+            self.new.next (E.came self.new.entrance) (E.heard self.new.entrance)
+            ≡ queues self.old.keep self.old.patience self.old.line.items self.old.ready.items
+            self.old.next (E.came self.old.entrance) (E.heard self.old.entrance) }
     {
         if let Some(now) = self.entrance.now() {
             throw_away_all(&mut self.entrance, &mut self.leavers, now);
@@ -159,13 +200,12 @@ impl<E: Entrance> Waiting<E> {
 
     // Admits those who call now, and looks at all.
     fn look(&mut self, now: Duration)
-        ensures round { IsRound now self.old.keep self.old.patience self.old.line.items
-            self.new.line.items self.old.ready.items self.new.ready.items self.old.next
-            self.new.next (E.came self.old.entrance) (E.came self.new.entrance)
-            (E.heard self.old.entrance) (E.heard self.new.entrance) }
+        ensures round { IsRound now
+            (queues self.old.keep self.old.patience self.old.line.items self.old.ready.items
+            self.old.next (E.came self.old.entrance) (E.heard self.old.entrance))
+            (queues self.new.keep self.new.patience self.new.line.items self.new.ready.items
+            self.new.next (E.came self.new.entrance) (E.heard self.new.entrance)) }
         ensures in_time { AreInTime now self.new.line.items }
-        ensures given { GivesNext self.old.line.items self.old.ready.items self.old.next
-            self.new.line.items self.new.ready.items self.new.next None }
     {
         let kept = self.line.len() + self.ready.len();
         let most = MOST_KEPT.saturating_sub(kept + self.leavers.len());
@@ -219,18 +259,19 @@ impl<E: Entrance> Waiting<E> {
         !self.ready.is_empty()
     }
 
-    /// Takes one back who was served and may say more. It is silent again from now on.
+    /// Takes one back who was served and may say more: there is room since it was given. It is
+    /// silent again from now on, or where the clock can't be read, from the clock's beginning.
     pub fn take_back(&mut self, kept: Kept<E::Caller>)
-        ensures again { WaitsAgain self.old.keep kept.number kept.caller self.old.line.items
+        ensures again { length self.old.line.items + length self.old.ready.items < 1024
+            → WaitsAgain self.old.keep kept.number kept.caller self.old.line.items
             self.new.line.items }
         ensures back { ComesBack kept.number self.old.line.items self.new.line.items
             self.old.ready.items self.old.next }
         ensures same { (self.new.ready.items ≡ self.old.ready.items)
             × (self.new.leavers ≡ self.old.leavers) × (self.new.next ≡ self.old.next) }
+        ensures times { (self.new.keep ≡ self.old.keep) × (self.new.patience ≡ self.old.patience) }
     {
-        let Some(now) = self.entrance.now() else {
-            return;
-        };
+        let now = self.entrance.now().unwrap_or(Duration::ZERO);
         if self.line.len() + self.ready.len() < MOST_KEPT {
             self.line.push_back_reserved(Kept {
                 number: kept.number,
@@ -248,6 +289,7 @@ impl<E: Entrance> Waiting<E> {
             self.old.ready.items self.old.next }
         ensures same { (self.new.line.items ≡ self.old.line.items)
             × (self.new.ready.items ≡ self.old.ready.items) × (self.new.next ≡ self.old.next) }
+        ensures times { (self.new.keep ≡ self.old.keep) × (self.new.patience ≡ self.old.patience) }
     {
         let Some(now) = self.entrance.now() else {
             return;

@@ -1,6 +1,7 @@
 -- Parts of a room's service, one after another.
-use Rattle.std.proofs.Common.{◌≡◌, refl, ap, inl, inr, sym, subst, [], ◌∷◌, Bool, true, false, Option, Result, Ok, Err}
-use Rattle.std.specs.Prelude.{OnErr, is_err, not}
+use Rattle.std.proofs.Common.{◌≡◌, ◌⊎◌, ◌+◌, arith, length, refl, ap, inl, inr, sym, subst, [], ◌∷◌, Bool, true, false}
+use Rattle.std.proofs.Common.{Option, None, Some, Result, Ok, Err}
+use Rattle.std.specs.Prelude.{IfSome, OnErr, is_err, not}
 use Rattle.sqlite_trees.specs.declared.store.Store.{Ghosts}
 use Rattle.dispatch_room_cli.specs.declared.exit_status.Done.{Done}
 use Rattle.dispatch_room_cli.specs.declared.exit_status.Failure.{Failure}
@@ -10,7 +11,8 @@ use Rattle.dispatch_room_serving.specs.Journals.{EndsAfter}
 use Rattle.dispatch_room_serving.specs.declared.journal_files.OpenedList.{OpenedList}
 use Rattle.dispatch_room_serving.specs.declared.journals.Journal.{Journal}
 use Rattle.dispatch_room_tcp.specs.ServedFiles.{PrintsServing}
-use Rattle.dispatch_room_tcp.specs.ServedParts.{EndsAs, EndsPart, Interval, IsPart, PartsBefore, Watch}
+use Rattle.dispatch_room_tcp.specs.ServedParts.{EndsAs, EndsLast, EndsPart, Interval, IsPart, PartsBefore}
+use Rattle.dispatch_room_tcp.specs.ServedParts.{Watch}
 
 -- where there is a list, a part ends as its service does with it
 pub ends_as : {W : Type 0} (ends : W → W → Type 0) (old new : Option (Journal W))
@@ -44,27 +46,67 @@ pub where_failed : {T E : Type 0} (result : Result T E) (P : Type 0) → P → O
 where_failed (Ok x) P is = tt
 where_failed (Err e) P is = is
 
+pub not_true : (b : Bool) → not b ≡ true → b ≡ false
+not_true true is = absurd (cc)
+not_true false is = refl
+
 pub not_false : (b : Bool) → not b ≡ false → b ≡ true
 not_false true is = refl
 not_false false is = absurd (cc)
 
-module _ {S : Type 0} (g : Ghosts S) (watch : Watch) (terms : Terms) where
-  pub first_before : (first : Interval S) → PartsBefore g watch terms first first
+-- the first list, and one that is opened later
+module _ (is_list : OpenedList → Type 0) (first : Option OpenedList) where
+  opened_as : (list : Option OpenedList) → first ≡ list
+      → IfSome list (λ it. (first ≡ Some it) ⊎ is_list it)
+  opened_as None is = tt
+  opened_as (Some it) is = inl is
+
+  pub first_opened : IfSome first (λ it. (first ≡ Some it) ⊎ is_list it)
+  first_opened = opened_as first refl
+
+  pub later_opened : (next : Option OpenedList) → IfSome next is_list
+      → IfSome next (λ it. (first ≡ Some it) ⊎ is_list it)
+  later_opened None is = tt
+  later_opened (Some it) is = inr is
+
+module _ {S : Type 0} (g : Ghosts S) (watch : Watch) (terms : Terms) (is_list : OpenedList → Type 0) where
+  abbrev pub first_before : (first : Interval S) → PartsBefore g watch terms is_list first first
   first_before first = record { earlier = []; are = refl; only = λ once. refl }
 
-  pub first_part : (list : Option OpenedList) (first last : Interval S) (result : Result Done Failure)
-      → IsPart g watch terms list first last result
-      → EndsPart g watch terms first last result
-  first_part list first last result is =
-      record { at = first; before = first_before first; list = list; is = is }
+  abbrev pub first_part : (list : Option OpenedList) → IfSome list is_list → (first last : Interval S)
+      (result : Result Done Failure) → IsPart g watch terms list first last result
+      → EndsPart g watch terms is_list first last result
+  first_part list listed first last result is =
+      record { at = first; before = first_before first; list = list; listed = listed; is = is }
 
   -- after a part that ended well another begins
   pub next_before : (first now : Interval S) (result : Result Done Failure) → terms.renews ≡ true
-      → is_err result ≡ false → EndsPart g watch terms first now result
-      → PartsBefore g watch terms first now
-  next_before first now (Ok done) renews well part = record {
-    earlier = part.at ∷ part.before.earlier;
-    are = (part.before.are, part.list, done, part.is);
-    only = λ once. absurd (cc);
-  }
+      → is_err result ≡ false → (part : EndsPart g watch terms is_list first now result)
+      → (next : PartsBefore g watch terms is_list first now)
+      × (length next.earlier ≡ length part.before.earlier + 1)
+  next_before first now (Ok done) renews well part = (
+    record {
+      earlier = part.at ∷ part.before.earlier;
+      are = (part.before.are, part.list, part.listed, done, part.is);
+      only = λ once. absurd (cc);
+    },
+    omega arith,
+  )
   next_before first now (Err fault) renews well part = absurd (cc)
+
+  -- where one part is all, it is the last
+  pub ends_once : (list : Option OpenedList) → IfSome list is_list → (first last : Interval S)
+      (result : Result Done Failure) → terms.renews ≡ false
+      → IsPart g watch terms list first last result
+      → EndsLast g watch terms is_list first last result
+  ends_once list listed first last result once is = record {
+    part = first_part list listed first last result is;
+    followed = λ renews well. absurd (cc (once, renews));
+  }
+
+  -- and one that ended badly is
+  pub ends_badly : (first last : Interval S) (result : Result Done Failure)
+      → is_err result ≡ true → EndsPart g watch terms is_list first last result
+      → EndsLast g watch terms is_list first last result
+  ends_badly first last (Ok done) bad part = absurd (cc)
+  ends_badly first last (Err fault) bad part = record { part = part; followed = λ renews well. absurd (cc well) }

@@ -1,26 +1,25 @@
 -- How a room was served: until the service is stopped, or to so many connections.
-use Rattle.std.proofs.Common.{◌≡◌, Bool, IfErr, IfOk, List, Option, Result, inr, is_some, subst, sym, ℕ}
-use Rattle.std.proofs.lemmas.Result.{IfErr-weaker}
+use Rattle.std.proofs.Common.{◌≡◌, Bool, IfErr, IfOk, List, Option, Result, inr, subst, sym, ℕ}
+use Rattle.std.proofs.lemmas.Result.{IfErr-weaker, IfOk-weaker}
 use Rattle.dispatch_room_cli.specs.declared.exit_status.Done.{Done}
 use Rattle.dispatch_room_cli.specs.declared.exit_status.Failure.{Failure}
 use Rattle.dispatch_room_cli.specs.declared.tasks.Service.{Service}
-use Rattle.dispatch_room_tcp.specs.ServedFiles.{FailsBy, FailsServe, IsServe, IsServedBy}
+use Rattle.dispatch_room_serving.specs.declared.journal_files.OpenedList.{OpenedList}
+use Rattle.dispatch_room_tcp.specs.Hosts.{Paths}
+use Rattle.dispatch_room_tcp.specs.ServedFiles.{FailsBy, FailsServe, IsFirstList, IsServe, IsServedBy}
 use Rattle.dispatch_room_tcp.specs.ServedFiles.{is_endless}
 
-module _ (before after : Option (List ℕ)) (result : Result Done Failure) (service : Service)
-    (endless has_journal : Bool) (is : is_endless service ≡ endless)
-    (has : has_journal ≡ is_some service.journal) where
-  pub served : IfOk result (λ done. IsServedBy before after done endless has_journal service)
-      → IfOk result (λ done. IsServe before after done service)
+module _ (paths : Paths) (before after : Option (List ℕ)) (result : Result Done Failure) (file : List ℕ)
+    (service : Service) (endless : Bool) (list : Option OpenedList) (is : is_endless service ≡ endless)
+    (first : IsFirstList paths service list) where
+  pub served : IfOk result (λ done. IsServedBy paths before after done endless list file service)
+      → IfOk result (λ done. IsServe paths before after done file service)
   served by =
-      subst (λ it. IfOk result (λ done. IsServedBy before after done it (is_some service.journal) service))
-      (sym is)
-      (subst (λ it. IfOk result (λ done. IsServedBy before after done endless it service)) has by)
+      IfOk-weaker result _ _
+      (λ done it. (list, first, subst (λ b. IsServedBy paths before after done b list file service) (sym is) it)) by
 
-  pub unserved : IfErr result (λ fault. FailsBy before after fault endless has_journal service)
-      → IfErr result (λ fault. FailsServe before after fault service)
+  pub unserved : IfErr result (λ fault. FailsBy paths before after fault endless list file service)
+      → IfErr result (λ fault. FailsServe paths before after fault file service)
   unserved by =
-      IfErr-weaker result _ _ (λ fault fails. inr fails)
-      (subst (λ it. IfErr result (λ fault. FailsBy before after fault it (is_some service.journal) service))
-      (sym is)
-      (subst (λ it. IfErr result (λ fault. FailsBy before after fault endless it service)) has by))
+      IfErr-weaker result _ _
+      (λ fault it. inr (list, first, subst (λ b. FailsBy paths before after fault b list file service) (sym is) it)) by

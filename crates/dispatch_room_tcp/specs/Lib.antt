@@ -1,3 +1,5 @@
+-- what a command finds at its paths
+pub mod Hosts
 -- how those are parted from who called where something listens
 pub mod Listeners
 -- a room that is served in parts

@@ -1,18 +1,20 @@
 -- The room of a file, served to those who call.
-use Rattle.std.specs.Prelude.{Bool, Err, IfOk, List, None, Ok, Option, Result, Some, false, is_some, true, ℕ, ◌&&◌}
-use Rattle.std.specs.Prelude.{◌*◌, ◌==◌, ◌≡◌, ◌⊎◌}
+use Rattle.std.specs.Prelude.{Bool, Err, IfOk, IfSome, List, None, Ok, Option, Result, Some, false, is_some, true, ℕ}
+use Rattle.std.specs.Prelude.{◌&&◌, ◌*◌, ◌==◌, ◌≡◌, ◌⊎◌}
 use Rattle.std.specs.Duration.{as_nanos}
 use Rattle.sqlite.specs.Held.{Held}
 use Rattle.sqlite_trees.specs.declared.store.Store.{Ghosts}
-use Rattle.dispatch_room_disk.specs.RoomFiles.{Refusing, Saying, IsDoneInFile, IsUndoneInFile}
+use Rattle.dispatch_room_disk.specs.RoomFiles.{Refusing, Saying}
 use Rattle.dispatch_room_cli.specs.declared.exit_status.Done.{Done}
 use Rattle.dispatch_room_cli.specs.declared.exit_status.Failure.{Failure}
 use Rattle.dispatch_room_cli.specs.declared.exit_status.Failure.TheVariants.{Memory, Network}
 use Rattle.dispatch_room_cli.specs.declared.tasks.Journal.{Journal}
 use Rattle.dispatch_room_cli.specs.declared.tasks.Service.{Service}
+use Rattle.dispatch_room_tcp.specs.Hosts.{IsDoneAt, IsUndoneAt, Paths}
 use Rattle.dispatch_room_tcp.specs.ServedParts.{Interval, OpensNoPart, ServesParts, Watch}
 use Rattle.dispatch_room_tcp.specs.declared.serve.Served.{Served}
 use Rattle.dispatch_room_serving.specs.Callers.{Opening, PrintsStart}
+use Rattle.dispatch_room_serving.specs.declared.journal_files.OpenedList.{OpenedList}
 use Rattle.dispatch_room_serving.specs.declared.served_room.Terms.{Terms}
 use Rattle.dispatch_room_cli.specs.declared.exit_status.Failure.TheVariants as failure
 use Rattle.dispatch_room_tcp.specs.declared.listeners.TcpAddress.{TcpAddress}
@@ -64,36 +66,38 @@ PrintsServing is_listening before after (Err fault) =
 
 -- The room was served to so many calls, and a journal kept of it or none. What is known of the
 -- calls is what they are to what listened for them, before and after (`heard`, `written`), where
--- that is given back.
+-- that is given back. Of each list that was opened for it, this is said.
 pub record IsServed {S L : Type 0} (heard : L → Option (List (Option Opening)))
     (written : L → Option (List (Option (List ℕ)))) (g : Ghosts S) (old new : Held S)
-    (watch : Watch) (terms : Terms) (listener : L) (served : Result (Served L) Failure)
-    : Type 0 where
+    (watch : Watch) (terms : Terms) (is_list : OpenedList → Type 0) (listener : L)
+    (served : Result (Served L) Failure) : Type 0 where
   pub hears : Option (List (Option Opening))
   pub writes : Option (List (Option (List ℕ)))
   pub known : IfOk served (λ served. (hears ≡ heard served.listener)
       × (writes ≡ written served.listener))
-  pub is : ServesParts g watch terms (begins_at heard written listener old)
+  pub is : ServesParts g watch terms is_list (begins_at heard written listener old)
       (stands_at hears writes new) (ended served)
 
 abbrev pub Serves : {L : Type 0} → (L → Option (List (Option Opening)))
-    → (L → Option (List (Option (List ℕ)))) → Bool → Watch → Terms → L → Saying (Served L)
-Serves heard written is_listening watch terms listener = λ S g old new before after served.
-    IsServed heard written g old new watch terms listener served
+    → (L → Option (List (Option (List ℕ)))) → Bool → Watch → Terms → (OpenedList → Type 0) → L
+    → Saying (Served L)
+Serves heard written is_listening watch terms is_list listener = λ S g old new before after served.
+    IsServed heard written g old new watch terms is_list listener served
     × PrintsServing is_listening before after (ended served)
 
 -- no room is opened for one of its parts
 abbrev pub OpensNone : {S L : Type 0} → (L → Option (List (Option Opening)))
-    → (L → Option (List (Option (List ℕ)))) → Ghosts S → Held S → Watch → Terms → L → Failure
-    → Type 0
-OpensNone heard written g conn watch terms listener =
-    OpensNoPart g watch terms (begins_at heard written listener conn)
+    → (L → Option (List (Option (List ℕ)))) → Ghosts S → Held S → Watch → Terms
+    → (OpenedList → Type 0) → L → Failure → Type 0
+OpensNone heard written g conn watch terms is_list listener =
+    OpensNoPart g watch terms is_list (begins_at heard written listener conn)
 
 -- or that is so, for the first of them, and nothing is printed, or for a later one
 abbrev pub ServesNone : {L : Type 0} → (L → Option (List (Option Opening)))
-    → (L → Option (List (Option (List ℕ)))) → Bool → Watch → Terms → L → Refusing
-ServesNone heard written is_listening watch terms listener = λ S g conn before after fault.
-    OpensNone heard written g conn watch terms listener fault
+    → (L → Option (List (Option (List ℕ)))) → Bool → Watch → Terms → (OpenedList → Type 0) → L
+    → Refusing
+ServesNone heard written is_listening watch terms is_list listener = λ S g conn before after fault.
+    OpensNone heard written g conn watch terms is_list listener fault
     × ((after ≡ before) ⊎ PrintsStart is_listening before after)
 
 -- whether each message lasts before the room acts on it: where a journal is asked for that is so
@@ -129,55 +133,76 @@ IsAddressOf service listener = (listener.address ≡ service.address)
     × (as_nanos listener.waits.idle ≡ service.idle * 1_000_000)
     × (as_nanos listener.waits.patience ≡ service.patience * 1_000_000_000)
 
--- by what the output held before, what it holds after, and how much is done
-module _ (before after : Option (List ℕ)) (done : Done) where
-  -- a room was served to those who call where this listens
+-- a list is the one at the path of a journal, where one is asked for
+abbrev pub IsListOf : Paths → Option Journal → OpenedList → Type 0
+IsListOf paths None list = ⊥
+IsListOf paths (Some journal) list = paths.list journal.list.now list
+
+-- the list that a room begins to be served with, or one that is opened later for its journal
+abbrev pub IsOpenedFor : Paths → Service → Option OpenedList → OpenedList → Type 0
+IsOpenedFor paths service first list =
+    (first ≡ Some list) ⊎ IsListOf paths service.journal list
+
+-- the list for the journal of a service, where one is asked for
+pub record IsFirstList (paths : Paths) (service : Service) (list : Option OpenedList) : Type 0 where
+  pub asked : is_some list ≡ is_some service.journal
+  pub is : IfSome list (IsListOf paths service.journal)
+
+-- by what there is at paths, what the output held before and holds after, and how much is done
+module _ (paths : Paths) (before after : Option (List ℕ)) (done : Done) where
+  -- the room of a file was served to those who call where this listens
   abbrev pub IsServedAt : {L : Type 0} → (L → Option (List (Option Opening)))
-      → (L → Option (List (Option (List ℕ)))) → Bool → Watch → Terms → L → Type 0
-  IsServedAt {L} heard written is_listening watch terms listener =
+      → (L → Option (List (Option (List ℕ)))) → Bool → Watch → Terms → (OpenedList → Type 0)
+      → L → List ℕ → Type 0
+  IsServedAt {L} heard written is_listening watch terms is_list listener file =
       (served : Served L)
-      × IsDoneInFile (Serves heard written is_listening watch terms listener) before after served
+      × IsDoneAt (paths.kept file) (Serves heard written is_listening watch terms is_list listener)
+      before after served
       × (done ≡ served.done)
 
-  -- A room was served, with a log and a journal as they were asked for: at the door of a service,
-  -- where it goes on until it is stopped, or at its address to as many connections as was asked
-  -- for, one after another.
-  abbrev pub IsServedBy : Bool → Bool → Service → Type 0
-  IsServedBy true has_journal service =
+  -- The room of a file was served, with a log as it was asked for, and a journal in this list or
+  -- none: at the door of a service, where it goes on until it is stopped, or at its address to as
+  -- many connections as was asked for, one after another.
+  abbrev pub IsServedBy : Bool → Option OpenedList → List ℕ → Service → Type 0
+  IsServedBy true list file service =
       (door : TcpDoor) × IsDoorOf service door
-      × IsServedAt (λ _. None) (λ _. None) false (watch_of has_journal service)
-      (terms_of service) door
-  IsServedBy false has_journal service =
+      × IsServedAt (λ _. None) (λ _. None) false (watch_of (is_some list) service)
+      (terms_of service) (IsOpenedFor paths service list) door file
+  IsServedBy false list file service =
       (listener : TcpAddress) × IsAddressOf service listener
-      × IsServedAt (λ _. None) (λ _. None) false (watch_of has_journal service)
-      (terms_of service) listener
+      × IsServedAt (λ _. None) (λ _. None) false (watch_of (is_some list) service)
+      (terms_of service) (IsOpenedFor paths service list) listener file
 
-  abbrev pub IsServe : Service → Type 0
-  IsServe service = IsServedBy (is_endless service) (is_some service.journal) service
+  abbrev pub IsServe : List ℕ → Service → Type 0
+  IsServe file service = (list : Option OpenedList) × IsFirstList paths service list
+      × IsServedBy (is_endless service) list file service
 
--- by what the output held before, what it holds after, and why the task fails
-module _ (before after : Option (List ℕ)) (fault : Failure) where
+-- by what there is at paths, what the output held before and holds after, and why the task fails
+module _ (paths : Paths) (before after : Option (List ℕ)) (fault : Failure) where
   -- this became of the file of the room that was to be served to those who call where this listens
   abbrev pub FailsAt : {L : Type 0} → (L → Option (List (Option Opening)))
-      → (L → Option (List (Option (List ℕ)))) → Bool → Watch → Terms → L → Type 0
-  FailsAt heard written is_listening watch terms listener =
-      IsUndoneInFile (Serves heard written is_listening watch terms listener)
-      (ServesNone heard written is_listening watch terms listener) before after fault
+      → (L → Option (List (Option (List ℕ)))) → Bool → Watch → Terms → (OpenedList → Type 0)
+      → L → List ℕ → Type 0
+  FailsAt heard written is_listening watch terms is_list listener file =
+      IsUndoneAt (paths.kept file)
+      (Serves heard written is_listening watch terms is_list listener)
+      (ServesNone heard written is_listening watch terms is_list listener) before after fault
 
-  abbrev pub FailsBy : Bool → Bool → Service → Type 0
-  FailsBy true has_journal service =
+  abbrev pub FailsBy : Bool → Option OpenedList → List ℕ → Service → Type 0
+  FailsBy true list file service =
       (door : TcpDoor) × IsDoorOf service door
-      × FailsAt (λ _. None) (λ _. None) false (watch_of has_journal service)
-      (terms_of service) door
-  FailsBy false has_journal service =
+      × FailsAt (λ _. None) (λ _. None) false (watch_of (is_some list) service)
+      (terms_of service) (IsOpenedFor paths service list) door file
+  FailsBy false list file service =
       (listener : TcpAddress) × IsAddressOf service listener
-      × FailsAt (λ _. None) (λ _. None) false (watch_of has_journal service)
-      (terms_of service) listener
+      × FailsAt (λ _. None) (λ _. None) false (watch_of (is_some list) service)
+      (terms_of service) (IsOpenedFor paths service list) listener file
 
   -- there is no journal, where one was asked for, and nothing is printed; or this became of the
   -- file of the room that was to be served
-  abbrev pub FailsServe : Service → Type 0
-  FailsServe service =
+  abbrev pub FailsServe : List ℕ → Service → Type 0
+  FailsServe file service =
       ((after ≡ before) × (is_some service.journal ≡ true)
       × ((fault ≡ failure.Memory) ⊎ (fault ≡ failure.Journal)))
-      ⊎ FailsBy (is_endless service) (is_some service.journal) service
+      ⊎ ((list : Option OpenedList) × IsFirstList paths service list
+      × FailsBy (is_endless service) list file service)

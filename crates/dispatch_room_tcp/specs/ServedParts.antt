@@ -1,8 +1,7 @@
 -- A room that is served in parts, one after another: each begins in a new list, at the room that
 -- the one before left in the same database.
 use Rattle.std.specs.Prelude.{◌≡◌, ◌⊎◌, ℕ, List, [], ◌∷◌, Bool, true, false, IfSome, IsOk, Option, None, Result, Ok}
-use Rattle.std.specs.Prelude.{Err}
-use Rattle.std.specs.Prelude.{◌≢◌, is_some}
+use Rattle.std.specs.Prelude.{Err, ◌≢◌, ◌&&◌, is_some, length}
 use Rattle.sqlite.specs.Held.{Held}
 use Rattle.sqlite_trees.specs.declared.store.Store.{Ghosts}
 use Rattle.dispatch_room_cli.specs.declared.exit_status.Done.{Done}
@@ -19,7 +18,7 @@ use Rattle.dispatch_room_serving.specs.declared.journal_files.SystemFile.{System
 use Rattle.dispatch_room_serving.specs.declared.journal_files.WrittenFile.{WrittenFile}
 use Rattle.dispatch_room_serving.specs.declared.journals.Journal.{Journal}
 use Rattle.dispatch_room_serving.specs.declared.list_places.Finding.{Finding}
-use Rattle.dispatch_room_serving.specs.declared.list_places.Finding.TheVariants.{Truncated}
+use Rattle.dispatch_room_serving.specs.declared.list_places.Finding.TheVariants.{There, Truncated}
 use Rattle.dispatch_room_serving.specs.declared.served_room.Terms.{Terms}
 use Rattle.dispatch_room_tasks.specs.OpenedRoom.{IsUnopened}
 
@@ -69,7 +68,8 @@ pub record AreOf (watch : Watch) (list : Option OpenedList) (logs : Bool)
 module _ {S : Type 0} (g : Ghosts S) (watch : Watch) (terms : Terms) where
   -- A part was served, which is a start, with a log and a journal in this list or none, and ended
   -- so. Once it was served, and then only, an end is put in the journal, unless its list was
-  -- truncated. What the list holds no contract can say.
+  -- truncated. What the list holds, and what a look finds at its place, no contract can say, but
+  -- that there is a look only where a part may end before all calls came.
   pub record IsPart (list : Option OpenedList) (old new : Interval S)
       (result : Result Done Failure) : Type 0 where
     pub logs : Bool
@@ -80,12 +80,18 @@ module _ {S : Type 0} (g : Ghosts S) (watch : Watch) (terms : Terms) where
     pub are : AreOf watch list logs journal
     pub served : Result Done Failure
     pub ends : EndsAs watch.has_journal served result
+    -- whether a look had found its list moved or truncated as serving ended: only then may that
+    -- have been before all calls came
+    pub has_left : Bool
+    -- what the last look found: where a part may not end before all calls came, nothing is looked
+    -- at, so its list counts as there, and is given its end
     pub found : Finding
+    pub once : terms.renews ≡ false → found ≡ There
     pub ended : watch.has_journal ≡ true → found ≢ Truncated
         → EndsAfter puts_end later last served result
     pub cut : found ≡ Truncated → (result ≡ served) × (last ≡ later)
-    pub is : ServesRoom g watch.has_journal room_text message_text answer_text terms.history old.conn
-        (λ store. record {
+    pub is : ServesRoom g watch.has_journal room_text message_text answer_text terms.history
+        old.conn (λ store. record {
           heard = old.heard;
           written = old.written;
           stage = record {
@@ -105,14 +111,17 @@ module _ {S : Type 0} (g : Ghosts S) (watch : Watch) (terms : Terms) where
             store = store;
           };
         })
-        terms.renews terms.connections (served, new.conn)
+        (terms.renews && has_left) terms.connections (served, new.conn)
 
+-- by what is said of each list that is opened for a part
+module _ {S : Type 0} (g : Ghosts S) (watch : Watch) (terms : Terms)
+    (is_list : OpenedList → Type 0) where
   -- these parts ended well, the last of them first: each began where the one before ended
   abbrev pub AreParts : List (Interval S) → Interval S → Interval S → Type 0
   AreParts [] first now = now ≡ first
   AreParts (at ∷ earlier) first now =
-      AreParts earlier first at × (list : Option OpenedList) × (done : Done)
-      × IsPart list at now (Ok done)
+      AreParts earlier first at × (list : Option OpenedList) × IfSome list is_list × (done : Done)
+      × IsPart g watch terms list at now (Ok done)
 
   -- before a part there were others only where a part may end before all calls came
   pub record PartsBefore (first at : Interval S) : Type 0 where
@@ -120,12 +129,20 @@ module _ {S : Type 0} (g : Ghosts S) (watch : Watch) (terms : Terms) where
     pub are : AreParts earlier first at
     pub only : terms.renews ≡ false → earlier ≡ []
 
-  -- the last part ended so
+  -- a part ended so, after others
   pub record EndsPart (first last : Interval S) (result : Result Done Failure) : Type 0 where
     pub at : Interval S
     pub before : PartsBefore first at
     pub list : Option OpenedList
-    pub is : IsPart list at last result
+    pub listed : IfSome list is_list
+    pub is : IsPart g watch terms list at last result
+
+  -- The last part ended so. Where a part may end before all calls came, another follows each that
+  -- ended well: so none that did is the last, but the last that a number of 64 bits can count.
+  pub record EndsLast (first last : Interval S) (result : Result Done Failure) : Type 0 where
+    pub part : EndsPart first last result
+    pub followed : terms.renews ≡ true → IsOk result
+        → length part.before.earlier ≡ 18446744073709551614
 
   -- no list was opened for a further part
   pub record HasNoList (first last : Interval S) (result : Result Done Failure) : Type 0 where
@@ -137,7 +154,7 @@ module _ {S : Type 0} (g : Ghosts S) (watch : Watch) (terms : Terms) where
 
   -- the room was served in parts, and so that ended
   abbrev pub ServesParts : Interval S → Interval S → Result Done Failure → Type 0
-  ServesParts first last result = EndsPart first last result ⊎ HasNoList first last result
+  ServesParts first last result = EndsLast first last result ⊎ HasNoList first last result
 
   -- no room was opened for a part
   pub record OpensNoPart (first : Interval S) (fault : Failure) : Type 0 where

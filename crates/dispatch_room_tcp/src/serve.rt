@@ -1,24 +1,25 @@
 //! `serve`: a room is served over TCP, to so many connections one after another, or to all who
 //! call, until it is stopped. Then it may be served in parts, each with a list of its own.
-ghost use Rattle.std.specs.Prelude.{◌≡◌, ◌≢◌, ◌⊎◌, ◌*◌, Option, false, true, is_some, IfErr, IfOk, IfSome, OnErr};
+ghost use Rattle.std.specs.Prelude.{◌≡◌, ◌≢◌, ◌⊎◌, ◌*◌, Option, None, false, true, is_some, IfErr, IfOk, IfSome, OnErr};
 ghost use Rattle.std.specs.Duration.{as_nanos};
 ghost use Rattle.dispatch_room_cli.specs.declared.exit_status.Failure.TheVariants as failure;
 ghost use Rattle.dispatch_room_tasks.specs.OpenedRoom.{IsUnopened};
 ghost use Rattle.dispatch_room_serving.specs.Callers.{MayCall, Prints, PrintsStart};
 ghost use Rattle.dispatch_room_serving.specs.Journals.{EndsAfter, failed_by};
 ghost use Rattle.dispatch_room_serving.specs.declared.list_places.Finding.TheVariants.{Truncated};
-ghost use Rattle.dispatch_room_tcp.specs.ServedFiles.{FailsAt, FailsBy, FailsServe, IsAddressOf, IsDoorOf, IsServe, IsServed, IsServedAt, IsServedBy};
+ghost use Rattle.dispatch_room_tcp.specs.ServedFiles.{FailsAt, FailsBy, FailsServe, IsAddressOf, IsDoorOf, IsFirstList, IsListOf, IsServe};
+ghost use Rattle.dispatch_room_tcp.specs.ServedFiles.{IsOpenedFor, IsServed, IsServedAt, IsServedBy};
 ghost use Rattle.dispatch_room_tcp.specs.ServedFiles.{OpensNone, PrintsServing};
 ghost use Rattle.dispatch_room_tcp.specs.ServedFiles.{Serves, ServesNone, ended, is_endless, is_synced_by, keeps_questions_by, terms_of, watch_of};
 ghost use Rattle.dispatch_room_tcp.specs.ServedParts.{EndsAs, GoesOn, IsPart, OpensNoPart, ServesParts};
 
-use crate::hosts::Host;
+use crate::hosts::{Host, Machine};
 use crate::listeners::{Listener, TcpAddress};
 use crate::tcp_callers::TcpCallers;
 use crate::tcp_doors::TcpDoor;
 use dispatch_room_cli::exit_status::{Done, Failure};
 use dispatch_room_cli::failure_causes::Explainer;
-use dispatch_room_cli::tasks::{self, Service};
+use dispatch_room_cli::tasks::Service;
 use dispatch_room_disk::room_files::{RoomFile, RoomTask};
 use dispatch_room_serving::callers::Callers;
 use dispatch_room_serving::journal_files::{JournalFile, OpenedList, SystemFile};
@@ -40,21 +41,22 @@ use std::time::{self, Duration};
 /// pieces, so that nobody waits for a silent caller. A connection that ends badly ends it only for
 /// lack of memory, where the journal can't be kept, and where the room's file failed so that it has
 /// to be opened again.
-pub fn serve_file<O: Write, E: Write>(
-    host: Host<'_>,
+pub fn serve_file<M: Machine, O: Write, E: Write>(
+    machine: M,
     file: &str,
     service: Service<'_>,
     out: &mut O,
     err: &mut E,
 ) -> Result<Done, Failure>
-    ensures done { IfOk result (λ done.
-        IsServe (O.contents out.old) (O.contents out.new) done service.entry) }
-    ensures undone { IfErr result (λ fault.
-        FailsServe (O.contents out.old) (O.contents out.new) fault service.entry) }
+    ensures done { IfOk result (λ done. IsServe (M.paths machine) (O.contents out.old)
+        (O.contents out.new) done file.now service.entry) }
+    ensures undone { IfErr result (λ fault. FailsServe (M.paths machine) (O.contents out.old)
+        (O.contents out.new) fault file.now service.entry) }
 {
-    let journal = journal_file(host, &service.journal, err)?;
+    let journal = journal_file(machine, &service, err)?;
     let run = ServiceRun {
-        host,
+        machine,
+        host: machine.host(),
         service: &service,
     };
     if is_endless(&service) {
@@ -64,9 +66,10 @@ pub fn serve_file<O: Write, E: Write>(
     }
 }
 
-// How a room is served: the service, and what it runs on.
+// How a room is served: the service, and the machine that it runs on.
 #[derive(Clone, Copy)]
-struct ServiceRun<'a> {
+struct ServiceRun<'a, M> {
+    machine: M,
     host: Host<'a>,
     service: &'a Service<'a>,
 }
@@ -80,23 +83,23 @@ fn is_endless(service: &Service<'_>) -> bool
 }
 
 // Serves the room of a file at a door, until it is stopped.
-fn serve_at_door<O: Write, E: Write>(
+fn serve_at_door<M: Machine, O: Write, E: Write>(
     file: &str,
-    run: &ServiceRun<'_>,
+    run: &ServiceRun<'_, M>,
     journal: Option<OpenedList>,
     out: &mut O,
     err: &mut E,
 ) -> Result<Done, Failure>
-    ensures done { IfOk result (λ done. IsServedBy (O.contents out.old) (O.contents out.new) done
-        true (is_some journal) run.now.service.now) }
-    ensures undone { IfErr result (λ fault. FailsBy (O.contents out.old) (O.contents out.new) fault
-        true (is_some journal) run.now.service.now) }
+    ensures done { IfOk result (λ done. IsServedBy (M.paths run.now.machine) (O.contents out.old)
+        (O.contents out.new) done true journal file.now run.now.service.now) }
+    ensures undone { IfErr result (λ fault. FailsBy (M.paths run.now.machine) (O.contents out.old)
+        (O.contents out.new) fault true journal file.now run.now.service.now) }
 {
     serve_at(file, run, journal, door_of(file, run), out, err)
 }
 
 // The door of a service, at which the room of a file is served.
-fn door_of<'a>(file: &'a str, run: &ServiceRun<'a>) -> TcpDoor<'a>
+fn door_of<'a, M>(file: &'a str, run: &ServiceRun<'a, M>) -> TcpDoor<'a>
     ensures door { IsDoorOf run.now.service.now result }
     ensures deaf { is_some result.waiting ≡ false }
 {
@@ -106,23 +109,23 @@ fn door_of<'a>(file: &'a str, run: &ServiceRun<'a>) -> TcpDoor<'a>
 }
 
 // Serves the room of a file to as many connections as its service says, one after another.
-fn serve_at_address<O: Write, E: Write>(
+fn serve_at_address<M: Machine, O: Write, E: Write>(
     file: &str,
-    run: &ServiceRun<'_>,
+    run: &ServiceRun<'_, M>,
     journal: Option<OpenedList>,
     out: &mut O,
     err: &mut E,
 ) -> Result<Done, Failure>
-    ensures done { IfOk result (λ done. IsServedBy (O.contents out.old) (O.contents out.new) done
-        false (is_some journal) run.now.service.now) }
-    ensures undone { IfErr result (λ fault. FailsBy (O.contents out.old) (O.contents out.new) fault
-        false (is_some journal) run.now.service.now) }
+    ensures done { IfOk result (λ done. IsServedBy (M.paths run.now.machine) (O.contents out.old)
+        (O.contents out.new) done false journal file.now run.now.service.now) }
+    ensures undone { IfErr result (λ fault. FailsBy (M.paths run.now.machine) (O.contents out.old)
+        (O.contents out.new) fault false journal file.now run.now.service.now) }
 {
     serve_at(file, run, journal, address_of(run), out, err)
 }
 
 // The address of a service that serves so many connections.
-fn address_of<'a>(run: &ServiceRun<'a>) -> TcpAddress<'a>
+fn address_of<'a, M>(run: &ServiceRun<'a, M>) -> TcpAddress<'a>
     ensures address { IsAddressOf run.now.service.now result }
     ensures deaf { is_some result.listener ≡ false }
 {
@@ -135,20 +138,22 @@ fn address_of<'a>(run: &ServiceRun<'a>) -> TcpAddress<'a>
 }
 
 // Serves the room of a file to those who call where something listens.
-fn serve_at<L: Listener, O: Write, E: Write>(
+fn serve_at<M: Machine, L: Listener, O: Write, E: Write>(
     file: &str,
-    run: &ServiceRun<'_>,
+    run: &ServiceRun<'_, M>,
     journal: Option<OpenedList>,
     listener: L,
     out: &mut O,
     err: &mut E,
 ) -> Result<Done, Failure>
-    ensures done { IfOk result (λ done. IsServedAt (O.contents out.old) (O.contents out.new) done
-        L.heard L.written (L.is_listening listener)
-        (watch_of (is_some journal) run.now.service.now) (terms_of run.now.service.now) listener) }
-    ensures undone { IfErr result (λ fault. FailsAt (O.contents out.old) (O.contents out.new) fault
-        L.heard L.written (L.is_listening listener)
-        (watch_of (is_some journal) run.now.service.now) (terms_of run.now.service.now) listener) }
+    ensures done { IfOk result (λ done. IsServedAt (M.paths run.now.machine) (O.contents out.old)
+        (O.contents out.new) done L.heard L.written (L.is_listening listener)
+        (watch_of (is_some journal) run.now.service.now) (terms_of run.now.service.now)
+        (IsOpenedFor (M.paths run.now.machine) run.now.service.now journal) listener file.now) }
+    ensures undone { IfErr result (λ fault. FailsAt (M.paths run.now.machine) (O.contents out.old)
+        (O.contents out.new) fault L.heard L.written (L.is_listening listener)
+        (watch_of (is_some journal) run.now.service.now) (terms_of run.now.service.now)
+        (IsOpenedFor (M.paths run.now.machine) run.now.service.now journal) listener file.now) }
 {
     let serving = Serving {
         run,
@@ -156,24 +161,24 @@ fn serve_at<L: Listener, O: Write, E: Write>(
         listener,
         err,
     };
-    match run.host.in_file(RoomFile::Kept(file), serving, out) {
+    match run.machine.in_file(RoomFile::Kept(file), serving, out) {
         Ok(served) => Ok(served.done),
         Err(fault) => Err(fault),
     }
 }
 
 // The file of a journal, where one is wanted.
-fn journal_file<E: Write>(
-    host: Host<'_>,
-    journal: &Option<tasks::Journal<'_>>,
+fn journal_file<M: Machine, E: Write>(
+    machine: M,
+    service: &Service<'_>,
     err: &mut E,
 ) -> Result<Option<OpenedList>, Failure>
-    ensures file { IfOk result (λ file. is_some file ≡ is_some journal.now) }
-    ensures wanted { OnErr result (is_some journal.now ≡ true) }
+    ensures list { IfOk result (IsFirstList (M.paths machine) service.now) }
+    ensures wanted { OnErr result (is_some service.now.journal ≡ true) }
     ensures fault { IfErr result (λ fault. (fault ≡ failure.Memory) ⊎ (fault ≡ failure.Journal)) }
 {
-    match journal {
-        Some(journal) => Ok(Some(host.open_journal(journal.list, err)?)),
+    match &service.journal {
+        Some(journal) => Ok(Some(machine.open_journal(journal.list, err)?)),
         None => Ok(None),
     }
 }
@@ -187,23 +192,27 @@ pub struct Served<L> {
 
 // The room is served to those who call where something listens.
 #[derive(Drop)]
-struct Serving<'a, L, E> {
-    run: &'a ServiceRun<'a>,
+struct Serving<'a, M, L, E> {
+    run: &'a ServiceRun<'a, M>,
     list: Option<OpenedList>,
     listener: L,
     err: &'a mut E,
 }
 
-impl<'a, L: Listener, E: Write> RoomTask for Serving<'a, L, E> {
+impl<'a, M: Machine, L: Listener, E: Write> RoomTask for Serving<'a, M, L, E> {
     type Done = Served<L>;
 
     ghost says = { λ work. Serves L.heard L.written (L.is_listening work.listener)
         (watch_of (is_some work.list) work.run.now.service.now)
-        (terms_of work.run.now.service.now) work.listener };
+        (terms_of work.run.now.service.now)
+        (IsOpenedFor (M.paths work.run.now.machine) work.run.now.service.now work.list)
+        work.listener };
 
     ghost refuses = { λ work. ServesNone L.heard L.written (L.is_listening work.listener)
         (watch_of (is_some work.list) work.run.now.service.now)
-        (terms_of work.run.now.service.now) work.listener };
+        (terms_of work.run.now.service.now)
+        (IsOpenedFor (M.paths work.run.now.machine) work.run.now.service.now work.list)
+        work.listener };
 
     fn run<S: Alter + Drop, O: Write>(
         self,
@@ -222,9 +231,9 @@ impl<'a, L: Listener, E: Write> RoomTask for Serving<'a, L, E> {
 }
 
 // Serves the room of a database to those who call where something listens, which is given back.
-fn serve_listened<S: Alter + Drop, L: Listener, O: Write, E: Write>(
+fn serve_listened<M: Machine, S: Alter + Drop, L: Listener, O: Write, E: Write>(
     conn: Connection<S>,
-    run: &ServiceRun<'_>,
+    run: &ServiceRun<'_, M>,
     list: Option<OpenedList>,
     listener: L,
     out: &mut O,
@@ -233,11 +242,12 @@ fn serve_listened<S: Alter + Drop, L: Listener, O: Write, E: Write>(
     requires outside { conn.in_transaction ≡ false }
     ensures served { IfOk result (λ worked. IsServed L.heard L.written S.Store conn worked.1
         (watch_of (is_some list) run.now.service.now) (terms_of run.now.service.now)
-        listener worked.0) }
+        (IsOpenedFor (M.paths run.now.machine) run.now.service.now list) listener worked.0) }
     ensures printed { IfOk result (λ worked. PrintsServing (L.is_listening listener)
         (O.contents out.old) (O.contents out.new) (ended worked.0)) }
     ensures fault { IfErr result (OpensNone L.heard L.written S.Store conn
-        (watch_of (is_some list) run.now.service.now) (terms_of run.now.service.now) listener) }
+        (watch_of (is_some list) run.now.service.now) (terms_of run.now.service.now)
+        (IsOpenedFor (M.paths run.now.machine) run.now.service.now list) listener) }
     ensures unopened { OnErr result ((O.contents out.new ≡ O.contents out.old)
         ⊎ PrintsStart (L.is_listening listener) (O.contents out.old) (O.contents out.new)) }
 {
@@ -262,9 +272,9 @@ fn given_back<L: Drop>(done: Result<Done, Failure>, listener: L) -> Result<Serve
 
 // Serves the room of a database to those who call, in parts where the service says so: as often as
 // one ends well, the next begins in a new list.
-fn serve_parts<S: Alter + Drop, P: Callers, C: Clock, E: Write>(
+fn serve_parts<M: Machine, S: Alter + Drop, P: Callers, C: Clock, E: Write>(
     conn: Connection<S>,
-    run: &ServiceRun<'_>,
+    run: &ServiceRun<'_, M>,
     list: Option<OpenedList>,
     callers: &mut P,
     clock: &mut C,
@@ -273,6 +283,7 @@ fn serve_parts<S: Alter + Drop, P: Callers, C: Clock, E: Write>(
     requires outside { conn.in_transaction ≡ false }
     ensures served { IfOk result (λ worked. ServesParts S.Store
         (watch_of (is_some list) run.now.service.now) (terms_of run.now.service.now)
+        (IsOpenedFor (M.paths run.now.machine) run.now.service.now list)
         (record {
           conn = conn;
           heard = P.heard callers.old;
@@ -290,6 +301,7 @@ fn serve_parts<S: Alter + Drop, P: Callers, C: Clock, E: Write>(
         Prints (P.prints callers.old) (P.prints callers.new) worked.0) }
     ensures fault { IfErr result (OpensNoPart S.Store
         (watch_of (is_some list) run.now.service.now) (terms_of run.now.service.now)
+        (IsOpenedFor (M.paths run.now.machine) run.now.service.now list)
         (record {
           conn = conn;
           heard = P.heard callers.old;
@@ -322,33 +334,32 @@ fn serve_parts<S: Alter + Drop, P: Callers, C: Clock, E: Write>(
 }
 
 // Lets the list of a part go, and opens that of the next, where there was one.
-fn next_list<E: Write>(
-    run: &ServiceRun<'_>,
+fn next_list<M: Machine, E: Write>(
+    run: &ServiceRun<'_, M>,
     list: Option<OpenedList>,
     err: &mut E,
 ) -> Result<Option<OpenedList>, Failure>
-    ensures list { IfOk result (λ next. is_some next ≡ is_some list) }
+    ensures listed { IfOk result (λ next. is_some next ≡ is_some list) }
+    ensures list { IfOk result (λ next. IfSome next
+        (IsListOf (M.paths run.now.machine) run.now.service.now.journal)) }
     ensures fault { IfErr result (λ fault. (fault ≡ failure.Memory) ⊎ (fault ≡ failure.Journal)) }
 {
     let Some(last) = list else {
         return Ok(None);
     };
     drop(last);
-    match &run.service.journal {
-        Some(journal) => {
-            let next = run.host.open_journal(journal.list, err)?;
-            Ok(Some(next))
-        }
+    match journal_file(run.machine, run.service, err)? {
+        Some(next) => Ok(Some(next)),
         None => Err(Failure::Journal),
     }
 }
 
 // Serves the room of a database to those who call, so many as the service says, or until its list
-// stands there no more, and keeps a journal where there is a list for it. Where that ended well,
+// is moved or truncated, and keeps a journal where there is a list for it. Where that ended well,
 // the list says so; where it can't, the part ends as a failure of the journal.
-fn serve_part<S: Alter + Drop, P: Callers, C: Clock, E: Write>(
+fn serve_part<M: Machine, S: Alter + Drop, P: Callers, C: Clock, E: Write>(
     conn: Connection<S>,
-    run: &ServiceRun<'_>,
+    run: &ServiceRun<'_, M>,
     list: &Option<OpenedList>,
     callers: &mut P,
     clock: &mut C,
@@ -435,11 +446,13 @@ fn end_part<E: Write, T: time::Clock, W: Keeper>(
 
 // The place of the list of a service that may be served in parts, where the system says which file
 // stands there.
-fn place_of<'a>(
-    run: &ServiceRun<'a>,
+fn place_of<'a, M>(
+    run: &ServiceRun<'a, M>,
     list: &Option<OpenedList>,
     renews: bool,
-) -> Option<ListPlace<'a>> {
+) -> Option<ListPlace<'a>>
+    ensures { renews ≡ false → result ≡ None }
+{
     match (list, run.service.journal) {
         (Some(list), Some(journal)) if renews => {
             ListPlace::new(run.host.rt, journal.list, &list.file).ok()

@@ -1,7 +1,8 @@
 //! A door at which nobody waits for a silent caller: each connection is served in pieces, and
 //! between two of them it waits among the others.
-ghost use Rattle.std.specs.Prelude.{◌≡◌, IfErr, IfOk, IfSome, None, OnErr, OnOk, false, is_some, true};
+ghost use Rattle.std.specs.Prelude.{◌≡◌, if◌then◌else◌, IfErr, IfOk, IfSome, None, OnErr, OnOk, false, is_some, option_map, true};
 ghost use Rattle.dispatch_room_cli.specs.declared.exit_status.Failure.TheVariants.{Network};
+ghost use Rattle.dispatch_room_sockets.specs.PieceTurns.{GivesPiece, TakesBack};
 
 use crate::hosts::Host;
 use crate::listeners::{Listener, bound};
@@ -153,12 +154,20 @@ impl<'a> Listener for TcpDoor<'a> {
         self.waiting.is_some()
     }
 
-    // Beside what all that listens ensures: an answer has the patience of the door.
+    // Beside what all that listens ensures: an answer has the patience of the door and goes to whom
+    // the request came from, and nobody who waits or is to be served is lost.
     fn accept(&mut self) -> Option<(Self::Reader, Self::Writer)>
         ensures listens { is_some self.new.waiting ≡ is_some self.old.waiting }
         ensures reader { IfSome result (λ sides. sides.0.failed ≡ false) }
         ensures writer { IfSome result (λ sides. sides.1.failed ≡ false) }
         ensures patient { IfSome result (λ sides. sides.1.patience ≡ self.old.patience) }
+        ensures same_stream { IfSome result (λ sides.
+            sides.1.stream.stream.value ≡ sides.0.kept.caller.stream.value) }
+        ensures given { IfSome self.old.waiting (λ old. IfSome self.new.waiting (λ new.
+            GivesPiece old.line.items new.line.items old.ready.items new.ready.items
+            old.next new.next (option_map (λ sides. sides.0.kept) result))) }
+        ensures times { IfSome self.old.waiting (λ old. IfSome self.new.waiting (λ new.
+            (new.keep ≡ old.keep) × (new.patience ≡ old.patience))) }
     {
         self.names.look(self.host.rt, self.host.explainer);
         next_piece(self.host.rt, self.waiting.as_mut()?, self.patience)
@@ -168,7 +177,18 @@ impl<'a> Listener for TcpDoor<'a> {
         PiecePeer { reader, writer }
     }
 
-    fn release(&mut self, peer: Self::Peer) {
+    // Beside what all that listens ensures: who was served waits again or is parted from, and all
+    // others stay.
+    fn release(&mut self, peer: Self::Peer)
+        ensures listens { is_some self.new.waiting ≡ is_some self.old.waiting }
+        ensures taken { IfSome self.old.waiting (λ old. IfSome self.new.waiting (λ new.
+            TakesBack old.keep peer.entry.reader.kept peer.entry.reader.is_paused
+            (if peer.entry.writer.failed then None else peer.entry.writer.until) old.line.items
+            new.line.items old.ready.items old.next old.leavers.items new.leavers.items)) }
+        ensures same { IfSome self.old.waiting (λ old. IfSome self.new.waiting (λ new.
+            (new.ready.items ≡ old.ready.items) × (new.next ≡ old.next)
+            × (new.keep ≡ old.keep) × (new.patience ≡ old.patience))) }
+    {
         if let Some(waiting) = &mut self.waiting {
             take_back(waiting, peer.reader, peer.writer);
         }

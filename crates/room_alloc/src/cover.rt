@@ -7,7 +7,6 @@ ghost use Rattle.room_alloc.specs.Cover.{is_holder};
 
 use room_place::plans::DivisionNumber;
 use room_types::numbers::{Moment, PointNumber};
-use room_types::rows::Rows;
 use room_types::slices::Slice;
 use room_types::tables::Vehicle;
 
@@ -36,11 +35,11 @@ pub(crate) fn holders(slice: &Slice, point: PointNumber, at: Moment) -> usize
     ensures { (plan : List Area) → result ≡ length
         (holders slice.now.division point at (room_of plan slice.now.rows)) }
 {
-    holders_among(&slice.rows.vehicles, slice.division, point, at)
+    holders_among(slice.rows.vehicles.as_slice(), slice.division, point, at)
 }
 
 fn holders_among(
-    vehicles: &Rows<Vehicle>,
+    vehicles: &[Vehicle],
     division: DivisionNumber,
     point: PointNumber,
     at: Moment,

@@ -1,5 +1,5 @@
--- Which targets name which paths: each path by a target that fills its pattern, and in examples what
--- targets name, and targets that miss a path narrowly.
+-- Which targets name which paths: each path by a target that fills its pattern, and in examples
+-- what targets name, and targets that miss a path narrowly.
 use Rattle.std.specs.Prelude.{Bool, true, ◌≡◌, ℕ, List, [], ◌∷◌, ◌++◌, bytes_eq, codes, if◌then◌else◌, map, option_map}
 use Rattle.std.specs.Prelude.{Some, None, Result, Ok, Err}
 use Rattle.std.specs.List.{list_any, slice_split}

@@ -15,7 +15,7 @@ use room_types::tables::Incident;
 ///
 /// Refused as `NoSuchIncident`, then as `IncidentNotOpen`.
 #[tactic(auto, unfolding(room_model::specs::Decisions::refuse_if, room_model::specs::Queries::incident_of))]
-pub fn active(slice: &Slice, number: Number) -> Result<&Incident, Refusal>
+pub fn active<'a>(slice: &'a Slice, number: Number) -> Result<&'a Incident, Refusal>
     // Whatever is decided of an active incident, in whichever plan.
     ensures decided { (plan : List Area) (decide : Incident → Verdict)
         → MatchResult result (λ i.

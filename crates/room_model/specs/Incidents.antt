@@ -51,8 +51,12 @@ all_served d n r = record {
 
 abbrev pub history_of : Option Incident → Served → List Call → List Turn → Verdict
 history_of found serving calls turns = where_found found refusal.NoSuchIncident
-    (λ i.
-    show (answer.Incident (record { incident = i; served = serving; calls = calls; turns = turns })))
+    (λ i. show (answer.Incident (record {
+      incident = i;
+      served = serving;
+      calls = calls;
+      turns = turns;
+    })))
 
 -- active, closed and merged ones alike
 unfoldable pub show_incident : ℕ → ℕ → Room → Verdict

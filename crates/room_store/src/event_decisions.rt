@@ -27,7 +27,8 @@ use room_place::plans::{DivisionNumber, Plan};
 use room_store_cache::cache::Cache;
 use room_store_cache::fleets::Fleet;
 use room_store_reads::crew_reads::{load_crew, load_report};
-use room_store_reads::working_rows::load_working;
+use room_store_reads::request_reads::reads_of;
+use room_store_reads::working_rows::{load_beside_fleet, working_slice};
 use room_tables::call_table::last_serial;
 use room_tables::table_loads::row_at;
 use room_types::asks::{Ask, CallForm, Event, NewCall, Press, Who};
@@ -108,7 +109,12 @@ fn for_desk<S: Alter>(
     ensures fleet { cache.new.fleet ≡ cache.old.fleet }
     ensures reads { ReadsOnly S.Store conn.old conn.new (unless_unavailable result) }
 {
-    let slice = match load_working(alloc, conn, division, &event.ask, event.at, cache) {
+    let reads = reads_of(division, &event.ask);
+    let beside = match load_beside_fleet(alloc, conn, division, &reads, event.at, cache) {
+        Ok(beside) => beside,
+        Err(fault) => return Err(refusal_of(fault)),
+    };
+    let slice = match working_slice(alloc, division, &reads, cache.fleet.get(), beside) {
         Ok(slice) => slice,
         Err(fault) => return Err(refusal_of(fault)),
     };
@@ -214,7 +220,12 @@ fn for_call<S: Alter>(
     let Some(division) = plan.division_of(call.place) else {
         return Err(Refusal::OutsideArea);
     };
-    let slice = match load_working(alloc, conn, division, ask, call.at, cache) {
+    let reads = reads_of(division, ask);
+    let beside = match load_beside_fleet(alloc, conn, division, &reads, call.at, cache) {
+        Ok(beside) => beside,
+        Err(fault) => return Err(refusal_of(fault)),
+    };
+    let slice = match working_slice(alloc, division, &reads, cache.fleet.get(), beside) {
         Ok(slice) => slice,
         Err(fault) => return Err(refusal_of(fault)),
     };

@@ -2,6 +2,8 @@
 pub mod RecentIncidents
 -- lemmas: the keys of entries distinguish them
 pub mod EntryLemmas
+-- what a request reads beside the fleet
+pub mod BesideFleet
 -- which queue views are of a room
 pub mod QueueViews
 -- which incident views are of a room

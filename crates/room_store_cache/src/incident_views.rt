@@ -3,9 +3,9 @@ ghost use Rattle.std.specs.Prelude.{◌≡◌, ◌==◌, ◌&&◌, ℕ, true, If
 ghost use Rattle.room_types.specs.declared.asks.Ask.TheVariants.{Queue};
 ghost use Rattle.room_types.specs.declared.asks.Ask.{Ask};
 ghost use Rattle.room_model.specs.Room.{IsInOrder, Room};
-ghost use Rattle.room_model.specs.RoomSlices.{room_of};
-ghost use Rattle.room_model.specs.WorkingRows.{reads_number, working};
+ghost use Rattle.room_model.specs.WorkingRows.{reads_number};
 ghost use Rattle.room_tables_schema.specs.declared.database_faults.Fault.TheVariants.{Memory};
+ghost use Rattle.room_store_cache.specs.BesideFleet.{IsBesideFleet};
 ghost use Rattle.room_store_cache.specs.EntryLemmas.{exact_pair};
 ghost use Rattle.room_store_cache.specs.IncidentViews.{AreIncidentViewsOf, IsIncidentViewOf};
 
@@ -39,7 +39,7 @@ impl Entries<IncidentView> {
     /// Keeps the incidents that a queue shows, with their turns, where they are few.
     pub fn fill_shown(&mut self, alloc: Global, division: DivisionNumber, rows: &DivisionRows)
         ensures { (room : Room) (at : ℕ) → IsInOrder room
-            → room_of room.plan rows.now ≡ working division Queue at room
+            → IsBesideFleet division Queue at room rows.now
             → AreIncidentViewsOf self.old.kept.items room
             → AreIncidentViewsOf self.new.kept.items room }
     {
@@ -62,7 +62,7 @@ impl Entries<IncidentView> {
     )
         ensures { (room : Room) (ask : Ask) (at : ℕ) → IsInOrder room
             → reads_number division ask room number ≡ true
-            → room_of room.plan rows.now ≡ working division ask at room
+            → IsBesideFleet division ask at room rows.now
             → AreIncidentViewsOf self.old.kept.items room
             → AreIncidentViewsOf self.new.kept.items room }
     {
@@ -123,7 +123,7 @@ fn incident_view_of(
 ) -> Result<IncidentView, Fault>
     ensures incident_view { IfOk result (λ incident_view. (room : Room) (ask : Ask) (at : ℕ)
         → IsInOrder room → reads_number division ask room number ≡ true
-        → room_of room.plan rows.now ≡ working division ask at room
+        → IsBesideFleet division ask at room rows.now
         → IsIncidentViewOf incident_view room) }
     ensures memory { IfErr result (λ e. e ≡ Memory) }
 {

@@ -2,9 +2,8 @@
 ghost use Rattle.std.specs.Prelude.{◌≡◌, ℕ, IfErr, IfOk};
 ghost use Rattle.room_types.specs.declared.asks.Ask.TheVariants.{Queue};
 ghost use Rattle.room_model.specs.Room.{Room};
-ghost use Rattle.room_model.specs.RoomSlices.{room_of};
-ghost use Rattle.room_model.specs.WorkingRows.{working};
 ghost use Rattle.room_tables_schema.specs.declared.database_faults.Fault.TheVariants.{Memory};
+ghost use Rattle.room_store_cache.specs.BesideFleet.{IsBesideFleet};
 ghost use Rattle.room_store_cache.specs.EntryLemmas.{exact_number};
 ghost use Rattle.room_store_cache.specs.QueueViews.{AreQueueViewsOf, IsQueueViewOf, is_own_exception, is_waiting};
 
@@ -33,7 +32,7 @@ impl Entries<QueueView> {
     /// Keeps what waits in a division, out of the rows that its queue reads, where it isn't known.
     pub fn fill(&mut self, alloc: Global, division: DivisionNumber, rows: &DivisionRows)
         ensures { (room : Room) (at : ℕ)
-            → room_of room.plan rows.now ≡ working division Queue at room
+            → IsBesideFleet division Queue at room rows.now
             → AreQueueViewsOf self.old.kept.items room → AreQueueViewsOf self.new.kept.items room }
     {
         if self.get(&division).is_some() {
@@ -80,7 +79,7 @@ fn queue_view_of(
     rows: &DivisionRows,
 ) -> Result<QueueView, Fault>
     ensures queue_view { IfOk result (λ queue_view. (room : Room) (at : ℕ)
-        → room_of room.plan rows.now ≡ working division Queue at room
+        → IsBesideFleet division Queue at room rows.now
         → IsQueueViewOf queue_view room) }
     ensures memory { IfErr result (λ e. e ≡ Memory) }
 {

@@ -2,9 +2,8 @@
 ghost use Rattle.std.specs.Prelude.{◌≡◌, ◌==◌, ◌&&◌, ℕ, IfErr, IfOk};
 ghost use Rattle.room_types.specs.declared.asks.Ask.TheVariants.{Incidents};
 ghost use Rattle.room_model.specs.Room.{IsInOrder, Room};
-ghost use Rattle.room_model.specs.RoomSlices.{room_of};
-ghost use Rattle.room_model.specs.WorkingRows.{working};
 ghost use Rattle.room_tables_schema.specs.declared.database_faults.Fault.TheVariants.{Memory};
+ghost use Rattle.room_store_cache.specs.BesideFleet.{IsBesideFleet};
 ghost use Rattle.room_store_cache.specs.EntryLemmas.{exact_number};
 ghost use Rattle.room_store_cache.specs.ShownLists.{AreShownListsOf, IsShownListOf, has, is_among};
 
@@ -59,7 +58,7 @@ impl Entries<ShownList> {
     /// aren't all known.
     pub fn fill(&mut self, alloc: Global, division: DivisionNumber, rows: &DivisionRows)
         ensures { (room : Room) (at : ℕ) → IsInOrder room
-            → room_of room.plan rows.now ≡ working division Incidents at room
+            → IsBesideFleet division Incidents at room rows.now
             → AreShownListsOf self.old.kept.items room → AreShownListsOf self.new.kept.items room }
     {
         if let Some(list) = self.get(&division)
@@ -105,7 +104,7 @@ impl Entry for ShownList {
 // What a list shows, out of the rows that it reads. The one fault is `Memory`.
 fn list_of(alloc: Global, division: DivisionNumber, rows: &DivisionRows) -> Result<ShownList, Fault>
     ensures list { IfOk result (λ list. (room : Room) (at : ℕ) → IsInOrder room
-        → room_of room.plan rows.now ≡ working division Incidents at room
+        → IsBesideFleet division Incidents at room rows.now
         → IsShownListOf list room) }
     ensures division { IfOk result (λ list. list.division ≡ division) }
     ensures memory { IfErr result (λ e. e ≡ Memory) }

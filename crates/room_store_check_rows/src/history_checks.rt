@@ -15,7 +15,7 @@ use crate::opening_calls::first_uncalled;
 use crate::room_checks::{RoomRows, standing_disagreement};
 use room_place::plans::{DivisionNumber, Plan};
 use room_types::numbers::{Moment, Number};
-use room_types::rows::Rows;
+use room_types::rows::Part;
 use room_types::tables::{Call, Incident, Report, Vehicle};
 use std::alloc::{AllocError, Global};
 use std::collections::BTreeSet;
@@ -71,7 +71,7 @@ pub fn agrees<R: Judged>(plan: &Plan, rows: &RoomRows, row: &R) -> bool
 }
 
 /// Whether a report is the last of its vehicle.
-pub fn is_last(report: &Report, vehicles: &Rows<Vehicle>) -> bool
+pub fn is_last(report: &Report, vehicles: &Part<Vehicle>) -> bool
     ensures { result ≡ is_last vehicles.now report.now }
 {
     is_last_report(report.number, vehicles.get(&report.callsign))

@@ -15,8 +15,8 @@ use room_types::refusal_statuses::Refusal;
 use room_types::slices::DivisionRows;
 use std::alloc::Global;
 
-/// All the rows of a room: a list of each type.
-pub type RoomRows = DivisionRows;
+/// All the rows of a room: a list of each type. None is lent.
+pub type RoomRows = DivisionRows<'static>;
 
 /// Whether these rows make a well-formed room in a plan: whether they agree, at every key, in all
 /// that each room of the machine agrees in. The one refusal is `Memory`.

@@ -25,7 +25,7 @@ use room_tables::row_streams::each_row;
 use room_tables::rowids::are_numbered_streamed;
 use room_tables_schema::database_faults::Fault;
 use room_tables_schema::schema_tests::is_room;
-use room_types::rows::Rows;
+use room_types::rows::{Part, Rows};
 use room_types::slices::DivisionRows;
 use room_types::tables::{
     Assignment, Call, Division, Incident, Loan, Offer, Point, Report, Turn, Vehicle,
@@ -68,7 +68,8 @@ fn config_of_file<S: Alter>(
     requires committed { IsCommitted S.Store conn.old }
     ensures found { IsClean S.Store conn.new
         → IfOk result (λ x. AreAllNumbered (state S.Store conn.old).now.trees
-        → HasConfiguration (state S.Store conn.old).now.trees x.plan.areas x.plan.zone x.terminals.items) }
+        → HasConfiguration (state S.Store conn.old).now.trees x.plan.areas x.plan.zone
+        x.terminals.items) }
     ensures no_room { IsClean S.Store conn.new
         → IfErr result (λ e. e ≡ NotARoom → ¬ HoldsRoom (state S.Store conn.old).now.trees) }
     ensures why { IsClean S.Store conn.new
@@ -155,7 +156,7 @@ fn judge_rows<S: Alter>(
 }
 
 // The rows of the tables that are no history.
-fn rows_beside<S: Alter>(alloc: Global, conn: &mut Connection<S>) -> Result<DivisionRows, Fault>
+fn rows_beside<S: Alter>(alloc: Global, conn: &mut Connection<S>) -> Result<RoomRows, Fault>
     requires room { HasRoomSchema S.Store conn.old }
     ensures beside { IsClean S.Store conn.new
         → IfOk result (AreBeside (state S.Store conn.old).now.trees) }
@@ -164,15 +165,15 @@ fn rows_beside<S: Alter>(alloc: Global, conn: &mut Connection<S>) -> Result<Divi
 {
     let mut done = Ok(());
     let rows = DivisionRows {
-        divisions: next_streamed::<Division, S>(alloc, conn, &mut done),
+        divisions: Part::own(next_streamed::<Division, S>(alloc, conn, &mut done)),
         incidents: next_streamed::<Incident, S>(alloc, conn, &mut done),
         calls: Rows::new(alloc),
-        vehicles: next_streamed::<Vehicle, S>(alloc, conn, &mut done),
+        vehicles: Part::own(next_streamed::<Vehicle, S>(alloc, conn, &mut done)),
         turns: Rows::new(alloc),
-        assignments: next_streamed::<Assignment, S>(alloc, conn, &mut done),
-        points: next_streamed::<Point, S>(alloc, conn, &mut done),
-        loans: next_streamed::<Loan, S>(alloc, conn, &mut done),
-        offers: next_streamed::<Offer, S>(alloc, conn, &mut done),
+        assignments: Part::own(next_streamed::<Assignment, S>(alloc, conn, &mut done)),
+        points: Part::own(next_streamed::<Point, S>(alloc, conn, &mut done)),
+        loans: Part::own(next_streamed::<Loan, S>(alloc, conn, &mut done)),
+        offers: Part::own(next_streamed::<Offer, S>(alloc, conn, &mut done)),
         reports: Rows::new(alloc),
     };
     match done {

@@ -15,6 +15,7 @@ ghost use Rattle.room_store_check_tables.specs.declared.file_faults.FileFault.Th
 
 use crate::file_faults::FileFault;
 use room_place::plans::{Area, Plan, PlanFault};
+use room_store_check_rows::room_checks::RoomRows;
 use room_tables::area_table::all_areas;
 use room_tables::meta_table::zone;
 use room_tables::room_table::Table;
@@ -24,7 +25,7 @@ use room_tables::terminal_table::all_terminals;
 use room_tables_rows::meta_sql::VERSION;
 use room_tables_schema::database_faults::Fault;
 use room_types::fleet::Terminal;
-use room_types::rows::Rows;
+use room_types::rows::{Part, Rows};
 use room_types::slices::DivisionRows;
 use room_types::tables::{
     Assignment, Call, Division, Incident, Loan, Offer, Point, Report, Turn, Vehicle,
@@ -36,7 +37,7 @@ use std::alloc::Global;
 #[derive(Drop)]
 pub struct ReadFile {
     pub config: Configuration,
-    pub rows: DivisionRows,
+    pub rows: RoomRows,
 }
 
 /// Reads the whole file. It is no room where a table doesn't give each of its rows a number of its
@@ -117,7 +118,7 @@ fn planned_config(
     }
 }
 
-fn read_rows<S: Alter>(alloc: Global, tx: &mut Transaction<'_, S>) -> Result<DivisionRows, Fault>
+fn read_rows<S: Alter>(alloc: Global, tx: &mut Transaction<'_, S>) -> Result<RoomRows, Fault>
     requires room { HasRoomSchema S.Store tx.old.conn.now }
     ensures found { IsClean S.Store tx.new.conn.now
         → IfOk result (λ x. AreAllNumbered (state S.Store tx.old.conn.now).now.trees
@@ -130,15 +131,15 @@ fn read_rows<S: Alter>(alloc: Global, tx: &mut Transaction<'_, S>) -> Result<Div
     // The longest table is read first: a query's rows stay in memory beside what was read before.
     let rows = DivisionRows {
         reports: next_rows::<Report, S>(alloc, tx, &mut done),
-        divisions: next_rows::<Division, S>(alloc, tx, &mut done),
+        divisions: Part::own(next_rows::<Division, S>(alloc, tx, &mut done)),
         incidents: next_rows::<Incident, S>(alloc, tx, &mut done),
         calls: next_rows::<Call, S>(alloc, tx, &mut done),
-        vehicles: next_rows::<Vehicle, S>(alloc, tx, &mut done),
+        vehicles: Part::own(next_rows::<Vehicle, S>(alloc, tx, &mut done)),
         turns: next_rows::<Turn, S>(alloc, tx, &mut done),
-        assignments: next_rows::<Assignment, S>(alloc, tx, &mut done),
-        points: next_rows::<Point, S>(alloc, tx, &mut done),
-        loans: next_rows::<Loan, S>(alloc, tx, &mut done),
-        offers: next_rows::<Offer, S>(alloc, tx, &mut done),
+        assignments: Part::own(next_rows::<Assignment, S>(alloc, tx, &mut done)),
+        points: Part::own(next_rows::<Point, S>(alloc, tx, &mut done)),
+        loans: Part::own(next_rows::<Loan, S>(alloc, tx, &mut done)),
+        offers: Part::own(next_rows::<Offer, S>(alloc, tx, &mut done)),
     };
     match done {
         Ok(()) => Ok(rows),

@@ -23,7 +23,6 @@ use room_tables::connection_lemmas::lemma_committed;
 use room_tables_rows::meta_sql::FIRST_VERSION;
 use sqlite::{Alter, Connection};
 use std::alloc::Global;
-use std::fmt;
 
 /// What is wrong with a file. Of several the first of this list is reported.
 #[derive(Clone, Copy)]
@@ -42,24 +41,6 @@ pub enum Wrong {
     Memory,
     /// The database failed for another cause, or a row is not of its table.
     Storage,
-}
-
-impl fmt::Display for Wrong {
-    fn fmt<W: fmt::Write>(&self, f: &mut fmt::Formatter<W>) -> fmt::Result {
-        match self {
-            Wrong::OldRoom => f.write_str("version 1: migrate it"),
-            Wrong::Tables => f.write_str("its tables and indexes are not those of a room"),
-            Wrong::NoPlan => {
-                f.write_str("its areas and its zone make no plan, or two rows have one number")
-            }
-            Wrong::Rows(disagreement) => write!(f, "{disagreement}"),
-            Wrong::Terminals(fault) => write!(f, "{fault}"),
-            Wrong::Memory => f.write_str("memory was refused"),
-            Wrong::Storage => {
-                f.write_str("a row is not of its table, or the file can't be read")
-            }
-        }
-    }
 }
 
 impl From<FileFault> for Wrong {

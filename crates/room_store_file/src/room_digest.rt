@@ -120,7 +120,8 @@ fn add_tables<S: Alter>(
     ensures same_reference { tx.new.conn.ghost_name ≡ tx.old.conn.ghost_name }
     ensures rows { IsClean S.Store tx.new.conn.now
         → OnOk result ((tables : List (List Row))
-        → ReadEach (map (λ text. text.now) texts.now) (state S.Store tx.old.conn.now).now.trees tables
+        → ReadEach (map (λ text. text.now) texts.now) (state S.Store tx.old.conn.now).now.trees
+        tables
         → Adds hasher.old hasher.new (flat_map table_text tables)) }
     ensures reads { ReadsInside S.Store tx.old.conn.now tx.new.conn.now result }
 {

@@ -1,49 +1,23 @@
--- The rows that a request reads: those of the fleet, incidents, and those beside them.
-use Rattle.std.proofs.Common.{List, None, Option, Some, [], ap, refl, sym, true, ℕ, ◌&&◌, ◌∙◌, ◌≡◌, ◌||◌}
+-- What a request reads beside the fleet, where it reads nothing else.
+use Rattle.std.proofs.Common.{None, Option, Some, ap, refl, sym, true, ℕ, ◌&&◌, ◌∙◌, ◌≡◌, ◌||◌}
 use Rattle.std.specs.Prelude.{◌==◌}
 use Rattle.room_types.specs.Keys.{owns_report}
 use Rattle.room_types.specs.Texts.{Callsign}
 use Rattle.room_types.specs.declared.asks.Ask.{Ask}
 use Rattle.room_types.specs.declared.slices.DivisionRows.{DivisionRows}
-use Rattle.room_types.specs.declared.tables.Incident.{Incident}
 use Rattle.room_model.specs.Room.{Room}
-use Rattle.room_model.specs.RoomSlices.{room_of}
-use Rattle.room_model.specs.WorkingRows.{names_turn, reads_calls, reads_incident, reads_number, reads_report, working}
+use Rattle.room_model.specs.WorkingRows.{names_turn, reads_calls, reads_incident, reads_number, reads_report}
 use Rattle.room_store_cache.proofs.Filters.{and_none}
+use Rattle.room_store_cache.specs.BesideFleet.{IsBesideFleet}
 use Rattle.room_store_reads.proofs.ReadFilters.{filter_never}
 use Rattle.room_store_reads.proofs.Selected.{incident_is, number_is, report_is}
-use Rattle.room_store_reads.specs.Partitions.{IsHeld, IsOfFleet, IsWork}
+use Rattle.room_store_reads.specs.Partitions.{IsOfFleet}
 use Rattle.room_store_reads.specs.RequestReads.{Selects, is_last_of, is_of_fleet, is_read, is_report, reads_turns}
 use Rattle.room_store_reads.specs.declared.request_reads.Incidents.{Incidents}
 use Rattle.room_store_reads.specs.declared.request_reads.Incidents.TheVariants as incidents
 use Rattle.room_store_reads.specs.declared.request_reads.Reads.{Reads}
 use Rattle.room_store_reads.specs.declared.request_reads.Reports.{Reports}
 use Rattle.room_store_reads.specs.declared.request_reads.Reports.TheVariants as reports
-use Rattle.room_store_reads.specs.declared.working_rows.Work.{Work}
-
--- together they are what it reads
-pub are_working : (d : ℕ) (a : Ask) (at : ℕ) (room : Room) (x : DivisionRows)
-    (incidents : List Incident) (y : Work) → IsHeld d a room x
-    → incidents ≡ (working d a at room).incidents → IsWork d a at room y
-    → room_of room.plan (record x {
-      incidents = incidents;
-      calls = y.calls;
-      turns = y.turns;
-      reports = y.reports;
-    }) ≡ working d a at room
-are_working d a at room x incidents y held shown work = λ i. record {
-  plan = room.plan;
-  divisions = held.divisions i;
-  incidents = shown i;
-  calls = work.calls i;
-  vehicles = held.vehicles i;
-  turns = work.turns i;
-  assignments = held.assignments i;
-  points = held.points i;
-  loans = held.loans i;
-  offers = held.offers i;
-  reports = work.reports i;
-}
 
 -- no incident, no report and no last turn
 all_nothing : (x : Incidents) (y : Reports) (z : Option Callsign) → is_of_fleet x y z ≡ true
@@ -58,31 +32,28 @@ all_nothing (incidents.Near form) y z is = absurd (cc)
 all_nothing (incidents.One n) y z is = absurd (cc)
 all_nothing (incidents.Two n m) y z is = absurd (cc)
 
--- of a request that reads nothing but the fleet these are all rows
+-- a request that reads nothing but the fleet reads nothing beside it
 pub are_of_fleet : (d : ℕ) (a : Ask) (at : ℕ) (room : Room) (x : DivisionRows) (reads : Reads)
-    → IsHeld d a room x → IsOfFleet x → Selects d a reads
-    → is_of_fleet reads.incidents reads.reports reads.last_turn ≡ true
-    → room_of room.plan x ≡ working d a at room
-are_of_fleet d a at room x reads held only selects is =
+    → IsOfFleet x → Selects d a reads
+    → is_of_fleet reads.incidents reads.reports reads.last_turn ≡ true → IsBesideFleet d a at room x
+are_of_fleet d a at room x reads only selects is =
     let none = all_nothing reads.incidents reads.reports reads.last_turn is in
     let number = λ (n : ℕ).
     sym (number_is selects room n) ∙ ap (λ y. reads_turns d y room n) none.0 in
-    let work : IsWork d a at room (record { calls = []; turns = []; reports = [] }) = record {
-      calls = sym (filter_never (λ c. c.division == d)
+    record {
+      incidents = only.incidents
+          ∙ sym (filter_never (λ i. i.division == d) (λ i. reads_incident a at i) room.incidents
+          (λ i. sym (incident_is selects at i) ∙ ap (λ y. is_read y at i) none.0));
+      calls = only.calls
+          ∙ sym (filter_never (λ c. c.division == d)
           (λ c. reads_calls a && reads_number d a room c.incident) room.calls
           (λ c. ap (λ b. reads_calls a && b) (number c.incident) ∙ and_none (reads_calls a)));
-      turns = sym (filter_never (λ t. t.division == d)
+      turns = only.turns
+          ∙ sym (filter_never (λ t. t.division == d)
           (λ t. reads_number d a room t.incident || names_turn d a room t) room.turns
           (λ t. (λ j. number t.incident j || selects.turn room t j)
           ∙ ap (λ y. is_last_of d y room t) none.2));
-      reports = sym (filter_never (owns_report d) (λ y. reads_report a y) room.reports
+      reports = only.reports
+          ∙ sym (filter_never (owns_report d) (λ y. reads_report a y) room.reports
           (λ y. sym (report_is selects y) ∙ ap (λ z. is_report z y) none.1));
-    } in
-    let shown = sym (filter_never (λ i. i.division == d) (λ i. reads_incident a at i) room.incidents
-    (λ i. sym (incident_is selects at i) ∙ ap (λ y. is_read y at i) none.0)) in
-    (λ i. room_of room.plan (record x {
-      incidents = only.incidents i;
-      calls = only.calls i;
-      turns = only.turns i;
-      reports = only.reports i;
-    })) ∙ are_working d a at room x [] (record { calls = []; turns = []; reports = [] }) held shown work
+    }

@@ -7,9 +7,8 @@ use Rattle.std.specs.Prelude.{filter}
 use Rattle.std.specs.declared.cmp.Ordering.{Ordering}
 use Rattle.std.specs.declared.cmp.Ordering.TheVariants.{Equal, Greater, Less}
 use Rattle.room_types.proofs.KeyedLaws.{below_filter, keyed_filter, put_below, row_filter}
-use Rattle.room_types.specs.KeyedRows.{IsBelowAll, IsKeyed, keep, put_row, row_at}
+use Rattle.room_types.specs.KeyedRows.{IsBelowAll, IsKeyed, keep, listed, put_row, row_at}
 use Rattle.room_store_cache.proofs.Filters.{filter_and}
-use Rattle.room_store_reads.specs.Selections.{listed}
 
 -- each row put in its place
 abbrev pub put_all : {R K : Type 0} → (K → K → Ordering) → (R → K) → List R → List R → List R

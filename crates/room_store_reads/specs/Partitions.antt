@@ -34,15 +34,6 @@ abbrev pub is_turn : Option (Callsign × ℕ) → Turn → Bool
 is_turn None t = false
 is_turn (Some k) t = is_eq (numbered_cmp k (turn_key t))
 
--- what a request reads of the fleet's rows, at whatever moment
-pub record IsHeld (d : ℕ) (a : Ask) (room : Room) (x : DivisionRows) : Type 0 where
-  pub divisions : x.divisions ≡ (working d a 0 room).divisions
-  pub vehicles : x.vehicles ≡ (working d a 0 room).vehicles
-  pub assignments : x.assignments ≡ (working d a 0 room).assignments
-  pub points : x.points ≡ (working d a 0 room).points
-  pub loans : x.loans ≡ (working d a 0 room).loans
-  pub offers : x.offers ≡ (working d a 0 room).offers
-
 -- there are no rows but the fleet's
 pub record IsOfFleet (x : DivisionRows) : Type 0 where
   pub incidents : x.incidents ≡ []

@@ -1,6 +1,6 @@
 -- How much of a table a request reads.
 use Rattle.std.specs.Ordering.{is_eq}
-use Rattle.std.specs.Prelude.{Bool, List, None, Option, Some, [], false, true, ◌∷◌}
+use Rattle.std.specs.Prelude.{Bool, false, true}
 use Rattle.std.specs.declared.cmp.Ordering.{Ordering}
 use Rattle.room_store_reads.specs.declared.selections.Selection.{Selection}
 use Rattle.room_store_reads.specs.declared.selections.Selection.TheVariants.{Everything, Nothing, One}
@@ -10,8 +10,3 @@ abbrev pub reaches : {K : Type 0} → (K → K → Ordering) → Selection K →
 reaches cmp Nothing k = false
 reaches cmp (One j) k = is_eq (cmp j k)
 reaches cmp Everything k = true
-
--- the row, where there is one
-abbrev pub listed : {R : Type 0} → Option R → List R
-listed None = []
-listed (Some x) = x ∷ []

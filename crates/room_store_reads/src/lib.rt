@@ -4,10 +4,11 @@
 #![tactic(auto)]
 
 pub mod crew_reads;
+mod filled_views;
 mod incident_reads;
 mod known_parts;
 mod partitions;
-mod request_reads;
+pub mod request_reads;
 mod row_unions;
 mod selections;
 pub mod working_rows;

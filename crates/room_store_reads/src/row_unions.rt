@@ -1,8 +1,7 @@
 //! Rows of one table that were loaded by several reads.
 ghost use Rattle.std.specs.Prelude.{◌≡◌, ◌||◌, Bool, List, filter, OnOk, IfErr, IfOk};
 ghost use Rattle.room_tables_schema.specs.declared.database_faults.Fault.TheVariants.{Memory};
-ghost use Rattle.room_types.specs.KeyedRows.{IsKeyed};
-ghost use Rattle.room_store_reads.specs.Selections.{listed};
+ghost use Rattle.room_types.specs.KeyedRows.{IsKeyed, listed};
 
 use room_store_cache::cached_rows::put;
 use room_tables_schema::database_faults::Fault;

@@ -14,7 +14,7 @@ use room_store_cache::cached_rows::own_rows;
 use room_tables::room_table::Table;
 use room_tables::table_loads::row_at;
 use room_tables_schema::database_faults::Fault;
-use room_types::rows::{Row, Rows};
+use room_types::rows::{Part, Row, Rows};
 use sqlite::{Alter, Connection};
 use std::alloc::Global;
 
@@ -27,22 +27,22 @@ pub enum Selection<K> {
     Everything,
 }
 
-/// As many of the rows that a division owns. The one fault is `Memory`.
-pub fn part_of<R: Row>(
+/// As many of the rows that a division owns: the one of a key is lent. The one fault is `Memory`.
+pub fn part_of<'a, R: Row>(
     alloc: Global,
-    rows: &Rows<R>,
+    rows: &'a Rows<R>,
     division: DivisionNumber,
     selection: &Selection<R::Key>,
-) -> Result<Rows<R>, Fault>
+) -> Result<Part<'a, R>, Fault>
     ensures rows { IfOk result (λ x. IsKeyed R.Key.cmp R.key_of rows.now
         → x ≡ filter (λ y. R.owned division y && reaches R.Key.cmp selection.now (R.key_of y))
         rows.now) }
     ensures memory { IfErr result (λ e. e ≡ Memory) }
 {
     match selection {
-        Selection::Nothing => Ok(Rows::new(alloc)),
-        Selection::One(key) => listed(alloc, owned_row(rows.get(key).copied(), division)),
-        Selection::Everything => own_rows(alloc, rows, division),
+        Selection::Nothing => Ok(Part::none()),
+        Selection::One(key) => Ok(rows.lend(division, key)),
+        Selection::Everything => Ok(Part::own(own_rows(alloc, rows, division)?)),
     }
 }
 

@@ -1,5 +1,5 @@
 //! The rows of a division that a request reads: of the fleet those known, others from the tables.
-ghost use Rattle.std.specs.Prelude.{◌≡◌, ◌&&◌, ◌==◌, ℕ, Bool, None, filter, IfErr, IfOk, OnOk};
+ghost use Rattle.std.specs.Prelude.{◌≡◌, ◌&&◌, ◌==◌, ℕ, Bool, None, filter, IfOk};
 ghost use Rattle.room_tables.specs.FoundRows.{Finds};
 ghost use Rattle.room_tables_schema.specs.Outcomes.{ReadsOnly};
 ghost use Rattle.room_types.specs.declared.asks.Ask.{Ask as AskModel};
@@ -8,166 +8,115 @@ ghost use Rattle.room_model.specs.Queries.{held};
 ghost use Rattle.room_model.specs.Room.{IsInOrder, Room};
 ghost use Rattle.room_model.specs.RoomSlices.{room_of};
 ghost use Rattle.room_model.specs.WorkingRows.{is_last_turn, working};
-ghost use Rattle.room_tables_schema.specs.declared.database_faults.Fault.TheVariants.{Memory, Storage};
 ghost use Rattle.room_tables_schema.specs.FileConnections.{HasRoomSchema, StandsOpen};
-ghost use Rattle.room_store_cache.specs.QueueViews.{AreQueueViewsOf};
+ghost use Rattle.room_store_cache.specs.BesideFleet.{IsBesideFleet};
 ghost use Rattle.room_store_cache.specs.Cache.{AreRowsOf};
-ghost use Rattle.room_store_cache.specs.IncidentViews.{AreIncidentViewsOf};
 ghost use Rattle.room_store_cache.specs.IncidentNumbers.{contains};
-ghost use Rattle.room_store_cache.specs.ShownLists.{AreShownListsOf};
 ghost use Rattle.room_store_reads.specs.KnownParts.{IsKnownPart};
-ghost use Rattle.room_store_reads.specs.Partitions.{AreKnown, IsHeld, IsOfFleet, IsWork, is_turn};
+ghost use Rattle.room_store_reads.specs.Partitions.{AreKnown, IsOfFleet, IsWork, is_turn};
 ghost use Rattle.room_store_reads.specs.RequestReads.{Selects, is_read, is_report};
 
+use crate::filled_views::fill_views;
 use crate::incident_reads::load_incidents;
 use crate::known_parts::{KnownPart, known_part};
 use crate::partitions::load_parts;
-use crate::request_reads::{Incidents, Reads, Reports, reads_of};
+use crate::request_reads::{Reads, Reports};
 use crate::selections::{load_one, owned_row, part_of};
 use room_place::plans::DivisionNumber;
 use room_store_cache::cache::Cache;
 use room_store_cache::cached_rows::own_rows;
 use room_store_cache::fleets::FleetRows;
 use room_tables_schema::database_faults::Fault;
-use room_types::asks::Ask;
 use room_types::callsign::Callsign;
 use room_types::codes::Outcome;
 use room_types::numbers::{Moment, Number};
-use room_types::rows::Rows;
+use room_types::rows::{Part, Rows};
 use room_types::slices::{DivisionRows, Slice};
 use room_types::tables::{Call, Incident, Report, Turn, Vehicle};
 use sqlite::{Alter, Connection};
 use std::alloc::Global;
 
-/// The rows of a division that a request at a moment reads, as a slice: what its desk asks, or a
-/// call that is placed in it. What is known is taken from memory, and the next request knows what
-/// this one read of incidents. Rows that don't agree are no room's: that is `Storage`.
-pub fn load_working<S: Alter>(
+/// What a request of a division at a moment reads beside the fleet: what its desk asks, or a call
+/// that is placed in it. The next request knows what this one read of incidents.
+pub fn load_beside_fleet<S: Alter>(
     alloc: Global,
     conn: &mut Connection<S>,
     division: DivisionNumber,
-    ask: &Ask,
+    reads: &Reads,
     at: Moment,
     cache: &mut Cache,
-) -> Result<Slice, Fault>
+) -> Result<DivisionRows<'static>, Fault>
     requires room { HasRoomSchema S.Store conn.old }
     requires open { StandsOpen S.Store conn.old }
-    ensures division { IfOk result (λ x. x.division ≡ division) }
-    ensures rows { Finds S.Store conn.old conn.new result (λ room x. IsInOrder room
-        → AreKnown cache.old room
-        → room_of room.plan x.rows ≡ working division ask.now at room) }
-    ensures known { Finds S.Store conn.old conn.new result (λ room _. IsInOrder room
-        → AreKnown cache.old room → AreKnown cache.new room) }
+    ensures rows { Finds S.Store conn.old conn.new result (λ room x. (ask : AskModel)
+        → IsInOrder room → AreKnown cache.old room → Selects division ask reads.now
+        → IsBesideFleet division ask at room x × AreKnown cache.new room) }
     ensures fleet { cache.new.fleet ≡ cache.old.fleet }
     ensures reads { ReadsOnly S.Store conn.old conn.new result }
 {
-    let reads = reads_of(division, ask);
-    let held = held_rows(alloc, division, &reads, cache.fleet.get())?;
+    let none = no_rows(alloc);
     if reads.is_of_fleet() {
-        return slice_of(division, held);
+        return Ok(none);
     }
     let incidents = load_incidents(alloc, conn, division, &reads.incidents, at, cache)?;
-    let work = load_work(alloc, conn, division, &reads, cache, &incidents)?;
-    let rows = with_work(held, incidents, work);
-    fill_views(alloc, cache, division, &reads, &rows);
-    slice_of(division, rows)
+    let work = load_work(alloc, conn, division, reads, cache, &incidents)?;
+    let rows = DivisionRows {
+        incidents,
+        calls: work.calls,
+        turns: work.turns,
+        reports: work.reports,
+        ..none
+    };
+    fill_views(alloc, cache, division, reads, &rows);
+    Ok(rows)
 }
 
-// A slice of the rows. Rows that don't agree are no room's: that is `Storage`.
-fn slice_of(division: DivisionNumber, rows: DivisionRows) -> Result<Slice, Fault>
+/// The rows of a division that a request reads, as a slice: of the fleet those that it reads, and
+/// others beside them. A row of the fleet that is named is lent. Rows that don't agree are no
+/// room's: that is `Storage`.
+pub fn working_slice<'a>(
+    alloc: Global,
+    division: DivisionNumber,
+    reads: &Reads,
+    fleet: &'a FleetRows,
+    beside: DivisionRows<'a>,
+) -> Result<Slice<'a>, Fault>
     ensures division { IfOk result (λ x. x.division ≡ division) }
-    ensures rows { IfOk result (λ x. x.rows ≡ rows) }
-    ensures storage { IfErr result (λ e. e ≡ Storage) }
+    ensures rows { IfOk result (λ x. (room : Room) (ask : AskModel) (at : ℕ) → IsInOrder room
+        → AreRowsOf fleet.now room → Selects division ask reads.now
+        → IsBesideFleet division ask at room beside.entry
+        → room_of room.plan x.rows ≡ working division ask at room) }
 {
-    match Slice::build(division, rows) {
-        Some(slice) => Ok(slice),
-        None => Err(Fault::Storage),
-    }
-}
-
-// Keeps what a queue or a list shows, or the one incident that was named, where it isn't known.
-fn fill_views(
-    alloc: Global,
-    cache: &mut Cache,
-    division: DivisionNumber,
-    reads: &Reads,
-    rows: &DivisionRows,
-)
-    ensures queue_views { (room : Room) (ask : AskModel) (at : ℕ) → Selects division ask reads.now
-        → room_of room.plan rows.now ≡ working division ask at room
-        → AreQueueViewsOf cache.old.queue_views.kept.items room
-        → AreQueueViewsOf cache.new.queue_views.kept.items room }
-    ensures incident_views { (room : Room) (ask : AskModel) (at : ℕ) → IsInOrder room
-        → Selects division ask reads.now
-        → room_of room.plan rows.now ≡ working division ask at room
-        → AreIncidentViewsOf cache.old.incident_views.kept.items room
-        → AreIncidentViewsOf cache.new.incident_views.kept.items room }
-    ensures shown_lists { (room : Room) (ask : AskModel) (at : ℕ) → IsInOrder room
-        → Selects division ask reads.now
-        → room_of room.plan rows.now ≡ working division ask at room
-        → AreShownListsOf cache.old.shown_lists.kept.items room
-        → AreShownListsOf cache.new.shown_lists.kept.items room }
-    ensures fleet { cache.new.fleet ≡ cache.old.fleet }
-    ensures recent_incidents { cache.new.recent_incidents ≡ cache.old.recent_incidents }
-{
-    if let Reports::Uncleared = reads.reports {
-        cache.queue_views.fill(alloc, division, rows);
-        cache.incident_views.fill_shown(alloc, division, rows);
-        return;
-    }
-    match reads.incidents {
-        Incidents::Active => {
-            if reads.calls {
-                cache.shown_lists.fill(alloc, division, rows);
-            }
-        }
-        Incidents::One(number) => cache.incident_views.fill(alloc, division, number, rows),
-        _ => {}
-    }
-}
-
-// What a request reads of the fleet's rows, and no others: the division's own, vehicles that it
-// holds and its assignments, and its points, loans and offers. The one fault is `Memory`.
-fn held_rows(
-    alloc: Global,
-    division: DivisionNumber,
-    reads: &Reads,
-    fleet: &FleetRows,
-) -> Result<DivisionRows, Fault>
-    ensures held { IfOk result (λ x. (room : Room) (ask : AskModel) → IsInOrder room
-        → AreRowsOf fleet.now room → Selects division ask reads.now → IsHeld division ask room x) }
-    ensures only { IfOk result IsOfFleet }
-    ensures memory { IfErr result (λ e. e ≡ Memory) }
-{
-    Ok(DivisionRows {
+    let rows = DivisionRows {
         divisions: part_of(alloc, &fleet.divisions, division, &reads.divisions)?,
         vehicles: part_of(alloc, &fleet.vehicles, division, &reads.vehicles)?,
         assignments: part_of(alloc, &fleet.assignments, division, &reads.assignments)?,
         points: part_of(alloc, &fleet.points, division, &reads.points)?,
         loans: part_of(alloc, &fleet.loans, division, &reads.loans)?,
         offers: part_of(alloc, &fleet.offers, division, &reads.offers)?,
-        incidents: Rows::new(alloc),
-        calls: Rows::new(alloc),
-        turns: Rows::new(alloc),
-        reports: Rows::new(alloc),
-    })
+        ..beside
+    };
+    match Slice::build(division, rows) {
+        Some(slice) => Ok(slice),
+        None => Err(Fault::Storage),
+    }
 }
 
-// Rows of the fleet, and these beside them.
-fn with_work(held: DivisionRows, incidents: Rows<Incident>, work: Work) -> DivisionRows
-    ensures { result ≡ record held {
-      incidents = incidents;
-      calls = work.calls;
-      turns = work.turns;
-      reports = work.reports;
-    } }
+// No rows. It takes no memory.
+fn no_rows(alloc: Global) -> DivisionRows<'static>
+    ensures { IsOfFleet result }
 {
     DivisionRows {
-        incidents,
-        calls: work.calls,
-        turns: work.turns,
-        reports: work.reports,
-        ..held
+        divisions: Part::none(),
+        incidents: Rows::new(alloc),
+        calls: Rows::new(alloc),
+        vehicles: Part::none(),
+        turns: Rows::new(alloc),
+        assignments: Part::none(),
+        points: Part::none(),
+        loans: Part::none(),
+        offers: Part::none(),
+        reports: Rows::new(alloc),
     }
 }
 

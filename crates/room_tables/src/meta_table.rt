@@ -108,7 +108,8 @@ pub fn put_meta<S: Alter>(tx: &mut Transaction<'_, S>, zone: &str) -> Result<(),
 pub fn update_version<S: Alter>(alloc: Global, tx: &mut Transaction<'_, S>) -> Result<(), Fault>
     requires inside { MayWrite S.Store tx.old.conn.now }
     ensures ok { IsClean S.Store tx.new.conn.now
-        → OnOk result (RaisesVersion (state S.Store tx.old.conn.now) (state S.Store tx.new.conn.now)) }
+        → OnOk result (RaisesVersion (state S.Store tx.old.conn.now)
+        (state S.Store tx.new.conn.now)) }
     ensures writes { WritesInside S.Store tx.old.conn.now tx.new.conn.now result }
     ensures same_reference { tx.new.conn.ghost_name ≡ tx.old.conn.ghost_name }
 {

@@ -1,6 +1,6 @@
 -- What a search for a key finds, and what an edit at that place does.
 use Rattle.std.proofs.Common.{◌≡◌, ℕ, zero, suc, ◌<◌, ◌≤◌, true, List, [], ◌∷◌, length, get_or, set, Some, None, Result}
-use Rattle.std.proofs.Common.{Ok, Err, IfOk, IfErr, refl, sym, ap, subst, ◌∙◌, ◌-◌, arith, add-one}
+use Rattle.std.proofs.Common.{Bool, Ok, Err, IfOk, IfErr, drop, refl, sym, take, ap, subst, ◌∙◌, ◌-◌, arith, add-one}
 use Rattle.std.specs.List.{insert, remove, slice_get, HoldsAt}
 use Rattle.std.specs.List.Sorted.{IsSortedBy, IsPartitionPoint, IsSearchInRange, IsBinarySearchResult}
 use Rattle.std.specs.declared.cmp.Ordering.{Ordering}
@@ -10,7 +10,7 @@ use Rattle.std.specs.Cmp.{IsTotalOrder}
 use Rattle.std.proofs.lemmas.Cmp.{tied_back, alike_right}
 use Rattle.std.proofs.lemmas.Option.{get_or_from_slice_get, slice_get_within}
 use Rattle.std.proofs.lemmas.List.Sorted.{searchable_from_sorted}
-use Rattle.room_types.specs.KeyedRows.{IsBelowAll, IsKeyed, row_at, put_row, drop_row, IsAt, IsGapFor}
+use Rattle.room_types.specs.KeyedRows.{IsBelowAll, IsKeyed, keep, listed, row_at, put_row, drop_row, IsAt, IsGapFor}
 use Rattle.room_types.proofs.KeyedLaws.{row_below, drop_below, below_from_less}
 
 module _ {R K : Type 0} (cmp : K → K → Ordering) (key : R → K) where
@@ -112,6 +112,12 @@ module _ {R K : Type 0} (cmp : K → K → Ordering) (key : R → K) where
     row_here [] k i d h = absurd h
     row_here (x ∷ xs) k zero d h = rw (tied_back total (key x) k h)
     row_here (x ∷ xs) k (suc i) d h = rw (past (key x) k h.0) (row_here xs k i d h.1)
+
+    pub lend_here : (p : R → Bool) (xs : List R) (k : K) (i : ℕ) (d : R) → IsAt cmp key xs k i
+        → p (get_or xs i d) ≡ true → take 1 (drop i xs) ≡ listed (keep p (row_at cmp key xs k))
+    lend_here p [] k i d h own = absurd h
+    lend_here p (x ∷ xs) k zero d h own = rw (tied_back total (key x) k h, own) refl
+    lend_here p (x ∷ xs) k (suc i) d h own = rw (past (key x) k h.0) (lend_here p xs k i d h.1 own)
 
     pub put_here : (xs : List R) (r : R) (i : ℕ) → IsAt cmp key xs (key r) i
         → put_row cmp key xs r ≡ set xs i r

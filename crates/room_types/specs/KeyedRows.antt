@@ -30,6 +30,11 @@ module _ {R K : Type 0} (cmp : K → K → Ordering) (key : R → K) where
   drop_row [] k = []
   drop_row (x ∷ xs) k = cond (is_eq (cmp k (key x))) xs (x ∷ drop_row xs k)
 
+-- the row, where there is one
+abbrev pub listed : {R : Type 0} → Option R → List R
+listed None = []
+listed (Some x) = x ∷ []
+
 -- a row that passes
 abbrev pub keep : {R : Type 0} → (R → Bool) → Option R → Option R
 keep p None = None

@@ -1,14 +1,16 @@
-//! Rows by key: what a row is, and a table of rows in key order.
+//! Rows by key: what a row is, a table of rows in key order, and a part of one.
 ghost use Rattle.std.specs.Prelude.{◌≡◌, ℕ, Bool, false, List, [], length, IsTrue, ◌↔◌, IfOk, IfErr, OnOk, OnErr, filter, option_copied, None, if◌then◌else◌};
 ghost use Rattle.std.specs.Iterator.Adapters.{IterYieldsInOrder};
 ghost use Rattle.std.specs.Slice.Iter.{iter_rest};
+ghost use Rattle.std.specs.Cow.{cow_slice_items};
 ghost use Rattle.std.specs.declared.cmp.Ordering.TheVariants.{Equal};
-ghost use Rattle.room_types.specs.KeyedRows.{IsKeyed, row_at, put_row, drop_row, keep, IsAt, IsGapFor};
+ghost use Rattle.room_types.specs.KeyedRows.{IsKeyed, row_at, put_row, drop_row, keep, listed, IsAt, IsGapFor};
 ghost use Rattle.room_types.specs.declared.refusal_statuses.Refusal.TheVariants.{Memory};
 
 use crate::refusal_statuses::Refusal;
 use room_place::plans::DivisionNumber;
 use std::alloc::Global;
+use std::borrow::CowSlice;
 use std::marker::Model;
 use std::slice::Iter;
 
@@ -92,10 +94,7 @@ impl<R: Row> Rows<R> {
     pub fn get(&self, key: &R::Key) -> Option<&R>
         ensures { option_copied result ≡ row_at R.Key.cmp R.key_of self.now key.now }
     {
-        match self.search(key) {
-            Ok(at) => Some(&self.rows[at]),
-            Err(_) => None,
-        }
+        find(self.as_slice(), key)
     }
 
     /// Puts a row in its key's place, and returns the row of that key that was there before. Rows
@@ -158,17 +157,105 @@ impl<R: Row> Rows<R> {
         Ok(Rows { rows })
     }
 
-    // Where the key is, or where it would go. The end is looked at first, since rows mostly come
-    // in key order.
+    /// The row of a key, where the division owns it. It is lent: nothing is copied.
+    pub fn lend(&self, division: DivisionNumber, key: &R::Key) -> Part<'_, R>
+        ensures { result
+            ≡ listed (keep (R.owned division) (row_at R.Key.cmp R.key_of self.now key.now)) }
+    {
+        match self.search(key) {
+            Ok(at) => {
+                if self.rows[at].owned_by(division) {
+                    return Part {
+                        kept: CowSlice::Borrowed(&self.rows[at..=at]),
+                    };
+                }
+                Part::none()
+            }
+            Err(_) => Part::none(),
+        }
+    }
+
+    // Where the key is, or where it would go.
     fn search(&self, key: &R::Key) -> Result<usize, usize>
         ensures found { IfOk result (IsAt R.Key.cmp R.key_of self.now key.now) }
         ensures absent { IfErr result (IsGapFor R.Key.cmp R.key_of self.now key.now) }
     {
-        if let Some(last) = self.rows.last()
-            && last.key().cmp(key).is_lt()
-        {
-            return Err(self.len());
-        }
-        self.rows.binary_search_by_key(key, |row| row.key())
+        search(self.as_slice(), key)
     }
+}
+
+/// Part of a table's rows, in key order, no two of one key: rows of its own, or one that the table
+/// lends. A contract sees the list of the rows.
+#[derive(Drop)]
+pub struct Part<'a, R: Row> {
+    kept: CowSlice<'a, R>,
+}
+
+impl<'a, R: Row> Model for Part<'a, R> {
+    ghost Value = { List R };
+
+    ghost view = { λ a. cow_slice_items a.kept };
+
+    ghost invariant = { λ a. IsKeyed R.Key.cmp R.key_of (cow_slice_items a.kept) };
+}
+
+impl<'a, R: Row> Part<'a, R> {
+    /// No rows. It takes no memory.
+    pub fn none() -> Part<'a, R>
+        ensures { result ≡ [] }
+    {
+        Part {
+            kept: CowSlice::Borrowed(&[]),
+        }
+    }
+
+    /// These rows.
+    pub fn own(rows: Rows<R>) -> Part<'a, R>
+        ensures { result ≡ rows }
+    {
+        Part {
+            kept: CowSlice::Owned(rows.rows),
+        }
+    }
+
+    /// The rows, in key order.
+    pub fn as_slice(&self) -> &[R]
+        ensures all { result.now ≡ self.now }
+        ensures keyed { IsKeyed R.Key.cmp R.key_of self.now }
+    {
+        self.kept.as_slice()
+    }
+
+    /// The row of a key; none where no row has it.
+    pub fn get(&self, key: &R::Key) -> Option<&R>
+        ensures { option_copied result ≡ row_at R.Key.cmp R.key_of self.now key.now }
+    {
+        find(self.as_slice(), key)
+    }
+}
+
+// The row of a key among rows in key order; none where no row has it.
+fn find<'a, R: Row>(rows: &'a [R], key: &R::Key) -> Option<&'a R>
+    requires { IsKeyed R.Key.cmp R.key_of rows.now }
+    ensures { option_copied result ≡ row_at R.Key.cmp R.key_of rows.now key.now }
+{
+    match search(rows, key) {
+        Ok(at) => Some(&rows[at]),
+        Err(_) => None,
+    }
+}
+
+// Where a key is among rows in key order, or where it would go. The end is looked at first, since
+// rows mostly come in key order.
+fn search<R: Row>(rows: &[R], key: &R::Key) -> Result<usize, usize>
+    requires { IsKeyed R.Key.cmp R.key_of rows.now }
+    ensures found { IfOk result (IsAt R.Key.cmp R.key_of rows.now key.now) }
+    ensures absent { IfErr result (IsGapFor R.Key.cmp R.key_of rows.now key.now) }
+{
+    if let Some(last) = rows.last()
+        && last.key().cmp(key).is_lt()
+    {
+        return Err(rows.len());
+    }
+    rows.binary_search_by_key(key, |row| row.key())
 }

@@ -8,25 +8,25 @@ ghost use Rattle.room_types.specs.Keys.{callsign_cmp, numbered_cmp, vehicle_key,
 ghost use Rattle.room_types.specs.Slices.{is_share, are_owned, vehicle_agrees, assignment_agrees, turn_agrees, open_turn};
 
 use crate::numbers::Number;
-use crate::rows::{Row, Rows};
+use crate::rows::{Part, Row, Rows};
 use crate::sent_vehicles::parts_agree;
 use crate::tables::{
     Assignment, Call, Division, Incident, Loan, Offer, Point, Report, Turn, Vehicle,
 };
 use room_place::plans::DivisionNumber;
 
-/// A list of rows of each type.
+/// A list of rows of each type. Those of the fleet's tables may be lent.
 #[derive(Drop)]
-pub struct DivisionRows {
-    pub divisions: Rows<Division>,
+pub struct DivisionRows<'a> {
+    pub divisions: Part<'a, Division>,
     pub incidents: Rows<Incident>,
     pub calls: Rows<Call>,
-    pub vehicles: Rows<Vehicle>,
+    pub vehicles: Part<'a, Vehicle>,
     pub turns: Rows<Turn>,
-    pub assignments: Rows<Assignment>,
-    pub points: Rows<Point>,
-    pub loans: Rows<Loan>,
-    pub offers: Rows<Offer>,
+    pub assignments: Part<'a, Assignment>,
+    pub points: Part<'a, Point>,
+    pub loans: Part<'a, Loan>,
+    pub offers: Part<'a, Offer>,
     pub reports: Rows<Report>,
 }
 
@@ -36,21 +36,22 @@ pub struct DivisionRows {
 /// one incident, which is active, and of the vehicle's last order. None of its turns has a later
 /// order.
 #[derive(Drop)]
-pub struct Slice {
+pub struct Slice<'a> {
     pub division: DivisionNumber,
-    pub rows: DivisionRows,
+    pub rows: DivisionRows<'a>,
     pub ghost agrees: { is_share division rows ≡ true },
 }
 
-impl Slice {
+impl<'a> Slice<'a> {
     ghost use Rattle.std.specs.Prelude.{◌≡◌, ◌↔◌, IsSome, IfSome};
     ghost use Rattle.room_types.specs.Slices.{IsShare};
 
     /// A slice of just these rows. None exactly where a row is not the division's, or the rows
     /// disagree. Takes no memory.
-    pub fn build(division: DivisionNumber, rows: DivisionRows) -> Option<Slice>
-        ensures share { IsSome result ↔ IsShare division rows }
-        ensures rows { IfSome result (λ slice. (slice.division ≡ division) × (slice.rows ≡ rows)) }
+    pub fn build(division: DivisionNumber, rows: DivisionRows<'a>) -> Option<Slice<'a>>
+        ensures share { IsSome result ↔ IsShare division rows.entry }
+        ensures rows { IfSome result (λ slice. (slice.division ≡ division)
+            × (slice.rows ≡ rows.entry)) }
     {
         if rows.are_share_of(division) {
             Some(Slice { division, rows })
@@ -60,7 +61,7 @@ impl Slice {
     }
 }
 
-impl DivisionRows {
+impl DivisionRows<'_> {
     ghost use Rattle.std.specs.Prelude.{◌≡◌, ◌↔◌, IsTrue};
     ghost use Rattle.room_types.specs.Slices.{IsShare};
 
@@ -92,16 +93,16 @@ impl DivisionRows {
     fn are_owned_by(&self, division: DivisionNumber) -> bool
         ensures { result ≡ are_owned division self.now }
     {
-        are_owned(&self.divisions, division)
-            && are_owned(&self.incidents, division)
-            && are_owned(&self.calls, division)
-            && are_owned(&self.vehicles, division)
-            && are_owned(&self.turns, division)
-            && are_owned(&self.assignments, division)
-            && are_owned(&self.points, division)
-            && are_owned(&self.loans, division)
-            && are_owned(&self.offers, division)
-            && are_owned(&self.reports, division)
+        are_owned(self.divisions.as_slice(), division)
+            && are_owned(self.incidents.as_slice(), division)
+            && are_owned(self.calls.as_slice(), division)
+            && are_owned(self.vehicles.as_slice(), division)
+            && are_owned(self.turns.as_slice(), division)
+            && are_owned(self.assignments.as_slice(), division)
+            && are_owned(self.points.as_slice(), division)
+            && are_owned(self.loans.as_slice(), division)
+            && are_owned(self.offers.as_slice(), division)
+            && are_owned(self.reports.as_slice(), division)
     }
 
     fn vehicles_agree(&self) -> bool
@@ -168,8 +169,8 @@ impl DivisionRows {
     }
 }
 
-fn are_owned<R: Row>(rows: &Rows<R>, division: DivisionNumber) -> bool
+fn are_owned<R: Row>(rows: &[R], division: DivisionNumber) -> bool
     ensures { result ≡ list_all (R.owned division) rows.now }
 {
-    rows.as_slice().iter().all(|row| row.owned_by(division))
+    rows.iter().all(|row| row.owned_by(division))
 }

@@ -1,4 +1,4 @@
-use Rattle.std.proofs.Common.{inl, refl}
+use Rattle.std.proofs.Common.{inl, inr, refl}
 use Rattle.room_store_file.specs.declared.examined_file.Wrong.TheVariants.{Memory}
 use Rattle.dispatch_room_archive.proofs.CheckedLemmas.{room_printed, wrong_printed}
 use Rattle.dispatch_room_archive.proofs.examination.check_in.Goals as goal
@@ -15,8 +15,12 @@ returns-clause-checked g c =
       | in-Err-Memory w ↦
           let text = g.O.Write.contents c.args.out.now in
           rw (w.out-is, w.done-is) (wrong_printed g.S.Store c.args.conn c.examine.new.conn text text Memory _
-          (λ clean. inl (tt, tt)) (λ clean storage. cc) (inl refl))
+          (λ clean. inl (tt, tt)) (λ clean storage. cc) (inl (refl, inr (refl, refl))))
       | in-Err w ↦
           rw (w.out-is, w.done-is) (wrong_printed g.S.Store c.args.conn c.examine.new.conn _ _ w.in-Err.wrong
-          w.print_wrong-done.result w.in-Err.ensures.wrong w.in-Err.ensures.why w.print_wrong-done.ensures)
+          w.print_wrong-done.result w.in-Err.ensures.wrong w.in-Err.ensures.why
+          (elim w.print_wrong-done.ensures [
+            | inl said ↦ inl (said.0, inl said.1)
+            | inr network ↦ inr network
+          ]))
     ]

@@ -5,12 +5,17 @@ use Rattle.dispatch_room_changes.proofs.import.import.Goals as goal
 
 pub returns-in_err-text-clause-undone : goal.returns-in_err-text-clause-undone
 returns-in_err-text-clause-undone g c =
-    handed_on c.from_residual.result _ c.from_residual.ensures.1 (λ fault is. inl (rw is c.in_err-text.ensures, refl))
+    handed_on c.from_residual.result _ c.from_residual.ensures.1
+    (λ fault is. inl (rw is c.in_err-text.ensures.fault, refl))
 
 pub returns-clause-done : goal.returns-clause-done
 returns-clause-done g c =
-    IfOk-weaker c.import_by.result _ _ (λ done is. (c.new-sheet.result.text.now, is)) c.import_by.ensures.done
+    IfOk-weaker c.import_by.result _ _
+    (λ done is. (_, c.in_ok-text.ensures.text, rw (c.new-sheet.ensures, c.as_slice.ensures.value) at is))
+    c.import_by.ensures.done
 
 pub returns-clause-undone : goal.returns-clause-undone
 returns-clause-undone g c =
-    IfErr-weaker c.import_by.result _ _ (λ fault is. inr (c.new-sheet.result.text.now, is)) c.import_by.ensures.undone
+    IfErr-weaker c.import_by.result _ _
+    (λ fault is. inr (_, c.in_ok-text.ensures.text, rw (c.new-sheet.ensures, c.as_slice.ensures.value) at is))
+    c.import_by.ensures.undone

@@ -17,7 +17,15 @@ pub returns-clause-done : goal.returns-clause-done
 returns-clause-done g c =
     let chain = c.in_ok-opened.ensures.chain in
     IfOk-weaker c.in_file.result _ _
-    (λ done is. (_, c.in_ok-lines.ensures.fleet, (chain.0, rw (c.as_slice.ensures.value, chain.1) at is)))
+    (λ done is. (
+      _,
+      c.in_ok-lines.ensures.fleet,
+      (
+        chain.0,
+        (c.in_ok-opened.opened, c.in_ok-opened.ensures.list, chain.1),
+        rw (c.as_slice.ensures.value, chain.1) at is,
+      ),
+    ))
     c.in_file.ensures.done
 
 pub returns-clause-undone : goal.returns-clause-undone
@@ -25,5 +33,13 @@ returns-clause-undone g c =
     let chain = c.in_ok-opened.ensures.chain in
     IfErr-weaker c.in_file.result _ _
     (λ fault is.
-    inr (inr (_, c.in_ok-lines.ensures.fleet, (chain.0, rw (c.as_slice.ensures.value, chain.1) at is))))
+    inr (inr (
+      _,
+      c.in_ok-lines.ensures.fleet,
+      (
+        chain.0,
+        (c.in_ok-opened.opened, c.in_ok-opened.ensures.list, chain.1),
+        rw (c.as_slice.ensures.value, chain.1) at is,
+      ),
+    )))
     c.in_file.ensures.undone

@@ -1,21 +1,25 @@
-use Rattle.std.proofs.Common.{inr}
+use Rattle.std.proofs.Common.{inl, inr, ◌⊎◌}
 use Rattle.std.proofs.lemmas.Result.{IfErr-weaker, IfOk-weaker}
 use Rattle.dispatch_room_commands.proofs.board.board.Goals as goal
 
 pub returns-clause-done : goal.returns-clause-done
 returns-clause-done g c =
-    IfOk-weaker c.print.result _ _
+    IfOk-weaker c.show.result _ _
     (λ done h. (
       c.in-Some.ensures.0,
-      (c.as_slice.result.now, c.has_colour-colour.result, c.has_colour-colour.ensures, rw c.is_some.ensures at h),
+      (h.0, c.has_colour-colour.result, c.has_colour-colour.ensures, rw c.in-Some.ensures.1 at h.2),
     ))
-    c.print.ensures.done
+    c.show.ensures.done
 
 pub returns-clause-undone : goal.returns-clause-undone
 returns-clause-undone g c =
-    IfErr-weaker c.print.result _ _
+    IfErr-weaker c.show.result _ _
     (λ fault h. inr (
       c.in-Some.ensures.0,
-      inr (c.as_slice.result.now, c.has_colour-colour.result, c.has_colour-colour.ensures, rw c.is_some.ensures at h),
+      elim h [
+        | inl memory ↦ inl memory
+        | inr shown ↦ inr
+            (shown.0, c.has_colour-colour.result, c.has_colour-colour.ensures, rw c.in-Some.ensures.1 at shown.2)
+      ],
     ))
-    c.print.ensures.undone
+    c.show.ensures.undone

@@ -97,3 +97,6 @@ pub returns-in-Err-clause-kept : goal.returns-in-Err-clause-kept
 returns-in-Err-clause-kept g c =
     λ trust.
     unless_known c.read_fault.result (g.M.Room.is_kept c.args.room.now → g.M.Room.is_kept c.args.room.now) (λ was. was)
+
+pub returns-in-Ok-None-clause-ended : goal.returns-in-Ok-None-clause-ended
+returns-in-Ok-None-clause-ended g c = λ is. (rw c.in-Ok-None.field-0-is at c.in-Ok-None.ensures.read).says.1

@@ -1,4 +1,4 @@
-use Rattle.std.proofs.Common.{refl, [], ◌∷◌, true}
+use Rattle.std.proofs.Common.{Ok, ap, refl, [], ◌∷◌, true}
 use Rattle.dispatch_room_journal.specs.declared.journal_messages.MessageOutcome.TheVariants.{Played, LeftOut, Last}
 use Rattle.dispatch_room_journal.specs.ReplayedTurns.{compared, IsReplayed}
 use Rattle.dispatch_room_journal.proofs.FaultLemmas.{unless_after}
@@ -65,3 +65,9 @@ returns-in-Err-replay_message-clause-kept g c = λ trust.
     unless_after c.in-Err-replay_message.fault (g.M.Room.is_kept c.args.room.now)
     (g.M.Room.is_kept c.next_entry.new.room) (g.M.Room.is_kept c.replay_message.new.room)
     (c.in-Ok.ensures.kept (c.replay_message.ensures.trusted trust)) (c.in-Err-replay_message.ensures.kept trust)
+
+pub returns-in-End-clause-ended : goal.returns-in-End-clause-ended
+returns-in-End-clause-ended g c = λ none is. c.in-Ok.ensures.ended none (ap Ok c.in-End.is)
+
+pub returns-in-Ok-Last-clause-ended : goal.returns-in-Ok-Last-clause-ended
+returns-in-Ok-Last-clause-ended g c = λ none is. c.in-Ok-Last.ensures.ended (ap Ok c.in-Ok-Last.field-0-is)

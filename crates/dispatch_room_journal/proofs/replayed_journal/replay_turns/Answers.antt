@@ -1,4 +1,4 @@
-use Rattle.std.proofs.Common.{◌∙◌, refl, ap, arith, ◌+◌, ◌-◌, ◌^◌, min, [], ◌++◌, length-append, true}
+use Rattle.std.proofs.Common.{Ok, ◌∙◌, refl, ap, arith, ◌+◌, ◌-◌, ◌^◌, min, [], ◌++◌, length-append, true}
 use Rattle.room_http.proofs.StreamLemmas.{Keeps-prepend}
 use Rattle.dispatch_room_journal.specs.declared.replay_faults.ReplayFault.TheVariants.{Bad}
 use Rattle.dispatch_room_journal.specs.declared.replay_progress.Progress.{Progress}
@@ -91,3 +91,6 @@ returns-clause-kept g c =
     λ trust.
     stopped_kept _ Bad _ (g.M.Room.is_kept c.args.room.now → g.M.Room.is_kept c.turns.room) c.stopped-2.ensures
     (c.turns.invariant.kept trust)
+
+pub returns-in-Ok-false-clause-ended : goal.returns-in-Ok-false-clause-ended
+returns-in-Ok-false-clause-ended g c = λ none. c.in-Ok-false.ensures.ended none (ap Ok c.in-Ok-false.field-0-test)

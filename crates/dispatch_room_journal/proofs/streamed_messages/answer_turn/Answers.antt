@@ -1,4 +1,4 @@
-use Rattle.std.proofs.Common.{refl, None, [], ◌∷◌, false}
+use Rattle.std.proofs.Common.{Ok, ap, refl, None, [], ◌∷◌, false}
 use Rattle.room_http_messages.proofs.StreamLemmas.{Appends-none}
 use Rattle.dispatch_room_journal.specs.ReplayedTurns.{compared, IsPlayed}
 use Rattle.dispatch_room_journal.proofs.FaultLemmas.{unless_after, due_with}
@@ -68,3 +68,6 @@ returns-in-Err-answer_message-clause-kept g c = λ trust.
     unless_after c.in-Err-answer_message.fault (g.M.Room.is_kept c.args.room.now)
     (g.M.Room.is_kept c.next_entry.new.room) (g.M.Room.is_kept c.answer_message.new.room)
     (c.in-Ok.ensures.kept (c.answer_message.ensures.trusted trust)) (c.in-Err-answer_message.ensures.kept trust)
+
+pub returns-in-End-clause-ended : goal.returns-in-End-clause-ended
+returns-in-End-clause-ended g c = λ is. c.in-Ok.ensures.ended refl (ap Ok c.in-End.is)

@@ -1,4 +1,4 @@
-use Rattle.std.proofs.Common.{◌∙◌, refl, ap, subst, sym, arith, ℕ, ◌+◌, ◌-◌, ◌^◌, min, List, [], ◌++◌, append-nil}
+use Rattle.std.proofs.Common.{Ok, ◌∙◌, refl, ap, subst, sym, arith, ℕ, ◌+◌, ◌-◌, ◌^◌, min, List, [], ◌++◌, append-nil}
 use Rattle.std.proofs.Common.{length-append, None, false}
 use Rattle.std.specs.Io.KnownBytes.{Appends}
 use Rattle.room_http_messages.proofs.StreamLemmas.{Appends-more, Appends-none}
@@ -107,3 +107,6 @@ returns-clause-kept g c =
     λ trust.
     stopped_kept _ Bad _ (g.M.Room.is_kept c.args.room.now → g.M.Room.is_kept c.turns.room) c.stopped-2.ensures
     (c.turns.invariant.kept trust)
+
+pub returns-in-Ok-false-clause-ended : goal.returns-in-Ok-false-clause-ended
+returns-in-Ok-false-clause-ended g c = c.in-Ok-false.ensures.ended (ap Ok c.in-Ok-false.field-0-test)

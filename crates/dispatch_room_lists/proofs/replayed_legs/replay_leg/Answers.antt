@@ -1,3 +1,4 @@
+use Rattle.std.proofs.Common.{inl, inr}
 use Rattle.dispatch_room_journal.proofs.FaultLemmas.{not_both}
 use Rattle.dispatch_room_lists.proofs.replayed_legs.replay_leg.Goals as goal
 
@@ -39,3 +40,12 @@ returns-in-Err-clause-goes g c = record {
   zone = c.answer_each.ensures.zone;
   trusted = c.answer_each.ensures.trusted;
 }
+
+pub returns-then-not-replay-clause-ended : goal.returns-then-not-replay-clause-ended
+returns-then-not-replay-clause-ended g c = λ all. elim all [
+  | inl answers ↦ absurd (not_both _ c.if-not-replay.true answers)
+  | inr none ↦ c.replay.ensures.ended none
+]
+
+pub returns-in-Ok-clause-ended : goal.returns-in-Ok-clause-ended
+returns-in-Ok-clause-ended g c = λ all. c.in-Ok.ensures.ended

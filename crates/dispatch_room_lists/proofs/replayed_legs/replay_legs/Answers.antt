@@ -1,18 +1,22 @@
-use Rattle.std.proofs.Common.{◌∙◌, Ok, arith, inl, inr}
+use Rattle.std.proofs.Common.{◌∙◌, Ok, arith, inl, inr, refl}
 use Rattle.dispatch_room_lists.proofs.LegLemmas.{ends_here, first_leg, next_leg, so_many, spent_by}
 use Rattle.dispatch_room_lists.proofs.LegLemmas.{whole_leg}
+use Rattle.dispatch_room_lists.specs.ReplayedLegs.{StandsBehind}
 use Rattle.room_tables.proofs.ReadFailures.{holds_on}
 use Rattle.dispatch_room_lists.proofs.replayed_legs.replay_legs.Goals as goal
 
 pub loop-leg-init : goal.loop-leg-init
 loop-leg-init g c =
-    let first = first_leg _ _ _ _ _ _ _ _ (c.replay_leg-came.ensures.leg 0) in
+    let first = first_leg _ _
+    (StandsBehind g.L.Source.left g.L.Source.has_ended g.L.Legs.takes c.args.course.now.replay.now) _ _ _ _ _ _
+    (c.replay_leg-came.ensures.leg 0) in
     record {
       same_reference = c.replay_leg-came.ensures.same_reference;
       ready = c.replay_leg-came.ensures.goes.ready;
       set = rw (c.replay_leg-came.ensures.goes.zone, c.replay_leg-came.ensures.setting) c.requires.set;
       trusted = c.replay_leg-came.ensures.goes.trusted;
       legs = first.0;
+      read = c.replay_leg-came.ensures.ended;
       many = first.1;
     }
 
@@ -24,15 +28,23 @@ loop-leg-preserved g c =
     let between = rw c.in-Ok-true.is at followed.between in
     let set = followed.goes.set _ before.set in
     let more =
-    next_leg _ _ _ c.loop-leg.stage.room c.loop-leg.before c.in-Ok.replayed _ between.0 between.1 _ _ _ _ _ _ _ _ _
+    next_leg _ _ _ _ c.loop-leg.stage.room c.loop-leg.before c.in-Ok.replayed _ between.0 between.1 _ _ _ _ _ _ _ _ _
     before.legs c.in-Ok.is before.many (rw c.in-Ok-true.field-0-test at between.3) followed.goes.trusted set
-    c.saturating_add-before.ensures (next.leg c.saturating_add-before.result) in
+    c.saturating_add-before.ensures (next.leg c.saturating_add-before.result)
+    (record {
+      read = c.loop-leg.list;
+      now = _;
+      ended = λ all. rw c.in-Ok.is at before.read all;
+      takes = between.2;
+      is_left = refl;
+    }) in
     record {
       same_reference = next.same_reference ∙ before.same_reference;
       ready = next.goes.ready;
       set = rw (next.goes.zone, next.setting) set;
       trusted = λ clean. before.trusted (followed.goes.trusted (next.goes.trusted clean));
       legs = more.0;
+      read = next.ended;
       many = more.1;
     }
 
@@ -46,14 +58,28 @@ returns-in-Err-clause-played g c =
         stood = c.loop-leg.stage.room;
         before = c.loop-leg.before;
         replayed = c.in-Ok.replayed;
-        leg = whole_leg _ _ _ _ _ _ _ _ _ _ _ (rw c.in-Ok.is at c.loop-leg.invariant.legs);
+        leg = whole_leg _ _ _ _ _ _ _ _ _ _ _ _ (rw c.in-Ok.is at c.loop-leg.invariant.legs);
         clean = goes.trusted;
         fault = c.in-Err.fault;
         why = elim (rw c.in-Err.is at c.in_ok-goes_on.ensures.fault) [
           | inl unread ↦ inl unread
           | inr other ↦ elim other [
             | inl memory ↦ inr (inl memory)
-            | inr is ↦ inr (inr (is.0, is.1, tt, is.3))
+            | inr is ↦ inr (inr (
+              is.0,
+              is.1,
+              (
+                _,
+                record {
+                  read = c.loop-leg.list;
+                  now = _;
+                  ended = λ all. rw c.in-Ok.is at c.loop-leg.invariant.read all;
+                  takes = is.2;
+                  is_left = refl;
+                },
+              ),
+              is.3,
+            ))
           ]
         ];
         failed = c.stopped_behind.ensures;
@@ -76,9 +102,17 @@ returns-in_err-goes_on-clause-lost g c =
       stood = c.loop-leg.stage.room;
       before = c.loop-leg.before;
       replayed = c.in-Ok.replayed;
-      leg = whole_leg _ _ _ _ _ _ _ _ _ _ _ (rw c.in-Ok.is at c.loop-leg.invariant.legs);
+      leg = whole_leg _ _ _ _ _ _ _ _ _ _ _ _ (rw c.in-Ok.is at c.loop-leg.invariant.legs);
       rows = lost.0;
       head = lost.1;
+      next = _;
+      stands = record {
+        read = c.loop-leg.list;
+        now = _;
+        ended = λ all. rw c.in-Ok.is at c.loop-leg.invariant.read all;
+        takes = lost.2;
+        is_left = refl;
+      };
       lost = lost.3;
     })
 
@@ -94,9 +128,15 @@ returns-in-Ok-false-clause-played g c =
       legs = inl (
         c.loop-leg.before,
         Ok c.in-Ok.replayed,
-        ends_here _ _ _ _ _ _ _ _ _ _ _ _ between.0 between.1 (rw c.in-Ok.is at before.legs) by,
+        ends_here _ _ _ _ _ _ _ _ _ _ _ _ _ between.0 between.1 (rw c.in-Ok.is at before.legs) by,
         c.in_all-in-Ok-false.ensures,
-        inl (spent_by _ c.loop-leg.list _ _ _ _ between.0 between.1 between.2 by),
+        inl (spent_by _ _ _ _ between.0 between.1 _ (record {
+          read = c.loop-leg.list;
+          now = _;
+          ended = λ all. rw c.in-Ok.is at before.read all;
+          takes = between.2;
+          is_left = refl;
+        }) by),
       );
     })
 

@@ -1,8 +1,7 @@
-use Rattle.std.proofs.Common.{length, ◌+◌, ◌==◌, ◌||◌, ◌≡◌}
+use Rattle.std.proofs.Common.{OnOk, length, true, ◌+◌, ◌≡◌}
 use Rattle.room_http.specs.Settings.{IsSetting}
 use Rattle.room_store.specs.StoredRoom.{IsReady}
-use Rattle.dispatch_room_journal.specs.ReadSteps.{most_rows}
-use Rattle.dispatch_room_lists.specs.ReplayedLegs.{EndsLeg, begins_leg, left_of}
+use Rattle.dispatch_room_lists.specs.ReplayedLegs.{EndsLeg, ReadsAll, StandsBehind, begins_leg}
 use Rattle.room_tables_schema.specs.FileConnections.{IsClean}
 use Rattle.dispatch_room_lists.proofs.replayed_legs.replay_legs.Given as goal
 
@@ -13,9 +12,11 @@ invariant-loop-leg g l = record {
   set : IsSetting l.stage.room.plan.zone l.course.replay.now.history l.stage.setting;
   trusted : IsClean g.S.Store l.stage.room.conn → IsClean g.S.Store l.fn.first.room.conn;
   legs : EndsLeg g.S.Store l.course.replay.now
-      (begins_leg l.fn.first.room l.fn.first.setting (left_of g.R.Source.left l.fn.list)
+      (StandsBehind g.L.Source.left g.L.Source.has_ended g.L.Legs.takes l.course.replay.now)
+      (begins_leg l.fn.first.room l.fn.first.setting (g.L.Source.left l.fn.list)
       (g.O.Write.contents l.fn.out.output.now))
       l.stage.room (g.O.Write.contents l.out.output.now)
-      (g.R.Source.has_failed l.list.reader || l.list.passed == most_rows) l.out.failed l.before l.came;
+      (g.L.Source.has_failed l.list) l.out.failed l.before l.came;
+  read : ReadsAll l.course.replay.now → OnOk l.came (g.L.Source.has_ended l.list ≡ true);
   many : length legs.earlier + 1 ≡ l._leg;
 }

@@ -1,4 +1,4 @@
-use Rattle.std.proofs.Common.{◌∙◌, ◌<◌, arith, length, refl, sym, [], ◌∷◌, ◌++◌}
+use Rattle.std.proofs.Common.{◌∙◌, ◌<◌, arith, length, refl, rules, sym, [], ◌∷◌, ◌++◌}
 use Rattle.dispatch_room_serving.proofs.ConnectionLaws.{attended_more, ends_after, kept_ending, served_none}
 use Rattle.dispatch_room_serving.proofs.connections.serve_each.Goals as goal
 
@@ -7,6 +7,7 @@ loop-connection-init g c = record {
   ready = c.requires.ready;
   served = served_none g.S.Store c.args.handler.now.setting _ _ _;
   prints = refl;
+  none = λ none. none;
 }
 
 pub returns-in-Err-clause-served : goal.returns-in-Err-clause-served
@@ -33,4 +34,5 @@ loop-connection-preserved g c =
       ready = c.serve_next.ensures.ready;
       served = c.serve_next.ensures.attended.longer c.in_default.is _ _ c.loop-connection.invariant.served;
       prints = c.serve_next.ensures.prints ∙ c.loop-connection.invariant.prints;
+      none = search rules;
     }

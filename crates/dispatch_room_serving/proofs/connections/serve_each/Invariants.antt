@@ -1,4 +1,4 @@
-use Rattle.std.specs.Prelude.{◌≡◌}
+use Rattle.std.specs.Prelude.{◌≡◌, None}
 use Rattle.room_store.specs.StoredRoom.{IsReady}
 use Rattle.dispatch_room_serving.specs.Connections.{HasServed}
 use Rattle.dispatch_room_serving.proofs.connections.serve_each.Given as goal
@@ -29,4 +29,5 @@ invariant-loop-connection g l = record {
       })
       l._connection;
   prints : g.P.Callers.prints l.callers ≡ g.P.Callers.prints l.initial.callers;
+  none : l.initial.part.place ≡ None → l.part.place ≡ None;
 }

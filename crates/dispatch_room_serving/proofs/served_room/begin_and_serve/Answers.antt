@@ -53,3 +53,17 @@ returns-in-Ok-clause-attends g c =
       head = stated.1;
       serves = rw (c.begin.ensures.heard, c.begin.ensures.written, failed) at c.serve_each.ensures.served;
     })
+
+pub returns-in-Err-begin-clause-attends : goal.returns-in-Err-begin-clause-attends
+returns-in-Err-begin-clause-attends g c =
+    let stated = announced g.S.Store _ _ c.args.room.now c.announce.new.room _ _ c.announce.result c.in_default.not-Err
+    c.announce.ensures.announces in
+    inl (record {
+      fault = c.in-Err-begin.fault;
+      why = inl c.in-Err-begin.ensures.fault;
+      result_is = refl;
+      failed = λ is. absurd (cc (is, c.in-Err-begin.ensures.fault));
+      unheard = (c.begin.ensures.heard, c.begin.ensures.written, refl);
+      looks = stated.0.looks;
+      head = unheard g.S.Store _ _ c.args.room.now c.announce.new.room _ _ c.in-Err-begin.fault stated.1;
+    })

@@ -1,8 +1,9 @@
-use Rattle.dispatch_room_sockets.proofs.HistoryLaws.{back_gone}
+use Rattle.std.proofs.Common.{inl, inr, sym}
+use Rattle.dispatch_room_sockets.proofs.PieceTurnLaws.{gone_taken}
 use Rattle.dispatch_room_sockets.proofs.pieces.take_back.Goals as goal
 
-pub returns-in_default-clause-back : goal.returns-in_default-clause-back
-returns-in_default-clause-back c = back_gone _ _ _ _
+pub returns-in_default-clause-taken : goal.returns-in_default-clause-taken
+returns-in_default-clause-taken c = gone_taken _ _ _ _ _ _ _ _ (inl (sym c.in_default.ensures))
 
-pub returns-clause-back : goal.returns-clause-back
-returns-clause-back c = back_gone _ _ _ _
+pub returns-clause-taken : goal.returns-clause-taken
+returns-clause-taken c = gone_taken _ _ _ _ _ _ _ _ (inr c.if-is_paused.false)

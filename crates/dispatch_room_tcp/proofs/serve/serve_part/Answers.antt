@@ -1,5 +1,6 @@
 use Rattle.std.proofs.Common.{ap, false, is_some, ◌∙◌, ◌≡◌}
 use Rattle.dispatch_room_serving.specs.Journals.{failed_by}
+use Rattle.dispatch_room_serving.specs.ListPlaces.{has_left}
 use Rattle.dispatch_room_tcp.proofs.PartLemmas.{printed_to_end, where_failed}
 use Rattle.dispatch_room_tcp.proofs.serve.serve_part.Goals as goal
 
@@ -24,7 +25,12 @@ returns-clause-served g c =
       };
       served = _;
       ends = c.end_part-done.ensures.part;
-      found = c.standing-left.result;
+      has_left = has_left c.serve_in.new.part.place;
+      found = _;
+      once =
+          λ once.
+          c.standing-left.ensures.unlooked
+          (c.serve_in.ensures.none (c.place_of.ensures (ap (λ it. it.renews) c.terms_of-terms.ensures ∙ once)));
       ended = c.end_part-done.ensures.ended;
       cut = λ is. let cut = c.end_part-done.ensures.cut is in (cut.0, ap (λ it. it.journal) cut.1);
       is = rw (journal, fresh, c.terms_of-terms.ensures) at c.in_ok-done.ensures.served;

@@ -1,7 +1,7 @@
-use Rattle.std.proofs.Common.{◌∙◌, ap, inl, inr, refl, sym}
+use Rattle.std.proofs.Common.{◌∙◌, ap, arith, inl, inr, refl, sym}
 use Rattle.dispatch_room_serving.proofs.CallerLemmas.{may_of, printed_once}
-use Rattle.dispatch_room_tcp.proofs.PartLemmas.{called_before, first_before, first_part, next_before, not_false}
-use Rattle.dispatch_room_tcp.proofs.PartLemmas.{where_failed}
+use Rattle.dispatch_room_tcp.proofs.PartLemmas.{called_before, ends_badly, ends_once, first_before, first_opened}
+use Rattle.dispatch_room_tcp.proofs.PartLemmas.{first_part, later_opened, next_before, not_false, not_true, where_failed}
 use Rattle.dispatch_room_disk.proofs.WorkLemmas.{handed_on}
 use Rattle.dispatch_room_tcp.proofs.serve.serve_parts.Goals as goal
 
@@ -9,7 +9,8 @@ pub loop-part-init : goal.loop-part-init
 loop-part-init g c = record {
   outside = c.in_ok-first.ensures.outside;
   listed = refl;
-  served = λ first is. first_part _ _ _ _ first _ _ is;
+  served = λ first is. (first_part _ _ _ _ _ (first_opened _ _) first _ _ is, refl);
+  few = omega arith;
   prints = c.in_ok-first.ensures.prints;
 }
 
@@ -17,16 +18,23 @@ pub loop-part-preserved : goal.loop-part-preserved
 loop-part-preserved g c =
     let renews = sym (ap (λ terms. terms.renews) c.terms_of.ensures) ∙ not_false _ c.if-not-terms_of.false in
     let well = sym c.is_err.ensures.value ∙ c.if-is_err.false in
-    let listed = c.in-Ok.ensures.list ∙ c.loop-part.invariant.listed in
+    let listed = c.in-Ok.ensures.listed ∙ c.loop-part.invariant.listed in
     record {
       outside = c.in_ok-next.ensures.outside;
       listed = listed;
-      served = λ first is. record {
-        at = _;
-        before = next_before _ _ _ first _ _ renews well (c.loop-part.invariant.served first is);
-        list = _;
-        is = rw listed at c.in_ok-next.ensures.served;
-      };
+      served = λ first is.
+          let before = c.loop-part.invariant.served first is in
+          let next = next_before _ _ _ _ first _ _ renews well before.0 in (
+            record {
+              at = _;
+              before = next.0;
+              list = _;
+              listed = later_opened _ _ _ c.in-Ok.ensures.list;
+              is = rw listed at c.in_ok-next.ensures.served;
+            },
+            omega (arith, next.1, before.1),
+          );
+      few = omega (arith, c.loop-part-test.true);
       prints =
           printed_once _ _ _ c.in_ok-next.next (may_of _ _ _ well c.loop-part.invariant.prints)
           c.in_ok-next.ensures.prints;
@@ -35,13 +43,18 @@ loop-part-preserved g c =
 pub returns-in_err-first-clause-fault : goal.returns-in_err-first-clause-fault
 returns-in_err-first-clause-fault g c =
     handed_on c.from_residual.result _ c.from_residual.ensures.1
-    (λ fault is. record { at = _; before = first_before _ _ _ _; unopened = rw is c.in_err-first.ensures.fault })
+    (λ fault is. record { at = _; before = first_before _ _ _ _ _; unopened = rw is c.in_err-first.ensures.fault })
 
 pub returns-then-not-terms_of-clause-served : goal.returns-then-not-terms_of-clause-served
-returns-then-not-terms_of-clause-served g c = inl (first_part _ _ _ _ _ _ _ c.in_ok-first.ensures.served)
+returns-then-not-terms_of-clause-served g c =
+    inl (ends_once _ _ _ _ _ (first_opened _ _) _ _ _
+    (sym (ap (λ terms. terms.renews) c.terms_of.ensures) ∙ not_true _ c.if-not-terms_of.true)
+    c.in_ok-first.ensures.served)
 
 pub returns-then-is_err-clause-served : goal.returns-then-is_err-clause-served
-returns-then-is_err-clause-served g c = inl (c.loop-part.invariant.served _ c.in_ok-first.ensures.served)
+returns-then-is_err-clause-served g c =
+    inl (ends_badly _ _ _ _ _ _ _ (sym c.is_err.ensures.value ∙ c.if-is_err.true)
+    (c.loop-part.invariant.served _ c.in_ok-first.ensures.served).0)
 
 pub returns-in-Err-clause-served : goal.returns-in-Err-clause-served
 returns-in-Err-clause-served g c =
@@ -49,7 +62,8 @@ returns-in-Err-clause-served g c =
     let well = sym c.is_err.ensures.value ∙ c.if-is_err.false in
     inr (record {
       renews = renews;
-      before = next_before _ _ _ _ _ _ renews well (c.loop-part.invariant.served _ c.in_ok-first.ensures.served);
+      before = (next_before _ _ _ _ _ _ _ renews well
+          (c.loop-part.invariant.served _ c.in_ok-first.ensures.served).0).0;
       fault = c.in-Err.fault;
       result_is = refl;
       why = c.in-Err.ensures.fault;
@@ -62,12 +76,18 @@ returns-in_err-next-clause-fault g c =
     handed_on c.from_residual-in_err-next.result _ c.from_residual-in_err-next.ensures.1
     (λ fault is. record {
       at = _;
-      before = next_before _ _ _ _ _ _ renews well (c.loop-part.invariant.served _ c.in_ok-first.ensures.served);
+      before = (next_before _ _ _ _ _ _ _ renews well
+          (c.loop-part.invariant.served _ c.in_ok-first.ensures.served).0).0;
       unopened = rw is c.in_err-next.ensures.fault;
     })
 
 pub returns-clause-served : goal.returns-clause-served
-returns-clause-served g c = inl (c.loop-part.invariant.served _ c.in_ok-first.ensures.served)
+returns-clause-served g c =
+    let last = c.loop-part.invariant.served _ c.in_ok-first.ensures.served in
+    inl (record {
+      part = last.0;
+      followed = λ renews well. omega (arith, last.1, c.loop-part.invariant.few, c.loop-part-test.false);
+    })
 
 pub returns-in-Err-clause-prints : goal.returns-in-Err-clause-prints
 returns-in-Err-clause-prints g c =

@@ -1,6 +1,6 @@
-use Rattle.std.specs.Prelude.{◌≡◌, false, is_some}
+use Rattle.std.specs.Prelude.{◌≡◌, ◌≤◌, ◌+◌, false, is_some, length}
 use Rattle.dispatch_room_serving.specs.Callers.{Prints}
-use Rattle.dispatch_room_tcp.specs.ServedFiles.{terms_of, watch_of}
+use Rattle.dispatch_room_tcp.specs.ServedFiles.{IsOpenedFor, terms_of, watch_of}
 use Rattle.dispatch_room_tcp.specs.ServedParts.{EndsPart, Interval, IsPart}
 use Rattle.dispatch_room_tcp.proofs.serve.serve_parts.Given as goal
 
@@ -19,13 +19,15 @@ invariant-loop-part g l = record {
         given = g.C.Clock.given l.initial.clock;
       })
       l.initial.done
-      → EndsPart g.S.Store (watch_of (is_some l.initial.list) l.run.service.now) (terms_of l.run.service.now) first
+      → (part : EndsPart g.S.Store (watch_of (is_some l.initial.list) l.run.service.now) (terms_of l.run.service.now)
+      (IsOpenedFor (g.M.Machine.paths l.run.machine) l.run.service.now l.initial.list) first
       (record {
         conn = l.conn;
         heard = g.P.Callers.heard l.callers;
         written = g.P.Callers.written l.callers;
         given = g.C.Clock.given l.clock;
       })
-      l.done;
+      l.done) × (length part.before.earlier + 1 ≡ l._part);
+  few : l._part ≤ 18446744073709551615;
   prints : Prints (g.P.Callers.prints l.fn.callers) (g.P.Callers.prints l.callers) l.done;
 }

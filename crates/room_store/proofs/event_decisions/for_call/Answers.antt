@@ -31,43 +31,48 @@ returns-in_default-division_of-clause-decided g c clean config room h _ _ _ form
 pub returns-in_default-division_of-clause-reads : goal.returns-in_default-division_of-clause-reads
 returns-in_default-division_of-clause-reads g c = succeeds (looked c.in-Ok.ensures.reads)
 
-pub load_working-requires-clause-open : goal.load_working-requires-clause-open
-load_working-requires-clause-open g c clean = (c.in-Ok.ensures.reads.ok clean).0.is_open
+pub load_beside_fleet-requires-clause-open : goal.load_beside_fleet-requires-clause-open
+load_beside_fleet-requires-clause-open g c clean = (c.in-Ok.ensures.reads.ok clean).0.is_open
 
 pub returns-clause-decided : goal.returns-clause-decided
 returns-clause-decided g c clean =
     let first : IsClean g.S.Store c.row_at.new.conn = omega
-    (arith, c.load_working.ensures.reads.survives.clean) in
+    (arith, c.load_beside_fleet.ensures.reads.survives.clean) in
     IfOk-weaker (unless_unavailable c.decide_call-decision.result) _ _
-    (λ x answered config room h position at form formed planned made ask fleet is.
+    (λ x answered config room h position at form formed planned made asked fleet is.
     let call = c.args.call.now in
     let areas = c.args.plan.now.areas in
     let row = c.in-Ok.ensures.row first config room h in
-    let rows = c.in-Ok-load_working.ensures.rows clean config room
-    (kept _ _ (c.in-Ok.ensures.reads.ok first) config room h) formed.order (all_known fleet is) in
+    let ask = c.args.ask.now in
+    let selects = c.reads_of-reads.ensures in
+    let read = c.in-Ok-load_beside_fleet.ensures.rows clean config room
+    (kept _ _ (c.in-Ok.ensures.reads.ok first) config room h) ask formed.order (all_known fleet is) selects in
+    let rows = c.in-Ok-working_slice.ensures.rows room ask call.at formed.order (rw c.get.ensures read.1.rows) selects
+    read.0 in
     let new = is_new call areas room planned c.in-Ok.found row c.division_of.result c.division_of.ensures.value
     c.in_default.is in
     let placed = placed_in call areas room planned c.in-Ok.found row c.division_of.result c.division_of.ensures.value
     c.in-Some-division_of.division c.in-Some-division_of.is in
-    let decides = rw (made, c.in-Ok-load_working.ensures.division) at
+    let decides = rw (made, c.in-Ok-working_slice.ensures.division) at
     c.decide_call-decision.ensures.decides room form formed in
     answered (take_call call room)
-    (rw made (decides refl (rw made at new) (rw made at placed) (inl (rw (made, ask) at rows)))))
+    (rw made (decides refl (rw made at new) (rw made at placed) (inl (rw (made, asked) at rows)))))
     (machines c.decide_call-decision.result)
 
 pub returns-clause-cache : goal.returns-clause-cache
 returns-clause-cache g c clean =
     let first : IsClean g.S.Store c.row_at.new.conn = omega
-    (arith, c.load_working.ensures.reads.survives.clean) in
+    (arith, c.load_beside_fleet.ensures.reads.survives.clean) in
     says c.decide_call-decision.result _ (λ config room h formed fleet is.
-    still_known fleet
-    (c.in-Ok-load_working.ensures.known clean config room (kept _ _ (c.in-Ok.ensures.reads.ok first) config room h)
-    formed.order (all_known fleet is)) c.load_working.ensures.fleet)
+    let read = c.in-Ok-load_beside_fleet.ensures.rows clean config room
+    (kept _ _ (c.in-Ok.ensures.reads.ok first) config room h) c.args.ask.now formed.order (all_known fleet is)
+    c.reads_of-reads.ensures in
+    still_known fleet read.1 c.load_beside_fleet.ensures.fleet)
 
 pub returns-clause-reads : goal.returns-clause-reads
 returns-clause-reads g c =
     ends_any (unless_unavailable c.decide_call-decision.result)
-    (and (looked c.in-Ok.ensures.reads) c.in-Ok-load_working.ensures.reads)
+    (and (looked c.in-Ok.ensures.reads) c.in-Ok-load_beside_fleet.ensures.reads)
 
 pub returns-in-Err-clause-decided : goal.returns-in-Err-clause-decided
 returns-in-Err-clause-decided g c clean = unsaid c.in-Err.fault c.refusal_of.ensures _
@@ -78,15 +83,28 @@ returns-in-Err-clause-cache g c clean = unsaid c.in-Err.fault c.refusal_of.ensur
 pub returns-in-Err-clause-reads : goal.returns-in-Err-clause-reads
 returns-in-Err-clause-reads g c = fails (failed c.in-Err.fault c.refusal_of.ensures) c.in-Err.ensures.reads
 
-pub returns-in-Err-load_working-clause-decided : goal.returns-in-Err-load_working-clause-decided
-returns-in-Err-load_working-clause-decided g c clean =
-    unsaid c.in-Err-load_working.fault c.refusal_of-in-Err-load_working.ensures _
+pub returns-in-Err-load_beside_fleet-clause-decided : goal.returns-in-Err-load_beside_fleet-clause-decided
+returns-in-Err-load_beside_fleet-clause-decided g c clean =
+    unsaid c.in-Err-load_beside_fleet.fault c.refusal_of-in-Err-load_beside_fleet.ensures _
 
-pub returns-in-Err-load_working-clause-cache : goal.returns-in-Err-load_working-clause-cache
-returns-in-Err-load_working-clause-cache g c clean =
-    unsaid c.in-Err-load_working.fault c.refusal_of-in-Err-load_working.ensures _
+pub returns-in-Err-load_beside_fleet-clause-cache : goal.returns-in-Err-load_beside_fleet-clause-cache
+returns-in-Err-load_beside_fleet-clause-cache g c clean =
+    unsaid c.in-Err-load_beside_fleet.fault c.refusal_of-in-Err-load_beside_fleet.ensures _
 
-pub returns-in-Err-load_working-clause-reads : goal.returns-in-Err-load_working-clause-reads
-returns-in-Err-load_working-clause-reads g c =
-    but (looked c.in-Ok.ensures.reads) (failed c.in-Err-load_working.fault c.refusal_of-in-Err-load_working.ensures)
-    c.in-Err-load_working.ensures.reads
+pub returns-in-Err-load_beside_fleet-clause-reads : goal.returns-in-Err-load_beside_fleet-clause-reads
+returns-in-Err-load_beside_fleet-clause-reads g c =
+    but (looked c.in-Ok.ensures.reads)
+    (failed c.in-Err-load_beside_fleet.fault c.refusal_of-in-Err-load_beside_fleet.ensures)
+    c.in-Err-load_beside_fleet.ensures.reads
+
+pub returns-in-Err-working_slice-clause-decided : goal.returns-in-Err-working_slice-clause-decided
+returns-in-Err-working_slice-clause-decided g c clean =
+    unsaid c.in-Err-working_slice.fault c.refusal_of-in-Err-working_slice.ensures _
+
+pub returns-in-Err-working_slice-clause-cache : goal.returns-in-Err-working_slice-clause-cache
+returns-in-Err-working_slice-clause-cache g c clean =
+    unsaid c.in-Err-working_slice.fault c.refusal_of-in-Err-working_slice.ensures _
+
+pub returns-in-Err-working_slice-clause-reads : goal.returns-in-Err-working_slice-clause-reads
+returns-in-Err-working_slice-clause-reads g c =
+    ends_any _ (and (looked c.in-Ok.ensures.reads) c.in-Ok-load_beside_fleet.ensures.reads)

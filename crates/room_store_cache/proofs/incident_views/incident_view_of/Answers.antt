@@ -5,7 +5,6 @@ use Rattle.room_types.specs.KeyLemmas.{numbered_total}
 use Rattle.room_types.specs.declared.tables.Turn.{Turn}
 use Rattle.room_types.proofs.KeyedLaws.{without_failing}
 use Rattle.room_types.specs.KeyedRows.{row_at}
-use Rattle.room_model.specs.Room.{Room}
 use Rattle.room_store_cache.proofs.KeptLaws.{put_passing}
 use Rattle.room_store_cache.proofs.OneIncident.{incident_read, turns_read}
 use Rattle.room_store_cache.proofs.incident_views.incident_view_of.Goals as goal
@@ -40,9 +39,9 @@ returns-clause-incident_view c room ask at in_order reads read =
     let all = take_all c.loop-turn.turn-index c.args.rows.now.turns (rw c.as_slice-turn-items.ensures.all at past) in
     record {
       incident = c.copied.ensures ∙ c.get.ensures
-          ∙ ap (λ (r : Room). row_at pair_cmp incident_key r.incidents (d, n)) read
+          ∙ ap (λ is. row_at pair_cmp incident_key is (d, n)) read.incidents
           ∙ incident_read ask n d at room reads in_order.incidents;
       turns = rw all at c.loop-turn.invariant
-          ∙ ap (λ (r : Room). filter (λ t. t.incident == n) r.turns) read
+          ∙ ap (filter (λ t. t.incident == n)) read.turns
           ∙ turns_read ask n d at room reads;
     }

@@ -23,7 +23,9 @@ returns-in-Ok g c =
     (c.next_streamed-4.ensures.mode
     (c.next_streamed-3.ensures.mode (c.next_streamed-2.ensures.mode (c.next_streamed.ensures.mode outside)))))) in
     record {
-      beside = λ clean. found_beside (state g.S.Store c.args.conn.now).now.trees _ c.new.ensures (all.found clean);
+      beside = λ clean.
+          rw (c.own.ensures, c.own-2.ensures, c.own-3.ensures, c.own-4.ensures, c.own-5.ensures, c.own-6.ensures)
+          (found_beside (state g.S.Store c.args.conn.now).now.trees _ c.new.ensures (all.found clean));
       why = λ clean. tt;
       reads = outside_of mode (ends_inside _ all.reads);
     }

@@ -20,7 +20,8 @@ returns-in-Ok-clause-found g c clean all =
     (and_read (and_read five c.next_rows-6.ensures.next turns_fail) c.next_rows-7.ensures.next assignments_fail)
     c.next_rows-8.ensures.next points_fail) c.next_rows-9.ensures.next loans_fail) c.next_rows-10.ensures.next
     offers_fail in
-    found_rows (state g.S.Store c.args.tx.now.conn.now).now.trees _ all ((became c.in-Ok.is ten).found clean)
+    rw (c.own.ensures, c.own-2.ensures, c.own-3.ensures, c.own-4.ensures, c.own-5.ensures, c.own-6.ensures)
+    (found_rows (state g.S.Store c.args.tx.now.conn.now).now.trees _ all ((became c.in-Ok.is ten).found clean))
 
 pub returns-in-Ok-clause-reads : goal.returns-in-Ok-clause-reads
 returns-in-Ok-clause-reads g c =

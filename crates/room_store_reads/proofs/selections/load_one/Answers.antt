@@ -1,7 +1,7 @@
 use Rattle.std.proofs.Common.{ap, ◌∙◌}
 use Rattle.std.proofs.lemmas.Result.{IfOk-weaker}
 use Rattle.room_tables_schema.proofs.ReadLaws.{ends_any, fails, looked}
-use Rattle.room_store_reads.specs.Selections.{listed as list_of}
+use Rattle.room_types.specs.KeyedRows.{listed as list_of}
 use Rattle.room_store_reads.proofs.KeyedUnions.{only_found}
 use Rattle.room_store_reads.proofs.selections.load_one.Goals as goal
 

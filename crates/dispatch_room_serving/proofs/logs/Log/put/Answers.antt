@@ -12,15 +12,15 @@ returns-in-Ok g c =
     let written = c.in-Ok.ensures.ok in
     let bytes = c.as_bytes.ensures.value in (
       c.as_bytes.result.now,
-      record { at = c.utc.result; millis = c.as_millis.result; moment = c.utc.ensures; is = cc },
+      record { at = c.utc.result; millis = c.millis_between.result; moment = c.utc.ensures; is = cc },
       c.put_all.ensures,
     )
 
 pub returns-in-Err : goal.returns-in-Err
 returns-in-Err g c =
     let text = line_text c.utc.result c.args.asked.now.who (request_of c.args.asked.now.arrived.now)
-    (status_in c.args.answer.now) c.as_millis.result ++ 10 ∷ [] in (
+    (status_in c.args.answer.now) c.millis_between.result ++ 10 ∷ [] in (
       text,
-      record { at = c.utc.result; millis = c.as_millis.result; moment = c.utc.ensures; is = refl },
+      record { at = c.utc.result; millis = c.millis_between.result; moment = c.utc.ensures; is = refl },
       ([], (text, refl), Appends-none _),
     )

@@ -1,23 +1,13 @@
-use Rattle.std.proofs.Common.{inl, inr, refl}
 use Rattle.dispatch_room_sockets.proofs.HistoryLaws.{back_gone, back_in_line}
 use Rattle.dispatch_room_sockets.proofs.waiting_callers.Waiting.take_back.Goals as goal
-
-pub returns-in_default-clause-again : goal.returns-in_default-clause-again
-returns-in_default-clause-again g c = inl refl
-
-pub returns-in_default-clause-back : goal.returns-in_default-clause-back
-returns-in_default-clause-back g c = back_gone _ _ _ _
 
 pub returns-then-len-lt-MOST_KEPT-clause-again : goal.returns-then-len-lt-MOST_KEPT-clause-again
 returns-then-len-lt-MOST_KEPT-clause-again g c =
     let until = c.saturating_add.ensures in
-    inr (c.in-Some.now, c.saturating_add.result, until, c.push_back_reserved.ensures.items)
+    λ _. (c.unwrap_or-now.result, c.saturating_add.result, until, c.push_back_reserved.ensures.items)
 
 pub returns-then-len-lt-MOST_KEPT-clause-back : goal.returns-then-len-lt-MOST_KEPT-clause-back
 returns-then-len-lt-MOST_KEPT-clause-back g c = back_in_line _ _ _ _ _ c.push_back_reserved.ensures.items
-
-pub returns-else-len-lt-MOST_KEPT-clause-again : goal.returns-else-len-lt-MOST_KEPT-clause-again
-returns-else-len-lt-MOST_KEPT-clause-again g c = inl refl
 
 pub returns-else-len-lt-MOST_KEPT-clause-back : goal.returns-else-len-lt-MOST_KEPT-clause-back
 returns-else-len-lt-MOST_KEPT-clause-back g c = back_gone _ _ _ _

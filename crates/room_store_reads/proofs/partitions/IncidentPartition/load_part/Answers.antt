@@ -6,7 +6,7 @@ use Rattle.room_types.specs.KeyLemmas.{pairs_total}
 use Rattle.room_tables_schema.proofs.ReadLaws.{begins, ends_any}
 use Rattle.room_store_cache.proofs.Filters.{filter_as}
 use Rattle.room_store_reads.proofs.ReadFilters.{own_pair, pair_is}
-use Rattle.room_store_reads.specs.Selections.{listed as list_of}
+use Rattle.room_types.specs.KeyedRows.{listed as list_of}
 use Rattle.room_store_reads.proofs.KeyedUnions.{at_key}
 use Rattle.room_store_reads.proofs.partitions.IncidentPartition.load_part.Goals as goal
 

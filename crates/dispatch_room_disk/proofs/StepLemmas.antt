@@ -1,0 +1,74 @@
+-- Steps that were done one after another.
+use Rattle.std.proofs.Common.{◌≡◌, ◌∙◌, ap, append_assoc, List, ◌∷◌, ◌++◌, Option, None, Some, Result, Ok, Err, sym, OnOk, IsOk, IfErr}
+use Rattle.std.proofs.Common.{ℕ, [], drop, get_or, length, map, subst, take, ◌+◌, ◌<◌}
+use Rattle.std.proofs.lemmas.List.{map-append, take-append-drop, take_more}
+use Rattle.std.specs.Result.{IsErrAnd}
+use Rattle.dispatch_room_disk.specs.FileSteps.{Does, Follows, Stops}
+
+pub both : {S : Type 0} (first rest : List S) (a b c : Option (List S)) → Does first a b → Does rest b c
+    → Does (first ++ rest) a c
+both first rest None b c done more = tt
+both first rest (Some old) None c done more = absurd done
+both first rest (Some old) (Some new) None done more = more
+both first rest (Some old) (Some new) (Some last) done more =
+    more ∙ ap (λ steps. steps ++ rest) done ∙ append_assoc old first rest
+
+pub then : {S T E : Type 0} (first rest : List S) (a b c : Option (List S)) (r : Result T E) → Does first a b
+    → Follows rest b c r → Follows (first ++ rest) a c r
+then first rest None b c (Ok done) before more = tt
+then first rest None b c (Err fault) before more = tt
+then first rest (Some old) b c (Ok done) before more = both first rest (Some old) b c before more
+then first rest (Some old) None c (Err fault) before more = absurd before
+then first rest (Some old) (Some new) c (Err fault) before (some, failed, after, is, done) = (
+  first ++ some,
+  failed,
+  after,
+  ap (λ steps. first ++ steps) is ∙ sym (append_assoc first some (failed ∷ after)),
+  both first some (Some old) (Some new) c before done,
+)
+
+pub fails : {S T E : Type 0} (first rest : List S) (a b : Option (List S)) (r : Result T E) (P : E → Type 0)
+    → IsErrAnd r P → Stops first a b → Follows (first ++ rest) a b r
+fails first rest a b (Ok done) P is stops = absurd is
+fails first rest None b (Err fault) P is stops = tt
+fails first rest (Some old) b (Err fault) P is (some, failed, after, same, done) = (
+  some,
+  failed,
+  after ++ rest,
+  ap (λ steps. steps ++ rest) same ∙ append_assoc some (failed ∷ after) rest,
+  done,
+)
+
+-- one of the steps of a loop failed
+pub fails_at : {S X T E : Type 0} (f : X → S) (xs : List X) (i : ℕ) (d : X) (rest : List S) (a b c : Option (List S))
+    (r : Result T E) (P : E → Type 0) → i < length xs → Does (map f (take i xs)) a b → IsErrAnd r P
+    → Stops (f (get_or xs i d) ∷ []) b c → Follows (map f xs ++ rest) a c r
+fails_at f xs i d rest a b c r P below done is stops =
+    subst (λ steps. Follows steps a c r) (sym parts)
+    (then (map f (take i xs)) _ a b c r done
+    (fails (f (get_or xs i d) ∷ []) (map f (drop (i + 1) xs) ++ rest) b c r P is stops))
+  where
+    whole : take i xs ++ get_or xs i d ∷ drop (i + 1) xs ≡ xs
+    whole =
+        sym (append_assoc (take i xs) (get_or xs i d ∷ []) (drop (i + 1) xs))
+        ∙ ap (λ t. t ++ drop (i + 1) xs) (sym (take_more xs i d below)) ∙ take-append-drop (i + 1) xs
+
+    parts : map f xs ++ rest ≡ map f (take i xs) ++ f (get_or xs i d) ∷ (map f (drop (i + 1) xs) ++ rest)
+    parts =
+        ap (λ t. map f t ++ rest) (sym whole)
+        ∙ ap (λ t. t ++ rest) (map-append f (take i xs) (get_or xs i d ∷ drop (i + 1) xs))
+        ∙ append_assoc (map f (take i xs)) (f (get_or xs i d) ∷ map f (drop (i + 1) xs)) rest
+
+-- what came of the steps is reported as another fault
+pub reported : {S T U E F : Type 0} (steps : List S) (a b : Option (List S)) (r : Result T E) (s : Result U F)
+    (P : E → F → Type 0) → OnOk r (IsOk s) → IfErr r (λ e. IsErrAnd s (P e)) → Follows steps a b r
+    → Follows steps a b s
+reported steps a b (Ok x) (Ok y) P good bad done = done
+reported steps a b (Ok x) (Err fault) P good bad done = absurd (cc good)
+reported steps a b (Err e) (Ok y) P good bad done = absurd bad
+reported steps a b (Err e) (Err fault) P good bad done = done
+
+-- what was done is not known
+pub unknown : {S T E : Type 0} (steps : List S) (r : Result T E) → Follows steps None None r
+unknown steps (Ok done) = tt
+unknown steps (Err fault) = tt
