@@ -1,5 +1,6 @@
 """The documents together: how many words they have, the one list of crates, the places that
-ARCHITECTURE.md names, what documents count, and the figures that they cite of bench/figures.csv."""
+ARCHITECTURE.md names, what documents count, the figures that they cite of bench/figures.csv, and the
+tools that WORKING.md names."""
 # needs: python3
 import ast
 import csv
@@ -7,6 +8,7 @@ import decimal
 import json
 import operator
 import re
+import subprocess
 
 from room import TOP, TestCase
 
@@ -204,3 +206,18 @@ class Figures(TestCase):
             self.check(f'{name} has its day, unit and machine',
                        bool(is_dated and row['unit'] and row['machine']), True)
             self.check(f'{name}: {command}', (TOP / command.split()[0]).is_file(), True)
+
+
+class Tools(TestCase):
+    """Each prints its help, and refuses a flag that it doesn't have, whatever it would do else."""
+
+    def test_help(self):
+        names = sorted(set(re.findall(r'`(tools/[\w.]+)', pages()['WORKING'])))
+        self.check('a tool that is known to be there', 'tools/edits' in names, True)
+        for name in names:
+            with self.subTest(name):
+                helped, refused = (subprocess.run([TOP / name, word], capture_output=True, text=True)
+                                   for word in ('--help', '--no-such-flag'))
+                usage = f'usage: {name.removeprefix("tools/")} '
+                self.check('help', (helped.returncode, helped.stdout[:len(usage)]), (0, usage))
+                self.check('refusal', (refused.returncode, refused.stderr[:len(usage)]), (2, usage))

@@ -1,4 +1,5 @@
 """The toolchain's command `rt` as a library, for what it has no words for: proofs side by side, kept and measured."""
+import argparse
 import functools
 import importlib.machinery
 import importlib.util
@@ -11,6 +12,13 @@ import threading
 import time
 
 TOP = pathlib.Path(__file__).resolve().parent.parent
+
+
+def crate_name(text):
+    """A word of a tool that names a crate."""
+    if not (TOP / 'crates' / text / 'src').is_dir():
+        raise argparse.ArgumentTypeError(f'no such crate: {text}')
+    return text
 
 
 def say(text):

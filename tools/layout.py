@@ -1,18 +1,21 @@
 #!/usr/bin/env python3
-"""Breaks lines of definitions and proofs that are wider than 120 columns, where they may be broken.
+"""Breaks lines of definitions and proofs that are wider than 120 columns, where they may be broken;
+and imports that are wider than 100, in code too.
 A line is read as a tree of brackets and broken where least is bound: behind `;` and `,`, before
 `|`, behind `in`, `=` and the head of a function, before an operator, and last before an argument.
 It is broken only where a space is, so its signs and their order stay.
-Usage: tools/layout.py            writes crates/*/specs and crates/*/proofs
-       tools/layout.py --check    lists lines that are wider than 140, and fails where there is one
 `rt fmt` indents some of them further, so they may be somewhat wider than it leaves them."""
+import itertools
 import pathlib
 import re
 import sys
 
+from written import reader
+
 TOP = pathlib.Path(__file__).resolve().parent.parent
 WIDTH = 120
 MOST = 140
+IMPORTS = 100
 SIGN = re.compile(r'"(?:\\.|[^"\\])*"|\[\]|[(){}\[\]]|[;,](?=\s|$)'
                   r'|(?:[^\s(){}\[\]";,]|[;,](?!\s|$))+')
 OPENS, CLOSES = ('(', '{', '['), (')', '}', ']')
@@ -24,7 +27,8 @@ LEADS = {'elim', 'as', 'record', 'λ', 'let', 'use', 'pub', 'unfoldable', 'abbre
          'unfold', 'module', 'if', 'then', 'else', 'rw', '¬', '=', ':', '|'}.union(*LEVELS)
 FOLLOWS = {'as', '=', ':', 'in', '↦', ';', ',', 'where'}
 DECLARES = {'pub', 'abbrev', 'module', 'record', 'data', 'unfolding', 'open', 'ruleset'}
-PARTS = 'specs', 'proofs'
+PARTS = 'src', 'specs', 'proofs'
+IMPORT = re.compile(r'( *(?:unfoldable |ghost )?(?:pub )?use [^{}]*\{)([^{}]*)(\};?)')
 
 
 class Node:
@@ -224,15 +228,14 @@ class Writer:
         self.turn(indent)
 
 
-def uses(line, width):
-    """The lines that import what one does."""
-    head, names = re.fullmatch(r'(.*\{)(.*)\}', line).groups()
+def uses(head, names, end):
+    """The lines that import names of a module."""
     lines = [head]
-    for name in names.split(', '):
-        if lines[-1] != head and len(f'{lines[-1]}, {name}}}') > width:
+    for name in names:
+        if lines[-1] != head and len(f'{lines[-1]}, {name}{end}') > IMPORTS:
             lines.append(head)
         lines[-1] += name if lines[-1] == head else f', {name}'
-    return [f'{it}}}' for it in lines]
+    return [f'{it}{end}' for it in lines]
 
 
 def broken(line, width=WIDTH):
@@ -240,8 +243,6 @@ def broken(line, width=WIDTH):
     text = line.strip()
     if len(line) <= width or text.startswith(('--', '{-')) or re.search(r'\s--\s', line):
         return [line]
-    if re.fullmatch(r'(unfoldable )?(pub )?use [^{}]*\{[^{}]*\}', text):
-        return uses(line, width)
     indent = len(line) - len(line.lstrip())
     writer = Writer(indent, width)
     nodes = read(text)
@@ -256,10 +257,28 @@ def broken(line, width=WIDTH):
     return writer.lines
 
 
+def module_of(line):
+    """What stands around the names that an import has."""
+    found = IMPORT.fullmatch(line)
+    return found and (found[1], found[3])
+
+
+def parted(text):
+    """A text, with as few imports of a module in a row as have room for its names."""
+    lines = []
+    for module, found in itertools.groupby(text.split('\n'), module_of):
+        found = list(found)
+        if module:
+            names = [name for it in found for name in IMPORT.fullmatch(it)[2].split(', ')]
+            found = uses(module[0], names, module[1])
+        lines += found
+    return '\n'.join(lines)
+
+
 def laid_out(text):
     """A text of definitions or proofs, its wide lines broken."""
     lines = []
-    for line in text.split('\n'):
+    for line in parted(text).split('\n'):
         new = broken(line)
         if lines and lines[-1].strip() and new[0].strip() in ('(', '{') and len(new) > 1:
             lines[-1] += f' {new.pop(0).strip()}'
@@ -269,31 +288,44 @@ def laid_out(text):
 
 def imports(text):
     """What a text imports, each name with its module."""
-    return {(head, name) for head, names in re.findall(r'^(.*\buse .*)\{(.*)\}$', text, re.M)
+    return {(head, name) for head, names in re.findall(r'^(.*\buse .*)\{(.*)\};?$', text, re.M)
             for name in names.split(', ')}
 
 
 def body(text):
     """The signs of a text beside its imports and what parts fields and cases."""
-    rest = re.sub(r'^.*\buse .*\{.*\}$', '', text, flags=re.M)
+    rest = re.sub(r'^.*\buse .*\{.*\};?$', '', text, flags=re.M)
     return [it for it in signs(rest) if it not in (';', ',', '|')]
 
 
+def is_wide(line, file):
+    found = IMPORT.fullmatch(line)
+    if found:
+        return len(line) > IMPORTS and ', ' in found[2]
+    return len(line) > MOST and file.suffix == '.antt'
+
+
 def files():
-    return sorted(it for part in PARTS for it in TOP.glob(f'crates/*/{part}/**/*.antt'))
+    return sorted(it for part in PARTS for it in TOP.glob(f'crates/*/{part}/**/*')
+                  if it.suffix in ('.antt', '.rt'))
 
 
 def main():
+    words = reader(__doc__)
+    words.add_argument('--check', action='store_true',
+                       help=f'write nothing: list what is wider (than {MOST} where it is no import)')
+    checks = words.parse_args().check
     wide = []
     for file in files():
         text = file.read_text()
-        new = text if '--check' in sys.argv else laid_out(text)
+        lays = parted if file.suffix == '.rt' else laid_out
+        new = text if checks else lays(text)
         if body(new) != body(text) or imports(new) != imports(text):
             sys.exit(f'{file.relative_to(TOP)}: its signs would be others')
         if new != text:
             file.write_text(new)
         wide += [f'{file.relative_to(TOP)}:{n} has {len(line)} columns'
-                 for n, line in enumerate(new.split('\n'), 1) if len(line) > MOST]
+                 for n, line in enumerate(new.split('\n'), 1) if is_wide(line, file)]
     print(*wide, sep='\n', end='\n' if wide else '')
     return 1 if wide else 0
 

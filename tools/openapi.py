@@ -1,14 +1,11 @@
 #!/usr/bin/env python3
 """Writes docs/openapi.json, the HTTP interface as an OpenAPI document, from what the crates say of
 paths, bodies, answers and refusals, and from docs/HTTP.md's refusals of each path and examples.
-tests/test_openapi.py finds out where that differs from what is committed.
-Usage: tools/openapi.py         writes docs/openapi.json
-       tools/openapi.py FILE    writes that file"""
+tests/test_openapi.py finds out where that differs from what is committed."""
 import json
-import pathlib
-import sys
 
 from openapi_files import operations, responses, schemas, sources
+from written import destination
 
 ABOUT = """\
 An ambulance control room. docs/HTTP.md says the same for people, with an example of each request.
@@ -81,4 +78,4 @@ def main(file):
 
 
 if __name__ == '__main__':
-    main(pathlib.Path(sys.argv[1]) if len(sys.argv) > 1 else sources.TOP / 'docs' / 'openapi.json')
+    main(destination(__doc__, 'FILE', sources.TOP / 'docs' / 'openapi.json'))

@@ -1,15 +1,12 @@
 #!/usr/bin/env python3
 """Draws the pictures of the documents: docs/NAME.svg of the text docs/pictures/NAME.txt. The text
 of the floors is made of crates.txt first. tests/test_pictures.py finds out where what is committed
-differs from what is written.
-Usage: tools/pictures.py             writes into docs/
-       tools/pictures.py FOLDER      writes into that folder, as the files lie in docs/"""
+differs from what is written. The files lie in its folder as they lie in docs/."""
 import pathlib
-import sys
 
 from picture_files.drawing import Drawing
 from picture_files.floors import drawing
-from written import write
+from written import destination, write
 
 TOP = pathlib.Path(__file__).resolve().parent.parent
 SOURCES = TOP / 'docs' / 'pictures'
@@ -32,4 +29,4 @@ def files():
 
 
 if __name__ == '__main__':
-    write(pathlib.Path(sys.argv[1]) if len(sys.argv) > 1 else TOP / 'docs', files())
+    write(destination(__doc__, 'FOLDER', TOP / 'docs'), files())

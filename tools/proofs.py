@@ -1,16 +1,13 @@
 #!/usr/bin/env python3
 """Writes docs/PROOFS.md, a list a crate of what is proved, from the comments and the contracts of
 its functions, below tools/proof_files/head.md. tests/test_proofs.py finds out where that differs
-from what is committed.
-Usage: tools/proofs.py         writes docs/PROOFS.md
-       tools/proofs.py FILE    writes that file"""
-import pathlib
+from what is committed."""
 import re
-import sys
 import textwrap
 
 from proof_files.callers import is_called
 from proof_files.contracts import TOP, crates
+from written import destination
 
 HEAD = TOP / 'tools' / 'proof_files' / 'head.md'
 MOST = 2  # functions that are named of a crate
@@ -76,5 +73,4 @@ def document():
 
 
 if __name__ == '__main__':
-    to = pathlib.Path(sys.argv[1]) if len(sys.argv) > 1 else TOP / 'docs' / 'PROOFS.md'
-    to.write_text(document())
+    destination(__doc__, 'FILE', TOP / 'docs' / 'PROOFS.md').write_text(document())

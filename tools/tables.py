@@ -2,12 +2,7 @@
 """Reads the tables and indexes of a room from the texts that make them, in the crate
 room_tables_schema, and writes what a file's schema is tested for into that crate, and what the
 statements on each table say into room_tables_rows. tests/test_generated.py finds out where that
-differs from what is committed.
-Usage: tools/tables.py             writes into crates/
-       tools/tables.py FOLDER      writes into that folder, as the files lie in crates/"""
-import pathlib
-import sys
-
+differs from what is committed. The files lie in its folder as they lie in crates/."""
 import kit
 from layout import laid_out
 from table_files.forms import forms
@@ -16,7 +11,7 @@ from table_files.kept import kept
 from table_files.laws import laws
 from table_files.rows import TABLES
 from table_files.writes import writes
-from written import write
+from written import destination, write
 
 WRITTEN = '(Written by tools/tables.py.)'
 KEPT = "Where only one table changed, the tables stand for the room with that table's rows."
@@ -40,4 +35,4 @@ def files():
 
 
 if __name__ == '__main__':
-    write(pathlib.Path(sys.argv[1]) if len(sys.argv) > 1 else kit.TOP / 'crates', files())
+    write(destination(__doc__, 'FOLDER', kit.TOP / 'crates'), files())

@@ -1,12 +1,14 @@
 -- What a decision asks of a room, it is answered alike without what stays behind.
 use Rattle.std.proofs.Common.{ap, arith, eqb-true, inl, inr, subst, sym, ◌∙◌}
 use Rattle.std.specs.List.{cons_option}
-use Rattle.std.specs.Prelude.{Bool, List, None, Option, Some, [], cond, false, filter, filter_map, int_le, int_lt}
-use Rattle.std.specs.Prelude.{is_none, length, not, pos, refl, true, ℕ, ℤ, ◌&&◌, ◌<◌, ◌==◌, ◌||◌, ◌∷◌, ◌≡◌}
+use Rattle.std.specs.Prelude.{Bool, List, None, Option, Some, [], cond, false, filter, filter_map}
+use Rattle.std.specs.Prelude.{int_le, int_lt, is_none, length, not, pos, refl, true, ℕ, ℤ, ◌&&◌}
+use Rattle.std.specs.Prelude.{◌<◌, ◌==◌, ◌||◌, ◌∷◌, ◌≡◌}
 use Rattle.room_place.specs.Choice.{Among, first, least}
 use Rattle.room_place.specs.declared.places.Place.{Place}
 use Rattle.room_types.specs.Codes.{is_active, is_merged, is_normal}
-use Rattle.room_types.specs.Keys.{call_key, incident_key, numbered_cmp, pair_cmp, report_key, same_callsign, turn_key}
+use Rattle.room_types.specs.Keys.{call_key, incident_key, numbered_cmp, pair_cmp, report_key}
+use Rattle.room_types.specs.Keys.{same_callsign, turn_key}
 use Rattle.room_types.specs.KeyLemmas.{numbered_total, pairs_total}
 use Rattle.room_types.specs.Slices.{IsActive}
 use Rattle.room_types.specs.Texts.{Callsign}
@@ -17,16 +19,18 @@ use Rattle.room_types.specs.declared.tables.Report.{Report}
 use Rattle.room_types.specs.declared.tables.Turn.{Turn}
 use Rattle.room_types.specs.declared.tables.Vehicle.{Vehicle}
 use Rattle.room_model.proofs.Sights.{SeesCover, SeesIncident, SeesVehicle}
-use Rattle.room_model.proofs.Tests.{among_filter, any_filter, filter_among, filter_filter, left_true, none_of}
-use Rattle.room_model.proofs.Tests.{right_true, row_among}
+use Rattle.room_model.proofs.Tests.{among_filter, any_filter, filter_among, filter_filter}
+use Rattle.room_model.proofs.Tests.{left_true, none_of, right_true, row_among}
 use Rattle.room_model.proofs.WorkingDesk.{found_active}
 use Rattle.room_model.specs.Proposals.{eligible}
-use Rattle.room_model.specs.Queries.{active_incidents, calls_of, held, holders, incident_of, incidents_opened}
-use Rattle.room_model.specs.Queries.{is_attended, is_candidate, is_nearer, kept_call, kept_report, lent, link_target}
-use Rattle.room_model.specs.Queries.{open_turn, point_of, served, turns_of, vehicle_at}
+use Rattle.room_model.specs.Queries.{active_incidents, calls_of, held, holders, incident_of}
+use Rattle.room_model.specs.Queries.{incidents_opened, is_attended, is_candidate, is_nearer}
+use Rattle.room_model.specs.Queries.{kept_call, kept_report, lent, link_target, open_turn, point_of}
+use Rattle.room_model.specs.Queries.{served, turns_of, vehicle_at}
 use Rattle.room_model.specs.Room.{Room}
 use Rattle.room_model.specs.RoomAgreements.{IsWellFormed}
-use Rattle.dispatch_room_archive.proofs.RenewedAgreements.{active_stays, open_stays, with_its_incident}
+use Rattle.dispatch_room_archive.proofs.RenewedAgreements.{active_stays, open_stays}
+use Rattle.dispatch_room_archive.proofs.RenewedAgreements.{with_its_incident}
 use Rattle.dispatch_room_archive.proofs.RowsLeft.{call_there, incident_there, report_there}
 use Rattle.dispatch_room_archive.specs.Continuation.{IsOver, IsSettled, StaysBehind}
 use Rattle.dispatch_room_archive.specs.Successor.{Behind, without}

@@ -9,9 +9,9 @@ use Rattle.std.specs.Cmp.{ranked}
 use Rattle.std.specs.List.{list_any}
 use Rattle.std.specs.Ordering.{is_eq, is_ge, nat_cmp, ordering_then}
 use Rattle.std.specs.Slice.{IsItemAt}
-use Rattle.std.specs.Prelude.{Bool, List, None, Option, Some, [], cond, false, filter, get_or, length, max, nat_le, not}
-use Rattle.std.specs.Prelude.{option_copied, refl, slice_get, suc, take, true, zero, ℕ, ◌&&◌, ◌+◌, ◌++◌, ◌<◌, ◌==◌}
-use Rattle.std.specs.Prelude.{◌||◌, ◌∷◌, ◌≡◌, ◌≤◌, ◌⊎◌}
+use Rattle.std.specs.Prelude.{Bool, List, None, Option, Some, [], cond, false, filter, get_or}
+use Rattle.std.specs.Prelude.{length, max, nat_le, not, option_copied, refl, slice_get, suc, take}
+use Rattle.std.specs.Prelude.{true, zero, ℕ, ◌&&◌, ◌+◌, ◌++◌, ◌<◌, ◌==◌, ◌||◌, ◌∷◌, ◌≡◌, ◌≤◌, ◌⊎◌}
 use Rattle.std.specs.declared.cmp.Ordering.{Ordering}
 use Rattle.std.specs.declared.cmp.Ordering.TheVariants.{Equal, Greater, Less}
 use Rattle.room_types.specs.KeyedRows.{IsBelowAll, IsKeyed}

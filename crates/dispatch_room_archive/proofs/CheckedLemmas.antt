@@ -1,5 +1,6 @@
 -- What was reported of a room's file is what came of looking at it.
-use Rattle.std.proofs.Common.{Err, List, Ok, Option, Result, inl, inr, refl, subst, sym, ℕ, ◌≡◌, ◌⊎◌}
+use Rattle.std.proofs.Common.{Err, List, Ok, Option, Result, inl, inr, refl, subst, sym, ℕ, ◌≡◌}
+use Rattle.std.proofs.Common.{◌⊎◌}
 use Rattle.std.specs.Io.KnownBytes.{Appends}
 use Rattle.std.specs.Prelude.{IfErr, IfOk, IsSome, OnOk}
 use Rattle.jiff.specs.Words.{read_whole}
@@ -13,7 +14,8 @@ use Rattle.dispatch_room_cli.specs.declared.exit_status.Done.{Done}
 use Rattle.dispatch_room_cli.specs.declared.exit_status.Done.TheVariants.{Whole}
 use Rattle.dispatch_room_cli.specs.declared.exit_status.Failure.{Failure}
 use Rattle.dispatch_room_cli.specs.declared.exit_status.Failure.TheVariants.{File, Network}
-use Rattle.dispatch_room_archive.specs.Examination.{HasChecked, PrintsWrong, failure_of, no_rule_text, summary_text}
+use Rattle.dispatch_room_archive.specs.Examination.{HasChecked, PrintsWrong, failure_of}
+use Rattle.dispatch_room_archive.specs.Examination.{no_rule_text, summary_text}
 use Rattle.room_tables_schema.specs.FileConnections.{IsClean}
 
 module _ {S : Type 0} (g : Ghosts S) (old new : Held S) (before after : Option (List ℕ)) where

@@ -1,6 +1,7 @@
 -- An event that doesn't speak of what stayed behind is decided alike without it.
 use Rattle.std.proofs.Common.{ap, eqb-true, inl, inr, subst, sym, ◌∙◌}
-use Rattle.std.specs.Prelude.{Bool, Err, None, Option, Some, cond, false, refl, true, ℕ, ◌==◌, ◌||◌, ◌≡◌}
+use Rattle.std.specs.Prelude.{Bool, Err, None, Option, Some, cond, false, refl, true, ℕ, ◌==◌, ◌||◌}
+use Rattle.std.specs.Prelude.{◌≡◌}
 use Rattle.room_place.specs.Plans.{division_of}
 use Rattle.room_types.specs.KeyedRows.{keep, row_at}
 use Rattle.room_types.specs.Keys.{numbered_cmp, report_key}
@@ -16,25 +17,30 @@ use Rattle.room_types.specs.declared.tables.Vehicle.{Vehicle}
 use Rattle.room_model.proofs.AskLaws.{asked_same}
 use Rattle.room_model.proofs.Tests.{either_true}
 use Rattle.room_model.proofs.Sights.{SeesAsked}
-use Rattle.room_model.specs.Calls.{call_in, call_kept, call_somewhere, call_taken, new_call, take_call}
+use Rattle.room_model.specs.Calls.{call_in, call_kept, call_somewhere, call_taken, new_call}
+use Rattle.room_model.specs.Calls.{take_call}
 use Rattle.room_model.specs.Decisions.{refuse_if, show}
-use Rattle.room_model.specs.Queries.{all_held, assignment_at, assignment_of, borrowed, held, kept_call, kept_report}
-use Rattle.room_model.specs.Queries.{last_number, loans_of, offered_by, offered_to, offers_of, point_of, points_of}
-use Rattle.room_model.specs.Queries.{report_of, vehicle_at}
+use Rattle.room_model.specs.Queries.{all_held, assignment_at, assignment_of, borrowed, held}
+use Rattle.room_model.specs.Queries.{kept_call, kept_report, last_number, loans_of, offered_by}
+use Rattle.room_model.specs.Queries.{offered_to, offers_of, point_of, points_of, report_of}
+use Rattle.room_model.specs.Queries.{vehicle_at}
 use Rattle.room_model.specs.Queue.{clear, clear_found}
-use Rattle.room_model.specs.Reports.{report_held, report_in, report_kept, report_somewhere, take_report}
+use Rattle.room_model.specs.Reports.{report_held, report_in, report_kept, report_somewhere}
+use Rattle.room_model.specs.Reports.{take_report}
 use Rattle.room_model.specs.Room.{Room}
 use Rattle.room_model.specs.Step.{crew_asks, desk_asks, position_asks, who_asks}
 use Rattle.room_model.specs.RoomAgreements.{IsWellFormed}
-use Rattle.room_model.specs.WorkingRows.{NamedIncidents, NoIncident, OneIncident, TwoIncidents, incidents_named}
-use Rattle.room_model.specs.WorkingRows.{is_among}
-use Rattle.dispatch_room_archive.proofs.AskedAlike.{actives_same, calls_same, cover_same, eligible_same, kept_call_same}
-use Rattle.dispatch_room_archive.proofs.AskedAlike.{kept_report_same, open_turn_same, opened_same, sees_same}
-use Rattle.dispatch_room_archive.proofs.AskedAlike.{shown_stays, target_same, turns_same, vehicle_same}
+use Rattle.room_model.specs.WorkingRows.{NamedIncidents, NoIncident, OneIncident, TwoIncidents}
+use Rattle.room_model.specs.WorkingRows.{incidents_named, is_among}
+use Rattle.dispatch_room_archive.proofs.AskedAlike.{actives_same, calls_same, cover_same}
+use Rattle.dispatch_room_archive.proofs.AskedAlike.{eligible_same, kept_call_same, kept_report_same}
+use Rattle.dispatch_room_archive.proofs.AskedAlike.{open_turn_same, opened_same, sees_same}
+use Rattle.dispatch_room_archive.proofs.AskedAlike.{shown_stays, target_same, turns_same}
+use Rattle.dispatch_room_archive.proofs.AskedAlike.{vehicle_same}
 use Rattle.dispatch_room_archive.proofs.QueueAlike.{entries_same}
 use Rattle.dispatch_room_archive.proofs.RowsLeft.{report_gone}
-use Rattle.dispatch_room_archive.specs.Continuation.{IsSettled, StaysBehind, asks_back, looks_back, names_behind}
-use Rattle.dispatch_room_archive.specs.Continuation.{sends_again, stayed_behind}
+use Rattle.dispatch_room_archive.specs.Continuation.{IsSettled, StaysBehind, asks_back, looks_back}
+use Rattle.dispatch_room_archive.specs.Continuation.{names_behind, sends_again, stayed_behind}
 use Rattle.dispatch_room_archive.specs.Successor.{Behind, without}
 use Rattle.room_types.specs.declared.answers.Answer.TheVariants as answer
 use Rattle.room_types.specs.declared.asks.Ask.TheVariants as ask

@@ -15,8 +15,8 @@ use Rattle.dispatch_room_archive.proofs.PastAsked.{asks_none, asks_nothing}
 use Rattle.dispatch_room_archive.proofs.RenewedAgreements.{well_formed_without}
 use Rattle.dispatch_room_archive.proofs.SpareAll.{who_all}
 use Rattle.dispatch_room_archive.proofs.SparingChanges.{Spares, stays_all, without_all}
-use Rattle.dispatch_room_archive.specs.Continuation.{AreAnsweredAlike, IsSuccessor, NoneRepeatsThePast}
-use Rattle.dispatch_room_archive.specs.Continuation.{asks_of_the_past}
+use Rattle.dispatch_room_archive.specs.Continuation.{AreAnsweredAlike, IsSuccessor}
+use Rattle.dispatch_room_archive.specs.Continuation.{NoneRepeatsThePast, asks_of_the_past}
 use Rattle.dispatch_room_archive.specs.Continuation.{repeats_the_past}
 use Rattle.dispatch_room_archive.specs.Successor.{Behind}
 

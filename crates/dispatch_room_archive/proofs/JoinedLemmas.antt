@@ -1,13 +1,14 @@
 -- The incidents of two rooms, in the order of their numbers.
-use Rattle.std.proofs.Common.{add-one, ap, drop, drop-cons, get_or, length, map, refl, subst, suc, sym, ℕ, ℤ, ◌+◌, ◌<◌}
-use Rattle.std.proofs.Common.{◌≤◌, ◌∙◌}
+use Rattle.std.proofs.Common.{add-one, ap, drop, drop-cons, get_or, length, map, refl, subst, suc}
+use Rattle.std.proofs.Common.{sym, ℕ, ℤ, ◌+◌, ◌<◌, ◌≤◌, ◌∙◌}
 use Rattle.std.proofs.lemmas.List.{drop_all}
 use Rattle.std.proofs.lemmas.Map.Lookups.{CmpEqualImpliesEq}
 use Rattle.std.specs.Cmp.{IsTotalOrder}
 use Rattle.std.specs.List.{list_all}
 use Rattle.std.specs.Option.{option_or}
 use Rattle.std.specs.Ordering.{is_eq, match_ordering}
-use Rattle.std.specs.Prelude.{Bool, List, Option, Some, [], cond, false, filter, true, ◌&&◌, ◌∷◌, ◌≡◌}
+use Rattle.std.specs.Prelude.{Bool, List, Option, Some, [], cond, false, filter, true, ◌&&◌, ◌∷◌}
+use Rattle.std.specs.Prelude.{◌≡◌}
 use Rattle.std.specs.declared.cmp.Ordering.{Ordering}
 use Rattle.std.specs.declared.cmp.Ordering.TheVariants.{Equal, Greater, Less}
 use Rattle.room_types.proofs.KeyedLaws.{keyed_put, row_below, row_put}

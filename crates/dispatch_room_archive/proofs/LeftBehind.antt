@@ -1,26 +1,29 @@
 -- What a room leaves behind when it is renewed has no part in what goes on.
 use Rattle.std.proofs.Common.{ap, arith, eq-eqb, eqb-true, inl, inr, subst, sym, ◌∙◌}
 use Rattle.std.specs.List.{list_any}
-use Rattle.std.specs.Prelude.{Bool, List, None, Option, Some, [], cond, false, filter, is_some, max, nat_le, nat_lt}
-use Rattle.std.specs.Prelude.{not, refl, true, ℕ, ◌&&◌, ◌<◌, ◌==◌, ◌||◌, ◌∷◌, ◌≡◌, ◌≤◌, ◌⊎◌}
+use Rattle.std.specs.Prelude.{Bool, List, None, Option, Some, [], cond, false, filter, is_some, max}
+use Rattle.std.specs.Prelude.{nat_le, nat_lt, not, refl, true, ℕ, ◌&&◌, ◌<◌, ◌==◌, ◌||◌, ◌∷◌, ◌≡◌}
+use Rattle.std.specs.Prelude.{◌≤◌, ◌⊎◌}
 use Rattle.room_place.specs.Choice.{Among}
 use Rattle.room_types.specs.KeyedRows.{keep, row_at}
 use Rattle.room_types.specs.Codes.{is_active}
-use Rattle.room_types.specs.Keys.{call_key, callsign_cmp, incident_key, numbered_cmp, pair_cmp, report_key, vehicle_key}
+use Rattle.room_types.specs.Keys.{call_key, callsign_cmp, incident_key, numbered_cmp, pair_cmp}
+use Rattle.room_types.specs.Keys.{report_key, vehicle_key}
 use Rattle.room_types.specs.KeyLemmas.{exact_pair, pairs_total}
 use Rattle.room_types.specs.declared.tables.Call.{Call}
 use Rattle.room_types.specs.declared.tables.Incident.{Incident}
 use Rattle.room_types.specs.declared.tables.Report.{Report}
 use Rattle.room_types.specs.declared.tables.Vehicle.{Vehicle}
-use Rattle.room_model.proofs.Tests.{among_filter, both_true, left_true, or_right, right_true, row_among, row_key}
-use Rattle.room_model.specs.Queries.{greatest_serial, incident_of, kept_call, kept_report, last_serial, vehicle_at}
+use Rattle.room_model.proofs.Tests.{among_filter, both_true, left_true, or_right, right_true}
+use Rattle.room_model.proofs.Tests.{row_among, row_key}
+use Rattle.room_model.specs.Queries.{greatest_serial, incident_of, kept_call, kept_report}
+use Rattle.room_model.specs.Queries.{last_serial, vehicle_at}
 use Rattle.room_model.specs.Room.{Room}
 use Rattle.room_model.specs.RoomAgreements.{IsWellFormed, ReportAgrees}
 use Rattle.room_store_check_rows.specs.HistoryChecks.{is_last_report}
 use Rattle.dispatch_room_archive.specs.Continuation.{IsOver, IsSettled, IsSuccessor, StaysBehind}
 use Rattle.dispatch_room_archive.specs.Successor.{has_recent_call, incident_stays_behind, is_over}
-use Rattle.dispatch_room_archive.specs.Successor.{is_recent}
-use Rattle.dispatch_room_archive.specs.Successor.{is_settled, left_behind, renewed}
+use Rattle.dispatch_room_archive.specs.Successor.{is_recent, is_settled, left_behind, renewed}
 
 -- ---- tests
 pub from_not : (x : Bool) → not x ≡ true → x ≡ false

@@ -1,7 +1,7 @@
 -- The changes that put the rows which are left make a renewed room.
 use Rattle.std.proofs.Common.{ap, inl, inr, sym, ◌∙◌}
-use Rattle.std.specs.Prelude.{Bool, Err, IfOk, List, Ok, Result, [], cond, filter, is_some, not, refl, ℕ, ◌&&◌, ◌∷◌}
-use Rattle.std.specs.Prelude.{◌≡◌}
+use Rattle.std.specs.Prelude.{Bool, Err, IfOk, List, Ok, Result, [], cond, filter, is_some, not}
+use Rattle.std.specs.Prelude.{refl, ℕ, ◌&&◌, ◌∷◌, ◌≡◌}
 use Rattle.room_place.specs.Choice.{Among}
 use Rattle.room_place.specs.declared.plans.Area.{Area}
 use Rattle.room_types.specs.KeyedRows.{keep}
@@ -20,8 +20,7 @@ use Rattle.room_store_check_rows.specs.HistoryChecks.{is_last_report}
 use Rattle.dispatch_room_archive.proofs.RowsLeft.{kept_is}
 use Rattle.dispatch_room_archive.specs.Composition.{puts}
 use Rattle.dispatch_room_archive.specs.Successor.{call_stays_behind, incident_stays_behind, is_over}
-use Rattle.dispatch_room_archive.specs.Successor.{is_settled, renewed}
-use Rattle.dispatch_room_archive.specs.Successor.{report_stays_behind}
+use Rattle.dispatch_room_archive.specs.Successor.{is_settled, renewed, report_stays_behind}
 use Rattle.dispatch_room_archive.specs.Leftovers.{is_call_over, is_report_over, puts_kept}
 
 -- tests that agree on a list's elements let the same ones through

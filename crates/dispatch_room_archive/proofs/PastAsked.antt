@@ -1,7 +1,7 @@
 -- What becomes of events that speak of what stayed behind.
 use Rattle.std.proofs.Common.{ap, arith, eq-eqb, inl, inr, subst, sym, ◌∙◌}
-use Rattle.std.specs.Prelude.{Bool, Err, List, None, Option, Some, [], cond, false, filter, is_some, map, max, nat_lt}
-use Rattle.std.specs.Prelude.{not, refl, true, ℕ, ℤ, ◌<◌, ◌==◌, ◌∷◌, ◌≡◌}
+use Rattle.std.specs.Prelude.{Bool, Err, List, None, Option, Some, [], cond, false, filter, is_some}
+use Rattle.std.specs.Prelude.{map, max, nat_lt, not, refl, true, ℕ, ℤ, ◌<◌, ◌==◌, ◌∷◌, ◌≡◌}
 use Rattle.room_place.specs.Plans.{division_of}
 use Rattle.room_types.specs.KeyedRows.{keep, put_row, row_at}
 use Rattle.room_types.specs.Keys.{callsign_cmp, numbered_cmp, report_key, vehicle_key}
@@ -29,16 +29,18 @@ use Rattle.room_model.specs.Calls.{call_kept, call_somewhere, new_call}
 use Rattle.room_model.specs.DayTimes.{show_times, times_line, times_of}
 use Rattle.room_model.specs.Decisions.{answer_of, changes_of, show, with_changes}
 use Rattle.room_model.specs.Events.{by_crew, by_desk, by_position}
-use Rattle.room_model.specs.Queries.{borrowed, held, incident_of, incidents_opened, kept_call, kept_report, open_turn}
-use Rattle.room_model.specs.Queries.{vehicle_at}
-use Rattle.room_model.specs.Reports.{report_held, report_in, report_kept, report_row, report_somewhere, with_report}
+use Rattle.room_model.specs.Queries.{borrowed, held, incident_of, incidents_opened, kept_call}
+use Rattle.room_model.specs.Queries.{kept_report, open_turn, vehicle_at}
+use Rattle.room_model.specs.Reports.{report_held, report_in, report_kept, report_row}
+use Rattle.room_model.specs.Reports.{report_somewhere, with_report}
 use Rattle.room_model.specs.Room.{IsInOrder, Room, apply}
 use Rattle.room_model.specs.Step.{decided, desk_asks}
-use Rattle.room_model.specs.WorkingRows.{NamedIncidents, NoIncident, OneIncident, TwoIncidents, incidents_named}
-use Rattle.room_model.specs.WorkingRows.{is_among}
+use Rattle.room_model.specs.WorkingRows.{NamedIncidents, NoIncident, OneIncident, TwoIncidents}
+use Rattle.room_model.specs.WorkingRows.{incidents_named, is_among}
 use Rattle.dispatch_room_archive.proofs.RowsLeft.{call_gone, incident_gone, report_gone}
-use Rattle.dispatch_room_archive.specs.Continuation.{IsOver, IsSettled, IsTakenLate, StaysBehind, asks_back, looks_back}
-use Rattle.dispatch_room_archive.specs.Continuation.{names_behind, sends_again, stayed_behind}
+use Rattle.dispatch_room_archive.specs.Continuation.{IsOver, IsSettled, IsTakenLate, StaysBehind}
+use Rattle.dispatch_room_archive.specs.Continuation.{asks_back, looks_back, names_behind}
+use Rattle.dispatch_room_archive.specs.Continuation.{sends_again, stayed_behind}
 use Rattle.dispatch_room_archive.specs.Successor.{Behind, without}
 use Rattle.room_types.specs.declared.answers.Answer.TheVariants as answer
 use Rattle.room_types.specs.declared.asks.Ask.TheVariants as ask

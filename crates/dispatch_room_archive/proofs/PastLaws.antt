@@ -1,7 +1,8 @@
 -- Which rows of a room are over, by its rows.
 use Rattle.std.proofs.Common.{ap, sym, ◌∙◌}
 use Rattle.std.specs.BTreeSet.{BTreeSet, contains}
-use Rattle.std.specs.Prelude.{Bool, List, None, Some, false, is_some, nat_lt, not, refl, true, ℕ, ◌&&◌, ◌≡◌}
+use Rattle.std.specs.Prelude.{Bool, List, None, Some, false, is_some, nat_lt, not, refl, true, ℕ}
+use Rattle.std.specs.Prelude.{◌&&◌, ◌≡◌}
 use Rattle.room_place.specs.declared.plans.Area.{Area}
 use Rattle.room_types.specs.KeyedRows.{keep, row_at}
 use Rattle.room_types.specs.Codes.{is_active}

@@ -1,7 +1,8 @@
 -- Rows that are put one after another.
 use Rattle.std.proofs.Common.{ap, get_or, length, sym, ◌∙◌}
 use Rattle.std.proofs.lemmas.List.{append_assoc, map_push}
-use Rattle.std.specs.Prelude.{Bool, List, [], false, filter, map, not, refl, take, true, ℕ, ◌+◌, ◌++◌, ◌<◌, ◌∷◌, ◌≡◌}
+use Rattle.std.specs.Prelude.{Bool, List, [], false, filter, map, not, refl, take, true, ℕ, ◌+◌}
+use Rattle.std.specs.Prelude.{◌++◌, ◌<◌, ◌∷◌, ◌≡◌}
 use Rattle.room_types.proofs.KeyedLaws.{with_passing, without_failing}
 
 module _ {X Y : Type 0} (f : X → Y) (before now : List Y) where

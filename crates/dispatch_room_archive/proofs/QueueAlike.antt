@@ -1,7 +1,7 @@
 -- The queue is the same without what stays behind.
 use Rattle.std.proofs.Common.{ap, eqb-true, sym, ◌∙◌}
-use Rattle.std.specs.Prelude.{Bool, None, Option, Some, cond, false, filter_map, nat_lt, not, refl, true, ℕ, ◌&&◌, ◌++◌}
-use Rattle.std.specs.Prelude.{◌==◌, ◌||◌, ◌≡◌}
+use Rattle.std.specs.Prelude.{Bool, None, Option, Some, cond, false, filter_map, nat_lt, not, refl}
+use Rattle.std.specs.Prelude.{true, ℕ, ◌&&◌, ◌++◌, ◌==◌, ◌||◌, ◌≡◌}
 use Rattle.room_types.specs.Codes.{is_active, is_mobilised, is_normal}
 use Rattle.room_types.specs.declared.answers.QueueEntry.{QueueEntry}
 use Rattle.room_types.specs.declared.codes.Kind.{Kind}
@@ -12,13 +12,13 @@ use Rattle.room_types.specs.declared.tables.Vehicle.{Vehicle}
 use Rattle.room_model.proofs.Tests.{among_filter, and_same, filter_map_among}
 use Rattle.room_model.specs.Moments.{age}
 use Rattle.room_model.specs.Queries.{holders, open_turn}
-use Rattle.room_model.specs.Queue.{entries, exception, overdue, shift_over, slow, slow_incident, slow_turn, unanswered}
-use Rattle.room_model.specs.Queue.{uncovered, unread, unread_turn, unserved}
+use Rattle.room_model.specs.Queue.{entries, exception, overdue, shift_over, slow, slow_incident}
+use Rattle.room_model.specs.Queue.{slow_turn, unanswered, uncovered, unread, unread_turn, unserved}
 use Rattle.room_model.specs.Room.{Room}
 use Rattle.room_model.specs.RoomAgreements.{IsWellFormed}
-use Rattle.dispatch_room_archive.proofs.AskedAlike.{active_among, filter_map_passing, found_stays, incident_same}
-use Rattle.dispatch_room_archive.proofs.AskedAlike.{open_turn_same}
-use Rattle.dispatch_room_archive.proofs.AskedAlike.{report_settled, served_same}
+use Rattle.dispatch_room_archive.proofs.AskedAlike.{active_among, filter_map_passing, found_stays}
+use Rattle.dispatch_room_archive.proofs.AskedAlike.{incident_same, open_turn_same, report_settled}
+use Rattle.dispatch_room_archive.proofs.AskedAlike.{served_same}
 use Rattle.dispatch_room_archive.proofs.LeftBehind.{from_left, from_not, not_true}
 use Rattle.dispatch_room_archive.specs.Continuation.{StaysBehind}
 use Rattle.dispatch_room_archive.specs.Successor.{Behind, without}

@@ -1,6 +1,6 @@
 -- A room that begins by what another one left is that one renewed.
-use Rattle.std.proofs.Common.{IfNone, IfSome, List, None, Option, Some, [], ap, false, inr, is_some, refl, subst, sym}
-use Rattle.std.proofs.Common.{ℕ, ℤ, ◌+◌, ◌<◌, ◌∙◌, ◌≡◌, ◌≤◌, ◌∷◌}
+use Rattle.std.proofs.Common.{IfNone, IfSome, List, None, Option, Some, [], ap, false, inr, is_some}
+use Rattle.std.proofs.Common.{refl, subst, sym, ℕ, ℤ, ◌+◌, ◌<◌, ◌∙◌, ◌≡◌, ◌≤◌, ◌∷◌}
 use Rattle.std.specs.Prelude.{Err, IfOk, IsSome, Ok, Result}
 use Rattle.std.proofs.lemmas.Cmp.{nat_list_cmp_total}
 use Rattle.std.proofs.lemmas.Map.Lookups.{exact_bytes}
@@ -32,8 +32,8 @@ use Rattle.room_store_writes.specs.Configurations.{config_of}
 use Rattle.room_store_writes.specs.NewRoom.{StandsWith, in_order, new_room, put_all}
 use Rattle.room_tables.specs.RoomsInTables.{Stands}
 use Rattle.dispatch_room_cli.specs.declared.exit_status.Failure.{Failure}
-use Rattle.dispatch_room_archive.specs.Renewal.{IsLeftBy, IsLeftSince, IsMomentOf, IsNoStart, IsStart, StandsRenewed}
-use Rattle.dispatch_room_archive.specs.Renewal.{last_moment}
+use Rattle.dispatch_room_archive.specs.Renewal.{IsLeftBy, IsLeftSince, IsMomentOf, IsNoStart}
+use Rattle.dispatch_room_archive.specs.Renewal.{IsStart, StandsRenewed, last_moment}
 use Rattle.dispatch_room_archive.specs.TimesReport.{IsSpanOf}
 use Rattle.dispatch_room_archive.specs.declared.renewal.Successor.{Successor}
 

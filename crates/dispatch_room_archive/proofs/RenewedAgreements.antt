@@ -1,13 +1,15 @@
 -- A well-formed room without what stays behind is well-formed.
 use Rattle.std.proofs.Common.{ap, arith, inl, inr, subst, sym, ◌∙◌}
-use Rattle.std.specs.Prelude.{Bool, IfSome, None, Option, Some, cond, false, is_some, not, refl, true, ℕ, ◌<◌, ◌≡◌}
+use Rattle.std.specs.Prelude.{Bool, IfSome, None, Option, Some, cond, false, is_some, not, refl}
+use Rattle.std.specs.Prelude.{true, ℕ, ◌<◌, ◌≡◌}
 use Rattle.room_place.specs.Plans.{has_division}
 use Rattle.room_types.proofs.KeyedLaws.{keyed_filter}
 use Rattle.room_types.specs.KeyedRows.{keep, row_at}
 use Rattle.room_types.specs.Codes.{is_busy}
-use Rattle.room_types.specs.Keys.{assignment_key, call_key, callsign_cmp, incident_key, numbered_cmp, pair_cmp}
-use Rattle.room_types.specs.Keys.{report_key, turn_key, vehicle_key}
-use Rattle.room_types.specs.KeyLemmas.{callsigns_total, exact_callsigns, exact_pair, numbered_total, pairs_total}
+use Rattle.room_types.specs.Keys.{assignment_key, call_key, callsign_cmp, incident_key}
+use Rattle.room_types.specs.Keys.{numbered_cmp, pair_cmp, report_key, turn_key, vehicle_key}
+use Rattle.room_types.specs.KeyLemmas.{callsigns_total, exact_callsigns, exact_pair, numbered_total}
+use Rattle.room_types.specs.KeyLemmas.{pairs_total}
 use Rattle.room_types.specs.Slices.{IsActive}
 use Rattle.room_types.specs.Texts.{Callsign}
 use Rattle.room_types.specs.declared.tables.Assignment.{Assignment}
@@ -19,13 +21,13 @@ use Rattle.room_types.specs.declared.tables.Vehicle.{Vehicle}
 use Rattle.room_model.proofs.Tests.{row_key}
 use Rattle.room_model.specs.Queries.{incident_of, kept_call, kept_report, vehicle_at}
 use Rattle.room_model.specs.Room.{IsInOrder, Room}
-use Rattle.room_model.specs.RoomAgreements.{AreInPlan, CallAgrees, IsOfIncident, IsPost, IsWellFormed, LastAgrees}
-use Rattle.room_model.specs.RoomAgreements.{NumberAgrees, OpenAgrees, OpenedAgrees, PostAgrees, ReportAgrees}
-use Rattle.room_model.specs.RoomAgreements.{SameIncident}
+use Rattle.room_model.specs.RoomAgreements.{AreInPlan, CallAgrees, IsOfIncident, IsPost}
+use Rattle.room_model.specs.RoomAgreements.{IsWellFormed, LastAgrees, NumberAgrees, OpenAgrees}
+use Rattle.room_model.specs.RoomAgreements.{OpenedAgrees, PostAgrees, ReportAgrees, SameIncident}
 use Rattle.room_model.specs.RoomAgreements.{TurnAgrees, TurnIsActive}
-use Rattle.dispatch_room_archive.proofs.RowsLeft.{by_left, call_left, call_there, incident_left, incident_there}
-use Rattle.dispatch_room_archive.proofs.RowsLeft.{kept_is}
-use Rattle.dispatch_room_archive.proofs.RowsLeft.{report_left, report_there, turn_left}
+use Rattle.dispatch_room_archive.proofs.RowsLeft.{by_left, call_left, call_there, incident_left}
+use Rattle.dispatch_room_archive.proofs.RowsLeft.{incident_there, kept_is, report_left}
+use Rattle.dispatch_room_archive.proofs.RowsLeft.{report_there, turn_left}
 use Rattle.dispatch_room_archive.specs.Continuation.{IsOver, IsSettled, StaysBehind}
 use Rattle.dispatch_room_archive.specs.Successor.{Behind, without}
 

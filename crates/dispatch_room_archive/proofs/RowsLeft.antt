@@ -2,11 +2,13 @@
 use Rattle.std.proofs.Common.{ap, sym, ◌∙◌}
 use Rattle.std.proofs.lemmas.Map.Lookups.{CmpEqualImpliesEq}
 use Rattle.std.specs.Cmp.{IsTotalOrder}
-use Rattle.std.specs.Prelude.{Bool, List, None, Option, Some, cond, false, filter, is_some, not, refl, true, ℕ, ◌≡◌}
+use Rattle.std.specs.Prelude.{Bool, List, None, Option, Some, cond, false, filter, is_some, not}
+use Rattle.std.specs.Prelude.{refl, true, ℕ, ◌≡◌}
 use Rattle.std.specs.declared.cmp.Ordering.{Ordering}
 use Rattle.room_types.proofs.KeyedLaws.{row_filter}
 use Rattle.room_types.specs.KeyedRows.{IsKeyed, keep, row_at}
-use Rattle.room_types.specs.Keys.{call_key, incident_key, numbered_cmp, pair_cmp, report_key, turn_key}
+use Rattle.room_types.specs.Keys.{call_key, incident_key, numbered_cmp, pair_cmp, report_key}
+use Rattle.room_types.specs.Keys.{turn_key}
 use Rattle.room_types.specs.KeyLemmas.{exact_numbered, exact_pair, numbered_total, pairs_total}
 use Rattle.room_types.specs.Texts.{Callsign}
 use Rattle.room_model.proofs.Tests.{row_key}

@@ -1,8 +1,9 @@
 -- What is decided in a room spares what stays behind.
 use Rattle.std.proofs.Common.{ap, arith, eqb-true, inl, inr, subst, sym, ◌∙◌}
 use Rattle.std.specs.Ordering.{nat_cmp}
-use Rattle.std.specs.Prelude.{Bool, List, None, Option, Some, [], cond, false, filter, is_some, map, max, not, refl}
-use Rattle.std.specs.Prelude.{true, ℕ, ◌&&◌, ◌+◌, ◌++◌, ◌<◌, ◌==◌, ◌∷◌, ◌≡◌, ◌≤◌, ◌⊎◌}
+use Rattle.std.specs.Prelude.{Bool, List, None, Option, Some, [], cond, false, filter, is_some, map}
+use Rattle.std.specs.Prelude.{max, not, refl, true, ℕ, ◌&&◌, ◌+◌, ◌++◌, ◌<◌, ◌==◌, ◌∷◌, ◌≡◌, ◌≤◌}
+use Rattle.std.specs.Prelude.{◌⊎◌}
 use Rattle.room_place.specs.Choice.{Among, least_from}
 use Rattle.room_place.specs.Plans.{division_of}
 use Rattle.room_place.specs.declared.places.Place.{Place}
@@ -40,19 +41,23 @@ use Rattle.room_model.proofs.Questions.{IsQuiet, by_quiet}
 use Rattle.room_model.proofs.Tests.{among_filter, left_true, right_true, row_key}
 use Rattle.room_model.specs.Calls.{call_in, call_kept, call_somewhere, call_taken, new_call}
 use Rattle.room_model.specs.Decisions.{Verdict, changes_of, refuse_if, where_active, where_held}
-use Rattle.room_model.specs.Incidents.{change_needs, close, close_active, merge, merge_of, moved_call, needs_changed}
-use Rattle.room_model.specs.Loans.{accept, accepted, decline, declined, give_back, given_back, lend, offered, recall}
-use Rattle.room_model.specs.Loans.{recall_lent, withdraw, withdrawn}
-use Rattle.room_model.specs.Queries.{borrowed, calls_of, held, incident_of, is_attended, is_candidate, is_nearer}
-use Rattle.room_model.specs.Queries.{kept_call, kept_report, last_number, lent, link_target, offered_by, offered_to}
-use Rattle.room_model.specs.Queries.{open_turn, point_of, report_of, served, vehicle_at}
+use Rattle.room_model.specs.Incidents.{change_needs, close, close_active, merge, merge_of}
+use Rattle.room_model.specs.Incidents.{moved_call, needs_changed}
+use Rattle.room_model.specs.Loans.{accept, accepted, decline, declined, give_back, given_back, lend}
+use Rattle.room_model.specs.Loans.{offered, recall, recall_lent, withdraw, withdrawn}
+use Rattle.room_model.specs.Queries.{borrowed, calls_of, held, incident_of, is_attended}
+use Rattle.room_model.specs.Queries.{is_candidate, is_nearer, kept_call, kept_report, last_number}
+use Rattle.room_model.specs.Queries.{lent, link_target, offered_by, offered_to, open_turn, point_of}
+use Rattle.room_model.specs.Queries.{report_of, served, vehicle_at}
 use Rattle.room_model.specs.Queue.{clear, clear_found}
-use Rattle.room_model.specs.Reports.{back_changes, drop_changes, ends_turn, is_due, is_home, outcome_of, report_held}
-use Rattle.room_model.specs.Reports.{report_in, report_kept, report_somewhere, turn_after, turn_changes}
+use Rattle.room_model.specs.Reports.{back_changes, drop_changes, ends_turn, is_due, is_home}
+use Rattle.room_model.specs.Reports.{outcome_of, report_held, report_in, report_kept}
+use Rattle.room_model.specs.Reports.{report_somewhere, turn_after, turn_changes}
 use Rattle.room_model.specs.Room.{Room}
 use Rattle.room_model.specs.Step.{crew_asks, desk_asks, position_asks, who_asks}
-use Rattle.room_model.specs.Vehicles.{duty, mobilise, mobilise_held, mobilised, off, off_duty, on_duty, stand_down}
-use Rattle.room_model.specs.Vehicles.{stand_down_held, standby, standby_at, stands_by, turn_stood_down}
+use Rattle.room_model.specs.Vehicles.{duty, mobilise, mobilise_held, mobilised, off, off_duty}
+use Rattle.room_model.specs.Vehicles.{on_duty, stand_down, stand_down_held, standby, standby_at}
+use Rattle.room_model.specs.Vehicles.{stands_by, turn_stood_down}
 use Rattle.room_model.specs.RoomAgreements.{IsGiven, IsWellFormed, NumberAgrees}
 use Rattle.dispatch_room_archive.proofs.AskedAlike.{active_among, call_among, report_settled}
 use Rattle.dispatch_room_archive.proofs.LeftBehind.{from_left, not_true}

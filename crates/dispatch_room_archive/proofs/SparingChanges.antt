@@ -2,21 +2,23 @@
 use Rattle.std.proofs.Common.{ap, arith, subst, sym, ◌∙◌}
 use Rattle.std.specs.Cmp.{IsTotalOrder}
 use Rattle.std.specs.Ordering.{match_ordering}
-use Rattle.std.specs.Prelude.{Bool, List, None, Option, Some, [], cond, false, filter, is_some, max, not, refl, true, ℕ}
-use Rattle.std.specs.Prelude.{◌<◌, ◌==◌, ◌∷◌, ◌≡◌}
+use Rattle.std.specs.Prelude.{Bool, List, None, Option, Some, [], cond, false, filter, is_some, max}
+use Rattle.std.specs.Prelude.{not, refl, true, ℕ, ◌<◌, ◌==◌, ◌∷◌, ◌≡◌}
 use Rattle.std.specs.declared.cmp.Ordering.{Ordering}
 use Rattle.std.specs.declared.cmp.Ordering.TheVariants.{Equal, Greater, Less}
 use Rattle.room_types.proofs.KeyedLaws.{filter_put}
 use Rattle.room_types.specs.KeyedRows.{IsKeyed, drop_row, keep, put_row, row_at}
-use Rattle.room_types.specs.Keys.{call_key, callsign_cmp, incident_key, numbered_cmp, pair_cmp, report_key, turn_key}
-use Rattle.room_types.specs.Keys.{vehicle_key}
-use Rattle.room_types.specs.KeyLemmas.{callsigns_total, exact_callsigns, exact_numbered, exact_pair, numbered_total}
-use Rattle.room_types.specs.KeyLemmas.{pairs_total}
+use Rattle.room_types.specs.Keys.{call_key, callsign_cmp, incident_key, numbered_cmp, pair_cmp}
+use Rattle.room_types.specs.Keys.{report_key, turn_key, vehicle_key}
+use Rattle.room_types.specs.KeyLemmas.{callsigns_total, exact_callsigns, exact_numbered, exact_pair}
+use Rattle.room_types.specs.KeyLemmas.{numbered_total, pairs_total}
 use Rattle.room_types.specs.Texts.{Callsign}
 use Rattle.room_types.specs.declared.changes.Change.{Change}
-use Rattle.room_types.specs.declared.changes.Change.TheVariants.{DropAssignment, DropLoan, DropOffer, PutAssignment}
-use Rattle.room_types.specs.declared.changes.Change.TheVariants.{PutCall, PutDivision, PutIncident, PutLoan, PutOffer}
-use Rattle.room_types.specs.declared.changes.Change.TheVariants.{PutPoint, PutReport, PutTurn, PutVehicle, Settle}
+use Rattle.room_types.specs.declared.changes.Change.TheVariants.{DropAssignment, DropLoan}
+use Rattle.room_types.specs.declared.changes.Change.TheVariants.{DropOffer, PutAssignment, PutCall}
+use Rattle.room_types.specs.declared.changes.Change.TheVariants.{PutDivision, PutIncident, PutLoan}
+use Rattle.room_types.specs.declared.changes.Change.TheVariants.{PutOffer, PutPoint, PutReport}
+use Rattle.room_types.specs.declared.changes.Change.TheVariants.{PutTurn, PutVehicle, Settle}
 use Rattle.room_types.specs.declared.tables.Call.{Call}
 use Rattle.room_types.specs.declared.tables.Incident.{Incident}
 use Rattle.room_types.specs.declared.tables.Report.{Report}
@@ -26,7 +28,8 @@ use Rattle.room_model.proofs.Changes.{AllOf}
 use Rattle.room_model.proofs.IncidentChanges.{calls_put, incidents_put, put_rows, vehicles_put}
 use Rattle.room_model.proofs.OwnChanges.{in_order_one}
 use Rattle.room_model.proofs.Tests.{row_key}
-use Rattle.room_model.specs.Queries.{greatest_serial, incident_of, kept_call, kept_report, last_serial, vehicle_at}
+use Rattle.room_model.specs.Queries.{greatest_serial, incident_of, kept_call, kept_report}
+use Rattle.room_model.specs.Queries.{last_serial, vehicle_at}
 use Rattle.room_model.specs.Room.{IsInOrder, Room, apply, apply_one, settled}
 use Rattle.dispatch_room_archive.proofs.RowsLeft.{kept_is}
 use Rattle.dispatch_room_archive.specs.Continuation.{IsOver, IsSettled, StaysBehind}

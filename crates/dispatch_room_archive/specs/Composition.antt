@@ -5,10 +5,9 @@ use Rattle.room_types.specs.KeyedRows.{row_at}
 use Rattle.room_types.specs.Keys.{division_key}
 use Rattle.room_types.specs.declared.changes.Change.{Change}
 use Rattle.room_types.specs.declared.changes.Change.TheVariants.{PutAssignment, PutCall}
-use Rattle.room_types.specs.declared.changes.Change.TheVariants.{PutDivision, PutIncident}
-use Rattle.room_types.specs.declared.changes.Change.TheVariants.{PutLoan, PutOffer, PutPoint}
-use Rattle.room_types.specs.declared.changes.Change.TheVariants.{PutReport, PutTurn}
-use Rattle.room_types.specs.declared.changes.Change.TheVariants.{PutVehicle}
+use Rattle.room_types.specs.declared.changes.Change.TheVariants.{PutDivision, PutIncident, PutLoan}
+use Rattle.room_types.specs.declared.changes.Change.TheVariants.{PutOffer, PutPoint, PutReport}
+use Rattle.room_types.specs.declared.changes.Change.TheVariants.{PutTurn, PutVehicle}
 use Rattle.room_model.specs.Room.{Room}
 
 -- each row of the room is put, table after table
@@ -25,7 +24,7 @@ puts r =
     ++ (map PutOffer r.offers
     ++ map PutReport r.reports))))))))
 
--- a room that has the plan of another, no divisions but its, and no other rows
+-- a room with the plan of another, only divisions that the other has too, and no other rows
 pub record IsBare (s r : Room) : Type 0 where
   pub plan : s.plan ≡ r.plan
   pub divisions : (d : ℕ) → row_at nat_cmp division_key r.divisions d ≡ None →

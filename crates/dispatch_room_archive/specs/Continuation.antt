@@ -1,7 +1,6 @@
 -- How a room and the one that was made of it go on, when both get the same events.
 use Rattle.std.specs.Prelude.{Bool, List, None, Ok, Option, Some, [], false, int_lt, is_some, pos}
-use Rattle.std.specs.Prelude.{true, ℕ, ◌<◌, ◌||◌}
-use Rattle.std.specs.Prelude.{◌∷◌, ◌≡◌}
+use Rattle.std.specs.Prelude.{true, ℕ, ◌<◌, ◌||◌, ◌∷◌, ◌≡◌}
 use Rattle.room_types.specs.KeyedRows.{keep, put_row}
 use Rattle.room_types.specs.Codes.{is_active, is_normal}
 use Rattle.room_types.specs.Keys.{numbered_cmp, report_key}
@@ -32,7 +31,7 @@ abbrev pub IsOver : ℕ → Option Incident → Type 0
 IsOver since None = ⊥
 IsOver since (Some i) = (is_active i.state ≡ false) × (i.opened < since)
 
--- a report that waits for nobody's eye, and is not its vehicle's last
+-- a report that needs nobody's attention, and is not its vehicle's last
 abbrev pub IsSettled : Option Vehicle → ℕ → Option Report → Type 0
 IsSettled v n None = ⊥
 IsSettled None n (Some x) = ⊥

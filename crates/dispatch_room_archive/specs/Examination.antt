@@ -47,11 +47,11 @@ reports_text s =
 abbrev pub summary_text : Summary → List ℕ
 summary_text s = ((plan_text s ++ calls_text s) ++ fleet_text s) ++ reports_text s
 
--- written is how much some room has
+-- how much some room has is written
 abbrev pub PrintsSummary : Option (List ℕ) → Option (List ℕ) → Type 0
 PrintsSummary before after = (summary : Summary) × Appends before after (summary_text summary)
 
--- Written is how much the room has that the file holds, and the zone of its plan is a rule.
+-- It is written how much the room of the file has, and the zone of its plan is a rule.
 pub record HasPrintedRoom {S : Type 0} (g : Ghosts S) (old new : Held S)
     (before after : Option (List ℕ)) : Type 0 where
   pub plan : Layout

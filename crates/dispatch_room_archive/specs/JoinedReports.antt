@@ -43,7 +43,7 @@ pub record IsDayOf (plan : Layout) (room : Room) (division : ℕ) (text : List �
   pub of_division : day.division ≡ division
   pub incidents : day.incidents ≡ incidents_in division room
 
--- it is so by the well-formed room for which the tables stand
+-- the same, in the well-formed room for which the tables stand
 abbrev pub IsDayIn : Trees → ℕ → List ℕ → DivisionDay → Type 0
 IsDayIn trees division text day =
     (holds : HoldsRoom trees) × IsDayOf holds.layout holds.room division text day

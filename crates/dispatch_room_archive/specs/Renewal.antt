@@ -1,8 +1,8 @@
 -- What a room leaves to a new one, the new one that is made of it, and what is reported of it.
 use Rattle.std.specs.Io.KnownBytes.{Appends}
 use Rattle.std.specs.Prelude.{Bool, Err, IsSome, List, None, Ok, Option, Result, codes, decimal}
-use Rattle.std.specs.Prelude.{false, filter, length}
-use Rattle.std.specs.Prelude.{map, pos, true, ℕ, ℤ, ◌+◌, ◌++◌, ◌<ℤ◌, ◌<◌, ◌≡◌, ◌≢◌, ◌≤◌, ◌⊎◌}
+use Rattle.std.specs.Prelude.{false, filter, length, map, pos, true, ℕ, ℤ, ◌+◌, ◌++◌, ◌<ℤ◌, ◌<◌}
+use Rattle.std.specs.Prelude.{◌≡◌, ◌≢◌, ◌≤◌, ◌⊎◌}
 use Rattle.jiff.specs.Placed.{IsPosixZone}
 use Rattle.jiff.specs.Words.{read_whole}
 use Rattle.jiff_tz.specs.declared.timezone.TimeZone.{TimeZone}
@@ -85,8 +85,8 @@ pub record IsLeftBy (trees : Trees) (day : List ℕ) (left : Successor) : Type 0
   pub fits : AreTerminals room left.config.terminals.items
   pub of_day : IsLeftSince left.config.plan.zone (last_moment room) day room left.changes.items
 
--- why a room leaves nothing: its zone is no rule, the day is none that it may be renewed since, or
--- memory fails
+-- why a room leaves nothing: its zone is no rule, it may not be renewed since this day, or memory
+-- fails
 abbrev pub ExplainsStay : List ℕ → ℕ → List ℕ → Failure → Type 0
 ExplainsStay rule newest day File = ¬ IsSome (read_whole rule)
 ExplainsStay rule newest day Day =

@@ -2,8 +2,7 @@
 -- happened since a moment, and the last of each vehicle's reports and of each position's calls.
 use Rattle.std.specs.List.{list_any}
 use Rattle.std.specs.Prelude.{Bool, None, Option, Some, false, filter, is_some, nat_le, nat_lt, not}
-use Rattle.std.specs.Prelude.{ℕ, ◌&&◌, ◌==◌}
-use Rattle.std.specs.Prelude.{◌||◌}
+use Rattle.std.specs.Prelude.{ℕ, ◌&&◌, ◌==◌, ◌||◌}
 use Rattle.room_types.specs.KeyedRows.{keep}
 use Rattle.room_types.specs.Codes.{is_active, is_normal}
 use Rattle.room_types.specs.Texts.{Callsign}
@@ -37,7 +36,7 @@ abbrev pub is_over : ℕ → Room → Incident → Bool
 is_over since r i =
     not (is_active i.state) && (nat_lt i.opened since && not (has_recent_call since r i))
 
--- a report from before then, which waits for nobody's eye
+-- a report from before then, which needs nobody's attention
 abbrev pub is_settled : ℕ → Report → Bool
 is_settled since x = nat_lt x.at since && (x.cleared || is_normal x.outcome)
 

@@ -1,7 +1,6 @@
 -- The report of a division's day.
 use Rattle.std.specs.Prelude.{IfErr, IfOk, IsSome, List, None, Ok, Result, Some, Vec, [], false}
-use Rattle.std.specs.Prelude.{map, pos, true, ℕ, ℤ}
-use Rattle.std.specs.Prelude.{◌≡◌}
+use Rattle.std.specs.Prelude.{map, pos, true, ℕ, ℤ, ◌≡◌}
 use Rattle.std.specs.Global.{Global}
 use Rattle.jiff.specs.Placed.{IsPosixZone}
 use Rattle.jiff_core.specs.Calendar.{days_from_civil}

@@ -1,4 +1,4 @@
-//! The incidents that their calls keep in a new room.
+//! The incidents that stay in a renewed room because of their calls.
 ghost use Rattle.std.specs.Prelude.{◌≡◌, ℕ, IfOk, option_copied};
 ghost use Rattle.std.specs.BTreeSet.{BTreeSet, contains};
 ghost use Rattle.room_types.specs.Keys.{pair_cmp};
@@ -26,7 +26,7 @@ impl Model for Called {
 }
 
 impl Called {
-    /// Those of a room's calls.
+    /// The incidents to which such calls of a room belong.
     pub fn since(alloc: Global, moment: Moment, calls: &Rows<Call>) -> Result<Called, AllocError>
         ensures { IfOk result (AreCalled moment calls.now calls.now) }
     {

@@ -1,4 +1,4 @@
-//! `check`: how much the room of a database has, or what is wrong with its file first.
+//! `check`: how much the room of a database has, or the first thing that is wrong with its file.
 ghost use Rattle.std.specs.Prelude.{
   ◌++◌,
   ◌≡◌,
@@ -41,8 +41,9 @@ use sqlite::{Alter, Connection};
 use std::alloc::Global;
 use std::io::{self, Write};
 
-/// Prints how much the room of a database has, or what is wrong with its file first. Nothing is
-/// written to the file.
+/// Prints how much the room of a database has, or the first thing that is wrong with its file, and
+/// then fails as `File`, `Version` or `Storage`. It fails as `Memory` if memory is refused, and as
+/// `Network` if the output fails. Nothing is written to the file.
 pub fn check_in<S: Alter + Drop, O: Write>(
     alloc: Global,
     mut conn: Connection<S>,
@@ -110,7 +111,8 @@ pub(crate) fn failure_of(wrong: Wrong) -> Failure
     }
 }
 
-// The version, the rows of each table and how many may need an eye, and the newest moment.
+// Prints the version, the rows of each table, how many of them may need attention, and the newest
+// moment.
 fn print_summary<O: Write>(summary: &Summary, out: &mut O) -> io::Result<()>
     ensures text { OnOk result (Appends (O.contents out.old) (O.contents out.new)
         (summary_text summary.now)) }

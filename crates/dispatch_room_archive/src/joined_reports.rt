@@ -32,8 +32,9 @@ use room_types::tables::Incident;
 use sqlite::{Alter, Connection};
 use std::alloc::Global;
 
-/// A division's day by the plan of a database's room, with the division's incidents there. Nothing
-/// is written to the file.
+/// A division's day, by the zone of the plan of a database's room, with the division's incidents
+/// there. It fails as `Division` if the plan doesn't have the division, and as `Day` if `day` is no
+/// day from 1970-01-01 to 2099-12-31. Nothing is written to the file.
 pub fn day_in<S: Alter + Drop>(
     alloc: Global,
     mut conn: Connection<S>,
@@ -107,8 +108,9 @@ fn day_of(
     }
 }
 
-/// The report of a division's day by a newer room's incidents and those of a database's room. Of an
-/// incident that both have, the newer room knows more. Nothing is written to the file.
+/// The report of a division's day as CSV, by the incidents of a newer room and those of a
+/// database's room. Of an incident that both have, the newer room knows more. Nothing is written to
+/// the file.
 pub fn joined_report_in<S: Alter + Drop>(
     alloc: Global,
     mut conn: Connection<S>,
@@ -127,7 +129,7 @@ pub fn joined_report_in<S: Alter + Drop>(
     Ok((Ok(report), conn))
 }
 
-// The report by the incidents of a file's room too, of which all is read.
+// The report by the incidents of a file's room too, which is read whole.
 fn join<S: Alter>(
     alloc: Global,
     conn: &mut Connection<S>,

@@ -42,15 +42,15 @@ pub fn what_is_left_is_over()
         IsSuccessor since (left_behind since r) r (renewed since r) }
 {}
 
-/// An event gets the same answer in the new room as in the old one, and leads to two rooms of which
-/// one has again what the other has but for the same that stayed behind.
+/// An event gets the same answer in the new room as in the old one. After it, the new room still
+/// has what the old one has, but for the same rows that stayed behind.
 pub fn a_successor_goes_on_alike()
     // Unless a desk asks of the past, or a call or a report that stayed behind is sent again.
     ensures answer { (since : ℕ) (b : Behind) (old new : Room) (e : Event) →
         IsWellFormed old → IsSuccessor since b old new →
         asks_of_the_past since b e ≡ false → repeats_the_past b e ≡ false →
         answer_to e new ≡ answer_to e old }
-    // Where a desk asks of the past the rooms go on alike all the same.
+    // Even where a desk asks of the past, the rooms go on alike.
     ensures afterwards { (since : ℕ) (b : Behind) (old new : Room) (e : Event) →
         IsWellFormed old → IsSuccessor since b old new →
         repeats_the_past b e ≡ false →
@@ -70,8 +70,8 @@ pub fn rooms_go_on_alike()
         × IsSuccessor since b (room_run es old) (room_run es new) }
 {}
 
-/// What a desk asks of the past changes neither room. An incident that stayed behind is none in the
-/// new room; the times are those of the incidents that did not stay behind.
+/// What a desk asks of the past changes neither room. An incident that stayed behind is not found
+/// in the new room; the times are those of the incidents that did not stay behind.
 pub fn the_past_is_not_found()
     ensures incident { (since : ℕ) (b : Behind) (old new : Room) (d : ℕ) (a : Ask) (at : ℕ) →
         IsWellFormed old → IsSuccessor since b old new →

@@ -1,4 +1,4 @@
-//! What of a room is over since a moment.
+//! Which rows of a room stay behind when it is renewed since a moment.
 ghost use Rattle.std.specs.Prelude.{◌≡◌, ◌&&◌, IfOk, List, nat_lt, not};
 ghost use Rattle.room_place.specs.declared.plans.Area.{Area};
 ghost use Rattle.room_types.specs.Codes.{is_active, is_normal};
@@ -27,7 +27,7 @@ pub struct Past<'a> {
 }
 
 impl<'a> Past<'a> {
-    /// Of these rows.
+    /// Prepares to decide about these rows. It fails if memory is refused.
     pub fn of(
         alloc: Global,
         since: Moment,
@@ -55,7 +55,8 @@ impl<'a> Past<'a> {
         }
     }
 
-    /// Whether an incident is over.
+    /// Whether an incident is over: it is not active, was opened before the moment, and has no call
+    /// that keeps it.
     pub fn is_over(&self, incident: &Incident) -> bool
         ensures { (plan : List Area) → result
             ≡ is_over self.now.since (room_of plan self.now.rows.now) incident.now }
@@ -64,7 +65,7 @@ impl<'a> Past<'a> {
         is_done_before(incident, self.since) && !is_called
     }
 
-    /// Whether a report is over.
+    /// Whether a report is over: it is settled, and not the last of its vehicle.
     pub fn is_report_over(&self, report: &Report) -> bool
         ensures { (plan : List Area) → result
             ≡ is_report_over self.now.since (room_of plan self.now.rows.now) report.now }
@@ -82,7 +83,7 @@ fn is_done_before(incident: &Incident, since: Moment) -> bool
     !incident.state.is_active() && incident.opened < since
 }
 
-// Whether a report waits for nobody's eye, and was sent before a moment.
+// Whether a report needs nobody's attention, and was sent before a moment.
 fn is_settled(report: &Report, since: Moment) -> bool
     ensures { result ≡ is_settled since report.now }
 {

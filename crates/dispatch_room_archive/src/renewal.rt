@@ -43,8 +43,8 @@ use sqlite::{Alter, Connection};
 use std::alloc::Global;
 use std::io::Write;
 
-// A new room has at least what happened in the last two days of the old one: long after that no
-// caller sends a call again.
+// In seconds. A new room has at least what happened in the last two days of the old one: after that
+// no caller repeats a call.
 const TWO_DAYS: u64 = 172_800;
 
 /// What a room leaves to one that is made of it: the plan, the terminals, and the changes that put
@@ -55,8 +55,9 @@ pub struct Successor {
     pub changes: Vec<Change>,
 }
 
-/// What the room of a database leaves to one that is made of it since a day. Nothing is written to
-/// the file. Where it leaves nothing the database is released.
+/// What the room of a database leaves to one that is made of it since a day. It fails as `Day` if
+/// `day` is no day, or begins less than two days before the newest moment of the room. Nothing is
+/// written to the file, and the database is released if it leaves nothing.
 pub fn left_in<S: Alter + Drop>(
     alloc: Global,
     mut conn: Connection<S>,
@@ -74,7 +75,7 @@ pub fn left_in<S: Alter + Drop>(
     Ok((Ok(left), conn))
 }
 
-// What the room of a file leaves, of which all is read.
+// Reads the room of a file whole, and finds what it leaves.
 fn find_left<S: Alter>(
     alloc: Global,
     conn: &mut Connection<S>,
@@ -92,7 +93,7 @@ fn find_left<S: Alter>(
     }
 }
 
-// What a room leaves of which all was read, and of which this is the newest moment.
+// What a room leaves that was read whole, and that has this newest moment.
 fn left_of(alloc: Global, whole: ReadFile, newest: Moment, day: &str) -> Result<Successor, Failure>
     ensures config { IfOk result (λ left. left.config ≡ whole.config) }
     ensures since { IfOk result (λ left. IsLeftSince whole.config.plan.zone newest day.now
@@ -130,7 +131,7 @@ fn changes_of(
     }
 }
 
-// The moment at which a day begins, where that is two days before the newest one at least.
+// The moment at which a day begins, if that is at least two days before the newest one.
 fn start(zone: &Zone, newest: Moment, day: &str) -> Option<Moment>
     ensures found { IfSome result (IsStart (zone_of zone.now) newest day.now) }
     ensures none { IfNone result (IsNoStart (zone_of zone.now) newest day.now) }
@@ -148,7 +149,7 @@ fn moment_of(second: i64) -> u64
     if second < 0 { 0 } else { second as u64 }
 }
 
-// A moment that is two days before the newest one at least.
+// The moment, if it is at least two days before the newest one.
 fn early(moment: u64, newest: Moment) -> Option<Moment>
     ensures found { IfSome result (λ since. (since ≡ moment) × (moment + 172_800 ≤ newest)) }
     ensures none { IfNone result (newest < moment + 172_800) }
@@ -160,9 +161,9 @@ fn early(moment: u64, newest: Moment) -> Option<Moment>
     Some(Moment::of(moment as u32))
 }
 
-/// Makes the room of what another one left, in a database that has nothing, and reports how much
-/// of what happened it has. What is reported stands, also where the database can't be closed
-/// afterwards.
+/// Makes the room of what another one left, in an empty database, and prints how many incidents,
+/// calls, turns and reports it has. The line stays printed even if the database can't be closed
+/// afterwards. It fails as `File` if the database is not empty.
 pub fn begin_in<S: Alter + Drop, O: Write>(
     mut conn: Connection<S>,
     left: &Successor,
@@ -188,7 +189,7 @@ pub fn begin_in<S: Alter + Drop, O: Write>(
     }
 }
 
-// Prints how much of what happened a new room has that is made by these changes.
+// Prints how many incidents, calls, turns and reports a new room has that is made by these changes.
 fn print_renewed<O: Write>(changes: &[Change], out: &mut O) -> Result<Done, Failure>
     ensures { PrintsRenewed changes.now (O.contents out.old) (O.contents out.new) result }
 {

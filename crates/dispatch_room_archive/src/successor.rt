@@ -14,7 +14,7 @@ use room_types::numbers::Moment;
 use room_types::slices::DivisionRows;
 use std::alloc::{AllocError, Global};
 
-/// The changes that put the rows which a room gets that is made of one with these rows, since a
+/// The changes that put the rows which a new room gets from a room with these rows, renewed since a
 /// moment.
 pub fn puts_since(
     alloc: Global,
@@ -28,7 +28,7 @@ pub fn puts_since(
     puts_of(alloc, &past)
 }
 
-// The same, of rows of which is known what is over.
+// The same, once it is known what is over.
 fn puts_of(alloc: Global, past: &Past<'_>) -> Result<Vec<Change>, AllocError>
     ensures { IfOk result (λ changes. (plan : List Area)
         → changes.items ≡ puts_kept past.now.since (room_of plan past.now.rows.now)) }

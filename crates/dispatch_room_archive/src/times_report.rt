@@ -25,7 +25,9 @@ use room_types::refusal_statuses::Refusal;
 use sqlite::{Alter, Connection};
 use std::alloc::Global;
 
-/// The report of a division's day, by the room of a database.
+/// The report of a division's day as CSV, by the room of a database. It fails as `Division` if the
+/// plan doesn't have the division, and then as `Day` if `day` is no day from 1970-01-01 to
+/// 2099-12-31.
 pub fn report_in<S: Alter + Drop>(
     alloc: Global,
     conn: Connection<S>,
@@ -82,7 +84,8 @@ fn report_of<S: Alter>(
     }
 }
 
-// The second at which a day begins, and that at which the next one does.
+// The seconds, since 1970 in UTC, at which a day begins and at which the next one does; `None` if
+// the text is no day.
 pub(crate) fn span(zone: &Zone, day: &str) -> Option<(i64, i64)>
     ensures found { IsSome result ↔ IsSome (day_of day.now) }
     ensures span { IfSome result (IsSpanOf (zone_of zone.now) day.now) }

@@ -1,5 +1,6 @@
 -- Lemmas on the fields of a head.
-use Rattle.std.proofs.Common.{◌≡◌, ◌<◌, ◌≤◌, ◌^◌, ◌∙◌, arith, sym, ap, ℕ, List, min, true, false, Option, None, Some}
+use Rattle.std.proofs.Common.{◌≡◌, ◌<◌, ◌≤◌, ◌^◌, ◌∙◌, arith, sym, ap, ℕ, List, min, true, false}
+use Rattle.std.proofs.Common.{Option, None, Some}
 use Rattle.std.specs.Option.{MatchOption, SomeIff}
 use Rattle.std.specs.Str.Parse.{digits_value}
 use Rattle.std.proofs.lemmas.Option.{none-some, same_Some}

@@ -1,7 +1,7 @@
 -- Lemmas on answers: what stands at the front of what was heard, and what an answer gives.
-use Rattle.std.proofs.Common.{◌≡◌, ◌<◌, ◌≤◌, ◌∙◌, refl, sym, ap, ℕ, List, [], ◌++◌, length, map, take, drop}
-use Rattle.std.proofs.Common.{take-append-drop, Option, None, Some, arith, inl, inr, length-append, length-drop}
-use Rattle.std.proofs.Common.{length-take, ◌-◌}
+use Rattle.std.proofs.Common.{◌≡◌, ◌<◌, ◌≤◌, ◌∙◌, refl, sym, ap, ℕ, List, [], ◌++◌, length, map}
+use Rattle.std.proofs.Common.{take, drop, take-append-drop, Option, None, Some, arith, inl, inr}
+use Rattle.std.proofs.Common.{length-append, length-drop, length-take, ◌-◌}
 use Rattle.std.specs.Prelude.{◌≢◌, codes, Err, Ok, Result, MatchResult, ok_or, unwrap_or}
 use Rattle.std.specs.Option.{option_zip}
 use Rattle.std.specs.List.{IsSplitAt}
@@ -17,11 +17,13 @@ use Rattle.room_http_messages.specs.HeadFields.{Fields, values_of}
 use Rattle.room_http_messages.specs.declared.limits.TheConstants.{FIELD_LIMIT}
 use Rattle.dispatch_room_board.specs.declared.heard_answers.HeardAnswer.{HeardAnswer}
 use Rattle.dispatch_room_board.specs.declared.board_errors.BoardError.{BoardError}
-use Rattle.dispatch_room_board.specs.declared.board_errors.BoardError.TheVariants.{Unheard, Foreign, Refused}
+use Rattle.dispatch_room_board.specs.declared.board_errors.BoardError.TheVariants.{Unheard, Foreign}
+use Rattle.dispatch_room_board.specs.declared.board_errors.BoardError.TheVariants.{Refused}
 use Rattle.dispatch_room_board.specs.Boards.{Befalls, IsDatedAnswer, IsHeardAt, IsNext}
 use Rattle.dispatch_room_board.specs.AnswerRows.{IsJson, IsNoAnswer}
 use Rattle.dispatch_room_board.specs.Members.{IsRead}
-use Rattle.dispatch_room_board.specs.HeardAnswers.{Announces, HasNoMessage, IsDated, IsMessage, IsNoMessage, fields_in}
+use Rattle.dispatch_room_board.specs.HeardAnswers.{Announces, HasNoMessage, IsDated, IsMessage}
+use Rattle.dispatch_room_board.specs.HeardAnswers.{IsNoMessage, fields_in}
 use Rattle.dispatch_room_board.specs.BoardErrors.{IsErrorIn}
 
 pub no_head : (bytes : List ℕ) → HasNoResponse bytes → MayBecomeResponse bytes

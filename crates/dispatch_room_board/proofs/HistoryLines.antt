@@ -5,8 +5,9 @@ use Rattle.dispatch_room_board.specs.declared.board_pages.Page.{Page}
 use Rattle.dispatch_room_board.specs.declared.board_pages.Paint.TheVariants.{Plain, Title}
 use Rattle.dispatch_room_board.specs.declared.subject_columns.Subject.{Subject}
 use Rattle.dispatch_room_board.specs.CellLayout.{row_of}
-use Rattle.dispatch_room_board.specs.Histories.{call_table, history_lines, subject_columns, subject_lines}
-use Rattle.dispatch_room_board.specs.Histories.{subject_texts, subject_title, subject_titles, turn_table}
+use Rattle.dispatch_room_board.specs.Histories.{call_table, history_lines, subject_columns}
+use Rattle.dispatch_room_board.specs.Histories.{subject_lines, subject_texts, subject_title}
+use Rattle.dispatch_room_board.specs.Histories.{subject_titles, turn_table}
 use Rattle.dispatch_room_board.specs.Pages.{Adds, line_of, spaced_line, text_line}
 use Rattle.dispatch_room_board.specs.BoardTables.{table_lines}
 use Rattle.dispatch_room_board.proofs.Shown.{adds_more}

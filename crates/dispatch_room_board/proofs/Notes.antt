@@ -1,6 +1,7 @@
 -- Lemmas on the notes below rows.
-use Rattle.std.proofs.Common.{◌≡◌, ◌<◌, ◌≤◌, ℕ, ◌+◌, List, [], ◌∷◌, ◌++◌, length, map, take, drop, get_or, Bool, refl}
-use Rattle.std.proofs.Common.{sym, append_assoc, length-append, length-take, arith}
+use Rattle.std.proofs.Common.{◌≡◌, ◌<◌, ◌≤◌, ℕ, ◌+◌, List, [], ◌∷◌, ◌++◌, length, map, take, drop}
+use Rattle.std.proofs.Common.{get_or, Bool, refl, sym, append_assoc, length-append, length-take}
+use Rattle.std.proofs.Common.{arith}
 use Rattle.std.specs.Prelude.{codes}
 use Rattle.std.proofs.lemmas.List.{append-nil, length-map, map_more}
 use Rattle.dispatch_room_board.specs.declared.board_pages.Page.{Page}

@@ -1,6 +1,6 @@
 -- Lemmas on lists of rows.
-use Rattle.std.proofs.Common.{◌≡◌, ◌∙◌, arith, sym, ℕ, zero, suc, Option, None, Some, ◌+◌, ◌<◌, List, [], ◌∷◌, ◌++◌}
-use Rattle.std.proofs.Common.{length, take, get_or}
+use Rattle.std.proofs.Common.{◌≡◌, ◌∙◌, arith, sym, ℕ, zero, suc, Option, None, Some, ◌+◌, ◌<◌}
+use Rattle.std.proofs.Common.{List, [], ◌∷◌, ◌++◌, length, take, get_or}
 use Rattle.std.proofs.lemmas.List.{take_more}
 use Rattle.std.proofs.lemmas.Option.{same_Some}
 use Rattle.serde_json.specs.Data.{Data}

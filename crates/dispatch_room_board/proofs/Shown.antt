@@ -1,12 +1,13 @@
 -- Lemmas on what is shown of an answer.
-use Rattle.std.proofs.Common.{◌≡◌, ℕ, ◌+◌, ◌<◌, List, [], ◌∷◌, ◌++◌, length, take, get_or, Bool, append_assoc, refl}
-use Rattle.std.proofs.Common.{sym, ◌∙◌}
+use Rattle.std.proofs.Common.{◌≡◌, ℕ, ◌+◌, ◌<◌, List, [], ◌∷◌, ◌++◌, length, take, get_or, Bool}
+use Rattle.std.proofs.Common.{append_assoc, refl, sym, ◌∙◌}
 use Rattle.std.specs.Prelude.{◌≢◌, codes, decimal}
 use Rattle.std.proofs.lemmas.List.{append-nil, take_more}
 use Rattle.dispatch_room_board.specs.declared.board_pages.Page.{Page}
 use Rattle.dispatch_room_board.specs.declared.board_pages.Paint.TheVariants.{Plain, Title}
 use Rattle.dispatch_room_board.specs.Pages.{Adds, spaced_line, text_line}
-use Rattle.dispatch_room_board.specs.BoardTables.{Table, row_line, row_lines, table_lines, titles_line}
+use Rattle.dispatch_room_board.specs.BoardTables.{Table, row_line, row_lines, table_lines}
+use Rattle.dispatch_room_board.specs.BoardTables.{titles_line}
 
 lines_end : {T : Type 0} (table : Table T) (colour : Bool) (now : ℕ) (rows : List T) (row : T)
     → row_lines table colour now (rows ++ row ∷ []) ≡ row_lines table colour now rows

@@ -1,6 +1,6 @@
 -- No row is wider than its columns.
-use Rattle.std.proofs.Common.{◌≡◌, ℕ, ◌+◌, ◌-◌, ◌≤◌, List, [], ◌∷◌, length, take, replicate, length-append, length-take}
-use Rattle.std.proofs.Common.{arith}
+use Rattle.std.proofs.Common.{◌≡◌, ℕ, ◌+◌, ◌-◌, ◌≤◌, List, [], ◌∷◌, length, take, replicate}
+use Rattle.std.proofs.Common.{length-append, length-take, arith}
 use Rattle.std.proofs.lemmas.List.{length-replicate}
 use Rattle.dispatch_room_board.specs.declared.cell_layout.Column.{Column}
 use Rattle.dispatch_room_board.specs.declared.cell_layout.Column.TheVariants.{Left, Right}

@@ -1,12 +1,13 @@
 -- What stands in a column.
-use Rattle.std.specs.Prelude.{ℕ, List, ◌++◌, ◌-◌, ◌/◌, ◌%◌, codes, decimal, min, nat_lt, if◌then◌else◌, Option, None}
-use Rattle.std.specs.Prelude.{Some}
+use Rattle.std.specs.Prelude.{ℕ, List, ◌++◌, ◌-◌, ◌/◌, ◌%◌, codes, decimal, min, nat_lt}
+use Rattle.std.specs.Prelude.{if◌then◌else◌, Option, None, Some}
 use Rattle.room_place.specs.declared.places.Place.{Place}
 use Rattle.room_types.specs.declared.codes.Kind.{Kind}
 use Rattle.room_types.specs.declared.codes.Kind.TheVariants.{Ambulance, Car, Support}
 use Rattle.room_types.specs.declared.codes.Status.{Status}
-use Rattle.room_types.specs.declared.codes.Status.TheVariants.{OffDuty, Available, Mobilised, AtScene, Leaving}
-use Rattle.room_types.specs.declared.codes.Status.TheVariants.{AtHospital, Returning, Offered}
+use Rattle.room_types.specs.declared.codes.Status.TheVariants.{OffDuty, Available, Mobilised}
+use Rattle.room_types.specs.declared.codes.Status.TheVariants.{AtScene, Leaving, AtHospital}
+use Rattle.room_types.specs.declared.codes.Status.TheVariants.{Returning, Offered}
 use Rattle.room_types.specs.declared.answers.Served.{Served}
 use Rattle.room_types.specs.declared.needs.Counts.{Counts}
 use Rattle.dispatch_room_board.specs.declared.board_cells.BoardCell.{BoardCell}

@@ -5,7 +5,8 @@ use Rattle.serde_json.specs.Data.{Data}
 use Rattle.room_types.specs.Texts.{is_token_letter}
 use Rattle.dispatch_room_board.specs.declared.board_errors.Name.{Name}
 use Rattle.dispatch_room_board.specs.declared.board_errors.BoardError.{BoardError}
-use Rattle.dispatch_room_board.specs.declared.board_errors.BoardError.TheVariants.{Unheard, Foreign, Refused}
+use Rattle.dispatch_room_board.specs.declared.board_errors.BoardError.TheVariants.{Unheard, Foreign}
+use Rattle.dispatch_room_board.specs.declared.board_errors.BoardError.TheVariants.{Refused}
 use Rattle.dispatch_room_board.specs.Members.{HasMember, IsByte, IsText}
 
 -- the name is this text, of at most 32 letters and digits

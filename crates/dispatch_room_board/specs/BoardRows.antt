@@ -8,8 +8,9 @@ use Rattle.room_types.specs.declared.answers.VehicleLine.{VehicleLine}
 use Rattle.room_types.specs.declared.answers.PointLine.{PointLine}
 use Rattle.room_types.specs.declared.tables.Offer.{Offer}
 use Rattle.room_types.specs.declared.tables.Loan.{Loan}
-use Rattle.dispatch_room_board.specs.Members.{HasMember, IsBool, IsByte, IsCallsign, IsClass, IsCounts, IsDivision}
-use Rattle.dispatch_room_board.specs.Members.{IsKind, IsMoment, IsNeed, IsNeeds, IsNumber, IsOrNull, IsPlace, IsPoint}
+use Rattle.dispatch_room_board.specs.Members.{HasMember, IsBool, IsByte, IsCallsign, IsClass}
+use Rattle.dispatch_room_board.specs.Members.{IsCounts, IsDivision, IsKind, IsMoment, IsNeed}
+use Rattle.dispatch_room_board.specs.Members.{IsNeeds, IsNumber, IsOrNull, IsPlace, IsPoint}
 use Rattle.dispatch_room_board.specs.Members.{IsStatus, IsVehicle, IsWhole, IsWord}
 
 pub record IsEntry (d : Data) (row : QueueEntry) : Type 0 where

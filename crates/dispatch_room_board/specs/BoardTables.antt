@@ -1,6 +1,7 @@
 -- The tables of a board, and what stands in their rows.
-use Rattle.std.specs.Prelude.{◌≡◌, ◌≤◌, ℕ, ◌+◌, ◌-◌, List, [], ◌∷◌, ◌++◌, length, codes, decimal, nat_le, nat_lt, ◌==◌}
-use Rattle.std.specs.Prelude.{if◌then◌else◌, Bool, true, false, Option, None, Some}
+use Rattle.std.specs.Prelude.{◌≡◌, ◌≤◌, ℕ, ◌+◌, ◌-◌, List, [], ◌∷◌, ◌++◌, length, codes, decimal}
+use Rattle.std.specs.Prelude.{nat_le, nat_lt, ◌==◌, if◌then◌else◌, Bool, true, false, Option, None}
+use Rattle.std.specs.Prelude.{Some}
 use Rattle.room_types.specs.declared.answers.QueueEntry.{QueueEntry}
 use Rattle.room_types.specs.declared.answers.IncidentLine.{IncidentLine}
 use Rattle.room_types.specs.declared.answers.PointLine.{PointLine}
@@ -17,8 +18,8 @@ use Rattle.dispatch_room_board.specs.declared.board_pages.Paint.{Paint}
 use Rattle.dispatch_room_board.specs.declared.board_pages.Paint.TheVariants.{Plain, Title, Alarm}
 use Rattle.dispatch_room_board.specs.declared.board_pages.TheConstants.{WIDEST}
 use Rattle.dispatch_room_board.specs.declared.table_layouts.TableLayout.{TableLayout}
-use Rattle.dispatch_room_board.specs.BoardCells.{counts_text, kind_text, left_text, named_text, place_text, since_text}
-use Rattle.dispatch_room_board.specs.BoardCells.{status_text}
+use Rattle.dispatch_room_board.specs.BoardCells.{counts_text, kind_text, left_text, named_text}
+use Rattle.dispatch_room_board.specs.BoardCells.{place_text, since_text, status_text}
 use Rattle.dispatch_room_board.specs.CellLayout.{row_of, width_of}
 use Rattle.dispatch_room_board.specs.Pages.{line_of, note_lines, text_line}
 

@@ -10,16 +10,18 @@ use Rattle.dispatch_room_board.specs.declared.heard_answers.HeardAnswer.{HeardAn
 use Rattle.dispatch_room_board.specs.declared.board_pages.Paint.TheVariants.{Plain, Alarm}
 use Rattle.dispatch_room_board.specs.declared.renderer.Renderer.{Renderer}
 use Rattle.dispatch_room_board.specs.declared.board_errors.BoardError.{BoardError}
-use Rattle.dispatch_room_board.specs.declared.board_errors.BoardError.TheVariants.{Unheard, Foreign, Refused}
+use Rattle.dispatch_room_board.specs.declared.board_errors.BoardError.TheVariants.{Unheard, Foreign}
+use Rattle.dispatch_room_board.specs.declared.board_errors.BoardError.TheVariants.{Refused}
 use Rattle.dispatch_room_board.specs.Histories.{IsHistory, history_lines, history_title}
 use Rattle.dispatch_room_board.specs.AnswerRows.{IsAnswered, IsList, IsNoAnswer}
 use Rattle.dispatch_room_board.specs.Members.{HasMember, IsRead}
 use Rattle.dispatch_room_board.specs.HeardAnswers.{IsMessage, IsNoMessage}
 use Rattle.dispatch_room_board.specs.Pages.{Adds, spaced_line, text_line}
-use Rattle.dispatch_room_board.specs.BoardRows.{IsEntry, IsIncidentLine, IsLoan, IsOffer, IsPointLine, IsProposal}
-use Rattle.dispatch_room_board.specs.BoardRows.{IsVehicleLine}
-use Rattle.dispatch_room_board.specs.BoardTables.{Table, entry_table, incident_table, loan_table, offer_table}
-use Rattle.dispatch_room_board.specs.BoardTables.{point_table, proposal_table, table_lines, vehicle_table}
+use Rattle.dispatch_room_board.specs.BoardRows.{IsEntry, IsIncidentLine, IsLoan, IsOffer}
+use Rattle.dispatch_room_board.specs.BoardRows.{IsPointLine, IsProposal, IsVehicleLine}
+use Rattle.dispatch_room_board.specs.BoardTables.{Table, entry_table, incident_table, loan_table}
+use Rattle.dispatch_room_board.specs.BoardTables.{offer_table, point_table, proposal_table}
+use Rattle.dispatch_room_board.specs.BoardTables.{table_lines, vehicle_table}
 use Rattle.dispatch_room_board.specs.BoardErrors.{error_text}
 
 -- what is reached where one error more is met: the worst of all

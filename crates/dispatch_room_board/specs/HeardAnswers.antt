@@ -1,5 +1,6 @@
 -- The answers in what was heard (RFC 9112, section 2.1).
-use Rattle.std.specs.Prelude.{◌≡◌, ◌<◌, ◌≤◌, ◌⊎◌, ℕ, List, ◌++◌, length, map, min, codes, true, Some}
+use Rattle.std.specs.Prelude.{◌≡◌, ◌<◌, ◌≤◌, ◌⊎◌, ℕ, List, ◌++◌, length, map, min, codes, true}
+use Rattle.std.specs.Prelude.{Some}
 use Rattle.std.specs.Str.Parse.{digits_value}
 use Rattle.httparse.specs.Grammar.{MayBecomeResponse, ReadsResponse, ResponseHead, status_code}
 use Rattle.httparse.specs.Spans.{name_and_value}
@@ -11,7 +12,8 @@ use Rattle.room_http_messages.specs.declared.limits.TheConstants.{FIELD_LIMIT}
 use Rattle.dispatch_room_board.specs.declared.heard_answers.HeardAnswer.{HeardAnswer}
 use Rattle.dispatch_room_board.specs.declared.heard_answers.TheConstants.{TOO_LONG}
 use Rattle.dispatch_room_board.specs.declared.board_errors.BoardError.{BoardError}
-use Rattle.dispatch_room_board.specs.declared.board_errors.BoardError.TheVariants.{Unheard, Foreign, Refused}
+use Rattle.dispatch_room_board.specs.declared.board_errors.BoardError.TheVariants.{Unheard, Foreign}
+use Rattle.dispatch_room_board.specs.declared.board_errors.BoardError.TheVariants.{Refused}
 use Rattle.dispatch_room_board.specs.Members.{IsRead, last_moment}
 
 -- there is one value, only digits, and they write this number, or one above all that is read

@@ -1,6 +1,6 @@
 -- What came of an incident: what its history says, and what is shown of it.
-use Rattle.std.specs.Prelude.{ℕ, List, [], ◌∷◌, ◌++◌, codes, decimal, ◌==◌, if◌then◌else◌, Bool, true, false, Option}
-use Rattle.std.specs.Prelude.{None, Some}
+use Rattle.std.specs.Prelude.{ℕ, List, [], ◌∷◌, ◌++◌, codes, decimal, ◌==◌, if◌then◌else◌, Bool}
+use Rattle.std.specs.Prelude.{true, false, Option, None, Some}
 use Rattle.serde_json.specs.Data.{Data}
 use Rattle.dispatch_room_board.specs.declared.call_columns.CallLine.{CallLine}
 use Rattle.dispatch_room_board.specs.declared.cell_layout.Column.{Column}
@@ -9,12 +9,13 @@ use Rattle.dispatch_room_board.specs.declared.history_lines.History.{History}
 use Rattle.dispatch_room_board.specs.declared.board_pages.Paint.TheVariants.{Plain, Title}
 use Rattle.dispatch_room_board.specs.declared.subject_columns.Subject.{Subject}
 use Rattle.dispatch_room_board.specs.declared.turn_columns.TurnLine.{TurnLine}
-use Rattle.dispatch_room_board.specs.BoardCells.{after_text, counts_text, named_text, place_text, served_text}
-use Rattle.dispatch_room_board.specs.BoardCells.{since_any_text, since_text}
+use Rattle.dispatch_room_board.specs.BoardCells.{after_text, counts_text, named_text, place_text}
+use Rattle.dispatch_room_board.specs.BoardCells.{served_text, since_any_text, since_text}
 use Rattle.dispatch_room_board.specs.CellLayout.{row_of}
 use Rattle.dispatch_room_board.specs.AnswerRows.{IsList}
-use Rattle.dispatch_room_board.specs.Members.{HasMember, IsBool, IsByte, IsCallsign, IsClass, IsKind, IsMoment, IsNeeds}
-use Rattle.dispatch_room_board.specs.Members.{IsNote, IsNumber, IsOrNull, IsPlace, IsPosition, IsServed}
+use Rattle.dispatch_room_board.specs.Members.{HasMember, IsBool, IsByte, IsCallsign, IsClass}
+use Rattle.dispatch_room_board.specs.Members.{IsKind, IsMoment, IsNeeds, IsNote, IsNumber, IsOrNull}
+use Rattle.dispatch_room_board.specs.Members.{IsPlace, IsPosition, IsServed}
 use Rattle.dispatch_room_board.specs.Pages.{line_of, spaced_line, text_line}
 use Rattle.dispatch_room_board.specs.BoardTables.{Table, table_lines}
 

@@ -1,6 +1,6 @@
 -- What the values of an answer's JSON say.
-use Rattle.std.specs.Prelude.{◌≡◌, ◌≤◌, ℕ, List, [], length, Bool, true, Option, Some, None, MatchOption}
-use Rattle.std.specs.Prelude.{option_and_then}
+use Rattle.std.specs.Prelude.{◌≡◌, ◌≤◌, ℕ, List, [], length, Bool, true, Option, Some, None}
+use Rattle.std.specs.Prelude.{MatchOption, option_and_then}
 use Rattle.serde_json.specs.Data.{Data}
 use Rattle.serde_json.specs.Find.{as_bool, as_null, as_number, as_str, as_u64, at, get}
 use Rattle.room_place.specs.declared.places.Place.{Place}

@@ -1,6 +1,6 @@
 -- Lines, and the page that they make.
-use Rattle.std.specs.Prelude.{◌≡◌, ℕ, List, [], ◌∷◌, ◌++◌, ◌&&◌, if◌then◌else◌, take, drop, map, nat_le, codes, Bool}
-use Rattle.std.specs.Prelude.{true, false}
+use Rattle.std.specs.Prelude.{◌≡◌, ℕ, List, [], ◌∷◌, ◌++◌, ◌&&◌, if◌then◌else◌, take, drop, map}
+use Rattle.std.specs.Prelude.{nat_le, codes, Bool, true, false}
 use Rattle.dispatch_room_board.specs.declared.board_pages.Paint.{Paint}
 use Rattle.dispatch_room_board.specs.declared.board_pages.Paint.TheVariants.{Plain, Title, Alarm}
 use Rattle.dispatch_room_board.specs.declared.board_pages.Page.{Page}

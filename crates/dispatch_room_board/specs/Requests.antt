@@ -1,5 +1,6 @@
 -- What a board asks a room for: requests of HTTP/1.1 (RFC 9112, section 2.1), each a GET.
-use Rattle.std.specs.Prelude.{◌≡◌, ℕ, List, [], ◌++◌, Bool, true, false, codes, decimal, Option, Some, None}
+use Rattle.std.specs.Prelude.{◌≡◌, ℕ, List, [], ◌++◌, Bool, true, false, codes, decimal, Option}
+use Rattle.std.specs.Prelude.{Some, None}
 use Rattle.std.specs.Io.KnownBytes.{Appends}
 
 -- what follows the path in each request, up to the fields that only some have

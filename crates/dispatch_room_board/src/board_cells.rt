@@ -1,6 +1,8 @@
 //! What stands in a column of a row.
 ghost use Rattle.std.specs.Prelude.{◌≡◌};
-ghost use Rattle.dispatch_room_board.specs.BoardCells.{after_text, kind_text, left_text, since_any_text, since_text, status_text, text_of};
+ghost use Rattle.dispatch_room_board.specs.BoardCells.{after_text, kind_text, left_text};
+ghost use Rattle.dispatch_room_board.specs.BoardCells.{since_any_text, since_text, status_text};
+ghost use Rattle.dispatch_room_board.specs.BoardCells.{text_of};
 
 use room_place::places::Place;
 use room_types::answers::Served;

@@ -33,7 +33,9 @@ impl Page {
     ghost use Rattle.std.specs.Prelude.{◌≡◌, ◌≤◌, [], length, map, OnOk};
     ghost use Rattle.dispatch_room_board.specs.BoardCells.{text_of};
     ghost use Rattle.dispatch_room_board.specs.CellLayout.{row_of, width_of};
-    ghost use Rattle.dispatch_room_board.specs.Pages.{Adds, closing_of, line_of, note_line, note_lines, noted, opening_of, spaced_line, text_line, visible};
+    ghost use Rattle.dispatch_room_board.specs.Pages.{Adds, closing_of, line_of, note_line};
+    ghost use Rattle.dispatch_room_board.specs.Pages.{note_lines, noted, opening_of, spaced_line};
+    ghost use Rattle.dispatch_room_board.specs.Pages.{text_line, visible};
 
     /// A page without lines.
     pub fn new(alloc: Global, colour: bool) -> Page

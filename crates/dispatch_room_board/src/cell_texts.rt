@@ -1,6 +1,7 @@
 //! The texts of cells.
 ghost use Rattle.std.specs.Prelude.{◌≡◌, IfOk, string_bytes};
-ghost use Rattle.dispatch_room_board.specs.BoardCells.{age_text, counts_text, five_digits, place_text, served_text, square_of, text_of};
+ghost use Rattle.dispatch_room_board.specs.BoardCells.{age_text, counts_text, five_digits};
+ghost use Rattle.dispatch_room_board.specs.BoardCells.{place_text, served_text, square_of, text_of};
 
 use crate::board_cells::BoardCell;
 use room_place::places::Place;

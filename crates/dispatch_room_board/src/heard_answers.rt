@@ -3,7 +3,8 @@ ghost use Rattle.std.specs.Prelude.{codes, map, MatchResult};
 ghost use Rattle.httparse.specs.Spans.{header_bytes};
 ghost use Rattle.room_http_messages.specs.HeadFields.{AreWithin, values_of};
 ghost use Rattle.dispatch_room_board.specs.Members.{IsRead};
-ghost use Rattle.dispatch_room_board.specs.HeardAnswers.{Announces, IsDateOf, IsDated, IsMessage, IsNoMessage};
+ghost use Rattle.dispatch_room_board.specs.HeardAnswers.{Announces, IsDateOf, IsDated, IsMessage};
+ghost use Rattle.dispatch_room_board.specs.HeardAnswers.{IsNoMessage};
 
 use crate::board_errors::BoardError;
 use crate::exchange::{MOST_HEARD, PIECE};

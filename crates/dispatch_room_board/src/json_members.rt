@@ -1,7 +1,10 @@
 //! What the members of an answer's JSON say.
 ghost use Rattle.serde_json.specs.Data.{Data};
 ghost use Rattle.serde_json.specs.View.{view};
-ghost use Rattle.dispatch_room_board.specs.Members.{HasItem, HasMember, IsBool, IsByte, IsCallsign, IsCounts, IsFrom, IsKind, IsNeeds, IsNote, IsOrNull, IsPlace, IsRead, IsServed, IsStatus, IsWhole, IsWord};
+ghost use Rattle.dispatch_room_board.specs.Members.{HasItem, HasMember, IsBool, IsByte, IsCallsign};
+ghost use Rattle.dispatch_room_board.specs.Members.{IsCounts, IsFrom, IsKind, IsNeeds, IsNote};
+ghost use Rattle.dispatch_room_board.specs.Members.{IsOrNull, IsPlace, IsRead, IsServed, IsStatus};
+ghost use Rattle.dispatch_room_board.specs.Members.{IsWhole, IsWord};
 
 use room_place::bounded_numbers::Bounded;
 use room_place::places::Place;

@@ -3,7 +3,8 @@ ghost use Rattle.std.specs.Prelude.{◌≡◌};
 ghost use Rattle.dispatch_room_board.specs.BoardCells.{text_of};
 ghost use Rattle.dispatch_room_board.specs.Members.{IsVehicle};
 ghost use Rattle.dispatch_room_board.specs.BoardRows.{IsEntry};
-ghost use Rattle.dispatch_room_board.specs.BoardTables.{entry_table, matter_of, subject_of, waited_of};
+ghost use Rattle.dispatch_room_board.specs.BoardTables.{entry_table, matter_of, subject_of};
+ghost use Rattle.dispatch_room_board.specs.BoardTables.{waited_of};
 
 use crate::board_cells::{BoardCell, since};
 use crate::board_pages::{Page, Paint};

@@ -27,7 +27,8 @@ pub struct Renderer<'a> {
 
 impl<'a> Renderer<'a> {
     ghost use Rattle.std.specs.Prelude.{◌≡◌, [], IfOk, MatchResult, OnOk};
-    ghost use Rattle.dispatch_room_board.specs.Boards.{Befalls, IsHead, IsNext, IsPart, IsShown, ShowsNamed, reached_with, board_error_lines};
+    ghost use Rattle.dispatch_room_board.specs.Boards.{Befalls, IsHead, IsNext, IsPart, IsShown};
+    ghost use Rattle.dispatch_room_board.specs.Boards.{ShowsNamed, reached_with, board_error_lines};
     ghost use Rattle.dispatch_room_board.specs.Histories.{IsHistory, history_lines, history_title};
     ghost use Rattle.dispatch_room_board.specs.Pages.{Adds};
     ghost use Rattle.dispatch_room_board.specs.declared.boards.Reached.TheVariants.{All};

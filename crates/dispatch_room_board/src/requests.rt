@@ -1,6 +1,7 @@
 //! What a board asks a room for: only GETs.
 ghost use Rattle.std.specs.Prelude.{◌≡◌, ◌++◌, IfOk, OnOk, string_bytes};
-ghost use Rattle.dispatch_room_board.specs.Requests.{get, history_path, incident_of, proposals_path, requests, requests_with};
+ghost use Rattle.dispatch_room_board.specs.Requests.{get, history_path, incident_of};
+ghost use Rattle.dispatch_room_board.specs.Requests.{proposals_path, requests, requests_with};
 
 use room_types::numbers::Number;
 use room_types::token::Token;

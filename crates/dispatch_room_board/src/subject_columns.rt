@@ -1,7 +1,8 @@
 //! The incident that a history is of, read and shown.
 ghost use Rattle.std.specs.Prelude.{◌≡◌, IfOk, OnOk, string_bytes};
 ghost use Rattle.dispatch_room_board.specs.BoardCells.{text_of};
-ghost use Rattle.dispatch_room_board.specs.Histories.{IsSubject, state_text, subject_columns, subject_lines, subject_texts, subject_title};
+ghost use Rattle.dispatch_room_board.specs.Histories.{IsSubject, state_text, subject_columns};
+ghost use Rattle.dispatch_room_board.specs.Histories.{subject_lines, subject_texts, subject_title};
 ghost use Rattle.dispatch_room_board.specs.CellLayout.{row_of};
 ghost use Rattle.dispatch_room_board.specs.Pages.{Adds, line_of};
 ghost use Rattle.dispatch_room_board.specs.declared.board_pages.Paint.TheVariants.{Plain};

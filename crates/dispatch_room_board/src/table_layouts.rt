@@ -1,7 +1,8 @@
 //! How a table of the board is laid out.
 ghost use Rattle.std.specs.Prelude.{◌≡◌, ◌++◌, OnOk, codes, decimal};
 ghost use Rattle.dispatch_room_board.specs.Pages.{Adds, spaced_line};
-ghost use Rattle.dispatch_room_board.specs.BoardTables.{IsLayout, Table, alarm_of, row_line, table_lines};
+ghost use Rattle.dispatch_room_board.specs.BoardTables.{IsLayout, Table, alarm_of, row_line};
+ghost use Rattle.dispatch_room_board.specs.BoardTables.{table_lines};
 ghost use Rattle.dispatch_room_board.specs.declared.board_pages.Paint.TheVariants.{Title};
 
 use crate::board_pages::{Page, Paint};

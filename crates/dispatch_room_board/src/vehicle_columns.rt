@@ -2,7 +2,8 @@
 ghost use Rattle.std.specs.Prelude.{◌≡◌};
 ghost use Rattle.dispatch_room_board.specs.BoardCells.{text_of};
 ghost use Rattle.dispatch_room_board.specs.BoardRows.{IsVehicleLine};
-ghost use Rattle.dispatch_room_board.specs.BoardTables.{is_overdue, sent_text, shift_text, vehicle_table};
+ghost use Rattle.dispatch_room_board.specs.BoardTables.{is_overdue, sent_text, shift_text};
+ghost use Rattle.dispatch_room_board.specs.BoardTables.{vehicle_table};
 
 use crate::board_cells::{BoardCell, kind, left, status};
 use crate::board_pages::Page;

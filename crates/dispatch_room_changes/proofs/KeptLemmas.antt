@@ -1,6 +1,6 @@
 -- What is kept, and why it is not.
-use Rattle.std.proofs.Common.{Bool, Err, Ok, Result, ap, arith, false, inl, inr, length, refl, sym, true, ◌<◌, ◌≤◌}
-use Rattle.std.proofs.Common.{List, [], ℕ, ◌++◌, ◌∙◌, ◌∷◌, ◌≡◌, ◌⊎◌}
+use Rattle.std.proofs.Common.{Bool, Err, Ok, Result, ap, arith, false, inl, inr, length, refl, sym}
+use Rattle.std.proofs.Common.{true, ◌<◌, ◌≤◌, List, [], ℕ, ◌++◌, ◌∙◌, ◌∷◌, ◌≡◌, ◌⊎◌}
 use Rattle.std.proofs.lemmas.List.{append-nil, length-append}
 use Rattle.std.specs.List.{flat_map}
 use Rattle.std.specs.Prelude.{OnErr, OnOk, is_err, ◌||◌}

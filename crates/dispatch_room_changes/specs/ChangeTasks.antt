@@ -39,8 +39,8 @@ Enrols lines = λ S g old new before after done.
 abbrev pub GoesOnAt : ListEnd → FleetList SystemFile → Type 0
 GoesOnAt end list = (list.end ≡ end) × (list.out.failed ≡ false)
 
--- The same once the fleet lasts in a list that goes on here, and then the room's digest is kept.
--- What the file of a list holds no contract can say.
+-- The same once the fleet lasts in a list that goes on here, and then the room's digest is kept. No
+-- contract can say what the file of a list holds.
 abbrev pub EnrolsKept : ListEnd → List FleetLine → List ℕ → Saying Done
 EnrolsKept end lines text = λ S g old new before after done.
     (from to : FleetList SystemFile) × GoesOnAt end from
@@ -59,14 +59,15 @@ Lists = λ S g old new before after done. HasListed g old new before after done
 abbrev pub Changes : RoomChange → Saying (Unit {0})
 Changes change = λ S g old new before after done. Makes g old new change done × (after ≡ before)
 
--- The same once its text lasts in a list that goes on here, and then the room's digest is kept.
--- What the file of a list holds no contract can say.
+-- The same once its text lasts in a list that goes on here, and then the room's digest is kept. No
+-- contract can say what the file of a list holds.
 abbrev pub ChangesKept : ListEnd → RoomChange → List ℕ → Saying (Unit {0})
 ChangesKept end change text = λ S g old new before after done.
     ((from to : FleetList SystemFile) × GoesOnAt end from
     × MakesKeptIn g (λ _. None) (λ _. None) old new from to change text done) × (after ≡ before)
 
--- or no room is opened for it, or none is again once the text was kept, and nothing is printed
+-- or no room is opened for it, or none is opened again once the text was kept; and nothing is
+-- printed
 abbrev pub LosesKeptRoom : ListEnd → RoomChange → List ℕ → Refusing
 LosesKeptRoom end change text = λ S g conn before after fault.
     ((from : FleetList SystemFile) × GoesOnAt end from

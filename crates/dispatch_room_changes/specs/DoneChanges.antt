@@ -1,8 +1,8 @@
--- What a command that changes a room as a file says comes to.
+-- How a command ends that changes a room as a file says.
 use Rattle.std.specs.Global.{Global}
 use Rattle.std.specs.Io.KnownBytes.{Appends}
-use Rattle.std.specs.Prelude.{Bool, List, MatchOption, Option, Some, Vec, codes, decimal, false}
-use Rattle.std.specs.Prelude.{is_some, length, true, ℕ, ◌++◌, ◌≡◌, ◌⊎◌}
+use Rattle.std.specs.Prelude.{Bool, IfSome, List, MatchOption, Option, Some, Vec, codes, decimal}
+use Rattle.std.specs.Prelude.{false, is_some, length, true, ℕ, ◌++◌, ◌≡◌, ◌⊎◌}
 use Rattle.dispatch_room_cli.specs.declared.exit_status.Done.{Done}
 use Rattle.dispatch_room_cli.specs.declared.exit_status.Done.TheVariants.{Whole}
 use Rattle.dispatch_room_cli.specs.declared.exit_status.Failure.{Failure}
@@ -27,19 +27,29 @@ use Rattle.dispatch_room_journal.specs.declared.list_ends.ListEnd.TheVariants.{C
 use Rattle.dispatch_room_journal.specs.declared.record_fronts.Link.{Link}
 use Rattle.dispatch_room_lists.specs.RoomChanges.{IsTextOf}
 use Rattle.dispatch_room_serving.specs.declared.journal_files.OpenedList.{OpenedList}
+use Rattle.dispatch_room_tasks.specs.RandomTokens.{AreEnough, first_letters}
 use Rattle.dispatch_room_tcp.specs.Hosts.{IsDoneAt, IsUndoneAt, Paths}
 use Rattle.dispatch_room_lists.specs.declared.room_changes.RoomChange.{RoomChange}
 use Rattle.dispatch_room_lists.specs.declared.room_changes.RoomChange.TheVariants as change
 
--- who is the crew of a vehicle
+-- whether a user is the crew of a vehicle
 abbrev pub is_a_crew : Who → Bool
 is_a_crew (Desk d) = false
 is_a_crew (Position p) = false
 is_a_crew (Crew c) = true
 
--- the change by which one has only this token, or none
+-- the change that leaves a user only this token, or none
 abbrev pub reissue_of : Who → Option Token → RoomChange
 reissue_of who token = change.Token (record { who = who; token = token })
+
+-- a token is that of random bytes
+abbrev pub IsRandom : Paths → Token → Type 0
+IsRandom paths token =
+    (bytes : List ℕ) × paths.random bytes × AreEnough bytes × (token ≡ first_letters bytes)
+
+-- a token where one is to be given, and then a random one
+abbrev pub IsGiven : Paths → Bool → Option Token → Type 0
+IsGiven paths has_token token = (is_some token ≡ has_token) × IfSome token (IsRandom paths)
 
 -- the list at a path was opened, and goes on as a chain behind this link
 abbrev pub GoesOnAsChain : Paths → List ℕ → Link → Type 0
@@ -67,7 +77,7 @@ abbrev pub HasNoText : Option (List ℕ) → Option (List ℕ) → Failure → T
 HasNoText before after fault =
     ((fault ≡ failure.Memory) ⊎ (fault ≡ failure.Input)) × (after ≡ before)
 
--- this became of the room's file where it was not made; or there is no list for it
+-- why it was not made: this became of the room's file, or there is no list for it
 abbrev pub IsUnmade : Paths → Option (List ℕ) → Option (List ℕ) → Failure → ChangedFile
     → RoomChange → Type 0
 IsUnmade paths before after fault place change =
@@ -126,7 +136,7 @@ module _ (paths : Paths) (before after : Option (List ℕ)) (done : Done) where
   IsKeptImport file fleet list =
       (text : List ℕ) × paths.text fleet text × IsKeptImportOf file list text
 
-  -- one was given only this token, or none, and then this was printed
+  -- a user was given only this token, or none, and then this was printed
   pub record IsReissued (place : ChangedFile) (who : Who) (token : Option Token) (text : List ℕ)
       : Type 0 where
     pub between : Option (List ℕ)
@@ -134,7 +144,7 @@ module _ (paths : Paths) (before after : Option (List ℕ)) (done : Done) where
     pub printed : Appends between after text
     pub whole : done ≡ Whole
 
-  -- all that a list names were given its terminals, and then it was printed how many these are
+  -- all users whom a list names were given its terminals, and then the number of these was printed
   pub record IsSet (place : ChangedFile) (listed : Vec Terminal Global) : Type 0 where
     pub between : Option (List ℕ)
     pub is : IsMade paths before between place (change.Terminals listed)
@@ -142,7 +152,7 @@ module _ (paths : Paths) (before after : Option (List ℕ)) (done : Done) where
         (codes "set: terminals " ++ (decimal (length listed.items) ++ codes "\n"))
     pub whole : done ≡ Whole
 
-  -- all that this text names were given its terminals
+  -- all users whom this text names were given its terminals
   abbrev pub IsSettingOf : ChangedFile → List ℕ → Type 0
   IsSettingOf place text =
       (listed : Vec Terminal Global) × AreGiven text listed.items × IsSet place listed
@@ -151,13 +161,16 @@ module _ (paths : Paths) (before after : Option (List ℕ)) (done : Done) where
   abbrev pub IsSetting : ChangedFile → List ℕ → Type 0
   IsSetting place csv = (text : List ℕ) × paths.text csv text × IsSettingOf place text
 
-  -- Terminals were listed; or one got a new token, which was printed; or it has no terminal that
-  -- anybody knows: no token, or, as a vehicle's crew has to have one, one that is not printed.
+  -- Terminals were listed; or a user got a new random token, which was printed; or a user's
+  -- terminal was revoked: there is no token any more, or, as a vehicle's crew must have one, a
+  -- random one that is not printed.
   abbrev pub IsTerminals : ChangedFile → Wanted → Type 0
   IsTerminals place wanted.List = IsDoneAt (paths.kept place.file.now) Lists before after done
   IsTerminals place (wanted.New who) =
-      (token : Token) × IsReissued place who (Some token) (token ++ codes "\n")
-  IsTerminals place (wanted.Revoke who) = (token : Option Token) × (is_some token ≡ is_a_crew who)
+      (token : Token) × IsRandom paths token
+      × IsReissued place who (Some token) (token ++ codes "\n")
+  IsTerminals place (wanted.Revoke who) =
+      (token : Option Token) × IsGiven paths (is_a_crew who) token
       × IsReissued place who token (codes "revoked\n")
 
 -- by what there is at paths, what the output held before and holds after, and why the task fails
@@ -168,6 +181,11 @@ module _ (paths : Paths) (before after : Option (List ℕ)) (fault : Failure) wh
       ⊎ ((fault ≡ failure.Network)
       × ((between : Option (List ℕ)) × IsMade paths before between place change))
 
+  -- there is no memory for the text of a change, and nothing is printed; or with its text it failed
+  abbrev pub FailsWithText : ChangedFile → RoomChange → Type 0
+  FailsWithText place change =
+      ((after ≡ before) × (fault ≡ failure.Memory)) ⊎ FailsChange place change
+
   -- no room was created: this text gives no plan, and nothing is printed; or this became of the
   -- file
   abbrev pub FailsInitOf : List ℕ → List ℕ → Type 0
@@ -175,7 +193,7 @@ module _ (paths : Paths) (before after : Option (List ℕ)) (fault : Failure) wh
       ⊎ ((plan : PlanFile) × IsPlanText text plan
       × IsUndoneAt (paths.new file) (Creates plan) (CreatesNone plan) before after fault)
 
-  -- no text can be read, or by that of the file it failed
+  -- the text of the file can't be read; or the command failed with it
   abbrev pub FailsInit : List ℕ → List ℕ → Type 0
   FailsInit file plan = HasNoText before after fault
       ⊎ ((text : List ℕ) × paths.text plan text × FailsInitOf file text)
@@ -204,7 +222,7 @@ module _ (paths : Paths) (before after : Option (List ℕ)) (fault : Failure) wh
   FailsImport file fleet = HasNoText before after fault
       ⊎ ((text : List ℕ) × paths.text fleet text × FailsImportOf file text)
 
-  -- the same where it was to be kept in a list, or that can't be opened
+  -- the same if it was to be kept in a list first; or that list can't be opened
   abbrev pub FailsKeptImportOf : List ℕ → List ℕ → List ℕ → Type 0
   FailsKeptImportOf file list text = (GivesNoFleet text fault × (after ≡ before))
       ⊎ HasNoList before after fault
@@ -217,19 +235,18 @@ module _ (paths : Paths) (before after : Option (List ℕ)) (fault : Failure) wh
   FailsKeptImport file fleet list = HasNoText before after fault
       ⊎ ((text : List ℕ) × paths.text fleet text × FailsKeptImportOf file list text)
 
-  -- the system gives no random token, or there is no memory for the text of a change, and nothing
-  -- is printed; or with some token it failed, or with none where none was to be given
+  -- the system gives no random token where one is to be given, and nothing is printed; or with such
+  -- a token it failed, or with none where none was to be given
   abbrev pub FailsReissue : ChangedFile → Who → Bool → Type 0
   FailsReissue place who has_token =
-      ((after ≡ before) × ((fault ≡ failure.Memory) ⊎ (fault ≡ failure.Storage)))
-      ⊎ ((token : Option Token) × (is_some token ≡ has_token)
-      × FailsChange place (reissue_of who token))
+      ((has_token ≡ true) × (after ≡ before)
+      × ((fault ≡ failure.Memory) ⊎ (fault ≡ failure.Storage)))
+      ⊎ ((token : Option Token) × IsGiven paths has_token token
+      × FailsWithText place (reissue_of who token))
 
-  -- the terminals of a list were not set: there is no memory for its text, and nothing is printed;
-  -- or it failed
+  -- the terminals of a list were not set
   abbrev pub FailsSettingBy : ChangedFile → Vec Terminal Global → Type 0
-  FailsSettingBy place listed = ((after ≡ before) × (fault ≡ failure.Memory))
-      ⊎ FailsChange place (change.Terminals listed)
+  FailsSettingBy place listed = FailsWithText place (change.Terminals listed)
 
   -- no terminals were set: this text gives none, and nothing is printed; or by its terminals it
   -- failed

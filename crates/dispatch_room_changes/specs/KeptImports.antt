@@ -1,8 +1,8 @@
 -- An import that is kept in a list: the room's digest, and the fleet, before it is enrolled, and
 -- then the digest after it.
 use Rattle.std.specs.List.{flat_map}
-use Rattle.std.specs.Prelude.{All, Err, IfOk, List, [], MatchResult, Ok, Option, Result, length, true, ℕ, ◌++◌, ◌<◌}
-use Rattle.std.specs.Prelude.{◌∷◌, ◌≡◌, ◌⊎◌}
+use Rattle.std.specs.Prelude.{All, Err, IfOk, List, [], MatchResult, Ok, Option, Result, length}
+use Rattle.std.specs.Prelude.{true, ℕ, ◌++◌, ◌<◌, ◌∷◌, ◌≡◌, ◌⊎◌}
 use Rattle.sqlite.specs.Held.{Held}
 use Rattle.sqlite_trees.specs.declared.store.Store.{Ghosts}
 use Rattle.room_types.specs.declared.fleet.Terminal.{Terminal}
@@ -15,7 +15,8 @@ use Rattle.room_store.specs.declared.store.Store.{Store}
 use Rattle.dispatch_room_csv.specs.declared.fleet_file.FleetLine.{FleetLine}
 use Rattle.dispatch_room_cli.specs.declared.exit_status.Done.{Done}
 use Rattle.dispatch_room_cli.specs.declared.exit_status.Failure.{Failure}
-use Rattle.dispatch_room_cli.specs.declared.exit_status.Failure.TheVariants.{Journal, Memory, Storage}
+use Rattle.dispatch_room_cli.specs.declared.exit_status.Failure.TheVariants.{Journal, Memory}
+use Rattle.dispatch_room_cli.specs.declared.exit_status.Failure.TheVariants.{Storage}
 use Rattle.dispatch_room_journal.specs.JournalRecords.{room_text}
 use Rattle.dispatch_room_journal.specs.PlainTexts.{PutsKnown}
 use Rattle.dispatch_room_journal.specs.RowRuns.{PutsEntry, PutsRow}
@@ -74,8 +75,8 @@ module _ {F : Type 0} where
   abbrev pub IsUnkept : FleetList F → FleetList F → List ℕ → Failure → Type 0
   IsUnkept from to text fault = IsUnshown from to fault ⊎ ((fault ≡ Journal) × LacksRows to text)
 
--- How a change ends that has ended so, once the room's digest was to be kept: one that was made
--- fails where that is not kept.
+-- How a change ends that came to this, once the room's digest was kept, or was not: a change that
+-- was made fails if it was not.
 abbrev pub ended : {T : Type 0} → Result T Failure → Result (Unit {0}) Failure → Result T Failure
 ended came (Ok kept) = came
 ended (Ok it) (Err fault) = Err fault

@@ -30,7 +30,7 @@ module _ {S : Type 0} (g : Ghosts S) where
       pub shows : ShowsHead g old new head
       pub keeps : KeepsFleet contents lasting from to head text
 
-    -- the room's digest was kept after a change that ended so, and it was closed
+    -- the room's digest was kept after a change that ended so, and the room was closed
     pub record EndsMade (old : Store S) (new : Held S) (from to : FleetList F)
         (came done : Result (Unit {0}) Failure) : Type 0 where
       pub closed : Store S

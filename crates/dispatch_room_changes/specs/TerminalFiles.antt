@@ -1,6 +1,7 @@
 -- The terminals that a plan's or a fleet's file gives, and why a text gives none.
 use Rattle.std.specs.List.{list_any}
-use Rattle.std.specs.Prelude.{Bool, List, None, Option, Some, codes, false, filter_map, take, true, ℕ, ◌≡◌, ◌⊎◌}
+use Rattle.std.specs.Prelude.{Bool, List, None, Option, Some, codes, false, filter_map, take, true}
+use Rattle.std.specs.Prelude.{ℕ, ◌≡◌, ◌⊎◌}
 use Rattle.std.specs.Str.{bytes_eq}
 use Rattle.room_types.specs.declared.fleet.Terminal.{Terminal}
 use Rattle.room_model.specs.FleetRows.{new_terminal}

@@ -18,8 +18,8 @@ use sqlite::{Alter, Connection};
 use std::alloc::Global;
 use std::io::Write;
 
-/// Enrols the good rows of a fleet in order, and reports what became of each row. Where a row is
-/// bad or refused, the other rows are enrolled all the same.
+/// Enrols the good rows of a fleet in order, and reports what became of each row. If a row is bad
+/// or refused, the other rows are enrolled nevertheless.
 pub fn import<M: Machine, O: Write>(
     machine: M,
     file: &str,
@@ -57,7 +57,7 @@ fn import_by<M: Machine, O: Write>(
     machine.in_file(RoomFile::Kept(file), enrolment, out)
 }
 
-/// The rows that a file of a fleet has. Explains why where it has none.
+/// The rows of a fleet's file. Explains why if it is no such file.
 pub fn lines_in(sheet: Sheet<'_>) -> Result<Vec<FleetLine>, Failure>
     ensures fleet { IfOk result (λ lines. IsFleetText sheet.entry.text.now lines.items) }
     ensures none { IfErr result (GivesNoFleet sheet.entry.text.now) }

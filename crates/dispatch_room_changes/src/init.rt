@@ -17,8 +17,9 @@ use sqlite::{Alter, Connection};
 use std::alloc::Global;
 use std::io::Write;
 
-/// Creates the room of a plan in a file that has nothing, and prints what it has, also where the
-/// file can't be closed afterwards. A file that it makes is private to its owner.
+/// Creates the room of a plan in a file that is new or empty, and prints what the room has. That is
+/// printed even if the file can't be closed afterwards. A file that is made is private to its
+/// owner.
 pub fn init<M: Machine, O: Write>(
     machine: M,
     file: &str,
@@ -53,7 +54,7 @@ fn init_by<M: Machine, O: Write>(
     machine.in_file(RoomFile::New(file), creation, out)
 }
 
-/// The plan that a file gives. Explains why where it gives none.
+/// The plan that a file gives. Explains why if it gives none.
 pub fn plan_in(sheet: Sheet<'_>) -> Result<PlanFile, Failure>
     ensures plan { IfOk result (IsPlanText sheet.entry.text.now) }
     ensures none { IfErr result (GivesNoPlan sheet.entry.text.now) }

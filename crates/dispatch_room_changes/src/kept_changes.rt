@@ -1,4 +1,4 @@
-//! A change of a room, made in its file, and kept in a list before it, where there is one.
+//! A change of a room, made in its file, and first kept in a list, if there is one.
 ghost use Rattle.std.specs.Prelude.{IfErr, OnOk};
 ghost use Rattle.dispatch_room_changes.specs.DoneChanges.{IsMade, IsUnmade};
 ghost use Rattle.dispatch_room_changes.specs.ChangeTasks.{Changes, ChangesKept, HoldsNoRoom};

@@ -35,7 +35,8 @@ pub struct Fleet<'a> {
     pub lines: &'a [FleetLine],
 }
 
-/// The fleet is kept in a list, and enrolled in the room of a database.
+/// Keeps a fleet in a list, enrols its good rows in the room of a database, and then keeps the
+/// room's digest. If the fleet can't be kept, nothing is enrolled.
 pub fn import_in<S: Alter + Drop, F: Lasting, O: Write>(
     alloc: Global,
     conn: Connection<S>,
@@ -87,7 +88,8 @@ fn keep_and_enrol<S: Alter, F: Lasting, O: Write>(
     end_kept(fleet.explainer, room, list, came)
 }
 
-/// Keeps the digest of a room after a change that ended so.
+/// Keeps the digest of a room after a change that ended so, and returns how the change ends: one
+/// that was made fails if the digest can't be kept.
 pub fn end_kept<S: Alter, F: Lasting, T: Drop>(
     explainer: Explainer<'_>,
     room: &mut Store<S>,
@@ -131,7 +133,7 @@ fn keep_end<S: Alter, F: Lasting>(
     }
 }
 
-/// What a list says of the room at which it goes on. The room stays as it is.
+/// The version and the digest of a room, as a list has them. The room stays as it is.
 pub fn head_of<S: Alter>(room: &mut Store<S>) -> Result<Head, Failure>
     requires ready { IsReady S.Store room.old }
     ensures ready { IsReady S.Store room.new }

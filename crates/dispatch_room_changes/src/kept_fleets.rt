@@ -1,14 +1,12 @@
 //! The list of a room, in which a fleet is kept before it is enrolled.
 ghost use Rattle.std.specs.Prelude.{◌≡◌, ◌≤◌, ◌<◌, ◌⊎◌, ◌∷◌, ◌++◌, ◌||◌, [], IfOk, List, OnErr};
-ghost use Rattle.std.specs.Prelude.{OnOk, Some, is_err, length};
-ghost use Rattle.std.specs.Prelude.{slice_get, take, true, false, ℕ};
+ghost use Rattle.std.specs.Prelude.{OnOk, Some, is_err, length, slice_get, take, true, false, ℕ};
 ghost use Rattle.dispatch_room_journal.specs.Entries.{IsDigest};
 ghost use Rattle.dispatch_room_journal.specs.JournalRecords.{room_text};
 ghost use Rattle.dispatch_room_journal.specs.RowRuns.{PutsRow};
 ghost use Rattle.dispatch_room_journal.specs.TextParts.{Lacks};
 ghost use Rattle.dispatch_room_changes.specs.KeptImports.{AreLinesOf, KeepsFleet, KeepsHead};
-ghost use Rattle.dispatch_room_changes.specs.KeptImports.{LacksRow};
-ghost use Rattle.dispatch_room_changes.specs.KeptImports.{LacksRows, PutsHead, PutsRows};
+ghost use Rattle.dispatch_room_changes.specs.KeptImports.{LacksRow, LacksRows, PutsHead, PutsRows};
 
 use dispatch_room_journal::entry_texts::EntryText;
 use dispatch_room_journal::entry_writer::put_room;
@@ -18,7 +16,7 @@ use dispatch_room_serving::journal_files::{Lasting, WrittenFile};
 use room_http::observers::Unkept;
 use room_model::digests::Head;
 
-/// The list of a room, behind which a fleet is put.
+/// The list of a room, to which a fleet is appended.
 #[derive(Drop)]
 pub struct FleetList<F> {
     pub out: WrittenFile<F>,
@@ -37,7 +35,9 @@ impl<F> FleetList<F> {
     }
 }
 
-/// Keeps the digest of a room, and then the lines of a fleet, and makes all of it last.
+/// Keeps the digest of a room, and then the lines of a text, and makes all of it last. It fails if
+/// the list is no chain, if a line is longer than `ROW_ROOM` bytes, or if the list can't be
+/// written.
 pub fn keep_fleet<F: Lasting>(
     list: &mut FleetList<F>,
     head: &Head,
@@ -73,7 +73,7 @@ pub fn keep_place<F: Lasting>(list: &mut FleetList<F>, head: &Head) -> Result<()
     }
 }
 
-// Makes all that was kept last. A list that can't last has failed.
+// Makes all that was kept last. If that fails, the list has failed.
 fn make_last<F: Lasting>(list: &mut FleetList<F>) -> Result<(), Unkept>
     ensures held { F.contents list.new.out.file ≡ F.contents list.old.out.file }
     ensures end { list.new.end ≡ list.old.end }
@@ -88,7 +88,7 @@ fn make_last<F: Lasting>(list: &mut FleetList<F>) -> Result<(), Unkept>
     }
 }
 
-// Keeps the digest of a room. An entry has room for it: where not, the list is given up.
+// Keeps the digest of a room. It always fits an entry; otherwise the list would be given up.
 fn keep_head<F: Lasting>(list: &mut FleetList<F>, head: &Head) -> Result<(), Unkept>
     requires sound { list.old.out.failed ≡ false }
     requires digest { IsDigest head.now.digits }
@@ -141,7 +141,7 @@ fn keep_rows<F: Lasting>(list: &mut FleetList<F>, text: &[u8]) -> Result<(), Unk
     Ok(())
 }
 
-// Keeps a line as a row, where the list is a chain and the line not too long.
+// Keeps a line as a row, if the list is a chain and the line not too long.
 fn keep_row<F: Lasting>(list: &mut FleetList<F>, line: &[u8]) -> Result<(), Unkept>
     requires sound { list.old.out.failed ≡ false }
     requires line { Lacks 10 line.now }

@@ -72,7 +72,8 @@ fn import_kept_by<'a, M: Machine, O: Write, E: Write>(
     machine.in_file(RoomFile::Kept(file), enrolment, out)
 }
 
-/// The list at a path, which goes on as a chain: else it has no room for rows.
+/// The list at a path, which must be a chain: no other list has room for rows. Otherwise it
+/// explains why, and fails as `Journal`.
 pub fn opened_list<M: Machine, E: Write>(
     machine: M,
     path: &str,

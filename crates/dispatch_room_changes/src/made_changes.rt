@@ -17,7 +17,8 @@ use room_store::store::Store;
 use sqlite::{Alter, Connection};
 use std::alloc::Global;
 
-/// The text of a change is kept in a list, and the change made in the room of a database.
+/// Keeps the text of a change in a list, makes the change in the room of a database, and then keeps
+/// the room's digest. If the text can't be kept, nothing is changed.
 pub fn make_kept_in<S: Alter + Drop, F: Lasting>(
     alloc: Global,
     explainer: Explainer<'_>,

@@ -14,7 +14,7 @@ use dispatch_room_lists::room_changes::RoomChange;
 use dispatch_room_tcp::hosts::Machine;
 use std::io::Write;
 
-/// Gives a room the plan of a file and the terminals of it, and reports that.
+/// Gives a room the plan of a file and the terminals in it, and prints `replanned`.
 pub fn replan<M: Machine, O: Write, E: Write>(
     machine: M,
     place: ChangedFile<'_>,

@@ -18,8 +18,8 @@ use std::alloc::{AllocError, Global};
 // How a fleet's file begins.
 const FLEET: &[u8] = b"callsign";
 
-/// The desks and positions of a plan, or the crews of a fleet of which no row is bad, in the order
-/// of the file. Explains why where it gives none.
+/// The desks and positions of a plan, or the crews of a fleet without bad rows, in the order of the
+/// file. Explains why if it gives none.
 pub fn terminals_in(sheet: Sheet<'_>) -> Result<Vec<Terminal>, Failure>
     ensures given { IfOk result (λ listed. AreGiven sheet.entry.text.now listed.items) }
     ensures none { IfErr result (GivesNone sheet.entry.text.now) }

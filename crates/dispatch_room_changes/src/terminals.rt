@@ -1,14 +1,15 @@
 //! `terminals`: who has a terminal in a room, a new token, a terminal taken away, and all that a
 //! file names.
-ghost use Rattle.std.specs.Prelude.{◌≡◌, ◌⊎◌, codes, is_some, true, IfErr, IfOk, OnOk, Some};
+ghost use Rattle.std.specs.Prelude.{◌≡◌, ◌⊎◌, codes, true, IfErr, IfOk, OnOk, Some};
 ghost use Rattle.room_types.specs.Texts.{Token as TokenText};
 ghost use Rattle.dispatch_room_cli.specs.declared.exit_status.Failure.TheVariants as failure;
 ghost use Rattle.dispatch_room_cli.specs.declared.tasks.Terminals.TheVariants as wanted;
 ghost use Rattle.dispatch_room_changes.specs.DoneChanges.{FailsReissue, FailsSetting};
 ghost use Rattle.dispatch_room_changes.specs.DoneChanges.{FailsSettingBy, FailsSettingOf};
-ghost use Rattle.dispatch_room_changes.specs.DoneChanges.{FailsTerminals, IsMade, IsReissued};
-ghost use Rattle.dispatch_room_changes.specs.DoneChanges.{IsSet, IsSetting, IsSettingOf};
-ghost use Rattle.dispatch_room_changes.specs.DoneChanges.{IsTerminals, is_a_crew, reissue_of};
+ghost use Rattle.dispatch_room_changes.specs.DoneChanges.{FailsTerminals, FailsWithText, IsMade};
+ghost use Rattle.dispatch_room_changes.specs.DoneChanges.{IsRandom, IsReissued, IsSet, IsSetting};
+ghost use Rattle.dispatch_room_changes.specs.DoneChanges.{IsSettingOf, IsTerminals, is_a_crew};
+ghost use Rattle.dispatch_room_changes.specs.DoneChanges.{reissue_of};
 ghost use Rattle.dispatch_room_changes.specs.ChangeTasks.{HoldsNoRoom, Lists};
 
 use crate::kept_changes::{ChangedFile, make_in_file};
@@ -22,7 +23,7 @@ use dispatch_room_lists::room_changes::RoomChange;
 use dispatch_room_tasks::listed_terminals::list_in;
 use dispatch_room_tasks::opened_room::TaskResult;
 use dispatch_room_tasks::random_tokens::{RANDOM, token_of};
-use dispatch_room_tcp::hosts::{Host, Machine};
+use dispatch_room_tcp::hosts::Machine;
 use room_store_writes::change_faults::TokenChange;
 use room_types::asks::Who;
 use room_types::fleet::Terminal;
@@ -30,7 +31,6 @@ use room_types::token::Token;
 use sqlite::{Alter, Connection};
 use std::alloc::Global;
 use std::io::Write;
-use std::random::RandomSource;
 
 /// Lists who has a terminal, or changes the terminals of one.
 pub fn terminals<M: Machine, O: Write, E: Write>(
@@ -66,7 +66,7 @@ fn give_token<M: Machine, O: Write, E: Write>(
     ensures undone { IfErr result (λ fault. FailsReissue (M.paths machine) (O.contents out.old)
         (O.contents out.new) fault place.entry who true) }
 {
-    let token = new_token(machine.host())?;
+    let token = new_token(machine)?;
     let change = TokenChange {
         who,
         token: Some(token),
@@ -108,12 +108,13 @@ fn revoke_crew<M: Machine, O: Write, E: Write>(
     err: &mut E,
 ) -> Result<Done, Failure>
     ensures done { IfOk result (λ done. (token : TokenText)
+        × IsRandom (M.paths machine) token
         × IsReissued (M.paths machine) (O.contents out.old) (O.contents out.new) done place.entry
         who (Some token) (codes "revoked\n")) }
     ensures undone { IfErr result (λ fault. FailsReissue (M.paths machine) (O.contents out.old)
         (O.contents out.new) fault place.entry who true) }
 {
-    let token = new_token(machine.host())?;
+    let token = new_token(machine)?;
     let change = TokenChange {
         who,
         token: Some(token),
@@ -137,8 +138,8 @@ fn revoke_by<M: Machine, O: Write, E: Write>(
 ) -> Result<Done, Failure>
     ensures done { IfOk result (λ done. IsReissued (M.paths machine) (O.contents out.old)
         (O.contents out.new) done place.entry change.who change.token (codes "revoked\n")) }
-    ensures undone { IfErr result (λ fault. FailsReissue (M.paths machine) (O.contents out.old)
-        (O.contents out.new) fault place.entry change.who (is_some change.token)) }
+    ensures undone { IfErr result (λ fault. FailsWithText (M.paths machine) (O.contents out.old)
+        (O.contents out.new) fault place.entry (reissue_of change.who change.token)) }
 {
     reissue(machine, place, change, out, err)?;
     match writeln!(out, "revoked") {
@@ -157,8 +158,8 @@ fn reissue<M: Machine, O: Write, E: Write>(
 ) -> Result<(), Failure>
     ensures done { OnOk result (IsMade (M.paths machine) (O.contents out.old)
         (O.contents out.new) place.entry (reissue_of change.who change.token)) }
-    ensures undone { IfErr result (λ fault. FailsReissue (M.paths machine) (O.contents out.old)
-        (O.contents out.new) fault place.entry change.who (is_some change.token)) }
+    ensures undone { IfErr result (λ fault. FailsWithText (M.paths machine) (O.contents out.old)
+        (O.contents out.new) fault place.entry (reissue_of change.who change.token)) }
 {
     let Ok(text) = token_text(machine.host().alloc, &change) else {
         return Err(Failure::Memory);
@@ -230,17 +231,15 @@ fn set<M: Machine, O: Write, E: Write>(
     }
 }
 
-// A token by the system's randomness.
-fn new_token(host: Host<'_>) -> Result<Token, Failure>
-    ensures { IfErr result (λ fault. (fault ≡ failure.Memory) ⊎ (fault ≡ failure.Storage)) }
+// A token of the machine's random bytes.
+fn new_token<M: Machine>(machine: M) -> Result<Token, Failure>
+    ensures random { IfOk result (IsRandom (M.paths machine)) }
+    ensures none { IfErr result (λ fault.
+        (fault ≡ failure.Memory) ⊎ (fault ≡ failure.Storage)) }
 {
     let mut random = [0; RANDOM];
-    if let Err(error) = host.rt.fill_bytes(&mut random) {
-        host.explainer
-            .explain(format_args!("no random bytes: {error}"));
-        return Err(Failure::Storage);
-    }
-    match token_of(host.alloc, &random) {
+    machine.fill_random(&mut random)?;
+    match token_of(machine.host().alloc, &random) {
         Ok(Some(token)) => Ok(token),
         Ok(None) => Err(Failure::Storage),
         Err(_) => Err(Failure::Memory),

@@ -1,7 +1,7 @@
 -- What clap has after arguments and commands were added in turn.
-use Rattle.std.proofs.Common.{Bool, List, [], ap, append-nil, append_assoc, arith, false, get_or, length, map, refl}
-use Rattle.std.proofs.Common.{subst}
-use Rattle.std.proofs.Common.{rules, sym, take, true, ℕ, ◌+◌, ◌++◌, ◌<◌, ◌∙◌, ◌∷◌, ◌≡◌, ◌||◌}
+use Rattle.std.proofs.Common.{Bool, List, [], ap, append-nil, append_assoc, arith, false, get_or}
+use Rattle.std.proofs.Common.{length, map, refl, subst, rules, sym, take, true, ℕ, ◌+◌, ◌++◌, ◌<◌}
+use Rattle.std.proofs.Common.{◌∙◌, ◌∷◌, ◌≡◌, ◌||◌}
 use Rattle.std.specs.Prelude.{fold, ⊤}
 use Rattle.std.proofs.lemmas.List.{map-append, map_more}
 use Rattle.clap.specs.Words.{AddsArg, AddsInTurn, AddsSubcommand}
@@ -10,9 +10,10 @@ use Rattle.clap.specs.Simple.{App, Shape, app_of, new_app, shape_of, with_subcom
 use Rattle.clap.specs.declared.builder.arg.Arg.{Arg}
 use Rattle.clap.specs.declared.builder.command.Command.{Command}
 use Rattle.clap.specs.declared.builder.command.Command.TheViews.{out-Command}
-use Rattle.dispatch_room_cli.specs.CommandForms.{AreAllCommands, AreArgs, AreCommands, AreLocal, HasNoGlobals}
-use Rattle.dispatch_room_cli.specs.CommandForms.{HaveNoGlobals, IsArg, IsCommandOf, IsProgram, bare_program}
-use Rattle.dispatch_room_cli.specs.CommandForms.{rule_of_word, shape_of_form}
+use Rattle.dispatch_room_cli.specs.CommandForms.{AreAllCommands, AreArgs, AreCommands, AreLocal}
+use Rattle.dispatch_room_cli.specs.CommandForms.{HasNoGlobals, HaveNoGlobals, IsArg, IsCommandOf}
+use Rattle.dispatch_room_cli.specs.CommandForms.{IsProgram, bare_program, rule_of_word}
+use Rattle.dispatch_room_cli.specs.CommandForms.{shape_of_form}
 use Rattle.dispatch_room_cli.specs.declared.command_options.CommandForm.{CommandForm}
 use Rattle.dispatch_room_cli.specs.declared.command_options.Word.{Word}
 

@@ -1,17 +1,19 @@
 -- What clap's getters read of its matches.
-use Rattle.std.proofs.Common.{Err, List, MatchOption, None, Ok, Option, Result, Some, ap, ap₂, arith, codes, inl}
-use Rattle.std.proofs.Common.{inr, option_map, refl, subst, sym, ℕ, ◌^◌, ◌<◌, ◌∙◌, ◌≡◌, ◌≤◌}
+use Rattle.std.proofs.Common.{Err, List, MatchOption, None, Ok, Option, Result, Some, ap, ap₂}
+use Rattle.std.proofs.Common.{arith, codes, inl, inr, option_map, refl, subst, sym, ℕ, ◌^◌, ◌<◌}
+use Rattle.std.proofs.Common.{◌∙◌, ◌≡◌, ◌≤◌}
 use Rattle.std.specs.Prelude.{IfOk, MatchResult, SomeIff, ok_or, unwrap_or}
 use Rattle.std.specs.Str.Parse.{IsNumeral, ParsesUnsigned, digits_value, without_leading_plus}
 use Rattle.clap.specs.Matches.{ReadsOne, found_of, one_text}
-use Rattle.clap.specs.Simple.{App, HasMatchesOf, app_of, is_simple, subcommand_of, subcommand_rows_of}
+use Rattle.clap.specs.Simple.{App, HasMatchesOf, app_of, is_simple, subcommand_of}
+use Rattle.clap.specs.Simple.{subcommand_rows_of}
 use Rattle.clap.specs.Words.{Row, Text, one_of, subcommand_name_of}
 use Rattle.clap.proofs.WalkLemmas.{one_text-rows}
 use Rattle.clap.specs.declared.builder.command.Command.{Command}
 use Rattle.clap.specs.declared.parser.matches.ArgMatches.{ArgMatches}
 use Rattle.clap.specs.declared.parser.matches.ArgMatches.TheViews.{out-ArgMatches}
-use Rattle.dispatch_room_cli.specs.AskedTasks.{HasNoNumber, HasNumber, IsAsked, IsCount, IsLimit, IsMatched, IsRead}
-use Rattle.dispatch_room_cli.specs.AskedTasks.{Writes, given_in}
+use Rattle.dispatch_room_cli.specs.AskedTasks.{HasNoNumber, HasNumber, IsAsked, IsCount, IsLimit}
+use Rattle.dispatch_room_cli.specs.AskedTasks.{IsMatched, IsRead, Writes, given_in}
 use Rattle.dispatch_room_cli.specs.CommandForms.{IsProgram}
 use Rattle.dispatch_room_cli.specs.declared.argument_parser.Mistake.{Mistake}
 use Rattle.dispatch_room_cli.specs.declared.tasks.Task.{Task}

@@ -1,16 +1,20 @@
 -- Texts that name those who have a terminal, and those that name nobody.
-use Rattle.std.proofs.Common.{Err, List, MatchOption, Ok, Result, [], ap, arith, codes, decimal, get_or}
-use Rattle.std.proofs.Common.{suc, sym, true, zero, ℕ, ◌++◌, ◌<◌, ◌^◌, ◌∙◌, ◌∷◌, ◌≡◌, ◌≢◌, ◌≤◌}
+use Rattle.std.proofs.Common.{Err, List, MatchOption, Ok, Result, [], ap, arith, codes, decimal}
+use Rattle.std.proofs.Common.{get_or, suc, sym, true, zero, ℕ, ◌++◌, ◌<◌, ◌^◌, ◌∙◌, ◌∷◌, ◌≡◌, ◌≢◌}
+use Rattle.std.proofs.Common.{◌≤◌}
 use Rattle.std.specs.Result.{result_ok}
 use Rattle.std.specs.Str.Parse.{ParsesUnsigned, digits_value, AllDigits}
 use Rattle.std.specs.Str.Pattern.{FindsTextPrefix, StripsPrefix}
-use Rattle.std.proofs.lemmas.Fmt.{decimal-digits_value, decimal_digit, decimal_injective, decimal_is_IsNumeral}
-use Rattle.std.proofs.lemmas.Fmt.{decimal_nonempty, first_decimal, parse-decimal}
+use Rattle.std.proofs.lemmas.Fmt.{decimal-digits_value, decimal_digit, decimal_injective}
+use Rattle.std.proofs.lemmas.Fmt.{decimal_is_IsNumeral, decimal_nonempty, first_decimal}
+use Rattle.std.proofs.lemmas.Fmt.{parse-decimal}
 use Rattle.std.proofs.lemmas.List.{append_cancel_left}
-use Rattle.std.proofs.lemmas.Str.Parse.{IsNumeralModel, digit_at, numerals_by_value, parse_plain, tells_digits}
+use Rattle.std.proofs.lemmas.Str.Parse.{IsNumeralModel, digit_at, numerals_by_value, parse_plain}
+use Rattle.std.proofs.lemmas.Str.Parse.{tells_digits}
 use Rattle.room_types.specs.declared.asks.Who.{Who}
 use Rattle.room_types.specs.declared.asks.Who.TheVariants.{Crew, Desk, Position}
-use Rattle.dispatch_room_cli.specs.TerminalNames.{BeginsNumber, Names, NamesNobody, WritesNone, WritesNumber}
+use Rattle.dispatch_room_cli.specs.TerminalNames.{BeginsNumber, Names, NamesNobody, WritesNone}
+use Rattle.dispatch_room_cli.specs.TerminalNames.{WritesNumber}
 
 -- ---- numbers
 numerals : IsNumeralModel (AllDigits 10) (digits_value 10)

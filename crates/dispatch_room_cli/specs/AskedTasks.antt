@@ -1,6 +1,6 @@
 -- What a command asks for, by its name and what is given behind it, and what is wrong with that.
-use Rattle.std.specs.Prelude.{Bool, IsTrue, List, None, Option, Some, codes, false, true, ℕ, ◌<◌, ◌^◌}
-use Rattle.std.specs.Prelude.{◌↔◌, ◌≡◌, ◌≤◌, ◌⊎◌}
+use Rattle.std.specs.Prelude.{Bool, IsTrue, List, None, Option, Some, codes, false, true, ℕ, ◌<◌}
+use Rattle.std.specs.Prelude.{◌^◌, ◌↔◌, ◌≡◌, ◌≤◌, ◌⊎◌}
 use Rattle.std.specs.Borrow.{Bor}
 use Rattle.std.specs.Net.Grammar.{IsSocketText}
 use Rattle.std.specs.declared.net.socket_addr.SocketAddr.{SocketAddr}
@@ -22,9 +22,11 @@ use Rattle.dispatch_room_cli.specs.declared.tasks.Look.{Look}
 use Rattle.dispatch_room_cli.specs.declared.tasks.Replay.{Replay as Replayed}
 use Rattle.dispatch_room_cli.specs.declared.tasks.Service.{Service}
 use Rattle.dispatch_room_cli.specs.declared.tasks.Task.{Task}
-use Rattle.dispatch_room_cli.specs.declared.tasks.Task.TheVariants.{Board, Check, Digest, Import, Init, JoinedTimes}
-use Rattle.dispatch_room_cli.specs.declared.tasks.Task.TheVariants.{Migrate, Renew, Replan, Replay, Restore, Serve}
-use Rattle.dispatch_room_cli.specs.declared.tasks.Task.TheVariants.{SetTerminals, Terminals, Times, Verify}
+use Rattle.dispatch_room_cli.specs.declared.tasks.Task.TheVariants.{Board, Check, Digest, Import}
+use Rattle.dispatch_room_cli.specs.declared.tasks.Task.TheVariants.{Init, JoinedTimes, Migrate}
+use Rattle.dispatch_room_cli.specs.declared.tasks.Task.TheVariants.{Renew, Replan, Replay, Restore}
+use Rattle.dispatch_room_cli.specs.declared.tasks.Task.TheVariants.{Serve, SetTerminals, Terminals}
+use Rattle.dispatch_room_cli.specs.declared.tasks.Task.TheVariants.{Times, Verify}
 use Rattle.dispatch_room_cli.specs.declared.tasks.Terminals.{Terminals as Wanted}
 use Rattle.dispatch_room_cli.specs.declared.tasks.Terminals.TheVariants as wanted
 

@@ -1,6 +1,7 @@
 -- The program as clap has it: its commands, each with its words.
 use Rattle.std.specs.Prelude.{List, Some, [], codes, false, fold, map, true, ◌≡◌, ◌∷◌, ⊤}
-use Rattle.clap.specs.Simple.{App, Shape, app_of, is_simple, new_app, new_rule, new_shape, shape_of, with_subcommand}
+use Rattle.clap.specs.Simple.{App, Shape, app_of, is_simple, new_app, new_rule, new_shape, shape_of}
+use Rattle.clap.specs.Simple.{with_subcommand}
 use Rattle.clap.specs.Walk.{Rule, rule_of, texts}
 use Rattle.clap.specs.declared.builder.action.ArgAction.TheVariants.{SetTrue}
 use Rattle.clap.specs.declared.builder.arg.Arg.{Arg}
@@ -10,7 +11,8 @@ use Rattle.dispatch_room_cli.specs.CommandLines.{command_lines, line_of}
 use Rattle.dispatch_room_cli.specs.declared.command_options.CommandForm.{CommandForm}
 use Rattle.dispatch_room_cli.specs.declared.command_options.Word.{Word}
 use Rattle.dispatch_room_cli.specs.declared.command_options.WordKind.{WordKind}
-use Rattle.dispatch_room_cli.specs.declared.command_options.WordKind.TheVariants.{Flag, Named, Needed, Placed}
+use Rattle.dispatch_room_cli.specs.declared.command_options.WordKind.TheVariants.{Flag, Named}
+use Rattle.dispatch_room_cli.specs.declared.command_options.WordKind.TheVariants.{Needed, Placed}
 
 -- what clap reads of an argument of this name, by how it is given: at its place, or behind two
 -- hyphens and its name

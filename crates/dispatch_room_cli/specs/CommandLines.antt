@@ -6,7 +6,8 @@ use Rattle.clap.specs.declared.builder.value_parser.ValueParser.TheVariants as p
 use Rattle.dispatch_room_cli.specs.declared.command_options.CommandForm.{CommandForm}
 use Rattle.dispatch_room_cli.specs.declared.command_options.Word.{Word}
 use Rattle.dispatch_room_cli.specs.declared.command_options.WordKind.{WordKind}
-use Rattle.dispatch_room_cli.specs.declared.command_options.WordKind.TheVariants.{Flag, Named, Needed, Placed}
+use Rattle.dispatch_room_cli.specs.declared.command_options.WordKind.TheVariants.{Flag, Named}
+use Rattle.dispatch_room_cli.specs.declared.command_options.WordKind.TheVariants.{Needed, Placed}
 
 -- what a word may be: any text, a number from the least to the greatest, or one of some texts
 pub data Values : Type 0 where

@@ -5,10 +5,12 @@ use Rattle.room_types.specs.declared.refusal_statuses.Refusal.TheVariants as ref
 use Rattle.dispatch_room_cli.specs.declared.exit_status.Done.{Done}
 use Rattle.dispatch_room_cli.specs.declared.exit_status.Done.TheVariants.{Whole, InPart}
 use Rattle.dispatch_room_cli.specs.declared.exit_status.Failure.{Failure}
-use Rattle.dispatch_room_cli.specs.declared.exit_status.Failure.TheVariants.{PlanRow, Input, File, Version, Division}
-use Rattle.dispatch_room_cli.specs.declared.exit_status.Failure.TheVariants.{Day, Record, OtherRoom, Differs}
-use Rattle.dispatch_room_cli.specs.declared.exit_status.Failure.TheVariants.{Connection, Storage, Network, Memory}
-use Rattle.dispatch_room_cli.specs.declared.exit_status.Failure.TheVariants.{Journal}
+use Rattle.dispatch_room_cli.specs.declared.exit_status.Failure.TheVariants.{PlanRow, Input, File}
+use Rattle.dispatch_room_cli.specs.declared.exit_status.Failure.TheVariants.{Version, Division, Day}
+use Rattle.dispatch_room_cli.specs.declared.exit_status.Failure.TheVariants.{Record, OtherRoom}
+use Rattle.dispatch_room_cli.specs.declared.exit_status.Failure.TheVariants.{Differs, Connection}
+use Rattle.dispatch_room_cli.specs.declared.exit_status.Failure.TheVariants.{Storage, Network}
+use Rattle.dispatch_room_cli.specs.declared.exit_status.Failure.TheVariants.{Memory, Journal}
 
 -- the exit status of a command that was done
 abbrev pub status_done : Done → ℕ

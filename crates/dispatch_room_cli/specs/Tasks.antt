@@ -3,9 +3,11 @@ use Rattle.std.specs.Prelude.{⊤, ℕ, List, Option, None, Some}
 use Rattle.dispatch_room_cli.specs.Addresses.{IsLoopback}
 use Rattle.dispatch_room_cli.specs.declared.tasks.Service.{Service}
 use Rattle.dispatch_room_cli.specs.declared.tasks.Task.{Task}
-use Rattle.dispatch_room_cli.specs.declared.tasks.Task.TheVariants.{Board, Check, Digest, Import, Init, JoinedTimes}
-use Rattle.dispatch_room_cli.specs.declared.tasks.Task.TheVariants.{Migrate, Renew, Replan, Replay, Restore, Serve}
-use Rattle.dispatch_room_cli.specs.declared.tasks.Task.TheVariants.{SetTerminals, Terminals, Times, Verify}
+use Rattle.dispatch_room_cli.specs.declared.tasks.Task.TheVariants.{Board, Check, Digest, Import}
+use Rattle.dispatch_room_cli.specs.declared.tasks.Task.TheVariants.{Init, JoinedTimes, Migrate}
+use Rattle.dispatch_room_cli.specs.declared.tasks.Task.TheVariants.{Renew, Replan, Replay, Restore}
+use Rattle.dispatch_room_cli.specs.declared.tasks.Task.TheVariants.{Serve, SetTerminals, Terminals}
+use Rattle.dispatch_room_cli.specs.declared.tasks.Task.TheVariants.{Times, Verify}
 
 -- the path of the room's file, where the task has one
 abbrev pub file_of : Task → Option (List ℕ)

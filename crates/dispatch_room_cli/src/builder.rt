@@ -2,9 +2,9 @@
 
 ghost use Rattle.std.specs.Prelude.{IfOk};
 ghost use Rattle.clap.specs.Words.{new_rule};
-ghost use Rattle.dispatch_room_cli.specs.CommandForms.{AreAllCommands, AreArgs, AreCommands};
-ghost use Rattle.dispatch_room_cli.specs.CommandForms.{IsArg, IsCommandOf, IsProgram};
-ghost use Rattle.dispatch_room_cli.specs.CommandForms.{rule_by, rule_of_word};
+ghost use Rattle.dispatch_room_cli.specs.CommandForms.{AreAllCommands, AreArgs, AreCommands, IsArg};
+ghost use Rattle.dispatch_room_cli.specs.CommandForms.{IsCommandOf, IsProgram, rule_by};
+ghost use Rattle.dispatch_room_cli.specs.CommandForms.{rule_of_word};
 ghost use Rattle.dispatch_room_cli.specs.declared.command_options.WordKind.TheVariants.{Flag};
 ghost use Rattle.dispatch_room_cli.specs.declared.command_options.WordKind.TheVariants.{Named};
 ghost use Rattle.dispatch_room_cli.specs.declared.command_options.WordKind.TheVariants.{Placed};

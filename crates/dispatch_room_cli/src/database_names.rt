@@ -1,6 +1,7 @@
 //! The names of the files that a database uses beside its own.
 ghost use Rattle.std.specs.Prelude.{◌↔◌, IsTrue, MatchBool};
-ghost use Rattle.dispatch_room_cli.specs.DatabaseNames.{IsApart, IsBeside, IsLastName, IsOfDatabase};
+ghost use Rattle.dispatch_room_cli.specs.DatabaseNames.{IsApart, IsBeside, IsLastName};
+ghost use Rattle.dispatch_room_cli.specs.DatabaseNames.{IsOfDatabase};
 
 /// What SQLite appends to the name of its file for the files that it has beside it.
 pub const ENDS: [&str; 3] = ["-journal", "-wal", "-shm"];

@@ -1,7 +1,7 @@
 //! Who has a terminal, as a command names it: desk:1, position:3 or crew:A1.
 ghost use Rattle.std.specs.Prelude.{◌↔◌, IsTrue, MatchOption};
-ghost use Rattle.dispatch_room_cli.specs.TerminalNames.{BeginsNumber, Names, NamesNobody, WritesNone};
-ghost use Rattle.dispatch_room_cli.specs.TerminalNames.{WritesNumber};
+ghost use Rattle.dispatch_room_cli.specs.TerminalNames.{BeginsNumber, Names, NamesNobody};
+ghost use Rattle.dispatch_room_cli.specs.TerminalNames.{WritesNone, WritesNumber};
 
 use room_place::plans::DivisionNumber;
 use room_types::asks::Who;

@@ -34,7 +34,7 @@ IsWordsStatus kind.DisplayHelp status = (status ≡ 0) ⊎ (status ≡ 4)
 IsWordsStatus kind.DisplayVersion status = (status ≡ 0) ⊎ (status ≡ 4)
 IsWordsStatus other status = status ≡ 2
 
--- what is written of words that are no command: nothing, but help that is asked for
+-- what is written for words that are no command: nothing, except help that is asked for
 abbrev pub IsWordsOutput : ErrorKind → Option (List ℕ) → Option (List ℕ) → Type 0
 IsWordsOutput kind.DisplayHelp before after = ⊤
 IsWordsOutput kind.DisplayVersion before after = ⊤
@@ -46,8 +46,8 @@ IsColour color.Auto colour = ⊤
 IsColour color.Always colour = colour ≡ true
 IsColour color.Never colour = colour ≡ false
 
--- how a board ends: refused parts are as rows that are refused, and what is not reached is the
--- network's
+-- how a board ends: refused parts count as refused rows do, and parts that were not reached as a
+-- failure of the network
 abbrev pub end_of_board : Reached → Result Done Failure
 end_of_board reached.All = Ok Whole
 end_of_board reached.AllButRefused = Ok InPart

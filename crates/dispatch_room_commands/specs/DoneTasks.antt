@@ -1,12 +1,14 @@
 -- What a task of the command line comes to, where it is done.
 use Rattle.std.specs.Global.{Global}
 use Rattle.std.specs.Io.KnownBytes.{Appends}
-use Rattle.std.specs.Prelude.{Bool, Err, IfOk, List, MatchResult, None, Ok, Option, Result, Some, Vec, codes}
+use Rattle.std.specs.Prelude.{Bool, Err, IfOk, List, MatchResult, None, Ok, Option, Result, Some}
+use Rattle.std.specs.Prelude.{Vec, [], codes, ◌++◌, ◌∷◌}
 use Rattle.std.specs.Option.{option_map}
 use Rattle.std.specs.Prelude.{is_some, true, ℕ, ◌≡◌, ◌⊎◌}
 use Rattle.clap.specs.Words.{kind_of}
 use Rattle.clap.specs.declared.error.Error.{Error}
 use Rattle.dispatch_room_disk.specs.DiskFaults.{IsFileFault}
+use Rattle.dispatch_room_disk.specs.ReplacingSteps.{Step, replacing}
 use Rattle.dispatch_room_cli.specs.AskedTasks.{IsRead}
 use Rattle.dispatch_room_cli.specs.ExitStatus.{status_after}
 use Rattle.dispatch_room_cli.specs.Tasks.{IsServedHere}
@@ -18,17 +20,21 @@ use Rattle.dispatch_room_archive.specs.declared.renewal.Successor.{Successor}
 use Rattle.dispatch_room_cli.specs.declared.tasks.Look.{Look}
 use Rattle.dispatch_room_cli.specs.declared.tasks.Replay.{Replay as How}
 use Rattle.dispatch_room_cli.specs.declared.tasks.Task.{Task}
-use Rattle.dispatch_room_cli.specs.declared.tasks.Task.TheVariants.{Board, Check, Digest, Import, Init, JoinedTimes}
-use Rattle.dispatch_room_cli.specs.declared.tasks.Task.TheVariants.{Migrate, Renew, Replan, Replay, Restore, Serve}
-use Rattle.dispatch_room_cli.specs.declared.tasks.Task.TheVariants.{SetTerminals, Terminals, Times, Verify}
+use Rattle.dispatch_room_cli.specs.declared.tasks.Task.TheVariants.{Board, Check, Digest, Import}
+use Rattle.dispatch_room_cli.specs.declared.tasks.Task.TheVariants.{Init, JoinedTimes, Migrate}
+use Rattle.dispatch_room_cli.specs.declared.tasks.Task.TheVariants.{Renew, Replan, Replay, Restore}
+use Rattle.dispatch_room_cli.specs.declared.tasks.Task.TheVariants.{Serve, SetTerminals, Terminals}
+use Rattle.dispatch_room_cli.specs.declared.tasks.Task.TheVariants.{Times, Verify}
 use Rattle.dispatch_room_archive.specs.declared.division_days.DivisionDay.{DivisionDay}
-use Rattle.dispatch_room_commands.specs.CommandEnds.{FailsToPrint, IsColour, PrintsBoard, IsWordsOutput, IsWordsStatus}
+use Rattle.dispatch_room_commands.specs.CommandEnds.{FailsToPrint, IsColour, PrintsBoard}
+use Rattle.dispatch_room_commands.specs.CommandEnds.{IsWordsOutput, IsWordsStatus}
+use Rattle.dispatch_room_commands.specs.HeardRooms.{IsHeardAt}
 use Rattle.room_types.specs.Texts.{is_token}
 use Rattle.dispatch_room_commands.specs.RoomTasks.{Begins, BeginsNone, Digests, Examines}
 use Rattle.dispatch_room_commands.specs.RoomTasks.{ExaminesNone, FindsDay, FindsNoDay}
-use Rattle.dispatch_room_commands.specs.RoomTasks.{LeavesNothing, LeavesRows}
-use Rattle.dispatch_room_commands.specs.RoomTasks.{Moves, MovesNone, OpensNone, Replays, ReplaysNone}
-use Rattle.dispatch_room_commands.specs.RoomTasks.{Reports, ReportsBoth, ReportsNone}
+use Rattle.dispatch_room_commands.specs.RoomTasks.{LeavesNothing, LeavesRows, Moves, MovesNone}
+use Rattle.dispatch_room_commands.specs.RoomTasks.{OpensNone, Replays, ReplaysNone, Reports}
+use Rattle.dispatch_room_commands.specs.RoomTasks.{ReportsBoth, ReportsNone}
 use Rattle.dispatch_room_tcp.specs.Hosts.{IsDoneAt, IsUndoneAt, Paths, unknown}
 use Rattle.dispatch_room_tcp.specs.ServedFiles.{FailsServe, IsServe}
 use Rattle.dispatch_room_journal.specs.Chains.{sha256_digits}
@@ -46,6 +52,14 @@ use Rattle.dispatch_room_changes.specs.DoneChanges.{IsSetting, IsTerminals}
 abbrev pub said_by : Option (List ℕ) → Option (List ℕ)
 said_by bytes = option_map (list_says sha256_digits Full) bytes
 
+-- the first of these steps were done, and the next one failed
+pub record IsReplacedInPart (paths : Paths) (steps : List Step) : Type 0 where
+  pub first : List Step
+  pub failed : Step
+  pub rest : List Step
+  pub are : steps ≡ first ++ failed ∷ rest
+  pub done : paths.replaced first
+
 -- by what the output held before, what it holds after, and how much is done
 module _ (before after : Option (List ℕ)) (done : Done) where
   -- a list was looked through, and what it holds was printed, and whether its end says so
@@ -54,13 +68,6 @@ module _ (before after : Option (List ℕ)) (done : Done) where
     pub is : (text : List ℕ) → list ≡ Some text → IsVerified text tally
     pub text : Appends before after (tally_text tally has_ended)
     pub whole : done ≡ Whole
-
-  -- the board of a desk that has a token was shown, in colours as it was asked
-  abbrev pub IsBoardOf : Look → Type 0
-  IsBoardOf look =
-      (is_token look.token.now ≡ true)
-      × ((heard : List ℕ) × (colour : Bool) × IsColour look.color colour
-      × PrintsBoard heard (is_some look.incident) colour before after done)
 
 -- by what there is at paths, what the output held before and holds after, and how much is done
 module _ (paths : Paths) (before after : Option (List ℕ)) (done : Done) where
@@ -78,10 +85,11 @@ module _ (paths : Paths) (before after : Option (List ℕ)) (done : Done) where
   abbrev pub IsDigest : List ℕ → Type 0
   IsDigest file = IsDoneAt (paths.kept file) Digests before after done
 
-  -- A copy was looked at that is a well-formed room. By which steps it was put in the file's place
-  -- `restore_by` says.
-  abbrev pub IsRestore : List ℕ → Type 0
-  IsRestore copy = IsCheck copy
+  -- a copy was looked at that is a well-formed room, and was put in the place of a file, step after
+  -- step
+  abbrev pub IsRestore : List ℕ → List ℕ → Type 0
+  IsRestore copy file =
+      IsCheck copy × ((there : Bool) × paths.replaced (replacing copy file there))
 
   -- a division's day was reported of a file's room without an output, and then that was written
   pub record IsTimes (file : List ℕ) (division : ℕ) (day : List ℕ) : Type 0 where
@@ -105,6 +113,15 @@ module _ (paths : Paths) (before after : Option (List ℕ)) (done : Done) where
   IsVerify path = (bytes : Option (List ℕ)) × paths.bytes path bytes × ((has_ended : Bool)
       × IsVerifyOf before after done (said_by bytes) has_ended)
 
+  -- the board of a desk that has a token was shown, of what is heard of a room at its address, in
+  -- colours as it was asked
+  abbrev pub IsBoardOf : Look → Type 0
+  IsBoardOf look =
+      (is_token look.token.now ≡ true)
+      × ((heard : List ℕ) × IsHeardAt paths look heard
+      × ((colour : Bool) × IsColour look.color colour
+      × PrintsBoard heard (is_some look.incident) colour before after done))
+
   -- a list was replayed
   abbrev pub IsReplay : List ℕ → How → Type 0
   IsReplay file how = IsDoneAt (paths.kept file) (Replays how) before after done
@@ -126,11 +143,11 @@ module _ (paths : Paths) (before after : Option (List ℕ)) (done : Done) where
   IsTask (Migrate file) = IsMigrate file.now
   IsTask (Check file) = IsCheck file.now
   IsTask (Digest file) = IsDigest file.now
-  IsTask (Restore copy file) = IsRestore copy.now
+  IsTask (Restore copy file) = IsRestore copy.now file.now
   IsTask (Serve file service) = IsServe paths before after done file.now service
   IsTask (Replay file how) = IsReplay file.now how
   IsTask (Verify list) = IsVerify list.now
-  IsTask (Board look) = IsBoardOf before after done look
+  IsTask (Board look) = IsBoardOf look
   IsTask (Renew file new since) = IsRenew file.now new.now since.now
   IsTask (Times file division day) = IsTimes file.now division day.now
   IsTask (JoinedTimes file older division day) =
@@ -150,15 +167,6 @@ module _ (before after : Option (List ℕ)) (fault : Failure) where
       ⊎ ((fault ≡ failure.Network) × ((tally : Tally)
       × ((text : List ℕ) → list ≡ Some text → IsVerified text tally)))
 
-  -- no board was shown, for lack of a token, or of memory; or less of one than all, or the output
-  -- failed
-  abbrev pub FailsBoard : Look → Type 0
-  FailsBoard look =
-      ((fault ≡ failure.Input) × (¬ (is_token look.token.now ≡ true)) × (after ≡ before))
-      ⊎ ((is_token look.token.now ≡ true) × (((fault ≡ failure.Memory) × (after ≡ before))
-      ⊎ ((heard : List ℕ) × (colour : Bool) × IsColour look.color colour
-      × FailsToPrint heard (is_some look.incident) colour before after fault)))
-
 -- by what there is at paths, what the output held before and holds after, and why the task fails
 module _ (paths : Paths) (before after : Option (List ℕ)) (fault : Failure) where
   -- no room was moved, and nothing is written; or one was, and the output failed
@@ -175,10 +183,13 @@ module _ (paths : Paths) (before after : Option (List ℕ)) (fault : Failure) wh
   abbrev pub FailsDigest : List ℕ → Type 0
   FailsDigest file = IsUndoneAt (paths.kept file) Digests OpensNone before after fault
 
-  -- the copy is no room, or can't be read; or it is one, and the file could not be put in place
-  abbrev pub FailsRestore : List ℕ → Type 0
-  FailsRestore copy = FailsCheck copy ⊎ (((fault ≡ failure.File) ⊎ IsFileFault fault)
-      × ((done : Done) × IsDoneAt (paths.kept copy) Examines before after done))
+  -- The copy is no room, or can't be read, and no step is done by which it is put in place. Or it
+  -- is one, and one of these steps failed, and those before it were done.
+  abbrev pub FailsRestore : List ℕ → List ℕ → Type 0
+  FailsRestore copy file = (FailsCheck copy × paths.replaced [])
+      ⊎ (((fault ≡ failure.File) ⊎ IsFileFault fault) × ((done : Done)
+      × IsDoneAt (paths.kept copy) Examines before after done
+      × ((there : Bool) × IsReplacedInPart paths (replacing copy file there))))
 
   -- no day was reported, and nothing is written; or one was, and the output failed
   abbrev pub FailsTimes : List ℕ → ℕ → List ℕ → Type 0
@@ -208,6 +219,16 @@ module _ (paths : Paths) (before after : Option (List ℕ)) (fault : Failure) wh
       ⊎ ((bytes : Option (List ℕ)) × paths.bytes path bytes × ((read_failed : Bool)
       × FailsVerifyOf before after fault (said_by bytes) read_failed))
 
+  -- no board was shown, for lack of a token, or of memory; or, of what is heard of a room at its
+  -- address, less of one than all, or the output failed
+  abbrev pub FailsBoard : Look → Type 0
+  FailsBoard look =
+      ((fault ≡ failure.Input) × (¬ (is_token look.token.now ≡ true)) × (after ≡ before))
+      ⊎ ((is_token look.token.now ≡ true) × (((fault ≡ failure.Memory) × (after ≡ before))
+      ⊎ ((heard : List ℕ) × IsHeardAt paths look heard
+      × ((colour : Bool) × IsColour look.color colour
+      × FailsToPrint heard (is_some look.incident) colour before after fault))))
+
   -- a list was not replayed whole, and this became of the room's file
   abbrev pub FailsReplay : List ℕ → How → Type 0
   FailsReplay file how =
@@ -233,11 +254,11 @@ module _ (paths : Paths) (before after : Option (List ℕ)) (fault : Failure) wh
   FailsTask (Migrate file) = FailsMigrate file.now
   FailsTask (Check file) = FailsCheck file.now
   FailsTask (Digest file) = FailsDigest file.now
-  FailsTask (Restore copy file) = FailsRestore copy.now
+  FailsTask (Restore copy file) = FailsRestore copy.now file.now
   FailsTask (Serve file service) = FailsServe paths before after fault file.now service
   FailsTask (Replay file how) = FailsReplay file.now how
   FailsTask (Verify list) = FailsVerify list.now
-  FailsTask (Board look) = FailsBoard before after fault look
+  FailsTask (Board look) = FailsBoard look
   FailsTask (Renew file new since) = FailsRenew file.now new.now since.now
   FailsTask (Times file division day) = FailsTimes file.now division day.now
   FailsTask (JoinedTimes file older division day) =

@@ -1,16 +1,19 @@
 -- What a desk hears of a room, on a connection to it.
 use Rattle.std.specs.Io.KnownBytes.{Consumes, IsAtEnd}
-use Rattle.std.specs.Prelude.{Bool, List, None, Option, Some, [], false, length, ℕ, ◌<◌, ◌≡◌}
+use Rattle.std.specs.Prelude.{Bool, List, None, Option, Some, [], false, length, ℕ, ◌*◌, ◌<◌, ◌≡◌}
 use Rattle.dispatch_room_board.specs.Requests.{Sends, requests}
 use Rattle.dispatch_room_board.specs.declared.exchange.TheConstants.{MOST_HEARD}
 use Rattle.dispatch_room_board.specs.declared.requests.Asker.{Asker}
+use Rattle.dispatch_room_cli.specs.declared.tasks.Look.{Look}
+use Rattle.dispatch_room_tcp.specs.Hosts.{Paths}
 
 -- by the sides of a connection: what is left to be read, and whether a read failed; and what was
 -- written, and whether a write failed
 module _ {R W : Type 0} (left : R → Option (List ℕ)) (read_failed : R → Bool)
     (held : W → Option (List ℕ)) (write_failed : W → Bool) where
-  -- All that a desk asks was written, or the first of it before a write failed. What was heard is
-  -- what the room said next: all of it, unless a read failed or it is more than is heard.
+  -- All that a desk asks was written, or the beginning of it before a write failed. What was heard
+  -- is what the room said next: all of it, unless a read failed or it is more than is heard at
+  -- most.
   pub record IsAnswered (sides : R × W) (asked heard : List ℕ) : Type 0 where
     pub after : R × W
     pub is_whole : Bool
@@ -23,3 +26,14 @@ module _ {R W : Type 0} (left : R → Option (List ℕ)) (read_failed : R → Bo
   IsHeard None asker heard = heard ≡ []
   IsHeard (Some sides) asker heard =
       IsAnswered sides (requests asker.token asker.incident) heard
+
+-- what is heard of what is said on a connection: nothing where there is none
+abbrev pub IsSaid : Option (Option (List ℕ)) → List ℕ → Type 0
+IsSaid None heard = heard ≡ []
+IsSaid (Some said) heard = (after : Option (List ℕ)) × Consumes said after heard
+
+-- what is heard of the room at the address of a look, within its seconds
+abbrev pub IsHeardAt : Paths → Look → List ℕ → Type 0
+IsHeardAt paths look heard = (said : Option (Option (List ℕ)))
+    × paths.called look.address.now (look.patience * 1_000_000_000) said
+    × IsSaid said heard

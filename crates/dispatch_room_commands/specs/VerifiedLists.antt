@@ -3,7 +3,8 @@ use Rattle.std.specs.Prelude.{◌≡◌, ℕ, List, [], ◌∷◌, ◌++◌, cod
 use Rattle.std.specs.Prelude.{Option, Some, None}
 use Rattle.dispatch_room_journal.specs.ListTallies.{IsFlawed}
 use Rattle.dispatch_room_journal.specs.declared.entry_reader.EntryFault.{EntryFault}
-use Rattle.dispatch_room_journal.specs.declared.entry_reader.EntryFault.TheVariants.{Cut, Foreign, Read}
+use Rattle.dispatch_room_journal.specs.declared.entry_reader.EntryFault.TheVariants.{Cut, Foreign}
+use Rattle.dispatch_room_journal.specs.declared.entry_reader.EntryFault.TheVariants.{Read}
 use Rattle.dispatch_room_journal.specs.declared.list_tallies.Flaw.{Flaw}
 use Rattle.dispatch_room_journal.specs.declared.list_tallies.Span.{Span}
 use Rattle.dispatch_room_journal.specs.declared.list_tallies.Tally.{Tally}
@@ -30,8 +31,8 @@ abbrev pub tally_text : Tally → Bool → List ℕ
 tally_text tally has_ended =
     messages_text tally.messages ++ span_text tally.span ++ end_text has_ended
 
--- how the program fails by a flaw of a list: the message at which it is no list, or a read that
--- failed
+-- how the program fails by a flaw of a list: as the record at which it is no list, or as a read
+-- that failed
 abbrev pub fails_by : EntryFault → ℕ → Failure
 fails_by Cut number = Record number
 fails_by Foreign number = Record number

@@ -1,9 +1,10 @@
 //! `board`: a served room is asked as a desk, and what the desk sees is shown.
-ghost use Rattle.std.specs.Prelude.{◌≡◌, ◌*◌, ◌⊎◌, ℕ, List, IfErr, IfOk, IfSome, SomeIff, false, is_some, true};
-ghost use Rattle.std.specs.Duration.{as_nanos};
+ghost use Rattle.std.specs.Prelude.{◌≡◌, ◌⊎◌, ℕ, List, IfErr, IfOk, IfSome, SomeIff, false};
+ghost use Rattle.std.specs.Prelude.{is_some, true};
 ghost use Rattle.room_types.specs.Texts.{is_token};
 ghost use Rattle.dispatch_room_cli.specs.declared.exit_status.Failure.TheVariants.{Memory};
-ghost use Rattle.dispatch_room_commands.specs.CommandEnds.{FailsToPrint, IsColour, PrintsBoard, end_of_board};
+ghost use Rattle.dispatch_room_commands.specs.CommandEnds.{FailsToPrint, IsColour, PrintsBoard};
+ghost use Rattle.dispatch_room_commands.specs.CommandEnds.{end_of_board};
 ghost use Rattle.dispatch_room_commands.specs.DoneTasks.{FailsBoard, IsBoardOf};
 ghost use Rattle.dispatch_room_commands.specs.HeardRooms.{IsHeard};
 
@@ -12,35 +13,35 @@ use dispatch_room_board::exchange::{hear, send};
 use dispatch_room_board::requests::Asker;
 use dispatch_room_cli::exit_status::{Done, Failure};
 use dispatch_room_cli::tasks::{Color, Look};
-use dispatch_room_sockets::client::call;
-use dispatch_room_sockets::socket_readers::SocketReader;
-use dispatch_room_sockets::socket_writers::SocketWriter;
-use dispatch_room_tcp::hosts::Host;
+use dispatch_room_tcp::hosts::{Host, Machine};
 use room_http_messages::sinks::Sink;
 use room_http_messages::sources::Source;
 use room_types::token::Token;
 use std::alloc::{AllocError, Global};
 use std::io::{IsTerminal, Write};
-use std::net::TcpStream;
 use std::time::Duration;
 
-type CallReader<'a> = SocketReader<'a, TcpStream, HostRuntime>;
-
-type CallWriter<'a> = SocketWriter<'a, TcpStream, HostRuntime>;
-
-/// Shows the board of a desk: what could not be reached is shown in it, and by the end. A text that
-/// is no token is refused, and nothing is asked.
-pub fn board<O: Write>(host: Host<'_>, look: &Look<'_>, out: &mut O) -> Result<Done, Failure>
+/// Shows the board of a desk, of what it hears of the room at an address within a time: what could
+/// not be reached is shown in it, and by the end. A text that is no token is refused, and nothing
+/// is asked.
+pub fn board<M: Machine, O: Write>(
+    machine: M,
+    look: &Look<'_>,
+    out: &mut O,
+) -> Result<Done, Failure>
     ensures done { IfOk result (λ done.
-        IsBoardOf (O.contents out.old) (O.contents out.new) done look.now) }
+        IsBoardOf (M.paths machine) (O.contents out.old) (O.contents out.new) done look.now) }
     ensures undone { IfErr result (λ fault.
-        FailsBoard (O.contents out.old) (O.contents out.new) fault look.now) }
+        FailsBoard (M.paths machine) (O.contents out.old) (O.contents out.new) fault look.now) }
 {
     let Some(asker) = asker_of(look) else {
         return Err(Failure::Input);
     };
-    let colour = has_colour(host.rt, look.color);
-    show(host.alloc, &asker, called(host, look), colour, out)
+    let Host { rt, alloc, .. } = machine.host();
+    let colour = has_colour(rt, look.color);
+    let patience = Duration::from_secs(u64::from(look.patience));
+    let sides = machine.call(look.address, patience);
+    show(alloc, &asker, sides, colour, out)
 }
 
 // Who asks, and of which incident: nobody where the text is no token.
@@ -130,21 +131,8 @@ fn has_colour(rt: &HostRuntime, color: Color) -> bool
     }
 }
 
-// The sides of a connection to a room, where it takes one. All that is said on it ends within the
-// time that was granted.
-fn called<'a>(host: Host<'a>, look: &Look<'_>) -> Option<(CallReader<'a>, CallWriter<'a>)>
-    ensures sound { IfSome result (λ sides. (sides.0.failed ≡ false)
-        × (sides.1.failed ≡ false)) }
-    ensures patient { IfSome result (λ sides.
-        (as_nanos sides.0.idle ≡ look.now.patience * 1_000_000_000)
-        × (as_nanos sides.1.patience ≡ look.now.patience * 1_000_000_000)) }
-{
-    let patience = Duration::from_secs(u64::from(look.patience));
-    call(host.rt, host.explainer, look.address, patience)
-}
-
-// Asks a room on the sides of a connection to it, and hears what it says: also where it doesn't take
-// all that is asked. Nothing is heard where there is no connection.
+// Asks a room on the sides of a connection to it, and hears what it says, also where it doesn't
+// take all that is asked. Nothing is heard where there is no connection.
 fn hear_on<R: Source + Drop, W: Sink + Drop>(
     alloc: Global,
     asker: &Asker,

@@ -1,4 +1,4 @@
-//! `check`: how much a room has, or what is wrong with its file.
+//! `check`: how much a room has, or the first thing that is wrong with its file.
 ghost use Rattle.std.specs.Prelude.{IfErr, IfOk};
 ghost use Rattle.dispatch_room_commands.specs.DoneTasks.{FailsCheck, IsCheck};
 ghost use Rattle.dispatch_room_commands.specs.RoomTasks.{Examines, ExaminesNone};
@@ -12,7 +12,8 @@ use sqlite::{Alter, Connection};
 use std::alloc::Global;
 use std::io::Write;
 
-/// Prints what the room of a file has, or what is wrong with the file first. No row is written.
+/// Prints how much the room of a file has, or the first thing that is wrong with the file. No row
+/// is written.
 pub fn check<M: Machine, O: Write>(machine: M, file: &str, out: &mut O) -> Result<Done, Failure>
     ensures done { IfOk result (λ done.
         IsCheck (M.paths machine) (O.contents out.old) (O.contents out.new) done file.now) }

@@ -3,7 +3,8 @@ ghost use Rattle.std.specs.Prelude.{◌≡◌, MatchResult, Result, map, string_
 ghost use Rattle.clap.specs.Words.{kind_of};
 ghost use Rattle.clap.specs.declared.error.Error.{Error as Mistake};
 ghost use Rattle.clap.specs.declared.error.ErrorKind.TheVariants.{OutOfMemory};
-ghost use Rattle.dispatch_room_commands.specs.CommandEnds.{IsHelpDone, IsWordsOutput, IsWordsStatus, is_mistake};
+ghost use Rattle.dispatch_room_commands.specs.CommandEnds.{IsHelpDone, IsWordsOutput};
+ghost use Rattle.dispatch_room_commands.specs.CommandEnds.{IsWordsStatus, is_mistake};
 ghost use Rattle.dispatch_room_commands.specs.DoneTasks.{FailsTask, IsAskedBy, IsExit, IsTask};
 ghost use Rattle.dispatch_room_tcp.specs.Hosts.{unknown};
 ghost use Rattle.dispatch_room_cli.specs.declared.tasks.Task.{Task as Asked};
@@ -168,7 +169,7 @@ fn perform<M: Machine, O: Write, E: Write>(
         } => replay(machine, file, how, out, err),
         Task::Renew { file, new, since } => renew(machine, file, new, since, out),
         Task::Verify { list } => verify_list(machine, list, out),
-        Task::Board { ref look } => board(machine.host(), look, out),
+        Task::Board { ref look } => board(machine, look, out),
         Task::Times {
             file,
             division,

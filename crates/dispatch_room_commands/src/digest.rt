@@ -1,4 +1,4 @@
-//! `digest`: the digest of the room of a file, by which it is known again.
+//! `digest`: the digest of the room of a file, by which the room can be recognized.
 ghost use Rattle.std.specs.Prelude.{IfErr, IfOk};
 ghost use Rattle.dispatch_room_commands.specs.DoneTasks.{FailsDigest, IsDigest};
 ghost use Rattle.dispatch_room_commands.specs.RoomTasks.{Digests, OpensNone};

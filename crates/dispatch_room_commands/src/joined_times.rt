@@ -1,7 +1,8 @@
 //! `times --and`: the report of a division's day over two rooms.
 ghost use Rattle.std.specs.Prelude.{IfErr, IfOk};
 ghost use Rattle.dispatch_room_commands.specs.DoneTasks.{FailsJoinedTimes, IsJoinedTimes};
-ghost use Rattle.dispatch_room_commands.specs.RoomTasks.{FindsDay, FindsNoDay, ReportsBoth, ReportsNone};
+ghost use Rattle.dispatch_room_commands.specs.RoomTasks.{FindsDay, FindsNoDay, ReportsBoth};
+ghost use Rattle.dispatch_room_commands.specs.RoomTasks.{ReportsNone};
 
 use dispatch_room_archive::division_days::DivisionDay;
 use dispatch_room_archive::joined_reports::{day_in, joined_report_in};

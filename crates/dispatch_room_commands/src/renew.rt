@@ -1,7 +1,8 @@
 //! `renew`: a new room is made of what another one leaves to it.
 ghost use Rattle.std.specs.Prelude.{IfErr, IfOk};
 ghost use Rattle.dispatch_room_commands.specs.DoneTasks.{FailsRenew, IsRenew};
-ghost use Rattle.dispatch_room_commands.specs.RoomTasks.{Begins, BeginsNone, LeavesNothing, LeavesRows};
+ghost use Rattle.dispatch_room_commands.specs.RoomTasks.{Begins, BeginsNone, LeavesNothing};
+ghost use Rattle.dispatch_room_commands.specs.RoomTasks.{LeavesRows};
 
 use dispatch_room_archive::renewal::{Successor, begin_in, left_in};
 use dispatch_room_cli::exit_status::{Done, Failure};
@@ -12,8 +13,9 @@ use sqlite::{Alter, Connection};
 use std::alloc::Global;
 use std::io::{self, Write};
 
-/// Makes a room in a file that has nothing, of what the room of another file leaves since a day,
-/// and reports how much it has. No row of the other file is written.
+/// Makes a room in a file that is new or empty, of what the room of another file leaves since a
+/// day, and prints how many incidents, calls, turns and reports it has. No row of the other file is
+/// written.
 pub fn renew<M: Machine, O: Write>(
     machine: M,
     file: &str,

@@ -15,8 +15,8 @@ use sqlite::{Alter, Connection};
 use std::alloc::Global;
 use std::io::Write;
 
-/// Does to the room of a file what a list from standard input says, and prints how many messages
-/// that were, and the room's digest where it is wanted; or writes the answer to each message, as
+/// Replays a list from standard input to the room of a file. Prints how many messages that were,
+/// and the room's digest if `replay.digest` asks for it; or writes the answer to each message as
 /// soon as it is given.
 pub fn replay<M: Machine, O: Write, E: Write>(
     machine: M,
@@ -35,7 +35,7 @@ pub fn replay<M: Machine, O: Write, E: Write>(
     replay_on(machine, machine.host(), file, replay, out, err)
 }
 
-// Does so with the explainer and the standard input of the machine's host.
+// The same, with the explainer and the standard input of the machine's host.
 fn replay_on<M: Machine, O: Write, E: Write>(
     machine: M,
     host: Host<'_>,

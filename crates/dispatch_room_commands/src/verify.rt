@@ -4,7 +4,8 @@ ghost use Rattle.std.specs.Io.KnownBytes.{Appends};
 ghost use Rattle.dispatch_room_journal.specs.ReadSteps.{ends_well, left_in, most_rows};
 ghost use Rattle.dispatch_room_cli.specs.declared.exit_status.Done.TheVariants.{Whole};
 ghost use Rattle.dispatch_room_cli.specs.declared.exit_status.Failure.TheVariants.{Network};
-ghost use Rattle.dispatch_room_commands.specs.DoneTasks.{FailsVerify, FailsVerifyOf, IsVerify, IsVerifyOf};
+ghost use Rattle.dispatch_room_commands.specs.DoneTasks.{FailsVerify, FailsVerifyOf, IsVerify};
+ghost use Rattle.dispatch_room_commands.specs.DoneTasks.{IsVerifyOf};
 ghost use Rattle.dispatch_room_commands.specs.VerifiedLists.{fails_by, span_text, tally_text};
 
 use dispatch_room_cli::exit_status::{Done, Failure};
@@ -34,7 +35,7 @@ pub fn verify_list<M: Machine, O: Write>(
     verify_in(machine.host().alloc, &mut ListSource::new(list), out)
 }
 
-// Prints what a list holds that is read.
+// Prints what a list holds.
 fn verify_in<R: Source, O: Write>(
     alloc: Global,
     list: &mut ListSource<R>,

@@ -1,18 +1,19 @@
 -- What rows that break no rule have in common: one zone, and areas that a plan takes.
-use Rattle.std.proofs.Common.{◌≡◌, ◌<◌, ℕ, suc, List, [], ◌∷◌, ◌++◌, length, map, filter_map, Bool, true, false, not}
-use Rattle.std.proofs.Common.{None, Result, Ok, Err, IfOk, IfErr, refl, ap, arith}
+use Rattle.std.proofs.Common.{◌≡◌, ◌<◌, ℕ, suc, List, [], ◌∷◌, ◌++◌, length, map, filter_map, Bool}
+use Rattle.std.proofs.Common.{true, false, not, None, Result, Ok, Err, IfOk, IfErr, refl, ap, arith}
 use Rattle.std.specs.List.{list_any}
 use Rattle.std.proofs.Math.Seq.{get_or-append_seam, take-append_seam}
 use Rattle.std.proofs.lemmas.Bool.{and_from, and_parts, or_left, or_parts, or_right}
 use Rattle.std.proofs.lemmas.List.{append_assoc, length-append}
 use Rattle.std.proofs.lemmas.List.Folds.{list_any-append}
-use Rattle.room_place.specs.Plans.{are_of_divisions, are_rectangles, has_sound_count, is_zone, plan_fault}
+use Rattle.room_place.specs.Plans.{are_of_divisions, are_rectangles, has_sound_count, is_zone}
+use Rattle.room_place.specs.Plans.{plan_fault}
 use Rattle.room_place.specs.declared.plans.Area.{Area}
-use Rattle.dispatch_room_csv.specs.PlanRules.{AreKept, area_count, has_zone_and_areas, is_refused, is_rule}
-use Rattle.dispatch_room_csv.specs.PlanRules.{is_zone_line}
+use Rattle.dispatch_room_csv.specs.PlanRules.{AreKept, area_count, has_zone_and_areas, is_refused}
+use Rattle.dispatch_room_csv.specs.PlanRules.{is_rule, is_zone_line}
 use Rattle.dispatch_room_csv.specs.PlanLines.{plan_line_of}
-use Rattle.dispatch_room_csv.specs.PlanFile.{ExplainsLines, ExplainsPlan, IsPlanOf, IsPlanText, area_in, plan_header}
-use Rattle.dispatch_room_csv.specs.PlanFile.{rule_in}
+use Rattle.dispatch_room_csv.specs.PlanFile.{ExplainsLines, ExplainsPlan, IsPlanOf, IsPlanText}
+use Rattle.dispatch_room_csv.specs.PlanFile.{area_in, plan_header, rule_in}
 use Rattle.dispatch_room_csv.specs.Records.{Fields, HasRows}
 use Rattle.dispatch_room_csv.specs.declared.plan_lines.PlanLine.{PlanLine}
 use Rattle.dispatch_room_csv.specs.declared.plan_lines.PlanLine.TheVariants as line

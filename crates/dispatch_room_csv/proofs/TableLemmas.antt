@@ -1,12 +1,12 @@
 -- A text of CSV has one list of records, and what was read of it is the beginning of that list.
-use Rattle.std.proofs.Common.{◌≡◌, ◌<◌, ℕ, List, [], ◌∷◌, ◌++◌, length, get_or, Option, Some, None, IfSome, All, true}
-use Rattle.std.proofs.Common.{refl, sym, ap, ◌∙◌, arith}
+use Rattle.std.proofs.Common.{◌≡◌, ◌<◌, ℕ, List, [], ◌∷◌, ◌++◌, length, get_or, Option, Some, None}
+use Rattle.std.proofs.Common.{IfSome, All, true, refl, sym, ap, ◌∙◌, arith}
 use Rattle.std.proofs.Math.Seq.{get_or-append_seam}
 use Rattle.std.proofs.lemmas.List.{length-append}
 use Rattle.std.proofs.lemmas.List.Elements.{All-push}
 use Rattle.csv.specs.Machine.{Read, next_record}
-use Rattle.csv.specs.Reading.{ExplainsRead, NextIs, Reached, ReadsNext, default_config, pending_of, source_of}
-use Rattle.csv.specs.Reading.{strip_bom}
+use Rattle.csv.specs.Reading.{ExplainsRead, NextIs, Reached, ReadsNext, default_config, pending_of}
+use Rattle.csv.specs.Reading.{source_of, strip_bom}
 use Rattle.csv.specs.Records.{AllText}
 use Rattle.csv.specs.declared.error.ErrorKind.{ErrorKind}
 use Rattle.csv.specs.declared.error.ErrorKind.TheVariants as kind
@@ -14,8 +14,8 @@ use Rattle.csv.specs.declared.parser.Config.{Config}
 use Rattle.csv.specs.declared.parser.State.{State}
 use Rattle.csv.specs.declared.parser.State.TheVariants.{StartRecord}
 use Rattle.csv.specs.declared.reader.Reader.{Reader}
-use Rattle.dispatch_room_csv.specs.Records.{AreAlike, ExplainsRecords, ExplainsRows, Fields, HasRows, IsTable}
-use Rattle.dispatch_room_csv.specs.Records.{records_fault}
+use Rattle.dispatch_room_csv.specs.Records.{AreAlike, ExplainsRecords, ExplainsRows, Fields}
+use Rattle.dispatch_room_csv.specs.Records.{HasRows, IsTable, records_fault}
 use Rattle.dispatch_room_csv.specs.declared.csv_records.RecordsFault.{RecordsFault}
 use Rattle.dispatch_room_csv.specs.declared.csv_records.RecordsFault.TheVariants.{Input, Memory}
 

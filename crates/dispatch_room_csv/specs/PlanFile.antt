@@ -1,6 +1,6 @@
 -- The plan that the rows of a file make, and why a text is no plan.
-use Rattle.std.specs.Prelude.{◌≡◌, ℕ, zero, suc, List, [], ◌∷◌, codes, length, map, filter_map, true, false, Option}
-use Rattle.std.specs.Prelude.{Some, None}
+use Rattle.std.specs.Prelude.{◌≡◌, ℕ, zero, suc, List, [], ◌∷◌, codes, length, map, filter_map}
+use Rattle.std.specs.Prelude.{true, false, Option, Some, None}
 use Rattle.room_place.specs.declared.plans.Area.{Area}
 use Rattle.room_types.specs.declared.fleet.Terminal.{Terminal}
 use Rattle.dispatch_room_csv.specs.PlanLines.{plan_line_of}

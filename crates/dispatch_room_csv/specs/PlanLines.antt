@@ -1,6 +1,6 @@
 -- What each row of a plan's file says, by its fields.
-use Rattle.std.specs.Prelude.{ℕ, List, codes, length, Bool, bytes_eq, nat_le, ◌==◌, ◌&&◌, if◌then◌else◌, Option, Some}
-use Rattle.std.specs.Prelude.{None, option_map, option_and_then}
+use Rattle.std.specs.Prelude.{ℕ, List, codes, length, Bool, bytes_eq, nat_le, ◌==◌, ◌&&◌}
+use Rattle.std.specs.Prelude.{if◌then◌else◌, Option, Some, None, option_map, option_and_then}
 use Rattle.room_place.specs.declared.plans.Rect.{Rect}
 use Rattle.room_types.specs.declared.asks.Who.{Who}
 use Rattle.room_types.specs.declared.asks.Who.TheVariants as who

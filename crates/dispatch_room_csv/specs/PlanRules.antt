@@ -2,8 +2,8 @@
 use Rattle.std.specs.Cmp.Lexicographic.{slice_cmp}
 use Rattle.std.specs.List.{list_any}
 use Rattle.std.specs.Ordering.{is_eq, nat_cmp}
-use Rattle.std.specs.Prelude.{◌≡◌, ◌<◌, ℕ, List, length, take, slice_index_or, filter, Bool, true, false, not, nat_le}
-use Rattle.std.specs.Prelude.{◌==◌, ◌&&◌, ◌||◌, is_some, Option, Some, None}
+use Rattle.std.specs.Prelude.{◌≡◌, ◌<◌, ℕ, List, length, take, slice_index_or, filter, Bool, true}
+use Rattle.std.specs.Prelude.{false, not, nat_le, ◌==◌, ◌&&◌, ◌||◌, is_some, Option, Some, None}
 use Rattle.jiff.specs.Words.{read_whole}
 use Rattle.room_place.specs.Plans.{is_division, is_rectangle, is_zone, most_areas}
 use Rattle.room_place.specs.declared.plans.Area.{Area}

@@ -1,6 +1,6 @@
 -- The fields of a row, and the numbers that they write.
-use Rattle.std.specs.Prelude.{ℕ, List, [], length, Bool, not, nat_lt, ◌^◌, ◌==◌, ◌&&◌, if◌then◌else◌, unwrap_or}
-use Rattle.std.specs.Prelude.{Option, Some, None, option_and_then}
+use Rattle.std.specs.Prelude.{ℕ, List, [], length, Bool, not, nat_lt, ◌^◌, ◌==◌, ◌&&◌}
+use Rattle.std.specs.Prelude.{if◌then◌else◌, unwrap_or, Option, Some, None, option_and_then}
 use Rattle.std.specs.Str.Parse.{digits_value}
 use Rattle.csv.specs.Records.{field_at}
 use Rattle.room_types.specs.Numerals.{are_digits, within}

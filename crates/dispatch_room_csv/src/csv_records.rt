@@ -2,7 +2,8 @@
 ghost use Rattle.std.specs.Prelude.{◌≡◌, ◌↔◌, map, IfOk, IfErr, IsTrue};
 ghost use Rattle.csv.specs.Reading.{error_kind};
 ghost use Rattle.csv.specs.Records.{fields_of};
-ghost use Rattle.dispatch_room_csv.specs.Records.{ExplainsRecords, ExplainsRows, HasRows, IsTable, records_fault};
+ghost use Rattle.dispatch_room_csv.specs.Records.{ExplainsRecords, ExplainsRows, HasRows, IsTable};
+ghost use Rattle.dispatch_room_csv.specs.Records.{records_fault};
 
 use crate::row_fields::text_at;
 use csv::{Error, ErrorKind, ReaderBuilder, StringRecord};

@@ -1,7 +1,8 @@
 //! The file of a fleet.
 ghost use Rattle.std.specs.Prelude.{◌≡◌, map, IfOk, IfErr};
 ghost use Rattle.csv.specs.Records.{fields_of};
-ghost use Rattle.dispatch_room_csv.specs.FleetFile.{ExplainsFleet, IsFleetText, fleet_line_of, fleet_row_of, kind_of};
+ghost use Rattle.dispatch_room_csv.specs.FleetFile.{ExplainsFleet, IsFleetText, fleet_line_of};
+ghost use Rattle.dispatch_room_csv.specs.FleetFile.{fleet_row_of, kind_of};
 
 use crate::csv_records::{RecordsFault, read_rows};
 use crate::row_fields::{number, text_at, whole};

@@ -1,7 +1,9 @@
 //! The file of a plan.
 ghost use Rattle.std.specs.Prelude.{◌≡◌, None, filter_map, IfOk, IfErr};
 ghost use Rattle.room_place.specs.Plans.{plan_fault};
-ghost use Rattle.dispatch_room_csv.specs.PlanFile.{ExplainsLines, ExplainsPlan, IsPlanOf, IsPlanText, area_in, plan_fault_of, rule_in, terminal_in};
+ghost use Rattle.dispatch_room_csv.specs.PlanFile.{ExplainsLines, ExplainsPlan, IsPlanOf};
+ghost use Rattle.dispatch_room_csv.specs.PlanFile.{IsPlanText, area_in, plan_fault_of, rule_in};
+ghost use Rattle.dispatch_room_csv.specs.PlanFile.{terminal_in};
 
 use crate::csv_records::{RecordsFault, read_rows};
 use crate::plan_lines::{PlanLine, plan_lines};

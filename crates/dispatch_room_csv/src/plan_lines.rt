@@ -1,7 +1,8 @@
 //! What each row of a plan's file says.
 ghost use Rattle.std.specs.Prelude.{◌≡◌, map, IfOk};
 ghost use Rattle.csv.specs.Records.{fields_of};
-ghost use Rattle.dispatch_room_csv.specs.PlanLines.{area_line, has_unused, plan_line_of, rect_of, terminal_line, terminal_of, zone_line, zone_of};
+ghost use Rattle.dispatch_room_csv.specs.PlanLines.{area_line, has_unused, plan_line_of, rect_of};
+ghost use Rattle.dispatch_room_csv.specs.PlanLines.{terminal_line, terminal_of, zone_line, zone_of};
 
 use crate::row_fields::{number, text_at, whole};
 use csv::StringRecord;

@@ -2,7 +2,10 @@
 ghost use Rattle.std.specs.List.{list_any};
 ghost use Rattle.std.specs.Prelude.{◌≡◌, length, MatchOption};
 ghost use Rattle.room_place.specs.Plans.{is_ascii};
-ghost use Rattle.dispatch_room_csv.specs.PlanRules.{AreKept, IsFirstRefused, area_count, has_area, has_token, has_zone_and_areas, is_area_line, is_area_of, is_refused, is_rule, is_sound, is_zone_line};
+ghost use Rattle.dispatch_room_csv.specs.PlanRules.{AreKept, IsFirstRefused, area_count, has_area};
+ghost use Rattle.dispatch_room_csv.specs.PlanRules.{has_token, has_zone_and_areas, is_area_line};
+ghost use Rattle.dispatch_room_csv.specs.PlanRules.{is_area_of, is_refused, is_rule, is_sound};
+ghost use Rattle.dispatch_room_csv.specs.PlanRules.{is_zone_line};
 
 use crate::plan_lines::PlanLine;
 use room_http_time::zones::Zone;

@@ -1,6 +1,7 @@
 -- Steps that were done one after another.
-use Rattle.std.proofs.Common.{◌≡◌, ◌∙◌, ap, append_assoc, List, ◌∷◌, ◌++◌, Option, None, Some, Result, Ok, Err, sym, OnOk, IsOk, IfErr}
-use Rattle.std.proofs.Common.{ℕ, [], drop, get_or, length, map, subst, take, ◌+◌, ◌<◌}
+use Rattle.std.proofs.Common.{◌≡◌, ◌∙◌, ap, append_assoc, List, ◌∷◌, ◌++◌, Option, None, Some}
+use Rattle.std.proofs.Common.{Result, Ok, Err, sym, OnOk, IsOk, IfErr, ℕ, [], drop, get_or, length}
+use Rattle.std.proofs.Common.{map, subst, take, ◌+◌, ◌<◌}
 use Rattle.std.proofs.lemmas.List.{map-append, take-append-drop, take_more}
 use Rattle.std.specs.Result.{IsErrAnd}
 use Rattle.dispatch_room_disk.specs.FileSteps.{Does, Follows, Stops}

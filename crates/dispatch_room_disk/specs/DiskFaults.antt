@@ -13,7 +13,7 @@ use Rattle.sqlite.specs.declared.error.Error.{Error}
 use Rattle.sqlite.specs.declared.error.Error.TheVariants.{SqliteFailure}
 use Rattle.sqlite.specs.declared.error.ErrorCode.TheVariants.{OutOfMemory}
 
--- what the database's errors are: lack of memory, and else a file that failed
+-- the failure for an error of the database: lack of memory, or else that the file failed
 abbrev pub fault_of : Error → Failure
 fault_of (SqliteFailure OutOfMemory) = Memory
 fault_of other = Storage
@@ -22,12 +22,12 @@ fault_of other = Storage
 abbrev pub IsFileFault : Failure → Type 0
 IsFileFault fault = (fault ≡ Memory) ⊎ (fault ≡ Storage)
 
--- what the system's errors are: lack of memory, and else a file that failed
+-- the failure for an error of the system: lack of memory, or else that the file failed
 pub record IsFaultBy (kind : ErrorKind) (fault : Failure) : Type 0 where
   pub memory : kind ≡ io.OutOfMemory → fault ≡ Memory
   pub storage : kind ≢ io.OutOfMemory → fault ≡ Storage
 
--- what they are of a file that is looked for: it is not there, or else one of these
+-- the failure for a file that can't be looked at: it is not there, or else as for any error
 pub record IsUnfoundBy (kind : ErrorKind) (fault : Failure) : Type 0 where
   pub missing : kind ≡ io.NotFound → fault ≡ File
   pub there : kind ≢ io.NotFound → IsFaultBy kind fault
@@ -38,7 +38,7 @@ IsUnopenedBy opening.OutOfMemory fault = fault ≡ Memory
 IsUnopenedBy (opening.Io error) fault = IsFaultBy (error_kind error) fault
 IsUnopenedBy other fault = fault ≡ Storage
 
--- what came of beginning a database: one that is there already is good
+-- what came of beginning a database: one that is there already is no failure
 abbrev pub begun_by : Result (Unit {0}) PageError → Result (Unit {0}) Failure
 begun_by (Ok done) = Ok done
 begun_by (Err page.Corrupt) = Ok tt

@@ -1,8 +1,8 @@
 -- The steps by which a copy of a room is put in the place of a file.
 use Rattle.std.specs.Prelude.{ℕ, List, [], ◌∷◌, ◌++◌, Bool, map, codes, if◌then◌else◌}
 
--- A step, by the path of FILE. What is removed or set aside is a file, or with an end behind its
--- name one that a database has beside it.
+-- A step, by the path of FILE. What is removed or set aside is the file itself, if the end is
+-- empty, or else the file with this end that a database keeps beside it.
 pub data Step : Type 0 where
   -- another file is not FILE itself
   distinguished : List ℕ → List ℕ → Step

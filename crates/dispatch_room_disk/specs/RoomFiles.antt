@@ -1,8 +1,8 @@
 -- The database of a room's file: as it is opened, and as it is closed.
 use Rattle.std.specs.Prelude.{Err, List, Ok, Option, Result, ℕ, ◌≡◌, ◌⊎◌}
 use Rattle.sqlite.specs.Closing.{IsCopied}
-use Rattle.sqlite.specs.Files.{FailsToClose, Finds, IsCleanLeft, IsClosed, IsOpened, LeavesFiles, file_state}
-use Rattle.sqlite.specs.Files.{over_files}
+use Rattle.sqlite.specs.Files.{FailsToClose, Finds, IsCleanLeft, IsClosed, IsOpened, LeavesFiles}
+use Rattle.sqlite.specs.Files.{file_state, over_files}
 use Rattle.sqlite.specs.Held.{Held}
 use Rattle.sqlite.specs.State.{HasCleanDisk}
 use Rattle.sqlite.specs.declared.error.Error.{Error}

@@ -65,7 +65,7 @@ pub(crate) fn explain_undone(explainer: Explainer<'_>, file: RoomFile<'_>, fault
     }
 }
 
-/// Explains that a file failed in the midst of what was done in it, where it could be closed.
+/// Explains that a file failed during the work in it, though it could be closed.
 pub(crate) fn explain_failed<T: Drop>(
     explainer: Explainer<'_>,
     file: RoomFile<'_>,

@@ -4,8 +4,8 @@ use std::fs::{self, DirEntry, Metadata};
 use std::io;
 use std::os::unix::fs::MetadataExt;
 
-/// The number of a process that has a file open and a lock on it, where the system reports it: of
-/// another user's processes it does not.
+/// The id of a process that has a file open and locked. `None` if there is none, or the system
+/// doesn't show it, as of another user's processes.
 pub fn holder(rt: &HostRuntime, path: &str) -> Option<u32> {
     let file = fs::metadata(rt, path).ok()?;
     for entry in fs::read_dir(rt, "/proc").ok()? {
@@ -27,7 +27,7 @@ fn holds(rt: &HostRuntime, process: u32, file: &Metadata) -> io::Result<bool> {
     let open = format!(in rt.alloc(); "/proc/{process}/fd")?;
     for entry in fs::read_dir(rt, open.as_str())? {
         let entry = entry?;
-        // One that was closed since is not it.
+        // A file that was closed meanwhile is skipped.
         if let Ok(found) = fs::metadata(rt, entry.path())
             && is_same(&found, file)
             && is_locked(rt, process, entry.file_name())?

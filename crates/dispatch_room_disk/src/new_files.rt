@@ -20,8 +20,8 @@ use std::fs::{File, OpenOptions};
 use std::io::{self, ErrorKind};
 use std::os::unix::fs::OpenOptionsExt;
 
-// How many bytes a page of a new room has. A write writes each page whole on which a row changes,
-// and a row has some hundred bytes. Left to choose, the database makes pages of 4,096.
+// How many bytes a page of a new room has. Each page on which a row changes is written whole, and a
+// row has about a hundred bytes. The database's default is 4,096.
 const PAGE: usize = 512;
 
 /// Begins an empty database in the file of a room where it holds none.
@@ -45,7 +45,8 @@ pub(crate) fn make_private(rt: &HostRuntime, path: &str) -> Result<(), Failure>
     made(&private_options().open(rt, path))
 }
 
-// What is reported of a file that was to be made, where none was there.
+// What is reported of making a file: only lack of memory. Any other failure is reported by what
+// opens the file.
 fn made(file: &io::Result<File>) -> Result<(), Failure>
     ensures fault { IfErr result (λ fault. fault ≡ Memory) }
     ensures memory { IfErr file.now (λ error. error_kind error ≡ ErrorKind.OutOfMemory
@@ -60,7 +61,7 @@ fn made(file: &io::Result<File>) -> Result<(), Failure>
     }
 }
 
-// How that file is opened: one that is there is not, and so stays as it is.
+// How that file is opened: only if it is not there yet, so one that is there stays as it is.
 fn private_options() -> OpenOptions
     ensures { result.create_new ≡ true }
 {
@@ -72,8 +73,8 @@ fn private_options() -> OpenOptions
 }
 
 // Begins an empty database in files that hold none, and gives them back. A stop on the way leaves
-// no database, which can be begun again, or an empty one. Files that hold one are left as they are,
-// also where it fails.
+// no database, so that one can be begun again, or an empty one. Files that hold one stay as they
+// are, even if this fails.
 fn begin<D: Disk + Drop>(
     alloc: Global,
     explainer: Explainer<'_>,
@@ -101,8 +102,8 @@ fn begin<D: Disk + Drop>(
     (made, pool.close())
 }
 
-// What beginning a database came to: files that hold one already are refused as `Corrupt`. Explains
-// why where it failed.
+// What came of beginning a database. Files that hold one already are refused as `Corrupt`, which is
+// no failure here. Explains why if the files failed.
 fn begun(explainer: Explainer<'_>, path: &str, created: Result<(), Error>) -> Result<(), Failure>
     ensures done { OnOk result (IfErr created (λ error. error ≡ Corrupt)) }
     ensures fault { IfErr result IsFileFault }

@@ -1,11 +1,12 @@
-//! The log that is made beside a room's file as the file is opened: it goes again where nothing
-//! comes of that.
+//! The log that is made beside a room's file as the file is opened. It is removed again if no
+//! database is found there.
 ghost use Rattle.std.specs.Prelude.{◌≡◌, ◌&&◌, nat_eq};
 
 use std::fs;
 use std::io::ErrorKind;
 
-/// The path of the log that a file lacks. It lies where the file does, to which a link may lead.
+/// The path of a file's log, if there is no log yet. The log lies beside the file itself, also if
+/// the path is a link to it.
 pub(crate) fn lacked_log(rt: &HostRuntime, path: &str) -> Option<String> {
     let file = fs::canonicalize(rt, path).ok()?;
     let log = format!(in rt.alloc(); "{}-wal", file.as_str()).ok()?;
@@ -15,9 +16,9 @@ pub(crate) fn lacked_log(rt: &HostRuntime, path: &str) -> Option<String> {
     }
 }
 
-/// Removes a log that was lacked, where nothing stands in it. Who calls this has it locked, so
-/// nobody else writes it. One that can't be removed is left: why the file was opened in vain is
-/// reported all the same.
+/// Removes a log that was not there before, if it is empty. The caller has it locked, so nobody
+/// else writes it. If it can't be removed it stays: why the file could not be used is reported
+/// anyway.
 pub(crate) fn remove_unused(rt: &HostRuntime, lacked: Option<String>) {
     if let Some(log) = lacked
         && let Ok(found) = fs::symlink_metadata(rt, log.as_str())
@@ -27,7 +28,7 @@ pub(crate) fn remove_unused(rt: &HostRuntime, lacked: Option<String>) {
     }
 }
 
-// Whether a log has no pages.
+// Whether a log is a file without pages.
 fn is_unused(is_file: bool, len: u64) -> bool
     ensures { result ≡ is_file && nat_eq len 0 }
 {

@@ -12,7 +12,8 @@ use std::hash::{BuildHasher, RandomState};
 use std::io::ErrorKind;
 
 // How many pages that were read or written are kept in memory: 2 MiB of a new room. The database
-// gives each page one place there, by its number, and reads it anew where that is another's.
+// gives each page one place there, by its number, and reads the page again if another one has taken
+// that place.
 const CACHE_PAGES: usize = 4096;
 
 // How many written pages the log holds before they are copied into the file: 4 MiB of a new room,
@@ -20,7 +21,8 @@ const CACHE_PAGES: usize = 4096;
 // for a millisecond and more, and costs less the more often each page was written.
 const LOG_PAGES: usize = 8192;
 
-/// The files of a room, and how the database keeps them. Explains why where they can't be opened.
+/// Opens the files of a room, and returns them with how the database keeps them. Explains why if
+/// they can't be opened.
 pub fn open_files<S: Start>(
     rt: &HostRuntime,
     explainer: Explainer<'_>,

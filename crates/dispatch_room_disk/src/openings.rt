@@ -1,4 +1,4 @@
-//! How a room's file is opened: what is done before, and what is not.
+//! The steps by which a room's file is opened, in their order.
 ghost use Rattle.std.specs.Prelude.{◌≡◌, ◌⊎◌, [], ◌∷◌, IfErr, IfOk, List, Option};
 ghost use Rattle.dispatch_room_cli.specs.declared.exit_status.Failure.TheVariants as failure;
 ghost use Rattle.dispatch_room_disk.specs.DiskFaults.{IsFileFault};
@@ -19,7 +19,8 @@ pub(crate) trait Opening {
     // What holds of files that were opened.
     ghost usable: { Self → Self.Opened → Type 0 };
 
-    /// Finds that a database was begun in a file.
+    /// Checks that a database was begun in a file. It fails as `File` if none was, or there is no
+    /// file.
     fn find(&mut self, path: &str) -> Result<(), Failure>
         ensures done { Follows (found path.now ∷ []) (done self.old) (done self.new) result }
         ensures fault { IfErr result (λ fault. (fault ≡ failure.File) ⊎ IsFileFault fault) };
@@ -41,7 +42,7 @@ pub(crate) trait Opening {
         ensures fault { IfErr result IsFileFault };
 }
 
-/// Opens a room's file, as it is wanted.
+/// Opens a room's file, by the steps of its kind.
 pub(crate) fn opened<C: Opening>(calls: &mut C, file: RoomFile<'_>) -> Result<C::Opened, Failure>
     ensures done { Follows (opening file.entry) (C.done calls.old) (C.done calls.new) result }
     ensures usable { IfOk result (C.usable calls.new) }
@@ -53,7 +54,7 @@ pub(crate) fn opened<C: Opening>(calls: &mut C, file: RoomFile<'_>) -> Result<C:
     }
 }
 
-// Opens a file that has to be there.
+// Opens a file that must be there.
 fn opened_found<C: Opening>(calls: &mut C, path: &str) -> Result<C::Opened, Failure>
     ensures done { Follows (found path.now ∷ opened path.now ∷ []) (C.done calls.old)
         (C.done calls.new) result }
@@ -64,7 +65,8 @@ fn opened_found<C: Opening>(calls: &mut C, path: &str) -> Result<C::Opened, Fail
     calls.open(path)
 }
 
-// Opens a file that is made where none is there, and holds a database then.
+// Opens a file that is made first if it is not there, and in which a database is begun if it holds
+// none.
 fn opened_new<C: Opening>(calls: &mut C, path: &str) -> Result<C::Opened, Failure>
     ensures done { Follows (made path.now ∷ begun path.now ∷ opened path.now ∷ [])
         (C.done calls.old) (C.done calls.new) result }

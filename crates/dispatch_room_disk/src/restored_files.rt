@@ -1,10 +1,13 @@
 //! A copy of a room, put in the place of a file.
-ghost use Rattle.std.specs.Prelude.{◌≡◌, ◌≢◌, ◌⊎◌, [], ◌∷◌, ◌++◌, IfErr, IsErrAnd, IsOk, List, None, OnOk, Option, Bool, map};
+ghost use Rattle.std.specs.Prelude.{◌≡◌, ◌≢◌, ◌⊎◌, [], ◌∷◌, ◌++◌, IfErr, IsErrAnd, IsOk, List};
+ghost use Rattle.std.specs.Prelude.{None, OnOk, Option, Bool, map};
 ghost use Rattle.std.specs.IoError.{error_kind};
 ghost use Rattle.dispatch_room_cli.specs.declared.exit_status.Failure.TheVariants as failure;
 ghost use Rattle.dispatch_room_disk.specs.DiskFaults.{IsFaultBy, IsFileFault};
 ghost use Rattle.dispatch_room_disk.specs.FileSteps.{Does, Follows};
-ghost use Rattle.dispatch_room_disk.specs.ReplacingSteps.{Step, copied, distinguished, ends, held, looked, put, putting, removed, replacing, set_aside, setting_aside, synced};
+ghost use Rattle.dispatch_room_disk.specs.ReplacingSteps.{Step, copied, distinguished, ends, held};
+ghost use Rattle.dispatch_room_disk.specs.ReplacingSteps.{looked, put, putting, removed, replacing};
+ghost use Rattle.dispatch_room_disk.specs.ReplacingSteps.{set_aside, setting_aside, synced};
 
 use crate::file_causes::explain_unopened;
 use crate::systems::System;
@@ -31,14 +34,13 @@ pub trait Replacing {
             (done self.new) result }
         ensures fault { IfErr result (λ fault. fault ≡ failure.File) };
 
-    /// Locks the files that are there, so that nobody serves them meanwhile. A file that is
-    /// damaged, or beside which another program left a journal, is no hindrance.
+    /// Locks the files that are there, so that nobody serves them meanwhile. A damaged file is no
+    /// obstacle, nor is a journal that another program left beside it.
     fn hold(&mut self, path: &str) -> Result<Self::Held, Failure>
         ensures done { Follows (held path.now ∷ []) (done self.old) (done self.new) result }
         ensures fault { IfErr result IsFileFault };
 
-    /// Copies a file whole to FILE.new, which only its owner may read, and which is on the disk
-    /// then.
+    /// Copies a whole file to FILE.new, which only its owner may read, and syncs it.
     fn copy(&mut self, copy: &str, path: &str) -> io::Result<()>
         ensures done { Follows (copied copy.now path.now ∷ []) (done self.old) (done self.new)
             result };
@@ -47,28 +49,29 @@ pub trait Replacing {
     fn is_there(&mut self, path: &str) -> bool
         ensures done { Does (looked path.now result ∷ []) (done self.old) (done self.new) };
 
-    /// Removes what was set aside before, where it is there.
+    /// Removes FILE.old with this end, if it is there.
     fn remove(&mut self, path: &str, end: &str) -> io::Result<()>
         ensures done { Follows (removed path.now end.now ∷ []) (done self.old) (done self.new)
             result };
 
-    /// Sets aside a file, or one beside it, where it is there.
+    /// Renames FILE with this end to FILE.old with it, if it is there.
     fn set_aside(&mut self, path: &str, end: &str) -> io::Result<()>
         ensures done { Follows (set_aside path.now end.now ∷ []) (done self.old) (done self.new)
             result };
 
-    /// Gives the copy the name of the file.
+    /// Renames FILE.new to FILE.
     fn put(&mut self, path: &str) -> io::Result<()>
         ensures done { Follows (put path.now ∷ []) (done self.old) (done self.new) result };
 
-    /// Brings the names of the file's folder to the disk.
+    /// Syncs the file's folder, so that the new names last.
     fn sync(&mut self, path: &str) -> io::Result<()>
         ensures done { Follows (synced path.now ∷ []) (done self.old) (done self.new) result };
 }
 
-/// Puts a copy of a room in the place of a file, where neither is served. What was there goes to
-/// FILE.old, with its log: first the file, then its log, and then the copy comes. So whenever this
-/// is stopped there is no file, or one beside which lies no log of another.
+/// Puts a copy of a room in the place of a file, unless the file is in use, or is the copy itself
+/// (`File`). What was there goes to FILE.old, with its log: first the file, then its log; only then
+/// does the copy get the name. So whenever this is stopped there is no file, or one beside which
+/// lies no log of another.
 pub fn put_in_place<R: Replacing>(
     calls: &mut R,
     explainer: Explainer<'_>,
@@ -86,7 +89,7 @@ pub fn put_in_place<R: Replacing>(
     put_by(explainer, path, &put)
 }
 
-// What is reported of what came of it. Explains why where it failed.
+// What is reported of the replacement. Explains why if it failed.
 fn put_by(explainer: Explainer<'_>, path: &str, put: &io::Result<()>) -> Result<(), Failure>
     ensures done { OnOk put.now (IsOk result) }
     ensures fault { IfErr put.now (λ error. IsErrAnd result (IsFaultBy (error_kind error))) }
@@ -100,7 +103,7 @@ fn put_by(explainer: Explainer<'_>, path: &str, put: &io::Result<()>) -> Result<
     }
 }
 
-// What an error of the system is to the program.
+// The program's failure for an error of the system.
 fn fault_by(kind: ErrorKind) -> Failure
     ensures fault { IsFileFault result }
     ensures cause { IsFaultBy kind result }
@@ -158,7 +161,7 @@ fn remove_old<R: Replacing>(calls: &mut R, path: &str) -> io::Result<()>
     calls.remove(path, "")
 }
 
-// What was done with a file of the system no contract can say.
+// No contract can say what was done with a file of the system.
 impl<'a> Replacing for System<'a> {
     type Held = Option<Files<File>>;
 
@@ -237,7 +240,7 @@ fn hold(
     }
 }
 
-// Copies a file whole to another one, which only its owner may read, and which is on the disk then.
+// Copies a whole file in the place of another one, which only its owner may read, and syncs that.
 fn copy_whole(rt: &HostRuntime, from: &str, to: &str) -> io::Result<()> {
     unless_missing(fs::remove_file(rt, to))?;
     let mut source = fs::open(rt, from)?;
@@ -250,7 +253,7 @@ fn copy_whole(rt: &HostRuntime, from: &str, to: &str) -> io::Result<()> {
     target.sync_all()
 }
 
-// What was done, where it is done too if there was no such file.
+// The result of a call that succeeds, too, if there was no such file.
 fn unless_missing(done: io::Result<()>) -> io::Result<()>
     ensures done { OnOk done (IsOk result) }
     ensures missing { IfErr done (λ error. error_kind error ≡ ErrorKind.NotFound → IsOk result) }
@@ -262,7 +265,7 @@ fn unless_missing(done: io::Result<()>) -> io::Result<()>
     }
 }
 
-// Brings the names of a file's folder to the disk.
+// Syncs a file's folder, so that new names last.
 fn sync_folder(rt: &HostRuntime, path: &str) -> io::Result<()> {
     let folder = match path.rsplit_once('/') {
         Some(("", _)) => "/",

@@ -1,11 +1,14 @@
 //! The file of a room: found or made, opened, worked in, and closed.
-ghost use Rattle.std.specs.Prelude.{◌≡◌, ◌⊎◌, Err, Ok, None, true, false, IfErr, IfOk, IsOk, IsTrue, OnOk};
+ghost use Rattle.std.specs.Prelude.{◌≡◌, ◌⊎◌, Err, Ok, None, true, false, IfErr, IfOk, IsOk};
+ghost use Rattle.std.specs.Prelude.{IsTrue, OnOk};
 ghost use Rattle.std.specs.IoError.{error_kind};
 ghost use Rattle.sqlite.specs.Files.{file_state};
 ghost use Rattle.sqlite.specs.State.{HasCleanDisk};
 ghost use Rattle.dispatch_room_cli.specs.declared.exit_status.Failure.TheVariants as failure;
 ghost use Rattle.dispatch_room_disk.specs.DiskFaults.{IsFileFault, IsUnfoundBy, fault_of};
-ghost use Rattle.dispatch_room_disk.specs.RoomFiles.{IsConnected, IsCopiedOut, IsDone, IsDoneInFile, IsFound, IsUnclosed, IsUndone, IsUndoneInFile, IsUnharmed, Refusing, Saying};
+ghost use Rattle.dispatch_room_disk.specs.RoomFiles.{IsConnected, IsCopiedOut, IsDone};
+ghost use Rattle.dispatch_room_disk.specs.RoomFiles.{IsDoneInFile, IsFound, IsUnclosed, IsUndone};
+ghost use Rattle.dispatch_room_disk.specs.RoomFiles.{IsUndoneInFile, IsUnharmed, Refusing, Saying};
 ghost use Rattle.dispatch_room_disk.specs.SystemFiles.{system};
 
 use crate::file_causes::{explain_failed, explain_unbegun, explain_undone};
@@ -23,15 +26,15 @@ use std::alloc::Global;
 use std::fs;
 use std::io::{self, ErrorKind, Read, Write};
 
-/// The file of a room, as a command wants it.
+/// The file of a room, and what a command requires of it.
 #[derive(Clone, Copy)]
 pub enum RoomFile<'a> {
-    /// It has to be there. A file in which no database was begun is none, and stays as it is: to
-    /// the database it is a new one, whose first page would be written.
+    /// It must be there. A file in which no database was begun is refused, and stays as it is: the
+    /// database would take it for a new one, and write its first page.
     Kept(&'a str),
-    /// It has to be there too, and to hold a room of version 1.
+    /// It must be there too, and hold a room of version 1.
     Old(&'a str),
-    /// It is made where it is not there, for its owner only.
+    /// It is made if it is not there, for its owner only.
     New(&'a str),
 }
 
@@ -44,7 +47,7 @@ impl<'a> RoomFile<'a> {
 }
 
 /// What is done in the file of a room, over any storage. A proof about a file of the system opens
-/// all that is inside it, so `in_file` has one, and hands it on as a file on any disk.
+/// all that is inside it, so only `in_file` has one, and hands the file on as one on any disk.
 pub trait RoomTask: Drop {
     /// What comes of it.
     type Done: Drop;
@@ -71,8 +74,8 @@ pub trait RoomTask: Drop {
             (O.contents out.old) (O.contents out.new)) };
 }
 
-/// Does what is to be done in a room's file, and closes the file with all that was committed in it.
-/// Explains why where the file can't be opened or closed, or the work can't be done in it.
+/// Does a task in a room's file, and closes the file with all that was committed in it. Explains
+/// why if the file can't be opened or closed, or the task can't be done in it.
 pub fn in_file<W: RoomTask, O: Write>(
     rt: &HostRuntime,
     explainer: Explainer<'_>,
@@ -159,8 +162,8 @@ fn copied_out<D: Disk + Drop>(
     }
 }
 
-// A connection to the file of a room. A log that the file lacked is not there afterwards where none
-// comes of it.
+// Connects to the file of a room. An empty log that was not there before is removed again if the
+// files that were opened hold no database.
 fn connect(
     rt: &HostRuntime,
     explainer: Explainer<'_>,
@@ -175,7 +178,7 @@ fn connect(
     connection(rt, explainer, file.path(), lacked, files, options)
 }
 
-// What was done with a file of the system no contract can say.
+// No contract can say what was done with a file of the system.
 impl<'a> Opening for System<'a> {
     type Opened = (Files<File>, Options);
 
@@ -203,8 +206,8 @@ impl<'a> Opening for System<'a> {
     }
 }
 
-// A connection to the database that files hold. Where they hold none, a log that was lacked is
-// removed while the files are still locked.
+// A connection to the database that files hold. If that fails, an empty log that was not there
+// before is removed while the files are still locked.
 fn connection<D: Disk + Drop>(
     rt: &HostRuntime,
     explainer: Explainer<'_>,
@@ -266,7 +269,7 @@ fn is_begun(rt: &HostRuntime, path: &str) -> io::Result<bool> {
     Ok(first[0] != 0)
 }
 
-// What an error of the database is to the program, and it is explained.
+// Explains an error of the database, and returns the program's failure for it.
 fn fault_of(explainer: Explainer<'_>, path: &str, error: Error) -> Failure
     ensures { result ≡ fault_of error }
 {

@@ -9,7 +9,8 @@ use Rattle.dispatch_room_dry_run.specs.Example.{IsDryRun}
 use Rattle.dispatch_room_cli.specs.declared.exit_status.Done.{Done}
 use Rattle.dispatch_room_cli.specs.declared.exit_status.Done.TheVariants.{Whole}
 use Rattle.dispatch_room_cli.specs.declared.exit_status.Failure.{Failure}
-use Rattle.dispatch_room_cli.specs.declared.exit_status.Failure.TheVariants.{Connection, Journal, Memory, Network}
+use Rattle.dispatch_room_cli.specs.declared.exit_status.Failure.TheVariants.{Connection, Journal}
+use Rattle.dispatch_room_cli.specs.declared.exit_status.Failure.TheVariants.{Memory, Network}
 
 -- a program that serves one connection is done where it closed, and else fails
 abbrev pub ended : ServeEnd → Result Done Failure

@@ -1,5 +1,6 @@
 //! The dry run: the example room in memory, served over one connection, always at the same moment.
-ghost use Rattle.std.specs.Prelude.{◌≡◌, ℕ, Bool, false, [], Some, replicate, IfOk, IfErr, OnOk, OnErr};
+ghost use Rattle.std.specs.Prelude.{◌≡◌, ℕ, Bool, false, [], Some, replicate, IfOk, IfErr, OnOk};
+ghost use Rattle.std.specs.Prelude.{OnErr};
 ghost use Rattle.room_http.specs.Session.{ReadsAtMost};
 ghost use Rattle.room_model.specs.Rooms.{IsUnavailable};
 ghost use Rattle.dispatch_room_dry_run.specs.Example.{IsExampleDialogue};

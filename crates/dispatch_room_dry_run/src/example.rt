@@ -4,7 +4,8 @@ ghost use Rattle.std.specs.Prelude.{◌≡◌, ◌+◌, ◌≤◌, true, Ok, IfO
 ghost use Rattle.room_place.specs.References.{parse as reading};
 ghost use Rattle.room_place.specs.declared.places.Place.{Place as Spot};
 ghost use Rattle.room_types.specs.Texts.{is_callsign, is_token};
-ghost use Rattle.dispatch_room_dry_run.specs.Example.{example_fleet, example_plan, example_terminals};
+ghost use Rattle.dispatch_room_dry_run.specs.Example.{example_fleet, example_plan};
+ghost use Rattle.dispatch_room_dry_run.specs.Example.{example_terminals};
 
 use room_place::places::Place;
 use room_place::plans::{Area, DivisionNumber, Plan, Rect};

@@ -6,7 +6,8 @@ ghost use Rattle.room_model.specs.Rooms.{IsUnavailable};
 ghost use Rattle.room_store_writes.specs.NewRoom.{in_order, new_room};
 ghost use Rattle.room_store.specs.StoredRoom.{IsReady, IsRoom};
 ghost use Rattle.room_store.specs.declared.store_creation.CreateFault.TheVariants.{Memory, Storage};
-ghost use Rattle.dispatch_room_dry_run.specs.Example.{example_plan, example_terminals, room_with_fleet, terminals_with_crews};
+ghost use Rattle.dispatch_room_dry_run.specs.Example.{example_plan, example_terminals};
+ghost use Rattle.dispatch_room_dry_run.specs.Example.{room_with_fleet, terminals_with_crews};
 
 use crate::example::{fleet, plan, terminals};
 use room_store::store::Store;

@@ -1,6 +1,7 @@
 -- Lemmas on digests.
 use Rattle.std.proofs.Common.{◌≡◌, refl, arith, ℕ, ◌/◌, ◌%◌, ◌<◌, List, [], ◌∷◌, get_or, true, All}
-use Rattle.std.proofs.lemmas.List.Elements.{All-from_recursion, All-get_or, All-cons, All-nil, All-head, All-tail}
+use Rattle.std.proofs.lemmas.List.Elements.{All-from_recursion, All-get_or, All-cons, All-nil}
+use Rattle.std.proofs.lemmas.List.Elements.{All-head, All-tail}
 use Rattle.hex.specs.Hex.{encode_with, encode_lower, lower_digits}
 use Rattle.dispatch_room_journal.specs.Entries.{is_digest_digit}
 

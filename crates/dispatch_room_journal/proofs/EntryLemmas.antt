@@ -1,16 +1,19 @@
 -- Lemmas on entries: what a text begins with.
-use Rattle.std.proofs.Common.{◌≡◌, ◌≢◌, ◌∙◌, sym, ap, subst, refl, arith, ℕ, ◌+◌, ◌-◌, ◌<◌, ◌≤◌, List, [], ◌∷◌, ◌++◌}
-use Rattle.std.proofs.Common.{length, take, drop, drop-cons, add-one, take-append-drop, length-take-le, get_or, ◌⊎◌}
-use Rattle.std.proofs.Common.{inl, inr, replicate, append-nil, append_assoc, length-append}
+use Rattle.std.proofs.Common.{◌≡◌, ◌≢◌, ◌∙◌, sym, ap, subst, refl, arith, ℕ, ◌+◌, ◌-◌, ◌<◌, ◌≤◌}
+use Rattle.std.proofs.Common.{List, [], ◌∷◌, ◌++◌, length, take, drop, drop-cons, add-one}
+use Rattle.std.proofs.Common.{take-append-drop, length-take-le, get_or, ◌⊎◌, inl, inr, replicate}
+use Rattle.std.proofs.Common.{append-nil, append_assoc, length-append}
 use Rattle.std.proofs.Math.Seq.{get_or-append_seam}
 use Rattle.std.proofs.lemmas.List.{length-replicate, drop_at, get_or_append_left}
 use Rattle.std.proofs.lemmas.List.Elements.{All-head, All-tail}
 use Rattle.room_model.specs.declared.digests.Head.{Head}
 use Rattle.room_model.specs.declared.digests.Version.TheVariants.{First}
 use Rattle.dispatch_room_journal.specs.declared.entry_lines.EntryLine.{EntryLine}
-use Rattle.dispatch_room_journal.specs.declared.entry_lines.EntryLine.TheVariants.{Room, Message, Answer}
-use Rattle.dispatch_room_journal.specs.Entries.{Entry, room, message, answer, IsLine, IsEntry, line_text, line_of}
-use Rattle.dispatch_room_journal.specs.Entries.{rest_of, text_of, texts_of, IsPart, IsForeign}
+use Rattle.dispatch_room_journal.specs.declared.entry_lines.EntryLine.TheVariants.{Room, Message}
+use Rattle.dispatch_room_journal.specs.declared.entry_lines.EntryLine.TheVariants.{Answer}
+use Rattle.dispatch_room_journal.specs.Entries.{Entry, room, message, answer, IsLine, IsEntry}
+use Rattle.dispatch_room_journal.specs.Entries.{line_text, line_of, rest_of, text_of, texts_of}
+use Rattle.dispatch_room_journal.specs.Entries.{IsPart, IsForeign}
 use Rattle.dispatch_room_journal.specs.declared.entry_prefixes.EntryLayout.{EntryLayout}
 use Rattle.dispatch_room_journal.specs.EntryPrefixes.{IsLayout}
 use Rattle.dispatch_room_journal.specs.Laws.{IsOneEntry, IsNoEnd, IsOneJournal}

@@ -1,12 +1,14 @@
 -- Lemmas on a record that is one entry.
-use Rattle.std.proofs.Common.{◌≡◌, ◌∙◌, refl, sym, ap, arith, ℕ, List, [], ◌∷◌, ◌++◌, length, length-append, drop}
-use Rattle.std.proofs.Common.{append-nil, Bool, true, false, inl, inr, ◌⊎◌, ◌↔◌, IsTrue}
+use Rattle.std.proofs.Common.{◌≡◌, ◌∙◌, refl, sym, ap, arith, ℕ, List, [], ◌∷◌, ◌++◌, length}
+use Rattle.std.proofs.Common.{length-append, drop, append-nil, Bool, true, false, inl, inr, ◌⊎◌}
+use Rattle.std.proofs.Common.{◌↔◌, IsTrue}
 use Rattle.std.proofs.lemmas.Bool.{false≢true}
 use Rattle.dispatch_room_journal.specs.declared.entry_prefixes.EntryLayout.{EntryLayout}
 use Rattle.room_model.specs.declared.digests.Head.{Head}
 use Rattle.dispatch_room_journal.specs.declared.entry_lines.EntryLine.TheVariants.{Room}
 use Rattle.dispatch_room_journal.specs.declared.row_runs.Behind.TheVariants.{Other}
-use Rattle.dispatch_room_journal.specs.Entries.{Begins, Entry, IsEntry, IsForeign, IsPart, line_of, room, text_of}
+use Rattle.dispatch_room_journal.specs.Entries.{Begins, Entry, IsEntry, IsForeign, IsPart, line_of}
+use Rattle.dispatch_room_journal.specs.Entries.{room, text_of}
 use Rattle.dispatch_room_journal.specs.RowRuns.{HeadIs}
 use Rattle.dispatch_room_journal.specs.EntryPrefixes.{IsLayout}
 use Rattle.dispatch_room_journal.proofs.EntryLemmas.{no_end_law, one_entry_law}

@@ -1,11 +1,14 @@
 -- Lemmas on why a replay stops.
-use Rattle.std.proofs.Common.{◌≡◌, ◌∙◌, sym, ap, subst, refl, arith, ℕ, ◌<◌, ◌≢◌, List, [], ◌∷◌, ◌++◌, length, drop}
-use Rattle.std.proofs.Common.{append-nil, length-drop, Bool, true, false, Option, Some, None, Err, inl, inr}
+use Rattle.std.proofs.Common.{◌≡◌, ◌∙◌, sym, ap, subst, refl, arith, ℕ, ◌<◌, ◌≢◌, List, [], ◌∷◌}
+use Rattle.std.proofs.Common.{◌++◌, length, drop, append-nil, length-drop, Bool, true, false}
+use Rattle.std.proofs.Common.{Option, Some, None, Err, inl, inr}
 use Rattle.std.specs.Io.KnownBytes.{Consumes}
 use Rattle.room_types.specs.declared.refusal_statuses.Refusal.{Refusal}
 use Rattle.room_http_messages.specs.declared.messages.Layout.{Layout as MessageLayout}
 use Rattle.room_http_messages.specs.declared.message_prefixes.MessagePrefix.{MessagePrefix}
-use Rattle.room_http_messages.specs.declared.message_prefixes.MessagePrefix.TheVariants.{Whole, Refused, Needs}
+use Rattle.room_http_messages.specs.declared.message_prefixes.MessagePrefix.TheVariants.{Whole}
+use Rattle.room_http_messages.specs.declared.message_prefixes.MessagePrefix.TheVariants.{Refused}
+use Rattle.room_http_messages.specs.declared.message_prefixes.MessagePrefix.TheVariants.{Needs}
 use Rattle.room_http_messages.specs.declared.read_faults.Unread.TheVariants as unread
 use Rattle.room_http_messages.specs.Layouts.{IsWhole, LookIs}
 use Rattle.room_http_messages.specs.Messages.{IsRefused, IsPart as IsPartOfMessage}
@@ -16,19 +19,23 @@ use Rattle.room_model.specs.declared.digests.Miss.{Miss}
 use Rattle.room_model.specs.declared.digests.Miss.TheVariants as miss
 use Rattle.room_model.specs.declared.digests.Head.{Head}
 use Rattle.dispatch_room_journal.specs.declared.entry_reader.EntryFault.{EntryFault}
-use Rattle.dispatch_room_journal.specs.declared.entry_reader.EntryFault.TheVariants.{Cut, Foreign, Read}
+use Rattle.dispatch_room_journal.specs.declared.entry_reader.EntryFault.TheVariants.{Cut, Foreign}
+use Rattle.dispatch_room_journal.specs.declared.entry_reader.EntryFault.TheVariants.{Read}
 use Rattle.dispatch_room_journal.specs.Entries.{Entry, message, IsEntry, text_of, texts_of, Begins}
 use Rattle.dispatch_room_journal.specs.EntryReadings.{SaysOf, FirstIs}
 use Rattle.dispatch_room_journal.specs.declared.replay_faults.ReplayFault.{ReplayFault}
-use Rattle.dispatch_room_journal.specs.declared.replay_faults.ReplayFault.TheVariants.{Bad, Differs, OtherRoom}
-use Rattle.dispatch_room_journal.specs.declared.replay_faults.ReplayFault.TheVariants.{ReadFailed, WriteFailed}
+use Rattle.dispatch_room_journal.specs.declared.replay_faults.ReplayFault.TheVariants.{Bad, Differs}
+use Rattle.dispatch_room_journal.specs.declared.replay_faults.ReplayFault.TheVariants.{OtherRoom}
+use Rattle.dispatch_room_journal.specs.declared.replay_faults.ReplayFault.TheVariants.{ReadFailed}
+use Rattle.dispatch_room_journal.specs.declared.replay_faults.ReplayFault.TheVariants.{WriteFailed}
 use Rattle.dispatch_room_journal.specs.declared.replay_faults.ReplayFault.TheVariants.{Unavailable}
 use Rattle.dispatch_room_journal.specs.declared.replay_faults.Stopped.{Stopped}
 use Rattle.dispatch_room_journal.specs.ReplayedTurns.{Open, Turn, BeginsWith}
 use Rattle.dispatch_room_journal.specs.Replays.{Unless}
-use Rattle.dispatch_room_journal.specs.ReplayFaults.{read_fault, miss_fault, IsBroken, IsNoMessage, IsUnavailableFault}
-use Rattle.dispatch_room_journal.specs.ReplayFaults.{IsPlayedFor, IsBad, broken, unasked, headless, no_message}
-use Rattle.dispatch_room_journal.specs.ReplayFaults.{broken_after, too_many, Explains, IsDueTo, Refuses}
+use Rattle.dispatch_room_journal.specs.ReplayFaults.{read_fault, miss_fault, IsBroken, IsNoMessage}
+use Rattle.dispatch_room_journal.specs.ReplayFaults.{IsUnavailableFault, IsPlayedFor, IsBad, broken}
+use Rattle.dispatch_room_journal.specs.ReplayFaults.{unasked, headless, no_message, broken_after}
+use Rattle.dispatch_room_journal.specs.ReplayFaults.{too_many, Explains, IsDueTo, Refuses}
 
 pub not_both : (b : Bool) → b ≡ false → b ≡ true → ⊥
 not_both b f t = cc

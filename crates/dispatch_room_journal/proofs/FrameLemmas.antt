@@ -1,6 +1,6 @@
 -- Lemmas on answers that are written as their messages are played.
-use Rattle.std.proofs.Common.{◌≡◌, ◌∙◌, sym, ap, subst, refl, ℕ, ◌+◌, ◌-◌, ◌^◌, min, List, [], ◌∷◌, ◌++◌, append-nil}
-use Rattle.std.proofs.Common.{Bool, true, false, Option, Some, None, Ok}
+use Rattle.std.proofs.Common.{◌≡◌, ◌∙◌, sym, ap, subst, refl, ℕ, ◌+◌, ◌-◌, ◌^◌, min, List, [], ◌∷◌}
+use Rattle.std.proofs.Common.{◌++◌, append-nil, Bool, true, false, Option, Some, None, Ok}
 use Rattle.std.specs.List.{flat_map}
 use Rattle.std.specs.Io.KnownBytes.{Appends, Consumes}
 use Rattle.std.proofs.KnownBytes.{Consumes-kept}
@@ -18,17 +18,19 @@ use Rattle.dispatch_room_journal.specs.declared.next_entry.Next.TheVariants.{Mes
 use Rattle.dispatch_room_journal.specs.declared.replay_faults.ReplayFault.{ReplayFault}
 use Rattle.dispatch_room_journal.specs.declared.replay_progress.Progress.{Progress}
 use Rattle.dispatch_room_journal.specs.JournalRecords.{status_in}
-use Rattle.dispatch_room_journal.specs.ReplayedTurns.{Play, Turn, answered, tried, plays_in, plays_of, has_message}
-use Rattle.dispatch_room_journal.specs.ReplayedTurns.{is_left_out, IsPlayed, BeginsWith}
+use Rattle.dispatch_room_journal.specs.ReplayedTurns.{Play, Turn, answered, tried, plays_in}
+use Rattle.dispatch_room_journal.specs.ReplayedTurns.{plays_of, has_message, is_left_out, IsPlayed}
+use Rattle.dispatch_room_journal.specs.ReplayedTurns.{BeginsWith}
 use Rattle.dispatch_room_journal.specs.ReplayFaults.{Explains, IsDueTo}
 use Rattle.dispatch_room_journal.specs.Replays.{DigitsOf, Leads, LeadsElsewhere}
 use Rattle.dispatch_room_journal.specs.ReplaySteps.{NextIs, Passes, StopsIn}
-use Rattle.dispatch_room_journal.specs.AnswerFrames.{frame_of, frames_of, FollowIs, EachIs, AnswersTurn}
+use Rattle.dispatch_room_journal.specs.AnswerFrames.{frame_of, frames_of, FollowIs, EachIs}
+use Rattle.dispatch_room_journal.specs.AnswerFrames.{AnswersTurn}
 use Rattle.dispatch_room_journal.proofs.FaultLemmas.{not_both, begins_explain}
 use Rattle.dispatch_room_journal.proofs.StepLemmas.{WasPlayed, Shows, played_stops}
 use Rattle.dispatch_room_journal.proofs.NextEntryLemmas.{taken_two}
-use Rattle.dispatch_room_journal.proofs.TurnLemmas.{one_by, two_by, consumes_begins, keeps_consumes, message_progress}
-use Rattle.dispatch_room_journal.proofs.TurnLemmas.{Leads-after, passes_one}
+use Rattle.dispatch_room_journal.proofs.TurnLemmas.{one_by, two_by, consumes_begins, keeps_consumes}
+use Rattle.dispatch_room_journal.proofs.TurnLemmas.{message_progress, Leads-after, passes_one}
 
 -- frames, one after another
 pub frames_append : (us ts : List Turn) → frames_of us ++ frames_of ts ≡ frames_of (us ++ ts)

@@ -1,7 +1,7 @@
 -- Lemmas on what is at the front of a text of records.
-use Rattle.std.proofs.Common.{◌≡◌, ◌≢◌, ◌∙◌, refl, sym, ap, subst, arith, ℕ, ◌+◌, ◌-◌, ◌*◌, ◌<◌, ◌≤◌, ◌⊎◌, inl, inr}
-use Rattle.std.proofs.Common.{List, [], ◌∷◌, ◌++◌, length, length-append, length-drop, take, drop, slice_index, Bool}
-use Rattle.std.proofs.Common.{true, false, nat_lt}
+use Rattle.std.proofs.Common.{◌≡◌, ◌≢◌, ◌∙◌, refl, sym, ap, subst, arith, ℕ, ◌+◌, ◌-◌, ◌*◌, ◌<◌}
+use Rattle.std.proofs.Common.{◌≤◌, ◌⊎◌, inl, inr, List, [], ◌∷◌, ◌++◌, length, length-append}
+use Rattle.std.proofs.Common.{length-drop, take, drop, slice_index, Bool, true, false, nat_lt}
 use Rattle.std.proofs.lemmas.Bool.{lt-ltb, le-ltb, false≢true}
 use Rattle.std.proofs.lemmas.List.{take-append-le, drop-append-le, get_or_append_left}
 use Rattle.std.specs.Str.{bytes_eq}
@@ -9,10 +9,11 @@ use Rattle.dispatch_room_journal.specs.declared.journal_inbox.TheConstants.{ENTR
 use Rattle.dispatch_room_journal.specs.declared.record_inbox.TheConstants.{RECORD_ROOM}
 use Rattle.dispatch_room_journal.specs.declared.record_headers.TheConstants.{HEADER}
 use Rattle.dispatch_room_journal.specs.declared.record_fronts.Front.{Front}
-use Rattle.dispatch_room_journal.specs.declared.record_fronts.Front.TheVariants.{Empty, Short, Wrong, Whole}
+use Rattle.dispatch_room_journal.specs.declared.record_fronts.Front.TheVariants.{Empty, Short}
+use Rattle.dispatch_room_journal.specs.declared.record_fronts.Front.TheVariants.{Wrong, Whole}
 use Rattle.dispatch_room_journal.specs.Chains.{header, next_check}
-use Rattle.dispatch_room_journal.specs.RecordFronts.{Stays, body_in, comes_next, front_of, number_in, sized_front}
-use Rattle.dispatch_room_journal.specs.RecordFronts.{whole_front}
+use Rattle.dispatch_room_journal.specs.RecordFronts.{Stays, body_in, comes_next, front_of}
+use Rattle.dispatch_room_journal.specs.RecordFronts.{number_in, sized_front, whole_front}
 
 module _ (hash : List ℕ → List ℕ) (check : List ℕ) (has_ended : Bool) (text : List ℕ) where
   pub front_short : 1 ≤ length text → length text < HEADER

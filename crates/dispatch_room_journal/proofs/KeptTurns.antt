@@ -1,7 +1,7 @@
 -- The turns of what a list kept of a room that was served, and to which rooms a list has come.
-use Rattle.std.proofs.Common.{◌≡◌, ◌∙◌, ◌≤◌, ◌⊎◌, inl, inr, sym, ap, subst, refl, arith, ℕ, List, [], ◌∷◌, ◌++◌, drop}
-use Rattle.std.proofs.Common.{take, length, length-append, ◌/◌, ◌%◌, ◌+◌, append-nil, append_assoc, codes, decimal}
-use Rattle.std.proofs.Common.{Bool, true, Result, Ok, Err}
+use Rattle.std.proofs.Common.{◌≡◌, ◌∙◌, ◌≤◌, ◌⊎◌, inl, inr, sym, ap, subst, refl, arith, ℕ, List}
+use Rattle.std.proofs.Common.{[], ◌∷◌, ◌++◌, drop, take, length, length-append, ◌/◌, ◌%◌, ◌+◌}
+use Rattle.std.proofs.Common.{append-nil, append_assoc, codes, decimal, Bool, true, Result, Ok, Err}
 use Rattle.std.specs.Prelude.{All, map}
 use Rattle.std.proofs.lemmas.Bool.{cases_eq}
 use Rattle.std.proofs.lemmas.Fmt.{decimal_digit, decimal_step}
@@ -18,19 +18,23 @@ use Rattle.room_http.specs.declared.settings.Setting.{Setting}
 use Rattle.room_model.specs.Rooms.{Step}
 use Rattle.room_model.specs.declared.digests.Head.{Head}
 use Rattle.room_http.specs.Arrivals.{message as arrived, refused, is_closing, is_head_only}
-use Rattle.room_http.specs.KeptMessages.{AreKept, AreReplies, IsCutShort, IsRecord, IsUnwritten, KeepsUnserved}
+use Rattle.room_http.specs.KeptMessages.{AreKept, AreReplies, IsCutShort, IsRecord, IsUnwritten}
+use Rattle.room_http.specs.KeptMessages.{KeepsUnserved}
 use Rattle.room_http.specs.Dialogues.{IsFront, IsReplyTo, Timed, replied}
-use Rattle.dispatch_room_journal.specs.declared.entry_lines.TheConstants.{LEAST_STATUS, GREATEST_STATUS}
+use Rattle.dispatch_room_journal.specs.declared.entry_lines.TheConstants.{LEAST_STATUS}
+use Rattle.dispatch_room_journal.specs.declared.entry_lines.TheConstants.{GREATEST_STATUS}
 use Rattle.dispatch_room_journal.specs.WholeEntries.{Follows}
-use Rattle.dispatch_room_journal.specs.Entries.{Entry, room as head_entry, message, answer, IsEntry, IsPart, text_of}
-use Rattle.dispatch_room_journal.specs.Entries.{texts_of}
-use Rattle.dispatch_room_journal.specs.JournalRecords.{answer_text, message_text, room_text, status_in}
+use Rattle.dispatch_room_journal.specs.Entries.{Entry, room as head_entry, message, answer, IsEntry}
+use Rattle.dispatch_room_journal.specs.Entries.{IsPart, text_of, texts_of}
+use Rattle.dispatch_room_journal.specs.JournalRecords.{answer_text, message_text, room_text}
+use Rattle.dispatch_room_journal.specs.JournalRecords.{status_in}
 use Rattle.dispatch_room_journal.proofs.EntryLemmas.{no_end_law, one_entry_law}
 use Rattle.dispatch_room_journal.specs.ReplayLaws.{answers_to_messages}
 use Rattle.dispatch_room_journal.specs.Replays.{Answers, Does, DigitsOf, IsHeadOf, IsReplay}
 use Rattle.dispatch_room_journal.proofs.TurnLemmas.{begun-append}
-use Rattle.dispatch_room_journal.specs.ReplayedTurns.{Play, Turn, compared, answered, caught_up, left_out, answers_of}
-use Rattle.dispatch_room_journal.specs.ReplayedTurns.{ends_open, entries_in, entries_of, plays_in, plays_of, IsBegun}
+use Rattle.dispatch_room_journal.specs.ReplayedTurns.{Play, Turn, compared, answered, caught_up}
+use Rattle.dispatch_room_journal.specs.ReplayedTurns.{left_out, answers_of, ends_open, entries_in}
+use Rattle.dispatch_room_journal.specs.ReplayedTurns.{entries_of, plays_in, plays_of, IsBegun}
 use Rattle.dispatch_room_journal.specs.ReplayedTurns.{IsPlay, IsReplayed, IsTurn}
 
 -- ---- the status of an answer

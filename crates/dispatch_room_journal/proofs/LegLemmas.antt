@@ -1,13 +1,12 @@
 -- Lemmas on the legs of a list.
-use Rattle.std.proofs.Common.{◌≡◌, ◌∙◌, refl, sym, ap, ℕ, List, [], ◌∷◌, ◌++◌, length, append_assoc, All, Bool, true}
-use Rattle.std.proofs.Common.{false}
-use Rattle.std.proofs.Common.{◌||◌}
+use Rattle.std.proofs.Common.{◌≡◌, ◌∙◌, refl, sym, ap, ℕ, List, [], ◌∷◌, ◌++◌, length, append_assoc}
+use Rattle.std.proofs.Common.{All, Bool, true, false, ◌||◌}
 use Rattle.std.proofs.lemmas.List.Elements.{All-head, All-tail}
 use Rattle.std.specs.List.{flat_map}
 use Rattle.dispatch_room_journal.specs.declared.read_progress.Reach.{Reach}
 use Rattle.dispatch_room_journal.specs.declared.read_progress.Reach.TheVariants.{Full, Leg}
-use Rattle.dispatch_room_journal.specs.Chains.{IsBody, chain_text, is_end, is_no_entry, is_row, last_check, next_check}
-use Rattle.dispatch_room_journal.specs.Chains.{record_text, said_by}
+use Rattle.dispatch_room_journal.specs.Chains.{IsBody, chain_text, is_end, is_no_entry, is_row}
+use Rattle.dispatch_room_journal.specs.Chains.{last_check, next_check, record_text, said_by}
 use Rattle.dispatch_room_journal.specs.RecordFronts.{after, body_in, comes_next, says, stops_at}
 use Rattle.dispatch_room_journal.specs.ChainLaws.{AreBodies}
 use Rattle.dispatch_room_journal.specs.PlainTexts.{last_ended}

@@ -1,5 +1,6 @@
 -- Lemmas on lines.
-use Rattle.std.proofs.Common.{◌≡◌, ◌≢◌, ap, arith, refl, get_or, ℕ, ◌+◌, List, ◌∷◌, ◌++◌, true, codes, decimal}
+use Rattle.std.proofs.Common.{◌≡◌, ◌≢◌, ap, arith, refl, get_or, ℕ, ◌+◌, List, ◌∷◌, ◌++◌, true}
+use Rattle.std.proofs.Common.{codes, decimal}
 use Rattle.std.proofs.lemmas.Bool.{false≢true}
 use Rattle.std.proofs.lemmas.Fmt.{decimal_injective}
 use Rattle.std.proofs.lemmas.List.{append_cancel_left}
@@ -7,8 +8,10 @@ use Rattle.std.proofs.lemmas.List.Elements.{All-weaker, All-cons, All-from_recur
 use Rattle.room_model.specs.declared.digests.Version.{Version}
 use Rattle.room_model.specs.declared.digests.Version.TheVariants.{First, Second}
 use Rattle.dispatch_room_journal.specs.declared.entry_lines.EntryLine.{EntryLine}
-use Rattle.dispatch_room_journal.specs.declared.entry_lines.EntryLine.TheVariants.{Room, Message, Answer}
-use Rattle.dispatch_room_journal.specs.Entries.{is_digest_digit, IsDigest, IsLine, head_words, line_text}
+use Rattle.dispatch_room_journal.specs.declared.entry_lines.EntryLine.TheVariants.{Room, Message}
+use Rattle.dispatch_room_journal.specs.declared.entry_lines.EntryLine.TheVariants.{Answer}
+use Rattle.dispatch_room_journal.specs.Entries.{is_digest_digit, IsDigest, IsLine, head_words}
+use Rattle.dispatch_room_journal.specs.Entries.{line_text}
 use Rattle.dispatch_room_journal.specs.TextParts.{Lacks}
 use Rattle.dispatch_room_journal.proofs.TextLemmas.{head, cut_unique, lacks_append}
 use Rattle.dispatch_room_journal.proofs.NumberLemmas.{digits_lack}

@@ -1,17 +1,19 @@
 -- Lemmas on the entries that a replay takes from a journal.
-use Rattle.std.proofs.Common.{◌≡◌, ◌∙◌, sym, ap, subst, refl, arith, ℕ, List, [], ◌∷◌, ◌++◌, drop, append-nil}
-use Rattle.std.proofs.Common.{append_assoc, Option, Some, None, inr}
+use Rattle.std.proofs.Common.{◌≡◌, ◌∙◌, sym, ap, subst, refl, arith, ℕ, List, [], ◌∷◌, ◌++◌, drop}
+use Rattle.std.proofs.Common.{append-nil, append_assoc, Option, Some, None, inr}
 use Rattle.std.specs.Prelude.{⊤}
 use Rattle.std.specs.Io.KnownBytes.{Consumes, Keeps, IsAtEnd, prepend_known}
 use Rattle.std.proofs.KnownBytes.{Consumes-trans}
 use Rattle.room_model.specs.declared.digests.Head.{Head}
 use Rattle.dispatch_room_journal.specs.declared.entry_lines.EntryLine.TheVariants.{Room, Message}
 use Rattle.dispatch_room_journal.specs.declared.entry_prefixes.EntryLayout.{EntryLayout}
-use Rattle.dispatch_room_journal.specs.Entries.{Entry, room, message, answer, line_of, text_of, texts_of, Begins}
+use Rattle.dispatch_room_journal.specs.Entries.{Entry, room, message, answer, line_of, text_of}
+use Rattle.dispatch_room_journal.specs.Entries.{texts_of, Begins}
 use Rattle.dispatch_room_journal.specs.EntryPrefixes.{IsLayout}
 use Rattle.dispatch_room_journal.proofs.EntryLemmas.{one_entry_law, no_end_law}
 use Rattle.dispatch_room_journal.specs.ReplaySteps.{IsMark}
-use Rattle.dispatch_room_journal.specs.ReplayedTurns.{HasNoStatus, BeginsWith, EndsAt, IsBy, IsAfter}
+use Rattle.dispatch_room_journal.specs.ReplayedTurns.{HasNoStatus, BeginsWith, EndsAt, IsBy}
+use Rattle.dispatch_room_journal.specs.ReplayedTurns.{IsAfter}
 
 -- what a line says of its entry
 pub layout_of_room : (kept : List ℕ) (layout : EntryLayout) (e : Entry) (head : Head)

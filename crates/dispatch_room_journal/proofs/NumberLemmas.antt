@@ -1,8 +1,10 @@
 -- Lemmas on the digits of numbers.
-use Rattle.std.proofs.Common.{◌≡◌, ◌≢◌, ◌∙◌, sym, ap, refl, arith, ℕ, ◌+◌, ◌/◌, ◌%◌, ◌^◌, ◌<◌, ◌≤◌, List, [], ◌∷◌, ◌++◌}
-use Rattle.std.proofs.Common.{length, ◌⊎◌, inl, inr, append-nil, length-append, decimal, Result, Ok, Err, is_ok, Option}
-use Rattle.std.proofs.Common.{Some, None, is_some, Bool, IsTrue, ◌↔◌, MatchOption}
-use Rattle.std.proofs.lemmas.Fmt.{decimal_by_steps, decimal_step, decimal_is_IsNumeral, parse-decimal, IsAscii-decimal}
+use Rattle.std.proofs.Common.{◌≡◌, ◌≢◌, ◌∙◌, sym, ap, refl, arith, ℕ, ◌+◌, ◌/◌, ◌%◌, ◌^◌, ◌<◌, ◌≤◌}
+use Rattle.std.proofs.Common.{List, [], ◌∷◌, ◌++◌, length, ◌⊎◌, inl, inr, append-nil, length-append}
+use Rattle.std.proofs.Common.{decimal, Result, Ok, Err, is_ok, Option, Some, None, is_some, Bool}
+use Rattle.std.proofs.Common.{IsTrue, ◌↔◌, MatchOption}
+use Rattle.std.proofs.lemmas.Fmt.{decimal_by_steps, decimal_step, decimal_is_IsNumeral}
+use Rattle.std.proofs.lemmas.Fmt.{parse-decimal, IsAscii-decimal}
 use Rattle.std.proofs.lemmas.Bool.{cases_lt, false≢true}
 use Rattle.std.proofs.lemmas.List.{nil_from_length, append_cancel_right}
 use Rattle.std.proofs.lemmas.List.Elements.{All-from_get_or}

@@ -1,8 +1,9 @@
 -- Lemmas on first parts of lines.
-use Rattle.std.proofs.Common.{◌≡◌, ◌≢◌, ◌∙◌, sym, ap, subst, refl, arith, ℕ, ◌+◌, ◌-◌, ◌*◌, ◌/◌, ◌%◌, ◌<◌, ◌≤◌, List}
-use Rattle.std.proofs.Common.{[], ◌∷◌, ◌++◌, length, drop, Bool, true, false, IsTrue, ◌↔◌, nat_eq, Option, Some, None}
-use Rattle.std.proofs.Common.{is_some, MatchOption, All, ◌⊎◌, inl, inr, codes, decimal, replicate, append-nil}
-use Rattle.std.proofs.Common.{append_assoc, length-append}
+use Rattle.std.proofs.Common.{◌≡◌, ◌≢◌, ◌∙◌, sym, ap, subst, refl, arith, ℕ, ◌+◌, ◌-◌, ◌*◌, ◌/◌}
+use Rattle.std.proofs.Common.{◌%◌, ◌<◌, ◌≤◌, List, [], ◌∷◌, ◌++◌, length, drop, Bool, true, false}
+use Rattle.std.proofs.Common.{IsTrue, ◌↔◌, nat_eq, Option, Some, None, is_some, MatchOption, All}
+use Rattle.std.proofs.Common.{◌⊎◌, inl, inr, codes, decimal, replicate, append-nil, append_assoc}
+use Rattle.std.proofs.Common.{length-append}
 use Rattle.std.specs.List.{starts_with}
 use Rattle.std.proofs.lemmas.Bool.{cases_lt, false≢true}
 use Rattle.std.proofs.lemmas.Bool.Decides.{Decides-eqb}
@@ -13,12 +14,15 @@ use Rattle.std.proofs.Math.Seq.{take-append_seam}
 use Rattle.std.proofs.lemmas.List.Elements.{All-append, All-take, All-replicate, All-same}
 use Rattle.room_http_messages.specs.declared.limits.TheConstants.{INBOX_ROOM}
 use Rattle.room_model.specs.declared.digests.Version.{Version}
-use Rattle.dispatch_room_journal.specs.declared.entry_lines.EntryLine.TheVariants.{Room, Message, Answer}
-use Rattle.dispatch_room_journal.specs.declared.entry_lines.TheConstants.{LEAST_STATUS, GREATEST_STATUS}
+use Rattle.dispatch_room_journal.specs.declared.entry_lines.EntryLine.TheVariants.{Room, Message}
+use Rattle.dispatch_room_journal.specs.declared.entry_lines.EntryLine.TheVariants.{Answer}
+use Rattle.dispatch_room_journal.specs.declared.entry_lines.TheConstants.{LEAST_STATUS}
+use Rattle.dispatch_room_journal.specs.declared.entry_lines.TheConstants.{GREATEST_STATUS}
 use Rattle.room_types.specs.declared.numbers.TheConstants.{LAST_MOMENT}
 use Rattle.dispatch_room_journal.specs.declared.entry_lines.TheConstants.{DIGEST_DIGITS}
 use Rattle.dispatch_room_journal.specs.Entries.{is_digest_digit, IsDigest, head_words}
-use Rattle.dispatch_room_journal.specs.TextParts.{Lacks, BeginsOne, After, AreNumbers, IsNumber, IsLineText}
+use Rattle.dispatch_room_journal.specs.TextParts.{Lacks, BeginsOne, After, AreNumbers, IsNumber}
+use Rattle.dispatch_room_journal.specs.TextParts.{IsLineText}
 use Rattle.dispatch_room_journal.proofs.TextLemmas.{head, split, cut_unique, has_mark}
 use Rattle.dispatch_room_journal.proofs.NumberLemmas.{digits_lack}
 

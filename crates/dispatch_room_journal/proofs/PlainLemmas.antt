@@ -1,7 +1,8 @@
 -- Lemmas on the entries and rows of a list, as records are put behind it.
-use Rattle.std.proofs.Common.{◌≡◌, ◌∙◌, refl, sym, ap, arith, ℕ, zero, suc, ◌+◌, ◌*◌, ◌<◌, ◌≤◌, List, [], ◌∷◌, ◌++◌}
-use Rattle.std.proofs.Common.{length, length-append, length-drop, take, drop, append_assoc, append-nil, Bool, true}
-use Rattle.std.proofs.Common.{false, ◌⊎◌, inl, inr, Option, Some, None, Result, Ok, Err, OnOk, OnErr, is_err, ◌||◌}
+use Rattle.std.proofs.Common.{◌≡◌, ◌∙◌, refl, sym, ap, arith, ℕ, zero, suc, ◌+◌, ◌*◌, ◌<◌, ◌≤◌}
+use Rattle.std.proofs.Common.{List, [], ◌∷◌, ◌++◌, length, length-append, length-drop, take, drop}
+use Rattle.std.proofs.Common.{append_assoc, append-nil, Bool, true, false, ◌⊎◌, inl, inr, Option}
+use Rattle.std.proofs.Common.{Some, None, Result, Ok, Err, OnOk, OnErr, is_err, ◌||◌}
 use Rattle.std.specs.Io.KnownBytes.{Appends}
 use Rattle.std.proofs.lemmas.Bool.{false≢true}
 use Rattle.std.proofs.lemmas.List.{take-append-le, drop-append-le}
@@ -14,21 +15,23 @@ use Rattle.sha2.specs.Sha256.{sha256}
 use Rattle.room_http_messages.specs.Streams.{WritesAll}
 use Rattle.dispatch_room_journal.specs.declared.record_headers.TheConstants.{HEADER}
 use Rattle.dispatch_room_journal.specs.declared.record_fronts.Front.{Front}
-use Rattle.dispatch_room_journal.specs.declared.record_fronts.Front.TheVariants.{Empty, Short, Wrong, Whole}
+use Rattle.dispatch_room_journal.specs.declared.record_fronts.Front.TheVariants.{Empty, Short}
+use Rattle.dispatch_room_journal.specs.declared.record_fronts.Front.TheVariants.{Wrong, Whole}
 use Rattle.dispatch_room_journal.specs.declared.record_fronts.Link.{Link}
 use Rattle.dispatch_room_journal.specs.declared.list_ends.ListEnd.{ListEnd}
 use Rattle.dispatch_room_journal.specs.declared.list_ends.ListEnd.TheVariants.{Plain, Chain}
-use Rattle.dispatch_room_journal.specs.Chains.{IsBody, chain_text, first_check, header, is_end, is_no_entry, is_row}
-use Rattle.dispatch_room_journal.specs.Chains.{last_check}
-use Rattle.dispatch_room_journal.specs.Chains.{next_check}
-use Rattle.dispatch_room_journal.specs.Chains.{opening, record_text, shown_by, sha256_digits}
-use Rattle.dispatch_room_journal.specs.RecordFronts.{after, body_in, comes_next, front_of, number_in}
+use Rattle.dispatch_room_journal.specs.Chains.{IsBody, chain_text, first_check, header, is_end}
+use Rattle.dispatch_room_journal.specs.Chains.{is_no_entry, is_row, last_check, next_check, opening}
+use Rattle.dispatch_room_journal.specs.Chains.{record_text, shown_by, sha256_digits}
+use Rattle.dispatch_room_journal.specs.RecordFronts.{after, body_in, comes_next, front_of}
+use Rattle.dispatch_room_journal.specs.RecordFronts.{number_in}
 use Rattle.dispatch_room_journal.specs.ChainLaws.{AreBodies}
-use Rattle.dispatch_room_journal.specs.PlainTexts.{PutsKnown, StandsAt, last_ended, plain_in, plain_of, plain_says}
-use Rattle.dispatch_room_journal.specs.PlainTexts.{plain_with}
+use Rattle.dispatch_room_journal.specs.PlainTexts.{PutsKnown, StandsAt, last_ended, plain_in}
+use Rattle.dispatch_room_journal.specs.PlainTexts.{plain_of, plain_says, plain_with}
 use Rattle.dispatch_room_journal.specs.RowRuns.{PutsBody, PutsEntry}
 use Rattle.dispatch_room_journal.proofs.AgainLemmas.{five_digits, read_after, read_body, read_front}
-use Rattle.dispatch_room_journal.proofs.FrontLemmas.{front_short, front_sized, number_stays, sized_short}
+use Rattle.dispatch_room_journal.proofs.FrontLemmas.{front_short, front_sized, number_stays}
+use Rattle.dispatch_room_journal.proofs.FrontLemmas.{sized_short}
 
 plain_with-same : (f g : List ℕ → Bool → List ℕ → List ℕ) (text : List ℕ) (front : Front)
     → ((size : ℕ) (check : List ℕ) (has_ended : Bool)

@@ -1,7 +1,8 @@
 -- Lemmas on steps in a list.
-use Rattle.std.proofs.Common.{◌≡◌, ◌∙◌, inl, inr, refl, sym, ap, subst, arith, ℕ, ◌+◌, ◌-◌, ◌*◌, cond, ◌||◌}
-use Rattle.std.proofs.Common.{◌<◌, ◌≤◌, List, [], ◌∷◌, ◌++◌, length, length-append, length-drop, length-take-le, take}
-use Rattle.std.proofs.Common.{drop, append_assoc, append-nil, take-append-drop, Bool, true, false}
+use Rattle.std.proofs.Common.{◌≡◌, ◌∙◌, inl, inr, refl, sym, ap, subst, arith, ℕ, ◌+◌, ◌-◌, ◌*◌}
+use Rattle.std.proofs.Common.{cond, ◌||◌, ◌<◌, ◌≤◌, List, [], ◌∷◌, ◌++◌, length, length-append}
+use Rattle.std.proofs.Common.{length-drop, length-take-le, take, drop, append_assoc, append-nil}
+use Rattle.std.proofs.Common.{take-append-drop, Bool, true, false}
 use Rattle.std.proofs.lemmas.Bool.{false≢true, or_right}
 use Rattle.std.proofs.lemmas.List.{take-append-le, drop-append-le, drop-drop}
 use Rattle.std.proofs.Math.Seq.{take-add}
@@ -12,15 +13,19 @@ use Rattle.dispatch_room_journal.specs.declared.record_fronts.Front.{Front}
 use Rattle.dispatch_room_journal.specs.declared.record_fronts.Front.TheVariants.{Short, Whole}
 use Rattle.dispatch_room_journal.specs.declared.record_fronts.Link.{Link}
 use Rattle.dispatch_room_journal.specs.declared.read_progress.Mode.{Mode}
-use Rattle.dispatch_room_journal.specs.declared.read_progress.Mode.TheVariants.{Fresh, Plain, Chain, Done}
+use Rattle.dispatch_room_journal.specs.declared.read_progress.Mode.TheVariants.{Fresh, Plain, Chain}
+use Rattle.dispatch_room_journal.specs.declared.read_progress.Mode.TheVariants.{Done}
 use Rattle.dispatch_room_journal.specs.declared.read_progress.Step.TheVariants.{Moved, Passed}
 use Rattle.dispatch_room_journal.specs.declared.read_progress.Reach.{Reach}
 use Rattle.dispatch_room_journal.specs.declared.read_progress.Reach.TheVariants.{Full, Leg}
 use Rattle.dispatch_room_journal.specs.Chains.{is_end, is_no_entry, is_row, said_by, sha256_digits}
-use Rattle.dispatch_room_journal.specs.RecordFronts.{Stays, after, body_in, comes_next, front_of, says, stops_at}
-use Rattle.dispatch_room_journal.specs.ReadSteps.{StepIs, effort, last_of, left_of, rest_of, rows_at, rows_next}
+use Rattle.dispatch_room_journal.specs.RecordFronts.{Stays, after, body_in, comes_next, front_of}
+use Rattle.dispatch_room_journal.specs.RecordFronts.{says, stops_at}
+use Rattle.dispatch_room_journal.specs.ReadSteps.{StepIs, effort, last_of, left_of, rest_of}
+use Rattle.dispatch_room_journal.specs.ReadSteps.{rows_at, rows_next}
 use Rattle.dispatch_room_journal.proofs.FrontLemmas.{body_stays}
-use Rattle.dispatch_room_journal.proofs.SaysLemmas.{list_short, says_none, says_short, says_stop, says_whole}
+use Rattle.dispatch_room_journal.proofs.SaysLemmas.{list_short, says_none, says_short, says_stop}
+use Rattle.dispatch_room_journal.proofs.SaysLemmas.{says_whole}
 
 -- nothing follows a record
 pub empty_rest : (reach : Reach) (link : Link) (kept : List ℕ) → length kept < 1

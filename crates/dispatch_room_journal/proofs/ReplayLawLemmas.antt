@@ -1,5 +1,6 @@
 -- A journal has one replay to each room, which keeps the room's promises.
-use Rattle.std.proofs.Common.{◌≡◌, ◌∙◌, sym, ap, subst, refl, ℕ, List, [], ◌∷◌, ◌++◌, drop, Bool, true, false}
+use Rattle.std.proofs.Common.{◌≡◌, ◌∙◌, sym, ap, subst, refl, ℕ, List, [], ◌∷◌, ◌++◌, drop, Bool}
+use Rattle.std.proofs.Common.{true, false}
 use Rattle.std.proofs.lemmas.Bool.{false≢true}
 use Rattle.std.specs.Prelude.{All}
 use Rattle.std.proofs.lemmas.List.Elements.{All-head, All-tail}
@@ -17,9 +18,11 @@ use Rattle.room_http.proofs.RunLemmas.{dialogue_run}
 use Rattle.room_http.proofs.PromiseLaws.{promises_kept}
 use Rattle.room_model.specs.declared.digests.Head.{Head}
 use Rattle.dispatch_room_journal.specs.Entries.{Entry, room, answer}
-use Rattle.dispatch_room_journal.specs.ReplayedTurns.{Play, Turn, compared, answered, caught_up, tried, left_out, timed}
-use Rattle.dispatch_room_journal.specs.ReplayedTurns.{entries_in, entries_of, is_left_out, is_unanswered, arrivals_of}
-use Rattle.dispatch_room_journal.specs.ReplayedTurns.{bytes_of, IsPlay, IsTurn, IsReplayed, IsPlayed}
+use Rattle.dispatch_room_journal.specs.ReplayedTurns.{Play, Turn, compared, answered, caught_up}
+use Rattle.dispatch_room_journal.specs.ReplayedTurns.{tried, left_out, timed, entries_in}
+use Rattle.dispatch_room_journal.specs.ReplayedTurns.{entries_of, is_left_out, is_unanswered}
+use Rattle.dispatch_room_journal.specs.ReplayedTurns.{arrivals_of, bytes_of, IsPlay, IsTurn}
+use Rattle.dispatch_room_journal.specs.ReplayedTurns.{IsReplayed, IsPlayed}
 use Rattle.dispatch_room_journal.specs.Replays.{DigitsOf, Answers, Does, IsReplay, IsHeadOf}
 use Rattle.dispatch_room_journal.specs.ReplayLaws.{IsOneReplay, IsOneAnswering, IsKept}
 use Rattle.dispatch_room_journal.proofs.TurnLemmas.{dialogue_of}

@@ -1,6 +1,6 @@
 -- What a journal kept of a room that was served, replayed, is that room.
-use Rattle.std.proofs.Common.{◌≡◌, ◌∙◌, sym, ap, subst, refl, ℕ, List, [], ◌∷◌, ◌++◌, append-nil, append_assoc, arith}
-use Rattle.std.proofs.Common.{codes}
+use Rattle.std.proofs.Common.{◌≡◌, ◌∙◌, sym, ap, subst, refl, ℕ, List, [], ◌∷◌, ◌++◌, append-nil}
+use Rattle.std.proofs.Common.{append_assoc, arith, codes}
 use Rattle.std.specs.Prelude.{All}
 use Rattle.std.proofs.lemmas.List.{append_cancel_left}
 use Rattle.std.proofs.lemmas.List.Elements.{All-head, All-tail}
@@ -16,12 +16,14 @@ use Rattle.room_http.specs.Dialogues.{Timed, replied}
 use Rattle.room_model.specs.declared.digests.Version.{Version}
 use Rattle.room_model.specs.declared.digests.Version.TheVariants.{First, Second}
 use Rattle.room_model.specs.declared.digests.Head.{Head}
-use Rattle.dispatch_room_journal.specs.Entries.{Entry, room, message, answer, IsEntry, text_of, texts_of, head_words}
+use Rattle.dispatch_room_journal.specs.Entries.{Entry, room, message, answer, IsEntry, text_of}
+use Rattle.dispatch_room_journal.specs.Entries.{texts_of, head_words}
 use Rattle.dispatch_room_journal.specs.JournalRecords.{answer_text, message_text}
 use Rattle.dispatch_room_journal.proofs.EntryLemmas.{no_end_law, one_entry_law}
 use Rattle.dispatch_room_journal.proofs.TextLemmas.{head as first_byte}
-use Rattle.dispatch_room_journal.specs.ReplayedTurns.{Play, Turn, compared, answered, caught_up, tried, left_out}
-use Rattle.dispatch_room_journal.specs.ReplayedTurns.{answers_of, entries_of, IsTurn, IsReplayed}
+use Rattle.dispatch_room_journal.specs.ReplayedTurns.{Play, Turn, compared, answered, caught_up}
+use Rattle.dispatch_room_journal.specs.ReplayedTurns.{tried, left_out, answers_of, entries_of}
+use Rattle.dispatch_room_journal.specs.ReplayedTurns.{IsTurn, IsReplayed}
 use Rattle.dispatch_room_journal.specs.Replays.{Answers, DigitsOf, IsReplay}
 use Rattle.dispatch_room_journal.specs.ReplayLaws.{IsTheRoom, answers_to_messages}
 use Rattle.dispatch_room_journal.proofs.ReplayLawLemmas.{same_play}

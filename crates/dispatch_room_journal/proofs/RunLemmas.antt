@@ -1,12 +1,13 @@
 -- Lemmas on records of one kind, one after another.
-use Rattle.std.proofs.Common.{◌≡◌, ◌∙◌, refl, sym, ap, ℕ, ◌+◌, ◌≤◌, List, [], ◌∷◌, ◌++◌, length, drop, append_assoc}
-use Rattle.std.proofs.Common.{All, Option, Some, None}
+use Rattle.std.proofs.Common.{◌≡◌, ◌∙◌, refl, sym, ap, ℕ, ◌+◌, ◌≤◌, List, [], ◌∷◌, ◌++◌, length}
+use Rattle.std.proofs.Common.{drop, append_assoc, All, Option, Some, None}
 use Rattle.std.proofs.lemmas.List.{drop-append-le}
 use Rattle.std.proofs.lemmas.List.Elements.{All-nil, All-push}
 use Rattle.dispatch_room_journal.specs.declared.record_headers.TheConstants.{HEADER}
 use Rattle.dispatch_room_journal.specs.declared.record_fronts.Front.TheVariants.{Whole}
 use Rattle.dispatch_room_journal.specs.declared.record_fronts.Link.{Link}
-use Rattle.dispatch_room_journal.specs.Chains.{chain_text, is_end, next_check, record_text, sha256_digits}
+use Rattle.dispatch_room_journal.specs.Chains.{chain_text, is_end, next_check, record_text}
+use Rattle.dispatch_room_journal.specs.Chains.{sha256_digits}
 use Rattle.dispatch_room_journal.specs.RecordFronts.{Stays, after, body_in, front_of}
 use Rattle.dispatch_room_journal.specs.RecordRuns.{Runs}
 use Rattle.dispatch_room_journal.proofs.FrontLemmas.{body_stays}

@@ -1,18 +1,20 @@
 -- Lemmas on what the records of a text say.
-use Rattle.std.proofs.Common.{◌≡◌, ◌≢◌, ◌∙◌, refl, sym, ap, subst, arith, ℕ, zero, suc, ◌+◌, ◌-◌, ◌<◌, ◌≤◌, List, []}
-use Rattle.std.proofs.Common.{◌∷◌, ◌++◌, length, length-append, length-drop, length-take-le, take, drop, append_assoc}
-use Rattle.std.proofs.Common.{take-append-drop, Bool, true, false, if◌then◌else◌}
+use Rattle.std.proofs.Common.{◌≡◌, ◌≢◌, ◌∙◌, refl, sym, ap, subst, arith, ℕ, zero, suc, ◌+◌, ◌-◌}
+use Rattle.std.proofs.Common.{◌<◌, ◌≤◌, List, [], ◌∷◌, ◌++◌, length, length-append, length-drop}
+use Rattle.std.proofs.Common.{length-take-le, take, drop, append_assoc, take-append-drop, Bool}
+use Rattle.std.proofs.Common.{true, false, if◌then◌else◌}
 use Rattle.std.proofs.lemmas.Bool.{false≢true}
 use Rattle.std.proofs.lemmas.List.{take-append-le, drop-append-le}
 use Rattle.std.proofs.lemmas.Slice.Eq.{bytes_eq-Decides}
 use Rattle.std.specs.Str.{bytes_eq}
 use Rattle.dispatch_room_journal.specs.declared.record_headers.TheConstants.{HEADER}
 use Rattle.dispatch_room_journal.specs.declared.record_fronts.Front.{Front}
-use Rattle.dispatch_room_journal.specs.declared.record_fronts.Front.TheVariants.{Empty, Short, Wrong, Whole}
+use Rattle.dispatch_room_journal.specs.declared.record_fronts.Front.TheVariants.{Empty, Short}
+use Rattle.dispatch_room_journal.specs.declared.record_fronts.Front.TheVariants.{Wrong, Whole}
 use Rattle.dispatch_room_journal.specs.Chains.{first_check, is_end, opening, said_by}
 use Rattle.dispatch_room_journal.specs.declared.read_progress.Reach.{Reach}
-use Rattle.dispatch_room_journal.specs.RecordFronts.{after, body_in, front_of, list_says, said_in, said_with, says}
-use Rattle.dispatch_room_journal.specs.RecordFronts.{stops_at}
+use Rattle.dispatch_room_journal.specs.RecordFronts.{after, body_in, front_of, list_says, said_in}
+use Rattle.dispatch_room_journal.specs.RecordFronts.{said_with, says, stops_at}
 
 -- what is said with what the rest says
 said_with-same : (reach : Reach) (f g : List ℕ → Bool → List ℕ → List ℕ) (text : List ℕ) (front : Front)

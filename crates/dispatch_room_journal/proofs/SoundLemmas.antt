@@ -1,7 +1,8 @@
 -- Lemmas on what a chain says: what its records do.
-use Rattle.std.proofs.Common.{◌≡◌, ◌≢◌, ◌∙◌, refl, sym, ap, subst, arith, ℕ, zero, suc, ◌+◌, ◌-◌, ◌<◌, ◌≤◌, List, []}
-use Rattle.std.proofs.Common.{◌∷◌, ◌++◌, length, length-append, length-drop, length-take-le, take, drop, append_assoc}
-use Rattle.std.proofs.Common.{append-nil, take-append-drop, Bool, true, false, if◌then◌else◌, nat_lt}
+use Rattle.std.proofs.Common.{◌≡◌, ◌≢◌, ◌∙◌, refl, sym, ap, subst, arith, ℕ, zero, suc, ◌+◌, ◌-◌}
+use Rattle.std.proofs.Common.{◌<◌, ◌≤◌, List, [], ◌∷◌, ◌++◌, length, length-append, length-drop}
+use Rattle.std.proofs.Common.{length-take-le, take, drop, append_assoc, append-nil}
+use Rattle.std.proofs.Common.{take-append-drop, Bool, true, false, if◌then◌else◌, nat_lt}
 use Rattle.std.proofs.lemmas.Bool.{false≢true, le-ltb, ltb-false}
 use Rattle.std.proofs.lemmas.List.{take-append-le, drop-append-le, drop-drop, take_at, drop_at}
 use Rattle.std.proofs.lemmas.Slice.Eq.{bytes_eq-Decides}
@@ -10,12 +11,14 @@ use Rattle.std.specs.Str.{bytes_eq}
 use Rattle.dispatch_room_journal.specs.declared.journal_inbox.TheConstants.{ENTRY_ROOM}
 use Rattle.dispatch_room_journal.specs.declared.record_headers.TheConstants.{HEADER}
 use Rattle.dispatch_room_journal.specs.declared.record_fronts.Front.{Front}
-use Rattle.dispatch_room_journal.specs.declared.record_fronts.Front.TheVariants.{Empty, Short, Wrong, Whole}
+use Rattle.dispatch_room_journal.specs.declared.record_fronts.Front.TheVariants.{Empty, Short}
+use Rattle.dispatch_room_journal.specs.declared.record_fronts.Front.TheVariants.{Wrong, Whole}
 use Rattle.dispatch_room_journal.specs.declared.read_progress.Reach.TheVariants.{Full}
-use Rattle.dispatch_room_journal.specs.Chains.{IsBody, chain_text, first_check, header, is_end, next_check, opening}
-use Rattle.dispatch_room_journal.specs.Chains.{record_text, said_by}
-use Rattle.dispatch_room_journal.specs.RecordFronts.{after, body_in, comes_next, front_of, list_says, number_in}
-use Rattle.dispatch_room_journal.specs.RecordFronts.{said_in, said_with, says, sized_front, whole_front}
+use Rattle.dispatch_room_journal.specs.Chains.{IsBody, chain_text, first_check, header, is_end}
+use Rattle.dispatch_room_journal.specs.Chains.{next_check, opening, record_text, said_by}
+use Rattle.dispatch_room_journal.specs.RecordFronts.{after, body_in, comes_next, front_of}
+use Rattle.dispatch_room_journal.specs.RecordFronts.{list_says, number_in, said_in, said_with, says}
+use Rattle.dispatch_room_journal.specs.RecordFronts.{sized_front, whole_front}
 use Rattle.dispatch_room_journal.specs.ChainLaws.{AreBodies, IsReadAgain, IsWritten, says_rest}
 use Rattle.dispatch_room_journal.proofs.SaysLemmas.{list_chain}
 

@@ -1,6 +1,7 @@
 -- Lemmas on the steps of a replay.
-use Rattle.std.proofs.Common.{◌≡◌, ◌∙◌, sym, ap, subst, refl, arith, ℕ, List, [], ◌∷◌, drop, decimal, Bool, true, false}
-use Rattle.std.proofs.Common.{◌↔◌, IsTrue, Option, Some, Result, Ok, Err, inl, inr}
+use Rattle.std.proofs.Common.{◌≡◌, ◌∙◌, sym, ap, subst, refl, arith, ℕ, List, [], ◌∷◌, drop}
+use Rattle.std.proofs.Common.{decimal, Bool, true, false, ◌↔◌, IsTrue, Option, Some, Result, Ok}
+use Rattle.std.proofs.Common.{Err, inl, inr}
 use Rattle.std.specs.Io.KnownBytes.{Consumes, prepend_known}
 use Rattle.std.proofs.KnownBytes.{Consumes-kept, Keeps-refl}
 use Rattle.room_types.specs.declared.fleet.Terminal.{Terminal}
@@ -16,23 +17,29 @@ use Rattle.room_model.specs.declared.digests.Head.{Head}
 use Rattle.dispatch_room_journal.specs.declared.entry_lines.EntryLine.{EntryLine}
 use Rattle.dispatch_room_journal.specs.declared.entry_prefixes.EntryLayout.{EntryLayout}
 use Rattle.dispatch_room_journal.specs.declared.entry_reader.EntryFault.{EntryFault}
-use Rattle.dispatch_room_journal.specs.Entries.{Entry, room, message, answer, IsEntry, line_of, texts_of}
+use Rattle.dispatch_room_journal.specs.Entries.{Entry, room, message, answer, IsEntry, line_of}
+use Rattle.dispatch_room_journal.specs.Entries.{texts_of}
 use Rattle.dispatch_room_journal.specs.EntryPrefixes.{IsLayout}
 use Rattle.dispatch_room_journal.specs.EntryReadings.{FirstIs, ReadsEntry}
 use Rattle.dispatch_room_journal.specs.declared.replay_faults.ReplayFault.{ReplayFault}
-use Rattle.dispatch_room_journal.specs.declared.replay_faults.ReplayFault.TheVariants.{Bad, Differs, Unavailable}
-use Rattle.dispatch_room_journal.specs.declared.journal_messages.MessageOutcome.TheVariants.{Played, LeftOut}
+use Rattle.dispatch_room_journal.specs.declared.replay_faults.ReplayFault.TheVariants.{Bad, Differs}
+use Rattle.dispatch_room_journal.specs.declared.replay_faults.ReplayFault.TheVariants.{Unavailable}
+use Rattle.dispatch_room_journal.specs.declared.journal_messages.MessageOutcome.TheVariants.{Played}
+use Rattle.dispatch_room_journal.specs.declared.journal_messages.MessageOutcome.TheVariants.{LeftOut}
 use Rattle.dispatch_room_journal.specs.JournalRecords.{status_in}
-use Rattle.dispatch_room_journal.specs.ReplayedTurns.{Play, Turn, answered, caught_up, tried, left_out, timed, IsPlay}
-use Rattle.dispatch_room_journal.specs.ReplayedTurns.{AreBy, BeginsWith}
-use Rattle.dispatch_room_journal.specs.ReplayFaults.{read_fault, miss_fault, IsPlayedFor, broken_after, Explains}
-use Rattle.dispatch_room_journal.specs.ReplayFaults.{IsDueTo, Refuses}
+use Rattle.dispatch_room_journal.specs.ReplayedTurns.{Play, Turn, answered, caught_up, tried}
+use Rattle.dispatch_room_journal.specs.ReplayedTurns.{left_out, timed, IsPlay, AreBy, BeginsWith}
+use Rattle.dispatch_room_journal.specs.ReplayFaults.{read_fault, miss_fault, IsPlayedFor}
+use Rattle.dispatch_room_journal.specs.ReplayFaults.{broken_after, Explains, IsDueTo, Refuses}
 use Rattle.dispatch_room_journal.specs.Replays.{DigitsOf, Leads, LeadsElsewhere, IsHeadOf}
-use Rattle.dispatch_room_journal.specs.ReplaySteps.{IsAt, TurnOf, Deviates, IsAstray, IsPlayedForLine, RefusesAt}
-use Rattle.dispatch_room_journal.specs.ReplaySteps.{StopsAt, StopsIn, ComesTo, Misses, PlaysTowards, Settles, MessageIs}
-use Rattle.dispatch_room_journal.proofs.FaultLemmas.{not_both, known_after, begins_one, read_explains, refuses_explains}
-use Rattle.dispatch_room_journal.proofs.FaultLemmas.{refuses_due}
-use Rattle.dispatch_room_journal.proofs.NextEntryLemmas.{layout_of_mark, taken, taken_two, no_status_front, head_front}
+use Rattle.dispatch_room_journal.specs.ReplaySteps.{IsAt, TurnOf, Deviates, IsAstray}
+use Rattle.dispatch_room_journal.specs.ReplaySteps.{IsPlayedForLine, RefusesAt, StopsAt, StopsIn}
+use Rattle.dispatch_room_journal.specs.ReplaySteps.{ComesTo, Misses, PlaysTowards, Settles}
+use Rattle.dispatch_room_journal.specs.ReplaySteps.{MessageIs}
+use Rattle.dispatch_room_journal.proofs.FaultLemmas.{not_both, known_after, begins_one}
+use Rattle.dispatch_room_journal.proofs.FaultLemmas.{read_explains, refuses_explains, refuses_due}
+use Rattle.dispatch_room_journal.proofs.NextEntryLemmas.{layout_of_mark, taken, taken_two}
+use Rattle.dispatch_room_journal.proofs.NextEntryLemmas.{no_status_front, head_front}
 use Rattle.dispatch_room_journal.proofs.TurnLemmas.{one_by}
 
 -- the message was played, with this answer

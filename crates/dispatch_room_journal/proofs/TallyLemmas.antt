@@ -1,11 +1,12 @@
 -- Lemmas on what a list holds.
-use Rattle.std.proofs.Common.{◌≡◌, ◌∙◌, ap, sym, refl, arith, inl, inr, ◌⊎◌, ℕ, ◌+◌, ◌<◌, List, [], ◌∷◌, ◌++◌, length}
-use Rattle.std.proofs.Common.{min, append-nil, append_assoc, length-append, Bool, true, Option, Some, None, Result, Ok}
-use Rattle.std.proofs.Common.{Err}
+use Rattle.std.proofs.Common.{◌≡◌, ◌∙◌, ap, sym, refl, arith, inl, inr, ◌⊎◌, ℕ, ◌+◌, ◌<◌, List, []}
+use Rattle.std.proofs.Common.{◌∷◌, ◌++◌, length, min, append-nil, append_assoc, length-append, Bool}
+use Rattle.std.proofs.Common.{true, Option, Some, None, Result, Ok, Err}
 use Rattle.dispatch_room_journal.specs.declared.entry_prefixes.EntryLayout.{EntryLayout}
 use Rattle.dispatch_room_journal.specs.declared.entry_lines.EntryLine.{EntryLine}
 use Rattle.dispatch_room_journal.specs.declared.entry_reader.EntryFault.{EntryFault}
-use Rattle.dispatch_room_journal.specs.declared.entry_reader.EntryFault.TheVariants.{Cut, Foreign, Read}
+use Rattle.dispatch_room_journal.specs.declared.entry_reader.EntryFault.TheVariants.{Cut, Foreign}
+use Rattle.dispatch_room_journal.specs.declared.entry_reader.EntryFault.TheVariants.{Read}
 use Rattle.dispatch_room_journal.specs.WholeEntries.{most_bytes}
 use Rattle.dispatch_room_journal.specs.Entries.{Entry, IsForeign, IsPart, line_of}
 use Rattle.dispatch_room_journal.specs.EntryReadings.{FirstIs, SaysOf}

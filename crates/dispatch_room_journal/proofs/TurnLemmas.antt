@@ -1,7 +1,7 @@
 -- Lemmas on the turns of a replay, one after another.
-use Rattle.std.proofs.Common.{◌≡◌, ◌∙◌, sym, ap, subst, refl, arith, ℕ, ◌+◌, ◌-◌, ◌^◌, ◌≤◌, min, List, [], ◌∷◌, ◌++◌}
-use Rattle.std.proofs.Common.{append-nil, append_assoc, length, Bool, true, false, cond, Option, Some, None, Ok}
-use Rattle.std.proofs.Common.{◌⊎◌, inl, inr}
+use Rattle.std.proofs.Common.{◌≡◌, ◌∙◌, sym, ap, subst, refl, arith, ℕ, ◌+◌, ◌-◌, ◌^◌, ◌≤◌, min}
+use Rattle.std.proofs.Common.{List, [], ◌∷◌, ◌++◌, append-nil, append_assoc, length, Bool, true}
+use Rattle.std.proofs.Common.{false, cond, Option, Some, None, Ok, ◌⊎◌, inl, inr}
 use Rattle.std.specs.Prelude.{All, count_by}
 use Rattle.std.specs.Io.KnownBytes.{Consumes, Keeps, IsAtEnd}
 use Rattle.std.proofs.KnownBytes.{Consumes-trans}
@@ -17,26 +17,32 @@ use Rattle.room_http.specs.Dialogues.{IsDialogue}
 use Rattle.room_http.specs.KeptMessages.{Unmoved}
 use Rattle.room_model.specs.declared.digests.Head.{Head as RoomHead}
 use Rattle.dispatch_room_journal.specs.declared.entry_prefixes.EntryLayout.{EntryLayout}
-use Rattle.dispatch_room_journal.specs.Entries.{Entry, room, message, answer, IsEntry, text_of, texts_of}
+use Rattle.dispatch_room_journal.specs.Entries.{Entry, room, message, answer, IsEntry, text_of}
+use Rattle.dispatch_room_journal.specs.Entries.{texts_of}
 use Rattle.dispatch_room_journal.specs.declared.next_entry.Next.{Next}
 use Rattle.dispatch_room_journal.specs.declared.next_entry.Next.TheVariants.{Head, Message}
 use Rattle.dispatch_room_journal.specs.declared.replay_faults.ReplayFault.{ReplayFault}
-use Rattle.dispatch_room_journal.specs.declared.replay_faults.ReplayFault.TheVariants.{Bad, Unavailable}
+use Rattle.dispatch_room_journal.specs.declared.replay_faults.ReplayFault.TheVariants.{Bad}
+use Rattle.dispatch_room_journal.specs.declared.replay_faults.ReplayFault.TheVariants.{Unavailable}
 use Rattle.dispatch_room_journal.specs.declared.replay_faults.Stopped.{Stopped}
 use Rattle.dispatch_room_journal.specs.declared.journal_messages.MessageOutcome.{MessageOutcome}
-use Rattle.dispatch_room_journal.specs.declared.journal_messages.MessageOutcome.TheVariants.{Played, LeftOut, Last}
+use Rattle.dispatch_room_journal.specs.declared.journal_messages.MessageOutcome.TheVariants.{Played}
+use Rattle.dispatch_room_journal.specs.declared.journal_messages.MessageOutcome.TheVariants.{LeftOut}
+use Rattle.dispatch_room_journal.specs.declared.journal_messages.MessageOutcome.TheVariants.{Last}
 use Rattle.dispatch_room_journal.specs.declared.replay_progress.Progress.{Progress}
-use Rattle.dispatch_room_journal.specs.ReplayedTurns.{Open, Play, Turn, compared, answered, caught_up, tried, left_out}
-use Rattle.dispatch_room_journal.specs.ReplayedTurns.{entries_in, entries_of, arrivals_of, bytes_of, has_message}
-use Rattle.dispatch_room_journal.specs.ReplayedTurns.{is_left_out, is_unanswered}
-use Rattle.dispatch_room_journal.specs.ReplayedTurns.{ends_open, ends_unanswered, IsPlay, IsTurn, IsReplayed, IsBy}
-use Rattle.dispatch_room_journal.specs.ReplayedTurns.{AreBy, IsBegun, StartsBy, HasNoStatus, BeginsWith, EndsAt}
-use Rattle.dispatch_room_journal.specs.ReplayedTurns.{AreTurns}
+use Rattle.dispatch_room_journal.specs.ReplayedTurns.{Open, Play, Turn, compared, answered}
+use Rattle.dispatch_room_journal.specs.ReplayedTurns.{caught_up, tried, left_out, entries_in}
+use Rattle.dispatch_room_journal.specs.ReplayedTurns.{entries_of, arrivals_of, bytes_of}
+use Rattle.dispatch_room_journal.specs.ReplayedTurns.{has_message, is_left_out, is_unanswered}
+use Rattle.dispatch_room_journal.specs.ReplayedTurns.{ends_open, ends_unanswered, IsPlay, IsTurn}
+use Rattle.dispatch_room_journal.specs.ReplayedTurns.{IsReplayed, IsBy, AreBy, IsBegun, StartsBy}
+use Rattle.dispatch_room_journal.specs.ReplayedTurns.{HasNoStatus, BeginsWith, EndsAt, AreTurns}
 use Rattle.dispatch_room_journal.specs.ReplayFaults.{too_many, Explains, IsDueTo}
-use Rattle.dispatch_room_journal.specs.Replays.{DigitsOf, IsReplay, Leads, LeadsDialogue, LeadsElsewhere, MeetsHead}
-use Rattle.dispatch_room_journal.specs.Replays.{StopsAfter, WouldMiss}
-use Rattle.dispatch_room_journal.specs.ReplaySteps.{HasItsHead, IsMark, TurnOf, MessageIs, IsElsewhere, NextIs}
-use Rattle.dispatch_room_journal.specs.ReplaySteps.{IsProgress, Progresses, Passes, StopsIn, TakesTurn}
+use Rattle.dispatch_room_journal.specs.Replays.{DigitsOf, IsReplay, Leads, LeadsDialogue}
+use Rattle.dispatch_room_journal.specs.Replays.{LeadsElsewhere, MeetsHead, StopsAfter, WouldMiss}
+use Rattle.dispatch_room_journal.specs.ReplaySteps.{HasItsHead, IsMark, TurnOf, MessageIs}
+use Rattle.dispatch_room_journal.specs.ReplaySteps.{IsElsewhere, NextIs, IsProgress, Progresses}
+use Rattle.dispatch_room_journal.specs.ReplaySteps.{Passes, StopsIn, TakesTurn}
 use Rattle.dispatch_room_journal.proofs.FaultLemmas.{not_both, begins_explain}
 use Rattle.dispatch_room_journal.proofs.NextEntryLemmas.{begins_more}
 

@@ -1,11 +1,12 @@
 -- A list that can be replayed is replayed.
-use Rattle.std.proofs.Common.{◌≡◌, ◌∙◌, sym, ap, subst, refl, arith, ℕ, ◌-◌, ◌^◌, List, [], ◌∷◌, ◌++◌, drop, length}
-use Rattle.std.proofs.Common.{append-nil, append_assoc, length-append, decimal, Bool, true, false, Option, Some, None}
-use Rattle.std.proofs.Common.{Result, Ok, Err, ◌⊎◌, inl, inr}
+use Rattle.std.proofs.Common.{◌≡◌, ◌∙◌, sym, ap, subst, refl, arith, ℕ, ◌-◌, ◌^◌, List, [], ◌∷◌}
+use Rattle.std.proofs.Common.{◌++◌, drop, length, append-nil, append_assoc, length-append, decimal}
+use Rattle.std.proofs.Common.{Bool, true, false, Option, Some, None, Result, Ok, Err, ◌⊎◌, inl, inr}
 use Rattle.std.specs.Prelude.{All, count_by, min}
 use Rattle.std.proofs.lemmas.Grind.{flat_map-append}
 use Rattle.std.proofs.lemmas.List.{append_cancel_left}
-use Rattle.std.proofs.lemmas.List.Elements.{All-head, All-tail, All-cons, All-nil, All-same, All-weaker}
+use Rattle.std.proofs.lemmas.List.Elements.{All-head, All-tail, All-cons, All-nil, All-same}
+use Rattle.std.proofs.lemmas.List.Elements.{All-weaker}
 use Rattle.room_types.specs.declared.asks.Event.{Event}
 use Rattle.room_types.specs.declared.fleet.Terminal.{Terminal}
 use Rattle.room_types.specs.declared.refusal_statuses.Refusal.{Refusal}
@@ -17,28 +18,35 @@ use Rattle.room_model.specs.Rooms.{Step}
 use Rattle.room_http.specs.Arrivals.{message as arrived, is_head_only, is_closing}
 use Rattle.room_http.specs.Dialogues.{Finds, replied}
 use Rattle.room_model.specs.declared.digests.Head.{Head}
-use Rattle.dispatch_room_journal.specs.Entries.{Entry, room, message, answer, IsEntry, text_of, texts_of, Begins}
+use Rattle.dispatch_room_journal.specs.Entries.{Entry, room, message, answer, IsEntry, text_of}
+use Rattle.dispatch_room_journal.specs.Entries.{texts_of, Begins}
 use Rattle.dispatch_room_journal.specs.JournalRecords.{status_in}
 use Rattle.dispatch_room_journal.proofs.EntryLemmas.{no_end_law, one_entry_law}
 use Rattle.dispatch_room_journal.specs.declared.replay_faults.ReplayFault.{ReplayFault}
-use Rattle.dispatch_room_journal.specs.declared.replay_faults.ReplayFault.TheVariants.{Bad, Differs, OtherRoom}
-use Rattle.dispatch_room_journal.specs.declared.replay_faults.ReplayFault.TheVariants.{ReadFailed, WriteFailed}
+use Rattle.dispatch_room_journal.specs.declared.replay_faults.ReplayFault.TheVariants.{Bad, Differs}
+use Rattle.dispatch_room_journal.specs.declared.replay_faults.ReplayFault.TheVariants.{OtherRoom}
+use Rattle.dispatch_room_journal.specs.declared.replay_faults.ReplayFault.TheVariants.{ReadFailed}
+use Rattle.dispatch_room_journal.specs.declared.replay_faults.ReplayFault.TheVariants.{WriteFailed}
 use Rattle.dispatch_room_journal.specs.declared.replay_faults.ReplayFault.TheVariants.{Unavailable}
 use Rattle.dispatch_room_journal.specs.declared.replay_faults.Stopped.{Stopped}
-use Rattle.dispatch_room_journal.specs.ReplayedTurns.{Open, Play, Turn, compared, answered, caught_up, tried, left_out}
-use Rattle.dispatch_room_journal.specs.ReplayedTurns.{entries_in, entries_of, ends_open, ends_unanswered, is_left_out}
-use Rattle.dispatch_room_journal.specs.ReplayedTurns.{is_unanswered, has_message}
-use Rattle.dispatch_room_journal.specs.ReplayedTurns.{IsPlay, IsTurn, IsReplayed, IsAfter, IsBy, AreBy, IsBegun}
-use Rattle.dispatch_room_journal.specs.ReplayedTurns.{HasNoStatus, AreTurns, EndsAt}
-use Rattle.dispatch_room_journal.specs.ReplayFaults.{IsBroken, IsNoMessage, IsPlayedFor, IsBad, broken, broken_after}
-use Rattle.dispatch_room_journal.specs.ReplayFaults.{unasked, headless, no_message, too_many, IsHead, Explains, IsDueTo}
-use Rattle.dispatch_room_journal.specs.Replays.{DigitsOf, Answers, IsReplay, LeadsElsewhere, LeadsDialogue, StopsAfter}
-use Rattle.dispatch_room_journal.specs.Replays.{WouldMiss, IsHeadOf}
+use Rattle.dispatch_room_journal.specs.ReplayedTurns.{Open, Play, Turn, compared, answered}
+use Rattle.dispatch_room_journal.specs.ReplayedTurns.{caught_up, tried, left_out, entries_in}
+use Rattle.dispatch_room_journal.specs.ReplayedTurns.{entries_of, ends_open, ends_unanswered}
+use Rattle.dispatch_room_journal.specs.ReplayedTurns.{is_left_out, is_unanswered, has_message}
+use Rattle.dispatch_room_journal.specs.ReplayedTurns.{IsPlay, IsTurn, IsReplayed, IsAfter, IsBy}
+use Rattle.dispatch_room_journal.specs.ReplayedTurns.{AreBy, IsBegun, HasNoStatus, AreTurns, EndsAt}
+use Rattle.dispatch_room_journal.specs.ReplayFaults.{IsBroken, IsNoMessage, IsPlayedFor, IsBad}
+use Rattle.dispatch_room_journal.specs.ReplayFaults.{broken, broken_after, unasked, headless}
+use Rattle.dispatch_room_journal.specs.ReplayFaults.{no_message, too_many, IsHead, Explains}
+use Rattle.dispatch_room_journal.specs.ReplayFaults.{IsDueTo}
+use Rattle.dispatch_room_journal.specs.Replays.{DigitsOf, Answers, IsReplay, LeadsElsewhere}
+use Rattle.dispatch_room_journal.specs.Replays.{LeadsDialogue, StopsAfter, WouldMiss, IsHeadOf}
 use Rattle.dispatch_room_journal.specs.ReplayLaws.{GivesThese, IsExcused, IsWhole, IsWholeUpTo}
 use Rattle.dispatch_room_journal.proofs.FaultLemmas.{begins_one}
-use Rattle.dispatch_room_journal.proofs.ReplayLawLemmas.{AreMet, AreUnanswered, Follows, first_head, met_turns}
-use Rattle.dispatch_room_journal.proofs.ReplayLawLemmas.{no_status_first, one_replay_law, one_turn, replayed_alike}
-use Rattle.dispatch_room_journal.proofs.ReplayLawLemmas.{same_play, some_entry, unanswered_turns}
+use Rattle.dispatch_room_journal.proofs.ReplayLawLemmas.{AreMet, AreUnanswered, Follows, first_head}
+use Rattle.dispatch_room_journal.proofs.ReplayLawLemmas.{met_turns, no_status_first, one_replay_law}
+use Rattle.dispatch_room_journal.proofs.ReplayLawLemmas.{one_turn, replayed_alike, same_play}
+use Rattle.dispatch_room_journal.proofs.ReplayLawLemmas.{some_entry, unanswered_turns}
 use Rattle.dispatch_room_journal.proofs.RoomLaws.{same_first}
 use Rattle.dispatch_room_journal.proofs.TurnLemmas.{IsIn, IsReplay-append}
 

@@ -1,19 +1,22 @@
 -- Lemmas on the whole records of a chain that is read.
-use Rattle.std.proofs.Common.{◌≡◌, ◌∙◌, refl, sym, ap, subst, arith, ℕ, ◌+◌, ◌*◌, ◌≤◌, List, [], ◌∷◌, ◌++◌, length}
-use Rattle.std.proofs.Common.{length-append, length-drop, length-take-le, take, drop, min, append_assoc, append-nil}
-use Rattle.std.proofs.Common.{All, Bool, true, false, Option, Some, None, ◌⊎◌, inl, inr}
+use Rattle.std.proofs.Common.{◌≡◌, ◌∙◌, refl, sym, ap, subst, arith, ℕ, ◌+◌, ◌*◌, ◌≤◌, List, []}
+use Rattle.std.proofs.Common.{◌∷◌, ◌++◌, length, length-append, length-drop, length-take-le, take}
+use Rattle.std.proofs.Common.{drop, min, append_assoc, append-nil, All, Bool, true, false, Option}
+use Rattle.std.proofs.Common.{Some, None, ◌⊎◌, inl, inr}
 use Rattle.std.specs.Io.KnownBytes.{prepend_known, Consumes, IsAtEnd, Keeps}
 use Rattle.dispatch_room_journal.specs.WholeEntries.{most_bytes}
 use Rattle.dispatch_room_journal.specs.declared.record_headers.TheConstants.{HEADER}
-use Rattle.dispatch_room_journal.specs.declared.record_fronts.Front.TheVariants.{Short, Whole, Wrong}
+use Rattle.dispatch_room_journal.specs.declared.record_fronts.Front.TheVariants.{Short, Whole}
+use Rattle.dispatch_room_journal.specs.declared.record_fronts.Front.TheVariants.{Wrong}
 use Rattle.dispatch_room_journal.specs.declared.entry_reader.EntryFault.TheVariants.{Foreign}
 use Rattle.dispatch_room_journal.specs.declared.record_fronts.Link.{Link}
 use Rattle.dispatch_room_journal.specs.declared.whole_records.WholeChain.{WholeChain}
-use Rattle.dispatch_room_journal.specs.Chains.{chain_text, first_check, header, is_end, last_check, next_check}
-use Rattle.dispatch_room_journal.specs.Chains.{record_text, sha256_digits}
+use Rattle.dispatch_room_journal.specs.Chains.{chain_text, first_check, header, is_end, last_check}
+use Rattle.dispatch_room_journal.specs.Chains.{next_check, record_text, sha256_digits}
 use Rattle.dispatch_room_journal.specs.RecordFronts.{Stays, after, body_in, front_of}
 use Rattle.dispatch_room_journal.specs.RecordRuns.{first_link}
-use Rattle.dispatch_room_journal.specs.WholeRecords.{EndsChain, FailsChain, GivesMore, GoesOnTo, SaysEntry}
+use Rattle.dispatch_room_journal.specs.WholeRecords.{EndsChain, FailsChain, GivesMore, GoesOnTo}
+use Rattle.dispatch_room_journal.specs.WholeRecords.{SaysEntry}
 use Rattle.dispatch_room_journal.proofs.FrontLemmas.{body_stays}
 use Rattle.dispatch_room_journal.proofs.PlainLemmas.{chain-push, digits_long}
 use Rattle.dispatch_room_journal.proofs.RunLemmas.{none_run, run_more}

@@ -1,6 +1,7 @@
 -- Lemmas on what is written one after another, and on how long an entry is.
-use Rattle.std.proofs.Common.{◌≡◌, ◌∙◌, refl, sym, ap, subst, arith, ℕ, ◌+◌, ◌≤◌, List, ◌++◌, ◌∷◌, [], length}
-use Rattle.std.proofs.Common.{append_assoc, length-append, codes, decimal, Bool, Option, Result, Ok, Err}
+use Rattle.std.proofs.Common.{◌≡◌, ◌∙◌, refl, sym, ap, subst, arith, ℕ, ◌+◌, ◌≤◌, List, ◌++◌, ◌∷◌}
+use Rattle.std.proofs.Common.{[], length, append_assoc, length-append, codes, decimal, Bool, Option}
+use Rattle.std.proofs.Common.{Result, Ok, Err}
 use Rattle.std.proofs.lemmas.Fmt.{length-decimal-le}
 use Rattle.room_http_messages.specs.Streams.{WritesAll}
 use Rattle.room_http_messages.proofs.StreamLemmas.{Appends-more}
@@ -8,9 +9,10 @@ use Rattle.room_model.specs.declared.digests.Version.{Version}
 use Rattle.room_model.specs.declared.digests.Version.TheVariants.{First, Second}
 use Rattle.dispatch_room_journal.specs.declared.journal_inbox.TheConstants.{ENTRY_ROOM}
 use Rattle.dispatch_room_journal.specs.declared.entry_lines.EntryLine.{EntryLine}
-use Rattle.dispatch_room_journal.specs.declared.entry_lines.EntryLine.TheVariants.{Room, Message, Answer}
-use Rattle.dispatch_room_journal.specs.Entries.{Entry, room, message, answer, IsLine, IsEntry, head_words, line_text}
-use Rattle.dispatch_room_journal.specs.Entries.{text_of}
+use Rattle.dispatch_room_journal.specs.declared.entry_lines.EntryLine.TheVariants.{Room, Message}
+use Rattle.dispatch_room_journal.specs.declared.entry_lines.EntryLine.TheVariants.{Answer}
+use Rattle.dispatch_room_journal.specs.Entries.{Entry, room, message, answer, IsLine, IsEntry}
+use Rattle.dispatch_room_journal.specs.Entries.{head_words, line_text, text_of}
 
 words_length : (version : Version) → length (head_words version) ≡ 7
 words_length First = refl

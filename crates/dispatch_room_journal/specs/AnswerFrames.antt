@@ -1,7 +1,6 @@
 -- Answers to the messages of a journal, each written in a frame.
 use Rattle.std.specs.Prelude.{◌≡◌, ℕ, ◌-◌, ◌^◌, min, count_by, List, [], ◌∷◌, ◌++◌, length, codes}
-use Rattle.std.specs.Prelude.{decimal, All, Bool}
-use Rattle.std.specs.Prelude.{true, false, Option, Some, None, Result, Ok, Err}
+use Rattle.std.specs.Prelude.{decimal, All, Bool, true, false, Option, Some, None, Result, Ok, Err}
 use Rattle.std.specs.List.{flat_map}
 use Rattle.std.specs.Io.KnownBytes.{Appends, Consumes, Keeps}
 use Rattle.room_types.specs.declared.fleet.Terminal.{Terminal}
@@ -15,9 +14,8 @@ use Rattle.dispatch_room_journal.specs.declared.replay_faults.Stopped.{Stopped}
 use Rattle.dispatch_room_journal.specs.declared.replay_progress.Progress.{Progress}
 use Rattle.dispatch_room_journal.specs.JournalRecords.{status_in}
 use Rattle.dispatch_room_journal.specs.ReplayedTurns.{Play, Turn, tried, plays_of, entries_of}
-use Rattle.dispatch_room_journal.specs.ReplayedTurns.{has_message, is_left_out}
-use Rattle.dispatch_room_journal.specs.ReplayedTurns.{IsPlayed, HasNoStatus, AreTurns, BeginsWith}
-use Rattle.dispatch_room_journal.specs.ReplayedTurns.{EndsAt}
+use Rattle.dispatch_room_journal.specs.ReplayedTurns.{has_message, is_left_out, IsPlayed}
+use Rattle.dispatch_room_journal.specs.ReplayedTurns.{HasNoStatus, AreTurns, BeginsWith, EndsAt}
 use Rattle.dispatch_room_journal.specs.ReplayFaults.{Explains, IsDueTo}
 use Rattle.dispatch_room_journal.specs.Replays.{DigitsOf, LeadsDialogue, StopsAfter}
 use Rattle.dispatch_room_journal.specs.ReplaySteps.{Progresses, Passes, StopsIn}

@@ -1,7 +1,6 @@
 -- What a journal says, and the text in which it says it.
 use Rattle.std.specs.Prelude.{◌≡◌, ℕ, ◌+◌, ◌<◌, ◌≤◌, nat_le, List, [], ◌∷◌, ◌++◌, length, codes}
-use Rattle.std.specs.Prelude.{decimal, Bool, true}
-use Rattle.std.specs.Prelude.{◌&&◌, ◌||◌, All}
+use Rattle.std.specs.Prelude.{decimal, Bool, true, ◌&&◌, ◌||◌, All}
 use Rattle.std.specs.List.{flat_map}
 use Rattle.room_http_messages.specs.declared.limits.TheConstants.{INBOX_ROOM}
 use Rattle.room_model.specs.declared.digests.Head.{Head}

@@ -1,8 +1,8 @@
 -- What a list holds in plain: the entries and rows of its whole records, whatever follows them; and
 -- how a list goes on.
 use Rattle.std.specs.Prelude.{◌≡◌, ◌⊎◌, ◌<◌, ◌≤◌, ⊤, ℕ, zero, suc, List, [], ◌∷◌, ◌++◌, length}
-use Rattle.std.specs.Prelude.{take, drop, Bool, true}
-use Rattle.std.specs.Prelude.{false, if◌then◌else◌, Option, None, Some, Result, OnErr, OnOk}
+use Rattle.std.specs.Prelude.{take, drop, Bool, true, false, if◌then◌else◌, Option, None, Some}
+use Rattle.std.specs.Prelude.{Result, OnErr, OnOk}
 use Rattle.std.specs.Str.{bytes_eq}
 use Rattle.dispatch_room_journal.specs.declared.record_fronts.Front.{Front}
 use Rattle.dispatch_room_journal.specs.declared.record_fronts.Front.TheVariants.{Empty, Short}
@@ -10,8 +10,7 @@ use Rattle.dispatch_room_journal.specs.declared.record_fronts.Front.TheVariants.
 use Rattle.dispatch_room_journal.specs.declared.list_ends.ListEnd.{ListEnd}
 use Rattle.dispatch_room_journal.specs.declared.list_ends.ListEnd.TheVariants.{Plain, Chain}
 use Rattle.dispatch_room_journal.specs.Chains.{chain_text, first_check, is_end, last_check, opening}
-use Rattle.dispatch_room_journal.specs.Chains.{shown_by}
-use Rattle.dispatch_room_journal.specs.Chains.{sha256_digits}
+use Rattle.dispatch_room_journal.specs.Chains.{shown_by, sha256_digits}
 use Rattle.dispatch_room_journal.specs.RecordFronts.{after, body_in, front_of}
 use Rattle.dispatch_room_journal.specs.ChainLaws.{AreBodies}
 

@@ -1,7 +1,6 @@
 -- What a journal and a room decide by themselves.
 use Rattle.std.specs.Prelude.{◌≡◌, ◌≤◌, ◌⊎◌, ℕ, ◌-◌, ◌^◌, min, List, [], ◌∷◌, ◌++◌, length}
-use Rattle.std.specs.Prelude.{count_by, All, Bool, true}
-use Rattle.std.specs.Prelude.{Option, Some, None, Result, MatchResult}
+use Rattle.std.specs.Prelude.{count_by, All, Bool, true, Option, Some, None, Result, MatchResult}
 use Rattle.room_types.specs.declared.fleet.Terminal.{Terminal}
 use Rattle.room_model.specs.FleetRows.{AreTerminals}
 use Rattle.room_model.specs.Room.{Room}
@@ -24,9 +23,9 @@ use Rattle.dispatch_room_journal.specs.declared.replay_faults.ReplayFault.TheVar
 use Rattle.dispatch_room_journal.specs.declared.replay_faults.Stopped.{Stopped}
 use Rattle.dispatch_room_journal.specs.declared.replayed_journal.Replayed.{Replayed}
 use Rattle.dispatch_room_journal.specs.ReplayedTurns.{Turn, answers_of, entries_of, arrivals_of}
-use Rattle.dispatch_room_journal.specs.ReplayedTurns.{bytes_of, has_message}
-use Rattle.dispatch_room_journal.specs.ReplayedTurns.{ends_open, IsTurn, IsReplayed, IsPlayed}
-use Rattle.dispatch_room_journal.specs.ReplayedTurns.{IsBegun, AreBy, AreTurns, EndsAt}
+use Rattle.dispatch_room_journal.specs.ReplayedTurns.{bytes_of, has_message, ends_open, IsTurn}
+use Rattle.dispatch_room_journal.specs.ReplayedTurns.{IsReplayed, IsPlayed, IsBegun, AreBy}
+use Rattle.dispatch_room_journal.specs.ReplayedTurns.{AreTurns, EndsAt}
 use Rattle.dispatch_room_journal.specs.Replays.{DigitsOf, IsReplay, LeadsDialogue, Replays}
 
 -- two rooms that begin equal and replay the same entries play the same messages, answer them

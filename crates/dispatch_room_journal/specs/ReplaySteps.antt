@@ -1,7 +1,7 @@
 -- What each step of a replay does.
 use Rattle.std.specs.Prelude.{◌≡◌, ◌⊎◌, ℕ, ◌-◌, ◌^◌, ⊤, min, count_by, List, [], ◌∷◌, ◌++◌, length}
-use Rattle.std.specs.Prelude.{decimal, All, Bool}
-use Rattle.std.specs.Prelude.{true, false, Vec, Option, Some, None, Result, Ok, Err}
+use Rattle.std.specs.Prelude.{decimal, All, Bool, true, false, Vec, Option, Some, None, Result, Ok}
+use Rattle.std.specs.Prelude.{Err}
 use Rattle.std.specs.Io.KnownBytes.{Consumes, Keeps, IsAtEnd}
 use Rattle.room_types.specs.declared.fleet.Terminal.{Terminal}
 use Rattle.room_model.specs.Room.{Room}
@@ -25,12 +25,10 @@ use Rattle.dispatch_room_journal.specs.declared.journal_messages.MessageOutcome.
 use Rattle.dispatch_room_journal.specs.declared.journal_messages.MessageOutcome.TheVariants.{Last}
 use Rattle.dispatch_room_journal.specs.JournalRecords.{status_in}
 use Rattle.dispatch_room_journal.specs.ReplayedTurns.{Open, Play, Turn, tried, timed, entries_in}
-use Rattle.dispatch_room_journal.specs.ReplayedTurns.{entries_of}
-use Rattle.dispatch_room_journal.specs.ReplayedTurns.{has_message, is_left_out, ends_open}
-use Rattle.dispatch_room_journal.specs.ReplayedTurns.{ends_unanswered, IsPlay}
-use Rattle.dispatch_room_journal.specs.ReplayedTurns.{IsTurn, IsReplayed, IsBy}
-use Rattle.dispatch_room_journal.specs.ReplayedTurns.{AreBy, StartsBy, HasNoStatus, BeginsWith}
-use Rattle.dispatch_room_journal.specs.ReplayedTurns.{EndsAt}
+use Rattle.dispatch_room_journal.specs.ReplayedTurns.{entries_of, has_message, is_left_out}
+use Rattle.dispatch_room_journal.specs.ReplayedTurns.{ends_open, ends_unanswered, IsPlay, IsTurn}
+use Rattle.dispatch_room_journal.specs.ReplayedTurns.{IsReplayed, IsBy, AreBy, StartsBy}
+use Rattle.dispatch_room_journal.specs.ReplayedTurns.{HasNoStatus, BeginsWith, EndsAt}
 use Rattle.dispatch_room_journal.specs.declared.replay_progress.Progress.{Progress}
 use Rattle.dispatch_room_journal.specs.ReplayFaults.{IsNoMessage, IsUnavailableFault, Refuses}
 use Rattle.dispatch_room_journal.specs.ReplayFaults.{Explains, IsDueTo}

@@ -1,7 +1,6 @@
 -- What a replay does: the turns of a journal, and the room after them.
 use Rattle.std.specs.Prelude.{◌≡◌, ◌⊎◌, ℕ, ◌+◌, ◌-◌, ◌^◌, ⊤, min, List, [], ◌∷◌, ◌++◌, length, All}
-use Rattle.std.specs.Prelude.{count_by, Bool}
-use Rattle.std.specs.Prelude.{true, false, Option, Some, None, Result, Ok, Err}
+use Rattle.std.specs.Prelude.{count_by, Bool, true, false, Option, Some, None, Result, Ok, Err}
 use Rattle.room_types.specs.declared.fleet.Terminal.{Terminal}
 use Rattle.room_model.specs.Room.{Room}
 use Rattle.room_http.specs.declared.settings.Setting.{Setting}
@@ -23,11 +22,10 @@ use Rattle.dispatch_room_journal.specs.declared.replay_faults.ReplayFault.TheVar
 use Rattle.dispatch_room_journal.specs.declared.replay_faults.Stopped.{Stopped}
 use Rattle.dispatch_room_journal.specs.declared.replayed_journal.Replayed.{Replayed}
 use Rattle.dispatch_room_journal.specs.ReplayedTurns.{Open, Play, Turn, compared, answered}
-use Rattle.dispatch_room_journal.specs.ReplayedTurns.{caught_up, tried, left_out}
-use Rattle.dispatch_room_journal.specs.ReplayedTurns.{timed, entries_of, arrivals_of, bytes_of}
-use Rattle.dispatch_room_journal.specs.ReplayedTurns.{has_message, ends_open}
-use Rattle.dispatch_room_journal.specs.ReplayedTurns.{ends_unanswered, IsReplayed}
-use Rattle.dispatch_room_journal.specs.ReplayedTurns.{HasNoStatus, BeginsWith, AreTurns, EndsAt}
+use Rattle.dispatch_room_journal.specs.ReplayedTurns.{caught_up, tried, left_out, timed, entries_of}
+use Rattle.dispatch_room_journal.specs.ReplayedTurns.{arrivals_of, bytes_of, has_message, ends_open}
+use Rattle.dispatch_room_journal.specs.ReplayedTurns.{ends_unanswered, IsReplayed, HasNoStatus}
+use Rattle.dispatch_room_journal.specs.ReplayedTurns.{BeginsWith, AreTurns, EndsAt}
 use Rattle.dispatch_room_journal.specs.ReplayFaults.{Explains, IsDueTo}
 
 module _ (step : Step) (setting : Setting) (digest_of : DigitsOf) (terminals : List Terminal) where

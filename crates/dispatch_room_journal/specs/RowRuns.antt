@@ -1,7 +1,6 @@
 -- The rows of a file in a list, and what stands behind them.
 use Rattle.std.specs.Prelude.{◌≡◌, ◌≢◌, ◌||◌, ℕ, List, [], ◌++◌, Bool, true, false, Option, Some}
-use Rattle.std.specs.Prelude.{Result, Ok, Err, IfOk}
-use Rattle.std.specs.Prelude.{vec_len}
+use Rattle.std.specs.Prelude.{Result, Ok, Err, IfOk, vec_len}
 use Rattle.std.specs.List.{flat_map}
 use Rattle.std.specs.Io.KnownBytes.{Appends, prepend_known}
 use Rattle.room_model.specs.declared.digests.Head.{Head}
@@ -15,9 +14,7 @@ use Rattle.dispatch_room_journal.specs.declared.row_runs.RowsFault.{RowsFault}
 use Rattle.dispatch_room_journal.specs.declared.row_runs.RowsFault.TheVariants.{Memory, Read}
 use Rattle.dispatch_room_journal.specs.Entries.{IsEntry, room, text_of}
 use Rattle.dispatch_room_journal.specs.Chains.{IsBody, end_body, is_end, is_row, next_check}
-use Rattle.dispatch_room_journal.specs.Chains.{record_text, row_body}
-use Rattle.dispatch_room_journal.specs.Chains.{row_line}
-use Rattle.dispatch_room_journal.specs.Chains.{sha256_digits}
+use Rattle.dispatch_room_journal.specs.Chains.{record_text, row_body, row_line, sha256_digits}
 use Rattle.dispatch_room_journal.specs.RecordFronts.{comes_next}
 use Rattle.dispatch_room_journal.specs.RecordRuns.{Runs}
 

@@ -2,8 +2,8 @@
 ghost use Rattle.std.specs.Prelude.{◌≡◌, ◌∷◌, [], ◌++◌, false, length};
 ghost use Rattle.arrayvec.specs.ArrayVec.{array_vec_len};
 ghost use Rattle.room_http_messages.specs.Streams.{WritesAll};
-ghost use Rattle.dispatch_room_journal.specs.Entries.{IsDigest, IsEntry, IsLine, answer};
-ghost use Rattle.dispatch_room_journal.specs.Entries.{line_text, message, room, text_of};
+ghost use Rattle.dispatch_room_journal.specs.Entries.{IsDigest, IsEntry, IsLine, answer, line_text};
+ghost use Rattle.dispatch_room_journal.specs.Entries.{message, room, text_of};
 
 use crate::entry_lines::{EntryLine, head_words};
 use crate::line_texts::append;

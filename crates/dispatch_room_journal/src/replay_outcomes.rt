@@ -1,6 +1,5 @@
 //! What becomes of a message, by what follows it in the journal.
-ghost use Rattle.std.specs.Prelude.{◌≡◌};
-ghost use Rattle.std.specs.Prelude.{◌≤◌, length};
+ghost use Rattle.std.specs.Prelude.{◌≡◌, ◌≤◌, length};
 ghost use Rattle.room_http_messages.specs.declared.limits.TheConstants.{INBOX_ROOM};
 ghost use Rattle.dispatch_room_journal.specs.declared.entry_lines.EntryLine.TheVariants.{Answer};
 ghost use Rattle.dispatch_room_journal.specs.declared.entry_lines.EntryLine.TheVariants.{Room};

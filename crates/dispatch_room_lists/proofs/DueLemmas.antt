@@ -1,7 +1,6 @@
 -- Rows that are enrolled one after another until the room has a head's digest.
-use Rattle.std.proofs.Common.{Bool, Err, IfOk, IsTrue, List, Ok, Result, [], arith, false, inl, inr, length, refl}
-use Rattle.std.proofs.Common.{subst, suc, take}
-use Rattle.std.proofs.Common.{true, zero, ℕ, ◌≤◌, ◌↔◌}
+use Rattle.std.proofs.Common.{Bool, Err, IfOk, IsTrue, List, Ok, Result, [], arith, false, inl, inr}
+use Rattle.std.proofs.Common.{length, refl, subst, suc, take, true, zero, ℕ, ◌≤◌, ◌↔◌}
 use Rattle.std.proofs.Math.Nat.{eq-or-lt_of_le}
 use Rattle.std.proofs.Common.{◌+◌, ◌++◌, ◌<◌, ◌∙◌, ◌∷◌, ◌≡◌, ◌⊎◌}
 use Rattle.sqlite_trees.specs.declared.store.Store.{Ghosts}

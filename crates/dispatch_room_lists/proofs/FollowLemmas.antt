@@ -1,5 +1,6 @@
 -- What becomes of rows that stand behind a leg, and of the room.
-use Rattle.std.proofs.Common.{Bool, IfErr, List, None, Ok, Option, Result, Some, false, inl, inr, refl, true, ℕ, ◌≡◌}
+use Rattle.std.proofs.Common.{Bool, IfErr, List, None, Ok, Option, Result, Some, false, inl, inr}
+use Rattle.std.proofs.Common.{refl, true, ℕ, ◌≡◌}
 use Rattle.std.specs.Prelude.{Err, IfNone, IfOk, OnErr}
 use Rattle.sqlite_trees.specs.declared.store.Store.{Ghosts}
 use Rattle.room_types.specs.declared.fleet.FleetRow.{FleetRow}
@@ -7,8 +8,8 @@ use Rattle.room_model.specs.declared.digests.Head.{Head}
 use Rattle.room_store.specs.declared.store.Store.{Store}
 use Rattle.dispatch_room_journal.specs.ReplayFaults.{IsUnavailableFault}
 use Rattle.dispatch_room_journal.specs.declared.replay_faults.ReplayFault.{ReplayFault}
-use Rattle.dispatch_room_lists.specs.ListedRows.{AreRowsIn, EnrolsSome, FindsHead, IsElsewhere, IsNoChange, IsNoPlan}
-use Rattle.dispatch_room_lists.specs.ListedRows.{IsUnfollowed}
+use Rattle.dispatch_room_lists.specs.ListedRows.{AreRowsIn, EnrolsSome, FindsHead, IsElsewhere}
+use Rattle.dispatch_room_lists.specs.ListedRows.{IsNoChange, IsNoPlan, IsUnfollowed}
 use Rattle.dispatch_room_lists.specs.RoomChanges.{IsNoTerminals}
 use Rattle.dispatch_room_lists.specs.StoodRooms.{Stays}
 

@@ -1,6 +1,6 @@
 -- The legs of a list that is replayed, one after another.
-use Rattle.std.proofs.Common.{Bool, List, [], Ok, Option, Result, ap, arith, false, inl, inr, length, refl, subst, sym}
-use Rattle.std.proofs.Common.{ℕ, true}
+use Rattle.std.proofs.Common.{Bool, List, [], Ok, Option, Result, ap, arith, false, inl, inr}
+use Rattle.std.proofs.Common.{length, refl, subst, sym, ℕ, true}
 use Rattle.std.specs.Bool.{⊤}
 use Rattle.std.proofs.Common.{Err, IfOk, ◌+◌, ◌<◌, ◌∙◌, ◌∷◌, ◌≡◌, ◌⊎◌}
 use Rattle.std.proofs.lemmas.Result.{IfOk-weaker}
@@ -24,8 +24,8 @@ use Rattle.dispatch_room_journal.specs.declared.row_runs.RowsFault.{RowsFault}
 use Rattle.dispatch_room_lists.specs.ListedRows.{Follows, IsMadeTowards, IsThere}
 use Rattle.dispatch_room_lists.specs.RoomChanges.{IsTextOf}
 use Rattle.dispatch_room_lists.specs.declared.room_changes.RoomChange.{RoomChange}
-use Rattle.dispatch_room_lists.specs.ReplayedLegs.{AnyBehind, ArePassed, EndsLeg, FollowsBy, IsLeg, IsSpent}
-use Rattle.dispatch_room_lists.specs.ReplayedLegs.{IsUntouched, LosesLeg, ReplaysLegs}
+use Rattle.dispatch_room_lists.specs.ReplayedLegs.{AnyBehind, ArePassed, EndsLeg, FollowsBy, IsLeg}
+use Rattle.dispatch_room_lists.specs.ReplayedLegs.{IsSpent, IsUntouched, LosesLeg, ReplaysLegs}
 use Rattle.dispatch_room_lists.specs.ReplayedLists.{HasReplayedList, LosesList}
 use Rattle.dispatch_room_lists.specs.ReplayedLegs.{TakesBehind, Waypoint, sum_of}
 use Rattle.room_tables_schema.specs.FileConnections.{IsClean}

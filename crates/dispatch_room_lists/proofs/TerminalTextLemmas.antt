@@ -1,8 +1,7 @@
 -- The text of a list of terminals is cut into its lines, and each line is read as its terminal.
-use Rattle.std.proofs.Common.{Bool, Bor, List, None, Some, [], ap, append-nil, append_assoc, arith, codes, decimal, eqb}
-use Rattle.std.proofs.Common.{false}
-use Rattle.std.proofs.Common.{flat_map, get_or, inl, inr, length, length-append, ltb, refl, sym, true, ℕ, ◌+◌, ◌++◌}
-use Rattle.std.proofs.Common.{◌<◌, ◌^◌, ◌∙◌, ◌∷◌}
+use Rattle.std.proofs.Common.{Bool, Bor, List, None, Some, [], ap, append-nil, append_assoc, arith}
+use Rattle.std.proofs.Common.{codes, decimal, eqb, false, flat_map, get_or, inl, inr, length}
+use Rattle.std.proofs.Common.{length-append, ltb, refl, sym, true, ℕ, ◌+◌, ◌++◌, ◌<◌, ◌^◌, ◌∙◌, ◌∷◌}
 use Rattle.std.proofs.Common.{◌≡◌, ◌≢◌, ◌≤◌}
 use Rattle.std.specs.List.{All, list_all, slice_split}
 use Rattle.std.specs.Prelude.{nat_le, nat_lt, ◌&&◌}
@@ -11,7 +10,8 @@ use Rattle.std.proofs.lemmas.Bool.{and_parts, eqb-false, ne_eqb}
 use Rattle.std.proofs.lemmas.Bool.Decides.{nat_tests}
 use Rattle.std.proofs.lemmas.Fmt.{decimal_is_IsNumeral}
 use Rattle.std.proofs.lemmas.List.{append_cancel_left}
-use Rattle.std.proofs.lemmas.List.Elements.{All-append, All-cons, All-from_get_or, All-nil, All-tail}
+use Rattle.std.proofs.lemmas.List.Elements.{All-append, All-cons, All-from_get_or, All-nil}
+use Rattle.std.proofs.lemmas.List.Elements.{All-tail}
 use Rattle.std.proofs.lemmas.List.Splits.{slice_split_at}
 use Rattle.std.proofs.lemmas.List.Sums.{AllPass-from_list_all}
 use Rattle.std.proofs.lemmas.Str.{IsAscii-append, IsUtf8-from_ascii}
@@ -25,8 +25,9 @@ use Rattle.room_types.specs.declared.asks.Who.TheVariants.{Crew, Desk, Position}
 use Rattle.room_types.specs.declared.fleet.Terminal.{Terminal}
 use Rattle.dispatch_room_cli.specs.TerminalNames.{IsWho, Names, NamesNobody, who_text}
 use Rattle.dispatch_room_cli.proofs.TerminalNameLemmas.{names_one}
-use Rattle.dispatch_room_lists.specs.RoomChanges.{AddsLine, AreReadAs, IsEntry, IsNoEntry, IsNoTerminals, IsTerminal}
-use Rattle.dispatch_room_lists.specs.RoomChanges.{line_of, terminal_line, terminals_text}
+use Rattle.dispatch_room_lists.specs.RoomChanges.{AddsLine, AreReadAs, IsEntry, IsNoEntry}
+use Rattle.dispatch_room_lists.specs.RoomChanges.{IsNoTerminals, IsTerminal, line_of, terminal_line}
+use Rattle.dispatch_room_lists.specs.RoomChanges.{terminals_text}
 
 -- ---- the letters of names and tokens
 abbrev IsLetter : ℕ → Type 0

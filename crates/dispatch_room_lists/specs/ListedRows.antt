@@ -1,5 +1,5 @@
--- What is done by the rows that a list has, when it is replayed, as the head says that stands
--- behind them: of a fleet as many are enrolled as lead to it, and any other change is made or not.
+-- What is done by the rows of a list when it is replayed. The head behind them decides: of a fleet,
+-- as many rows are enrolled as lead to its digest, and any other change is made or not.
 use Rattle.std.specs.Prelude.{Bool, Err, List, Ok, false, length, take, true, ℕ, ◌<◌, ◌≤◌, ◌≡◌, ◌⊎◌}
 use Rattle.sqlite_trees.specs.declared.store.Store.{Ghosts}
 use Rattle.room_types.specs.declared.refusal_statuses.Refusal.TheVariants as refusal
@@ -59,7 +59,7 @@ pub record IsNoFile (text : List ℕ) : Type 0 where
 -- ---- a fleet's rows
 module _ (digits : DigitsOf) (head : Head) (rows : List FleetRow) (terminals : List Terminal)
     (room : Room) where
-  -- after so many of the rows, the first ones, the room has the head's digest
+  -- after the first rows, this many, the room has the head's digest
   abbrev pub IsMetAfter : ℕ → Type 0
   IsMetAfter count = IsHeadOf digits head (terminals_after_rows (take count rows) room terminals)
       (room_after_rows (take count rows) room terminals)
@@ -81,7 +81,7 @@ module _ {S : Type 0} (g : Ghosts S) (old new : Store S) where
       IsRoom g new (terminals_after_rows (take count rows) room terminals)
       (room_after_rows (take count rows) room terminals)
 
-  -- after so many as are due
+  -- it has them after as many rows as are due
   abbrev pub EnrolsDue : List FleetRow → Head → Type 0
   EnrolsDue rows head = IsClean g new.conn → (terminals : List Terminal) (room : Room)
       → IsRoom g old terminals room
@@ -114,7 +114,7 @@ module _ {S : Type 0} (g : Ghosts S) (old new : Store S) where
         → ¬ IsHeadOf (digits_in old) head terminals room
 
   -- The room has the digest of the head, and stays as it is: a change before it was not made, or it
-  -- changed nothing; or a stop left rows of no change, before which nothing is made.
+  -- changed nothing; or a stop left only some rows of a change, which was not made then.
   pub record IsThere (head : Head) : Type 0 where
     pub stays : Stays g old new
     pub met : IsClean g new.conn → (terminals : List Terminal) (room : Room)
@@ -153,7 +153,7 @@ module _ {S : Type 0} (g : Ghosts S) (old new : Store S) (change : RoomChange) (
     pub remakes : Remakes g begun new change (Err failure)
     pub failed : fault ≡ unmade_fault failure
 
--- The room has another digest, and none is opened again, for this, before the change or after it.
+-- The room has another digest, and can't be opened again, before the change or after it, for this.
 pub record LosesStage {S : Type 0} (g : Ghosts S) (old : Store S) (change : RoomChange)
     (head : Head) (fault : Failure) : Type 0 where
   pub begun : Store S

@@ -18,22 +18,22 @@ module _ (before after : Option (List ℕ)) where
       × Appends before after (codes "replayed " ++ (decimal (number - 1) ++ codes "\n"))
   PrintsBefore number (Err fault) = fault ≡ Network
 
-  -- Where the list may be cut off, a record that can't be read is the one that was: it is left
-  -- out. Else the replay comes to the same, and nothing is printed.
+  -- If the list may be cut off, a record that can't be read is taken for the one that was, and is
+  -- left out. Otherwise the result stays the same, and nothing is printed.
   abbrev pub IsLeftOut : Bool → Result Done Failure → Result Done Failure → Type 0
   IsLeftOut true (Err (Record number)) done = PrintsBefore number done
   IsLeftOut may_be_cut came done = (done ≡ came) × (after ≡ before)
 
 module _ {S : Type 0} (g : Ghosts S) (old new : Store S) where
-  -- The digest of the room is printed where it is wanted, and all before was done.
+  -- The digest of the room is printed if it is wanted and all before succeeded.
   abbrev pub EndsWithDigest : Bool → Option (List ℕ) → Option (List ℕ) → Result Done Failure
       → Result Done Failure → Type 0
   EndsWithDigest true before after (Ok _) done = PrintsDigest g old new before after done
   EndsWithDigest wanted before after ended done =
       (done ≡ ended) × (after ≡ before) × (new ≡ old)
 
-  -- How a replay ends that came to this. Where each message is answered, nothing more is done. Else
-  -- a record that is cut off is left out where that may be, and the digest is printed where it is
+  -- How a replay ends that came to this. If each message is answered, nothing more is done.
+  -- Otherwise a record that is cut off is left out if it may be, and the digest is printed if it is
   -- wanted.
   abbrev pub ConcludesBy : Bool → Bool → Bool → Result Done Failure → Option (List ℕ)
       → Option (List ℕ) → Result Done Failure → Type 0

@@ -1,8 +1,7 @@
 -- A list with changes among its messages, replayed leg by leg: each leg as a list without changes
 -- is, and between two of them a change is made.
 use Rattle.std.specs.Prelude.{Bool, Err, IfOk, List, [], None, Ok, Option, Result, ⊤, false, length}
-use Rattle.std.specs.Prelude.{min, true, ℕ, ◌+◌}
-use Rattle.std.specs.Prelude.{◌-◌, ◌<◌, ◌^◌, ◌∷◌, ◌≡◌, ◌⊎◌}
+use Rattle.std.specs.Prelude.{min, true, ℕ, ◌+◌, ◌-◌, ◌<◌, ◌^◌, ◌∷◌, ◌≡◌, ◌⊎◌}
 use Rattle.std.specs.Io.KnownBytes.{prepend_known}
 use Rattle.sqlite_trees.specs.declared.store.Store.{Ghosts}
 use Rattle.room_types.specs.declared.refusal_statuses.Refusal.TheVariants.{Memory}
@@ -54,11 +53,11 @@ abbrev pub count_in : Result Replayed Stopped → Result ℕ Stopped
 count_in (Ok replayed) = Ok replayed.messages
 count_in (Err stopped) = Err stopped
 
--- so many messages and so many more: the number stops at the greatest of its type
+-- the sum of two numbers of messages, at most the greatest number of its type
 abbrev pub sum_of : ℕ → ℕ → ℕ
 sum_of before more = min (before + more) (2 ^ 64 - 1)
 
--- what a replay comes to whose last leg came to this, behind so many messages
+-- the result of a replay, from that of its last leg and the number of messages before that leg
 abbrev pub in_all : ℕ → Result Replayed Stopped → Result Replayed Stopped
 in_all before (Ok replayed) =
     Ok (record { messages = sum_of before replayed.messages; is_open = replayed.is_open })
@@ -66,14 +65,14 @@ in_all before (Err stopped) =
     Err (record { fault = stopped.fault; number = sum_of before stopped.number })
 
 -- ---- what stands behind a leg
--- a list of which nothing was read
+-- nothing was read of the list
 abbrev pub IsUntouched : {R : Type 0} → ListSource R → ListSource R → Type 0
 IsUntouched old new = (new.reader ≡ old.reader) × (new.reel ≡ old.reel)
 
 module _ {R : Type 0} (left : R → Option (List ℕ)) where
-  -- What stands behind a leg of a list was taken, and the lines of its rows put behind others. Of
-  -- one that was not read to its end, and of one of which something may still be given, nothing
-  -- was; else the rows that stand next.
+  -- What stands behind a leg of a list was taken, and the lines of its rows were appended to
+  -- others. Nothing is taken behind a leg that was not read to its end, or of which bytes are still
+  -- to be given; otherwise the rows that come next are.
   abbrev pub TakesBehind : ListSource R → ListSource R → List ℕ → List ℕ → Behind → Type 0
   TakesBehind old new before rows which =
       (old.has_ended ≡ false → (which ≡ behind.Unread) × IsUntouched old new × (rows ≡ before))
@@ -87,9 +86,9 @@ module _ {R : Type 0} (left : R → Option (List ℕ)) where
 abbrev pub ReadsAll : How → Type 0
 ReadsAll how = (how.answers ≡ true) ⊎ (how.until ≡ None)
 
--- These rows stand behind a leg of a list, and this behind them, and then so much is left of the
--- leg that follows: so they were taken of the list as the leg was left, which was read to its end
--- where each leg is.
+-- These rows stand behind a leg of a list, and `which` behind them, and `next` is left of the leg
+-- that follows: they were taken from the list as it was after the leg. Where each leg is read to
+-- its end, that one was.
 pub record StandsBehind {L : Type 0} (left : L → Option (List ℕ)) (has_ended : L → Bool)
     (Takes : L → L → List ℕ → List ℕ → Behind → Type 0) (how : How) (rows : List ℕ)
     (which : Behind) (next : Option (List ℕ)) : Type 0 where
@@ -122,9 +121,9 @@ module _ {S : Type 0} (g : Ghosts S) where
       (goes_on ≡ true) × Follows g old new (byte ∷ more) head
   FollowsBy old new (byte ∷ more) behind.Other goes_on = (goes_on ≡ true) × (new ≡ old)
 
-  -- Why no leg follows one that was replayed whole, and the room then: what stands behind it can't
-  -- be read, or memory is refused for it, and the room stays as it is; or a head stands behind
-  -- rows, of which something is said, and they are not followed.
+  -- Why the replay stops behind a leg that was replayed whole, and the room then: what stands there
+  -- can't be read, or memory is refused for it, and the room stays as it is; or rows of which
+  -- `Stand` holds can't be followed.
   abbrev pub StopsBehind : (List ℕ → Behind → Type 0) → Bool → Store S → Store S → ReplayFault
       → Type 0
   StopsBehind Stand read_failed old new fault =
@@ -134,8 +133,8 @@ module _ {S : Type 0} (g : Ghosts S) where
       × IsUnfollowed g old new rows head fault)
 
   module _ (how : How) where
-    -- A leg was replayed, or its messages answered, and came to this, where a read or a write
-    -- failed or not. Behind the answers before it, its own are written then.
+    -- A leg was replayed; or its messages were answered, and the answers written behind those
+    -- before. It came to this, and a read or a write failed or not.
     pub record IsLeg (at : Waypoint S) (last : Store S) (holds : Option (List ℕ))
         (read_failed write_failed : Bool) (came : Result Replayed Stopped) : Type 0 where
       pub replayed : how.answers ≡ false
@@ -192,9 +191,9 @@ module _ {S : Type 0} (g : Ghosts S) where
           number = sum_of (sum_of before replayed.messages) 1;
         })
 
-      -- A list was replayed leg by leg: so its last leg came to it, or it stopped between two.
-      -- Where the last leg was replayed whole, the list is spent, unless more legs than are counted
-      -- were replayed.
+      -- A list was replayed leg by leg: either its last leg came to this, or it stopped between
+      -- two. If the last leg was replayed whole, the list is spent, unless as many legs were
+      -- replayed as are counted.
       abbrev pub ReplaysLegs : Waypoint S → Store S → Option (List ℕ) → Bool → Bool
           → Result Replayed Stopped → Type 0
       ReplaysLegs first last holds read_failed write_failed result =
@@ -204,15 +203,15 @@ module _ {S : Type 0} (g : Ghosts S) where
           × IfOk came (λ _. IsSpent Stands ⊎ (length ends.earlier ≡ 2 ^ 64 - 2)))
           ⊎ StopsBetween first last holds read_failed result
 
-      -- so it was, and the store that it came to is ready again
+      -- a list was replayed so, and the store is ready again
       pub record PlaysLegs (first : Waypoint S) (last : Store S) (holds : Option (List ℕ))
           (read_failed write_failed : Bool) (result : Result Replayed Stopped) : Type 0 where
         pub ready : IsReady g last
         pub trusted : IsClean g last.conn → IsClean g first.store.conn
         pub legs : ReplaysLegs first last holds read_failed write_failed result
 
-      -- Behind a leg that was replayed whole no room was opened again, for this, before a change
-      -- that stands there, or after it.
+      -- Behind a leg that was replayed whole, no room could be opened again for the change that
+      -- stands there, or after it, for this.
       pub record LosesLeg (first : Waypoint S) (holds : Option (List ℕ)) (fault : Failure)
           : Type 0 where
         pub stood : Store S

@@ -38,7 +38,7 @@ failure_at (replay.Unavailable refusal) number = refused refusal
 abbrev pub failure_of : Stopped → Failure
 failure_of stopped = failure_at stopped.fault stopped.number
 
--- what is reported of a replay: how many records it took, or why it stopped
+-- what is reported of a replay: how many messages were replayed, or why it stopped
 abbrev pub PrintsReplayed : Result Replayed Stopped → Option (List ℕ) → Option (List ℕ)
     → Result Done Failure → Type 0
 PrintsReplayed (Ok replayed) before after (Ok done) =
@@ -48,13 +48,13 @@ PrintsReplayed (Ok replayed) before after (Err fault) = fault ≡ Network
 PrintsReplayed (Err stopped) before after (Ok done) = ⊥
 PrintsReplayed (Err stopped) before after (Err fault) = fault ≡ failure_of stopped
 
--- how the program ends by how answering each message did
+-- how the program ends once each message was answered, or answering stopped
 abbrev pub EndsAs : Result ℕ Stopped → Result Done Failure → Type 0
 EndsAs (Ok messages) done = done ≡ Ok Whole
 EndsAs (Err stopped) done = done ≡ Err (failure_of stopped)
 
--- What is done with a list in a store that is first this and then that, first in this setting, and
--- so.
+-- What is done with a list in a room: `first` is its store before and `last` after, and `setting`
+-- is that in which the first leg is answered.
 module _ {S : Type 0} (g : Ghosts S) (how : How) (first : Store S) (setting : Setting)
     (last : Store S) (list before after : Option (List ℕ)) (read_failed : Bool)
     (Stands : List ℕ → Behind → Option (List ℕ) → Type 0)
@@ -87,10 +87,10 @@ pub record IsPlayed {S : Type 0} (g : Ghosts S) (how : How) (first : Store S) (s
   pub answered : how.answers ≡ true
       → AreAnswered g how first setting last list before after read_failed Stands done
 
--- This list was replayed to the room, or its messages answered, as it was asked: what is written
--- behind what the output held is these answers. Then the replay ended, with the digest of the room
--- where no answers were asked for. Where the list was found to have ended, a record that is cut off
--- may be left out.
+-- This list was replayed to the room; or its messages were answered, as was asked, and the answers
+-- written behind what the output held. Then the replay ended: where no answers were asked for, with
+-- the digest of the room if that was. A record that is cut off may be left out only if the end of
+-- the list was found.
 pub record HasReplayedList {S : Type 0} (g : Ghosts S) (old new : Held S) (how : How)
     (list before after : Option (List ℕ)) (read_failed has_ended : Bool)
     (Stands : List ℕ → Behind → Option (List ℕ) → Type 0)
@@ -110,8 +110,8 @@ pub record HasReplayedList {S : Type 0} (g : Ghosts S) (old new : Held S) (how :
   pub ends : Concludes g last ended how came has_ended between after done
   pub closed : new ≡ ended.conn
 
--- Behind a leg of a list no room was opened again, for this. Where answers are asked for, those to
--- the legs before it are written behind what the output held; else nothing is printed.
+-- Behind a leg of a list no room could be opened again, for this. If answers are asked for, those
+-- so far are written behind what the output held; otherwise nothing is printed.
 pub record LosesPlayed {S : Type 0} (g : Ghosts S) (how : How) (first : Store S) (setting : Setting)
     (list before after : Option (List ℕ))
     (Stands : List ℕ → Behind → Option (List ℕ) → Type 0) (fault : Failure) : Type 0 where
@@ -120,7 +120,7 @@ pub record LosesPlayed {S : Type 0} (g : Ghosts S) (how : How) (first : Store S)
   pub answered : how.answers ≡ true
       → LosesLeg g how Stands (begins_leg first setting list before) after fault
 
--- no room was opened, or, behind a leg of a list, none was opened again
+-- a room was opened, but behind a leg of a list it could not be opened again
 pub record LosesList {S : Type 0} (g : Ghosts S) (old : Held S) (how : How)
     (list before after : Option (List ℕ))
     (Stands : List ℕ → Behind → Option (List ℕ) → Type 0) (fault : Failure) : Type 0 where

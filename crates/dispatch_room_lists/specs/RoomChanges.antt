@@ -1,7 +1,7 @@
--- Changes of a room beside those by its messages and by its fleets: of its terminals, and of its
--- plan.
-use Rattle.std.specs.Prelude.{List, Result, codes, flat_map, true, unwrap_or, [], ℕ, ◌++◌}
-use Rattle.std.specs.Prelude.{◌∷◌, ◌≡◌, ◌≢◌, ◌⊎◌}
+-- Changes of a room other than those by its messages and by its fleets: of its terminals, and of
+-- its plan.
+use Rattle.std.specs.Prelude.{List, Result, codes, flat_map, true, unwrap_or, [], ℕ, ◌++◌, ◌∷◌, ◌≡◌}
+use Rattle.std.specs.Prelude.{◌≢◌, ◌⊎◌}
 use Rattle.std.specs.List.{All}
 use Rattle.sqlite.specs.Held.{Held}
 use Rattle.sqlite_trees.specs.declared.store.Store.{Ghosts}
@@ -21,7 +21,7 @@ use Rattle.room_tables_schema.specs.FileConnections.{IsClean}
 use Rattle.dispatch_room_lists.specs.declared.room_changes.RoomChange.TheVariants as change
 
 -- ---- its text
--- the line of one and of the token by which it is known: none where it has no terminal
+-- the line of a user and its token, which is empty if the user has no terminal
 abbrev pub terminal_line : Who → List ℕ → List ℕ
 terminal_line who token = who_text who ++ codes "," ++ token ++ codes "\n"
 
@@ -33,8 +33,8 @@ line_of terminal = terminal_line terminal.who terminal.token
 abbrev pub terminals_text : List ℕ → List ℕ
 terminals_text lines = codes "terminal,token\n" ++ lines
 
--- The text by which a list has a change. Of terminals it says what they are afterwards, of all that
--- the change names; of a plan it is that of its file.
+-- The text of a change in a list: what terminals the users have afterwards whom the change names,
+-- or the text of a plan's file.
 abbrev pub IsTextOf : RoomChange → List ℕ → Type 0
 IsTextOf (change.Token one) text =
     text ≡ terminals_text (terminal_line one.who (unwrap_or one.token []))
@@ -45,8 +45,8 @@ IsTextOf (change.Plan file) text = IsPlanText text file
 abbrev pub IsTerminal : Terminal → Type 0
 IsTerminal terminal = IsWho terminal.who × (is_token terminal.token ≡ true)
 
--- The text is that of no change of terminals: neither of one who has none any more, nor of any list
--- of terminals, of which one may be the only terminal of one.
+-- The text is that of no change of terminals: neither of a user who has none any more, nor of any
+-- list of terminals (a user's only terminal is such a list, too).
 pub record IsNoTerminals (text : List ℕ) : Type 0 where
   pub no_one : (who : Who) → IsWho who → text ≢ terminals_text (terminal_line who [])
   pub no_list : (listed : List Terminal) → All IsTerminal listed

@@ -1,7 +1,6 @@
-//! The text by which a list has a change of a room.
+//! The text in which a list keeps a change of a room.
 ghost use Rattle.std.specs.Prelude.{◌≡◌, ◌++◌, flat_map, unwrap_or, IfNone, IfOk, IfSome};
-ghost use Rattle.std.specs.Prelude.{MatchOption, OnOk, []};
-ghost use Rattle.std.specs.Prelude.{string_bytes};
+ghost use Rattle.std.specs.Prelude.{MatchOption, OnOk, [], string_bytes};
 ghost use Rattle.dispatch_room_lists.specs.ListedRows.{IsNoChange};
 ghost use Rattle.dispatch_room_lists.specs.RoomChanges.{AddsLine, AreNoLines, AreReadAs, IsEntry};
 ghost use Rattle.dispatch_room_lists.specs.RoomChanges.{IsNoEntry, IsNoTerminals, IsOfNoOne};
@@ -19,10 +18,11 @@ use std::alloc::{AllocError, Global};
 use std::fmt::Write;
 use std::str;
 
-// The line over those of terminals.
+// The header of a list of terminals.
 const HEADER: &str = "terminal,token\n";
 
-/// The text of a change of one's terminals: who it is, and its one token, if it has one.
+/// The text of a change that leaves a user one token or none: one line, with the user and the
+/// token.
 pub fn token_text(alloc: Global, change: &TokenChange) -> Result<Vec<u8>, AllocError>
     ensures { IfOk result (λ text. text.items
         ≡ terminals_text (terminal_line change.now.who (unwrap_or change.now.token []))) }
@@ -35,7 +35,7 @@ pub fn token_text(alloc: Global, change: &TokenChange) -> Result<Vec<u8>, AllocE
     Ok(text.into_bytes())
 }
 
-/// The text of a list that gives all that it names their terminals.
+/// The text of a list of terminals: a line for each, in order.
 pub fn terminals_text(alloc: Global, listed: &[Terminal]) -> Result<Vec<u8>, AllocError>
     ensures { IfOk result (λ text.
         text.items ≡ terminals_text (flat_map line_of listed.now)) }
@@ -58,7 +58,7 @@ fn push_line(text: &mut String, who: &Who, token: &str) -> Result<(), AllocError
     }
 }
 
-/// The change whose text this is; none where it is no change's.
+/// Reads the change of which this is the text; `None` if it is the text of no change.
 pub fn change_of(alloc: Global, text: &[u8]) -> Result<Option<RoomChange>, AllocError>
     ensures change { IfOk result (λ found. IfSome found (λ change. IsTextOf change text.now)) }
     ensures none { IfOk result (λ found. IfNone found (IsNoChange text.now)) }
@@ -111,15 +111,15 @@ fn of_all(alloc: Global, text: &str, lines: &str) -> Result<Option<RoomChange>, 
     }
 }
 
-// One who has no token, named by the only line.
+// The user without a token whom the only line names.
 fn withdrawn_in(lines: &str) -> Option<Who>
     ensures { MatchOption result (IsOfNoOne lines.now) (λ who. lines.now ≡ terminal_line who []) }
 {
     who_of(lines.strip_suffix(",\n")?)
 }
 
-// The terminals of lines, without lines of another form. The caller compares the text, so there
-// were none.
+// The terminals that the lines name. Lines of another form are skipped: the caller compares the
+// text with that of the result, and so refuses them.
 fn listed_in(alloc: Global, lines: &str) -> Result<Vec<Terminal>, AllocError>
     ensures { IfOk result (λ found. AreReadAs lines.now found.items) }
 {

@@ -1,4 +1,4 @@
-//! The digest of a room, by which it is known again, as it is printed.
+//! Prints the digest of a room, by which the room can be recognized.
 ghost use Rattle.std.specs.Io.KnownBytes.{Appends};
 ghost use Rattle.std.specs.Prelude.{OnOk};
 ghost use Rattle.room_store.specs.StoredRoom.{IsReady};
@@ -12,7 +12,8 @@ use room_store::store_digest::digest_of_room;
 use sqlite::Alter;
 use std::io::{self, Write};
 
-/// Prints the digest of a store's room, which stays as it is.
+/// Prints the digest of a store's room, which stays as it is. It fails as `Memory` or `Storage` if
+/// the room can't be read, and as `Network` if the output fails.
 pub fn print_digest<S: Alter, O: Write>(room: &mut Store<S>, out: &mut O) -> Result<Done, Failure>
     requires ready { IsReady S.Store room.old }
     ensures { PrintsDigest S.Store room.old room.new (O.contents out.old) (O.contents out.new)

@@ -1,14 +1,13 @@
-//! What the rows of a list say, done in the room that it is replayed to, as far as the head behind
-//! them says.
+//! Carries out what the rows of a list say, in the room that the list is replayed to. The head
+//! behind the rows decides how much of it is done.
 ghost use Rattle.std.specs.Prelude.{◌≡◌, ◌⊎◌, Err, IfErr, IfOk, Ok, OnErr, OnOk};
 ghost use Rattle.room_store.specs.StoredRoom.{IsReady};
 ghost use Rattle.dispatch_room_cli.specs.declared.exit_status.Failure.{Failure as Why};
 ghost use Rattle.dispatch_room_journal.specs.ReplayFaults.{IsUnavailableFault};
 ghost use Rattle.dispatch_room_journal.specs.declared.replay_faults.ReplayFault.TheVariants.{Bad};
 ghost use Rattle.dispatch_room_lists.specs.ListedRows.{EnrolsDue, EnrolsSome, Follows, IsElsewhere};
-ghost use Rattle.dispatch_room_lists.specs.ListedRows.{IsMadeTowards};
-ghost use Rattle.dispatch_room_lists.specs.ListedRows.{IsThere, IsUnfollowed, IsUnmadeTowards};
-ghost use Rattle.dispatch_room_lists.specs.ListedRows.{IsUnread, LosesStage};
+ghost use Rattle.dispatch_room_lists.specs.ListedRows.{IsMadeTowards, IsThere, IsUnfollowed};
+ghost use Rattle.dispatch_room_lists.specs.ListedRows.{IsUnmadeTowards, IsUnread, LosesStage};
 ghost use Rattle.dispatch_room_lists.specs.ListedRows.{LosesText, unmade_fault};
 ghost use Rattle.dispatch_room_lists.specs.StoodRooms.{GoesOn, StageGoesOn};
 
@@ -32,13 +31,15 @@ pub struct Stage<S: Alter> {
     pub setting: Setting,
 }
 
-/// Where the room is still open: what came of rows, and the room after them.
+/// What came of following rows, and the room after them; or why no room is open any more.
 pub type Followed<T, S> = Result<(Result<T, ReplayFault>, Stage<S>), Failure>;
 
-/// Does what the rows of a text say, as far as the head behind them says. Of a fleet as many are
-/// enrolled as are due. Another change is made, unless the room has the head's digest: then it was
-/// not made, or it changed nothing. Where the room doesn't allow it, the list is of another room.
-/// Rows of no change are left by a stop between the rows of one, before it was made.
+/// Does what the rows of a text say, as far as the head behind them shows that it was done. Of a
+/// fleet, rows are enrolled one after another until the room has the head's digest. Any other
+/// change is made, unless the room has that digest already: then it was not made, or it changed
+/// nothing. If the room doesn't allow it, the list is of another room (`OtherRoom`). Rows that make
+/// no whole change were left by a stop, before the change was made: the room must have the digest
+/// already, or the list is `Bad`.
 #[tactic(auto, using(crate::proofs::DueLemmas::stage_goes, crate::proofs::DueLemmas::stage_stays))]
 pub fn follow<S: Alter + Drop>(
     alloc: Global,
@@ -86,7 +87,7 @@ fn enrol<S: Alter>(
     (done, Stage { room, setting })
 }
 
-// Does nothing, and the room has to have the digest of a head.
+// Changes nothing. If the room doesn't have the digest of the head, the list is bad.
 fn stay<S: Alter>(stage: Stage<S>, head: &Head) -> (Result<(), ReplayFault>, Stage<S>)
     requires ready { IsReady S.Store stage.room }
     ensures goes { GoesOn S.Store stage.room result.1.room }

@@ -1,4 +1,4 @@
-//! A list that is read leg by leg, and what is known of the reads of it.
+//! A list that is read leg by leg: a leg is the records up to the next rows.
 ghost use Rattle.std.specs.Prelude.{◌≡◌, ◌==◌, ◌||◌, Bool, None, IfOk, List, ℕ, false};
 ghost use Rattle.std.specs.Option.{option_map};
 ghost use Rattle.dispatch_room_journal.specs.Chains.{sha256_digits};
@@ -18,13 +18,14 @@ use std::marker::Model;
 
 /// A list that is read leg by leg: a read gives the bytes of a leg up to its end.
 pub trait Legs: Source {
-    // What stands behind a leg was taken, and the lines of its rows put behind others.
+    // What stands behind a leg was taken, and the lines of its rows were appended to others.
     ghost takes: { Self → Self → List ℕ → List ℕ → Which → Type 0 };
 
     // Whether the end of the whole list was found.
     ghost found_end: { Self → Bool };
 
-    /// Takes the rows that stand behind a leg which was read to its end, unless a read failed.
+    /// Appends the rows that stand behind a leg, if that was read to its end, and returns what
+    /// stands behind the rows. It fails as `Read` if a read of the list failed, now or before.
     fn take_rows(&mut self, rows: &mut Vec<u8>) -> Result<Behind, RowsFault>
         ensures failed { Self.has_failed self.new ≡ is_read result }
         ensures taken { IfOk result (takes self.old self.new rows.old.items rows.new.items) };
@@ -41,7 +42,7 @@ pub struct LegReader<R: Source> {
     failed: bool,
 }
 
-// It knows of each read that failed.
+// `failed` says whether a read failed, or as many rows were passed as can be counted.
 impl<R: Source> Model for LegReader<R> {
     ghost Value = { List_ R };
 
@@ -52,7 +53,7 @@ impl<R: Source> Model for LegReader<R> {
 }
 
 impl<R: Source> LegReader<R> {
-    /// What a list says of which nothing was read: its first leg.
+    /// Begins to read a list at its first leg. Nothing may have been read of it before.
     pub fn new(reader: R) -> LegReader<R>
         requires sound { R.has_failed reader ≡ false }
         requires unread { R.has_ended reader ≡ false }

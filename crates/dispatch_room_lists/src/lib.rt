@@ -1,6 +1,6 @@
 //! Only the prover needs this to be a crate of its own.
-//! What a list does to a room, over any storage: it is replayed leg by leg, and between two of them
-//! what its rows say is done.
+//! What a list does to a room, over any storage: it is replayed leg by leg, and between two legs,
+//! what the rows there say is done.
 #![tactic(auto)]
 
 pub mod change_texts;

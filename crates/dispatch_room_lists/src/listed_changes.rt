@@ -17,7 +17,8 @@ pub enum ListedChange {
     Change(RoomChange),
 }
 
-/// What a text is; none where it is neither a fleet's nor a change's.
+/// Reads what the rows of a list stand for; `None` if that is neither a fleet nor a change. Bad
+/// rows of a fleet are left out.
 pub fn listed_in(alloc: Global, text: &[u8]) -> Result<Option<ListedChange>, AllocError>
     ensures listed { IfOk result (λ found. IfSome found (IsListed text.now)) }
     ensures none { IfOk result (λ found. IfNone found (IsNoFile text.now)) }

@@ -1,4 +1,5 @@
-//! Rows of a fleet that a list has, enrolled as far as the head says that stands behind them.
+//! Enrols the rows of a fleet that a list has, until the room has the digest of the head behind
+//! them.
 ghost use Rattle.std.specs.Prelude.{◌≡◌, ◌⊎◌, List, IfErr, IfOk, OnErr, OnOk, false};
 ghost use Rattle.room_types.specs.declared.fleet.Terminal.{Terminal};
 ghost use Rattle.room_model.specs.FleetRows.{room_enrolled, terminals_enrolled};
@@ -49,8 +50,8 @@ pub fn enrol_rows<S: Alter>(
     Ok(())
 }
 
-/// Whether the room has the digest of a head. One that has not changed since it had another digest
-/// does not have it.
+/// Whether the room has the digest of a head. The room isn't read if it has not changed
+/// (`is_changed`) since it had another digest.
 pub fn has_come_to<S: Alter>(
     room: &mut Store<S>,
     head: &Head,

@@ -1,4 +1,4 @@
-//! A source that notes where a read finds its end.
+//! A source that notes whether a read found its end.
 ghost use Rattle.std.specs.Prelude.{◌≡◌, false};
 
 use room_http_messages::sources::{ReadFailed, Source};

@@ -1,5 +1,5 @@
-//! What a replay ends with: a last record that is cut off is left out, and the digest of the room
-//! is printed where it is wanted.
+//! How a replay ends: a last record that is cut off may be left out, and the digest of the room may
+//! be printed.
 ghost use Rattle.std.specs.Prelude.{◌≡◌};
 ghost use Rattle.room_store.specs.StoredRoom.{IsReady};
 ghost use Rattle.dispatch_room_lists.specs.ReplayEnds.{Concludes, IsLeftOut};
@@ -11,10 +11,10 @@ use room_store::store::Store;
 use sqlite::Alter;
 use std::io::Write;
 
-/// How a replay ends whose last step in a room ended so. Where the list may be open and has ended
-/// within a record, that is left out, and it is reported how much was replayed. Then the digest of
-/// the room is printed, where it is wanted. Where each message is answered, nothing more is
-/// printed.
+/// Ends a replay that came to this result. If the list may be open (`replay.open`) and its end was
+/// found, a last record that is cut off is left out, and the number of messages before it is
+/// printed. Then the digest of the room is printed, if `replay.digest` asks for it. If each message
+/// is answered, nothing more is printed.
 pub fn conclude<S: Alter, O: Write, E: Write>(
     room: &mut Store<S>,
     replay: &Replay,
@@ -36,7 +36,7 @@ pub fn conclude<S: Alter, O: Write, E: Write>(
     }
 }
 
-// What a replay came to, where a record that is cut off is no fault.
+// The result of a replay, where a record that is cut off is no fault if the list may be cut.
 fn without_cut<O: Write, E: Write>(
     came: Result<Done, Failure>,
     may_be_cut: bool,

@@ -8,8 +8,7 @@ ghost use Rattle.dispatch_room_journal.specs.declared.row_runs.Behind.TheVariant
 ghost use Rattle.dispatch_room_lists.specs.ListedRows.{IsUnfollowed, LosesText};
 ghost use Rattle.dispatch_room_lists.specs.ReplayedLegs.{FollowsBy, IsLeg, LosesLeg, ReadsAll};
 ghost use Rattle.dispatch_room_lists.specs.ReplayedLegs.{PlaysLegs, StandsBehind, StopsBehind};
-ghost use Rattle.dispatch_room_lists.specs.ReplayedLegs.{begins_leg};
-ghost use Rattle.dispatch_room_lists.specs.ReplayedLegs.{in_all, sum_of};
+ghost use Rattle.dispatch_room_lists.specs.ReplayedLegs.{begins_leg, in_all, sum_of};
 ghost use Rattle.dispatch_room_lists.specs.StoodRooms.{GoesOn, StageGoesOn};
 
 use crate::followed_rows::{Followed, Stage, follow};
@@ -37,12 +36,12 @@ pub struct Course<'a> {
     pub replay: &'a Replay,
 }
 
-/// Where the room is still open: what a replay came to, and the room after it.
+/// What came of a replay, and the room after it; or why no room is open any more.
 pub type Played<T, S> = Result<(T, Store<S>), Failure>;
 
-/// Replays the legs of a list, one after another, in a room, and makes the change that stands
-/// between two of them; or answers each record of them. Where no room is opened again for a change,
-/// or after it, that ends the replay.
+/// Replays the legs of a list in a room, one after another, or answers each of their messages; and
+/// makes the changes between two legs. It fails if no room can be opened again for a change, or
+/// after it.
 pub fn replay_legs<S: Alter + Drop, L: Legs, O: Write, E: Write>(
     course: &Course<'_>,
     list: &mut L,
@@ -91,7 +90,7 @@ fn room_of<S: Alter>(stage: Stage<S>) -> Store<S>
     room
 }
 
-// What a replay comes to whose last leg came to this, behind so many messages.
+// The result of a replay, from that of its last leg and the number of messages before that leg.
 fn in_all(before: u64, came: Result<Replayed, Stopped>) -> Result<Replayed, Stopped>
     ensures { result ≡ in_all before came }
 {
@@ -107,7 +106,7 @@ fn in_all(before: u64, came: Result<Replayed, Stopped>) -> Result<Replayed, Stop
     }
 }
 
-// It stopped behind a leg: at the next message, if there is one.
+// The replay stopped behind a leg, which is reported as at the next message.
 fn stopped_behind(fault: ReplayFault, before: u64, replayed: &Replayed) -> Result<Replayed, Stopped>
     ensures { result ≡ Err (record {
       fault = fault;
@@ -191,7 +190,7 @@ fn follow_between<S: Alter + Drop, L: Legs, E: Write>(
     }
 }
 
-// Follows rows by what stands behind them. Returns whether another leg does.
+// Follows rows as what stands behind them says. Returns whether another leg follows.
 #[tactic(auto, using(crate::proofs::DueLemmas::stage_stays))]
 fn follow_by<S: Alter + Drop, E: Write>(
     course: &Course<'_>,

@@ -28,9 +28,9 @@ use room_store::store::Store;
 use sqlite::{Alter, Connection};
 use std::io::{self, Write};
 
-/// Does to the room of a database what a list says that is read from a source, and prints how many
-/// messages that were, and the room's digest where it is wanted; or writes the answer to each
-/// message, as soon as it is given.
+/// Replays a list, read from a source, to the room of a database. Prints how many messages that
+/// were, and the room's digest if `replay.digest` asks for it; or writes the answer to each message
+/// as soon as it is given.
 pub fn replay_from<S: Alter + Drop, R: Source + Drop, O: Write, E: Write>(
     course: &Course<'_>,
     conn: Connection<S>,
@@ -54,9 +54,9 @@ pub fn replay_from<S: Alter + Drop, R: Source + Drop, O: Write, E: Write>(
     replay_list(course, conn, &mut list, out, err)
 }
 
-/// Does to the room of a database what a list says of which nothing was read. The list is read to
-/// its end, except where it is replayed to a moment or the replay fails. A record that is cut off
-/// may be left out only where that end was found.
+/// Replays what is left of a list to the room of a database. Each leg is read to its end, unless
+/// the list is replayed up to a moment, or the replay fails. A record that is cut off may be left
+/// out only if the end of the list was found.
 pub fn replay_list<S: Alter + Drop, L: Legs, O: Write, E: Write>(
     course: &Course<'_>,
     conn: Connection<S>,
@@ -90,8 +90,8 @@ pub fn replay_list<S: Alter + Drop, L: Legs, O: Write, E: Write>(
     Ok((done, room.close()))
 }
 
-// Replays a list in a room, and reports how much that was, or answers each record. The room is
-// given back.
+// Replays a list in a room, and prints how many messages that were, or answers each message. The
+// room is given back.
 fn replay_in<L: Legs, S: Alter + Drop, O: Write, E: Write>(
     course: &Course<'_>,
     list: &mut L,
@@ -124,7 +124,7 @@ fn replay_in<L: Legs, S: Alter + Drop, O: Write, E: Write>(
     }
 }
 
-// How the program ends by how answering each message did.
+// How the program ends once each message was answered, or answering stopped.
 fn answered(came: &Result<Replayed, Stopped>) -> Result<Done, Failure>
     ensures { EndsAs (count_in came.now) result }
 {
@@ -134,7 +134,7 @@ fn answered(came: &Result<Replayed, Stopped>) -> Result<Done, Failure>
     }
 }
 
-// Prints how much was replayed.
+// Prints how many messages were replayed.
 fn print_replayed<O: Write, E: Write>(
     replayed: &Replayed,
     out: &mut O,

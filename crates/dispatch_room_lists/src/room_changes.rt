@@ -1,4 +1,4 @@
-//! Changes of a room beside those by its messages and by its fleets.
+//! Changes of a room other than those by its messages and by its fleets.
 ghost use Rattle.std.specs.Prelude.{◌≡◌, false, IfErr, IfOk};
 ghost use Rattle.jiff.specs.Placed.{IsPosixZone};
 ghost use Rattle.room_http_time.specs.Days.{zone_of};
@@ -24,24 +24,24 @@ use std::alloc::Global;
 /// A change of a room that is made in one transaction.
 #[derive(Drop)]
 pub enum RoomChange {
-    /// One has only this token, or none.
+    /// A user has only this token, or none.
     Token(TokenChange),
-    /// All that a list names have the terminals that it gives them, and no others.
+    /// Each user whom a list names has the terminals that it gives, and no others.
     Terminals(Vec<Terminal>),
-    /// The room has the plan of a file, and the terminals of it.
+    /// The room has the plan of a file, and the terminals in it.
     Plan(PlanFile),
 }
 
-/// A room that was closed, what came of a change in its database, and the room as it was opened
-/// again, with the zone of its days.
+/// What came of a change in the database of a room, and the room as it was opened again after it,
+/// with the zone of its days.
 pub struct Remade<S: Alter> {
     pub done: Result<(), Failure>,
     pub room: Store<S>,
     pub zone: Zone,
 }
 
-/// Makes a change in the room of a database. Where the room doesn't allow it, that is explained,
-/// and nothing is changed.
+/// Makes a change in the room of a database. If the room doesn't allow it, nothing is changed; for
+/// a list or a plan it is explained why.
 pub fn make<S: Alter + Drop>(
     alloc: Global,
     explainer: Explainer<'_>,

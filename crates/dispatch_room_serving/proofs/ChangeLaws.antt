@@ -1,6 +1,7 @@
 -- A question changes nothing: so what is kept without them leads to the same room.
-use Rattle.std.proofs.Common.{◌≡◌, ◌∙◌, refl, sym, ap, subst, ℕ, List, [], ◌∷◌, Bool, true, false, not, bytes_eq, codes}
-use Rattle.std.proofs.Common.{◌||◌, if◌then◌else◌, Option, Some, None, Result, Ok, Err}
+use Rattle.std.proofs.Common.{◌≡◌, ◌∙◌, refl, sym, ap, subst, ℕ, List, [], ◌∷◌, Bool, true, false}
+use Rattle.std.proofs.Common.{not, bytes_eq, codes, ◌||◌, if◌then◌else◌, Option, Some, None, Result}
+use Rattle.std.proofs.Common.{Ok, Err}
 use Rattle.std.specs.Prelude.{IfSome, MatchBool}
 use Rattle.std.proofs.lemmas.Bool.{not-false}
 use Rattle.std.proofs.lemmas.Slice.Eq.{bytes_eq-Decides}
@@ -29,8 +30,9 @@ use Rattle.room_http.specs.MessageEvents.{AsksAs, AsksAt, AsksBy, AsksFor, IsAsk
 use Rattle.room_http.specs.Dialogues.{Finds, IsReplyTo, Timed}
 use Rattle.room_http.specs.declared.settings.Setting.{Setting}
 use Rattle.dispatch_room_journal.proofs.RoomLaws.{the_room_law}
-use Rattle.dispatch_room_serving.specs.KeptChanges.{ChangesAreTheRoom, QuestionsChangeNothing, answers_to_changes}
-use Rattle.dispatch_room_serving.specs.KeptChanges.{asks_only, changes_in, is_change}
+use Rattle.dispatch_room_serving.specs.KeptChanges.{ChangesAreTheRoom, QuestionsChangeNothing}
+use Rattle.dispatch_room_serving.specs.KeptChanges.{answers_to_changes, asks_only, changes_in}
+use Rattle.dispatch_room_serving.specs.KeptChanges.{is_change}
 
 -- ---- by these methods only questions are asked
 abbrev pub Asks : Request → Type 0

@@ -1,8 +1,8 @@
 -- What is served on some connections and then on others is served on all of them, one after
 -- another.
-use Rattle.std.proofs.Common.{◌≡◌, ◌∙◌, ap, append-nil, append_assoc, arith, length, length-append, refl, subst, sym, ℕ}
-use Rattle.std.proofs.Common.{List, [], ◌∷◌, ◌++◌, ◌<◌, Bool, Option, None, Some, Result, Ok, Err, false, true, inl}
-use Rattle.std.proofs.Common.{inr, ◌+◌}
+use Rattle.std.proofs.Common.{◌≡◌, ◌∙◌, ap, append-nil, append_assoc, arith, length, length-append}
+use Rattle.std.proofs.Common.{refl, subst, sym, ℕ, List, [], ◌∷◌, ◌++◌, ◌<◌, Bool, Option, None}
+use Rattle.std.proofs.Common.{Some, Result, Ok, Err, false, true, inl, inr, ◌+◌}
 use Rattle.std.proofs.lemmas.List.{map-append}
 use Rattle.std.proofs.lemmas.List.Elements.{All-append, All-cons, All-head, All-nil, All-tail}
 use Rattle.std.specs.Prelude.{All, option_and_then, ◌≤◌}
@@ -27,10 +27,11 @@ use Rattle.room_http.proofs.RunLemmas.{room_split, run_join}
 use Rattle.dispatch_room_cli.specs.declared.exit_status.Failure.{Failure}
 use Rattle.room_http_messages.specs.Streams.{Grows}
 use Rattle.dispatch_room_serving.specs.Callers.{Opening}
-use Rattle.dispatch_room_serving.specs.Connections.{AreAttended, AreJoined, AreKept, AreNext, AreServed, AttendsNext}
-use Rattle.dispatch_room_serving.specs.Connections.{Conversation, EndsAs, GoOn, GoesOn, HasServed, IsNext, Service}
-use Rattle.dispatch_room_serving.specs.Connections.{Stage, connected, done_or, fault_after, fault_by, opening_of}
-use Rattle.dispatch_room_serving.specs.Connections.{stage_after, stage_before, together}
+use Rattle.dispatch_room_serving.specs.Connections.{AreAttended, AreJoined, AreKept, AreNext}
+use Rattle.dispatch_room_serving.specs.Connections.{AreServed, AttendsNext, Conversation, EndsAs}
+use Rattle.dispatch_room_serving.specs.Connections.{GoOn, GoesOn, HasServed, IsNext, Service, Stage}
+use Rattle.dispatch_room_serving.specs.Connections.{connected, done_or, fault_after, fault_by}
+use Rattle.dispatch_room_serving.specs.Connections.{opening_of, stage_after, stage_before, together}
 use Rattle.dispatch_room_serving.specs.ServedRoom.{Looks}
 use Rattle.room_tables_schema.specs.FileConnections.{IsClean}
 

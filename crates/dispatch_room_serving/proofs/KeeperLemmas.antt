@@ -1,15 +1,17 @@
 -- Lemmas on entries that are kept.
-use Rattle.std.proofs.Common.{◌≡◌, ◌∙◌, refl, sym, ap, arith, ◌≤◌, ℕ, List, [], ◌∷◌, ◌++◌, length, length-append}
+use Rattle.std.proofs.Common.{◌≡◌, ◌∙◌, refl, sym, ap, arith, ◌≤◌, ℕ, List, [], ◌∷◌, ◌++◌, length}
+use Rattle.std.proofs.Common.{length-append}
 use Rattle.std.specs.Prelude.{OnOk}
-use Rattle.std.proofs.Common.{append-nil, Bool, true, false, if◌then◌else◌, Option, None, Some, Result, Ok, Err, subst}
+use Rattle.std.proofs.Common.{append-nil, Bool, true, false, if◌then◌else◌, Option, None, Some}
+use Rattle.std.proofs.Common.{Result, Ok, Err, subst}
 use Rattle.std.specs.Io.KnownBytes.{Appends}
 use Rattle.room_http.specs.KeptMessages.{KeepsAll, came_of}
 use Rattle.room_http.specs.declared.arrivals.Arrived.{Arrived}
 use Rattle.room_http.specs.declared.arrivals.Arrived.TheVariants.{Message, Refused}
 use Rattle.room_model.specs.declared.digests.Version.{Version}
 use Rattle.room_model.specs.declared.digests.Version.TheVariants.{First, Second}
-use Rattle.dispatch_room_journal.specs.Entries.{Entry, IsEntry, answer, head_words, line_of, line_text, message}
-use Rattle.dispatch_room_journal.specs.Entries.{rest_of, room, text_of}
+use Rattle.dispatch_room_journal.specs.Entries.{Entry, IsEntry, answer, head_words, line_of}
+use Rattle.dispatch_room_journal.specs.Entries.{line_text, message, rest_of, room, text_of}
 use Rattle.dispatch_room_journal.proofs.WritingLemmas.{entry_fits}
 use Rattle.dispatch_room_journal.specs.Chains.{IsBody, is_no_entry}
 use Rattle.dispatch_room_serving.specs.Journals.{PutsKept, known_by, known_where}

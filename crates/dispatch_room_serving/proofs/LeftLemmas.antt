@@ -1,9 +1,7 @@
 -- The beginning of the line before a record, byte by byte.
-use Rattle.std.proofs.Common.{Bool, List, [], ap, arith, drop, false, get_or, length}
-use Rattle.std.proofs.Common.{length-append, length-drop}
-use Rattle.std.proofs.Common.{length-take-le, refl, subst, suc, sym, take, take-append-drop, true}
-use Rattle.std.proofs.Common.{zero, ℕ, ◌+◌, ◌++◌, ◌<◌, ◌∙◌}
-use Rattle.std.proofs.Common.{◌∷◌, ◌≡◌, ◌≤◌}
+use Rattle.std.proofs.Common.{Bool, List, [], ap, arith, drop, false, get_or, length, length-append}
+use Rattle.std.proofs.Common.{length-drop, length-take-le, refl, subst, suc, sym, take}
+use Rattle.std.proofs.Common.{take-append-drop, true, zero, ℕ, ◌+◌, ◌++◌, ◌<◌, ◌∙◌, ◌∷◌, ◌≡◌, ◌≤◌}
 use Rattle.std.proofs.lemmas.Bool.{false≢true, lt-ltb}
 use Rattle.std.proofs.lemmas.List.{drop_more, take_more}
 use Rattle.std.proofs.lemmas.List.Elements.{All-cons, All-head, All-nil, All-tail}

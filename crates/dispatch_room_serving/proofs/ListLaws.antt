@@ -1,13 +1,14 @@
 -- The list that is kept over all starts is replayed from the room that the first of them found.
-use Rattle.std.proofs.Common.{◌≡◌, ◌∙◌, ◌+◌, ◌≤◌, ◌<◌, ◌⊎◌, inl, inr, sym, ap, subst, refl, arith, ℕ, zero, suc, List}
-use Rattle.std.proofs.Common.{[], ◌∷◌, ◌++◌, length, length-append, append-nil, append_assoc, true, Option, Some, None}
-use Rattle.std.proofs.Common.{Ok}
+use Rattle.std.proofs.Common.{◌≡◌, ◌∙◌, ◌+◌, ◌≤◌, ◌<◌, ◌⊎◌, inl, inr, sym, ap, subst, refl, arith}
+use Rattle.std.proofs.Common.{ℕ, zero, suc, List, [], ◌∷◌, ◌++◌, length, length-append, append-nil}
+use Rattle.std.proofs.Common.{append_assoc, true, Option, Some, None, Ok}
 use Rattle.std.specs.Prelude.{All}
 use Rattle.std.specs.Int.{to_be_bytes, w32}
 use Rattle.std.specs.Io.KnownBytes.{Appends}
 use Rattle.std.specs.List.{flat_map}
 use Rattle.std.proofs.lemmas.List.{append_cancel_left}
-use Rattle.std.proofs.lemmas.List.Elements.{All-append, All-from_recursion, All-head, All-nil, All-tail}
+use Rattle.std.proofs.lemmas.List.Elements.{All-append, All-from_recursion, All-head, All-nil}
+use Rattle.std.proofs.lemmas.List.Elements.{All-tail}
 use Rattle.hex.proofs.HexLemmas.{length-encode_with}
 use Rattle.hex.specs.Hex.{lower_digits}
 use Rattle.jiff.specs.Placed.{IsPosixZone}
@@ -48,26 +49,31 @@ use Rattle.room_store_writes.specs.Configurations.{config_of}
 use Rattle.room_tables.specs.RoomsInTables.{Stands}
 use Rattle.room_tables_rows.proofs.OneRoom.{one_room}
 use Rattle.dispatch_room_journal.specs.WholeEntries.{Follows, IsCutTo}
-use Rattle.dispatch_room_journal.specs.Entries.{Entry, room as head_entry, IsDigest, IsEntry, IsPart, texts_of}
+use Rattle.dispatch_room_journal.specs.Entries.{Entry, room as head_entry, IsDigest, IsEntry}
+use Rattle.dispatch_room_journal.specs.Entries.{IsPart, texts_of}
 use Rattle.dispatch_room_journal.specs.JournalRecords.{answer_text, message_text, room_text}
 use Rattle.dispatch_room_journal.proofs.DigestLemmas.{digits_of as are_digits}
 use Rattle.dispatch_room_journal.specs.ReplayLaws.{answers_to_messages}
 use Rattle.dispatch_room_journal.specs.ReplayedTurns.{left_out}
-use Rattle.dispatch_room_journal.proofs.KeptTurns.{Come, Ready, Settled, come_course, come_front, come_head, come_moved}
-use Rattle.dispatch_room_journal.proofs.KeptTurns.{come_none, come_record, come_same, come_settled, come_short}
-use Rattle.dispatch_room_journal.proofs.KeptTurns.{come_still, come_unwritten, ends_open-push, left_open, no_answer}
-use Rattle.dispatch_room_journal.proofs.KeptTurns.{settle_record, settle_unavailable}
+use Rattle.dispatch_room_journal.proofs.KeptTurns.{Come, Ready, Settled, come_course, come_front}
+use Rattle.dispatch_room_journal.proofs.KeptTurns.{come_head, come_moved, come_none, come_record}
+use Rattle.dispatch_room_journal.proofs.KeptTurns.{come_same, come_settled, come_short, come_still}
+use Rattle.dispatch_room_journal.proofs.KeptTurns.{come_unwritten, ends_open-push, left_open}
+use Rattle.dispatch_room_journal.proofs.KeptTurns.{no_answer, settle_record, settle_unavailable}
 use Rattle.dispatch_room_journal.proofs.TurnLemmas.{begun-append}
 use Rattle.dispatch_room_tasks.specs.OpenedRoom.{OpensRoom}
-use Rattle.dispatch_room_serving.specs.Connections.{AreNext, AreServed, Conversation, GoOnBefore, GoesOn, IsNext}
-use Rattle.dispatch_room_serving.specs.Connections.{IsServed, Service, Stage, connected, fault_by, stage_after}
-use Rattle.dispatch_room_serving.specs.Lists.{AreGiven, AreParts, HasNoTwin, IsListOf, IsPartOf, ListIsTheRoom, Part}
-use Rattle.dispatch_room_serving.specs.Lists.{ServedKeepsItsPart}
+use Rattle.dispatch_room_serving.specs.Connections.{AreNext, AreServed, Conversation, GoOnBefore}
+use Rattle.dispatch_room_serving.specs.Connections.{GoesOn, IsNext, IsServed, Service, Stage}
+use Rattle.dispatch_room_serving.specs.Connections.{connected, fault_by, stage_after}
+use Rattle.dispatch_room_serving.specs.Lists.{AreGiven, AreParts, HasNoTwin, IsListOf, IsPartOf}
+use Rattle.dispatch_room_serving.specs.Lists.{ListIsTheRoom, Part, ServedKeepsItsPart}
 use Rattle.dispatch_room_serving.specs.ServedRoom.{IsDigestOf, IsHead}
-use Rattle.dispatch_room_serving.specs.Starts.{AreStarts, IsStart, IsTrusted, OfLast, Start, connections, left_by}
+use Rattle.dispatch_room_serving.specs.Starts.{AreStarts, IsStart, IsTrusted, OfLast, Start}
+use Rattle.dispatch_room_serving.specs.Starts.{connections, left_by}
 use Rattle.dispatch_room_serving.proofs.ConnectionLaws.{clean_before, kept_after, leaves_kept}
-use Rattle.dispatch_room_serving.proofs.StartLaws.{all_kept, clean_first, joined, leaves_first, one_zone, opens}
-use Rattle.dispatch_room_serving.proofs.StartLaws.{opens_it, served_start, stands_on}
+use Rattle.dispatch_room_serving.proofs.StartLaws.{all_kept, clean_first, joined, leaves_first}
+use Rattle.dispatch_room_serving.proofs.StartLaws.{one_zone, opens, opens_it, served_start}
+use Rattle.dispatch_room_serving.proofs.StartLaws.{stands_on}
 use Rattle.room_tables_schema.specs.FileConnections.{IsClean}
 
 -- ---- what is known of a tape

@@ -15,7 +15,8 @@ use Rattle.room_store.specs.StoredRoom.{IsRoom}
 use Rattle.room_store.specs.declared.store.Store.{Store}
 use Rattle.room_store_file.specs.DigestTexts.{digest_of}
 use Rattle.dispatch_room_journal.specs.Replays.{Answers, Does, IsReplay, Replays}
-use Rattle.dispatch_room_journal.specs.ReplayedTurns.{Play, Turn, answered, caught_up, compared, left_out, timed, tried}
+use Rattle.dispatch_room_journal.specs.ReplayedTurns.{Play, Turn, answered, caught_up, compared}
+use Rattle.dispatch_room_journal.specs.ReplayedTurns.{left_out, timed, tried}
 use Rattle.dispatch_room_journal.proofs.WholeLaws.{whole_law}
 use Rattle.dispatch_room_serving.specs.Lists.{ListIsReplayed}
 use Rattle.dispatch_room_serving.proofs.ListLaws.{reply_in}

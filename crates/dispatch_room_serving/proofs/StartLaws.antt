@@ -1,7 +1,9 @@
 -- Starts of a room's service, one after another, are one run.
-use Rattle.std.proofs.Common.{◌≡◌, ◌∙◌, ◌≤◌, ap, append-nil, append_assoc, arith, inl, inr, refl, subst, sym, ℕ, List}
-use Rattle.std.proofs.Common.{[], ◌∷◌, ◌++◌, Bool, Option, Some, None, Result, Ok, Err}
-use Rattle.std.proofs.lemmas.List.Elements.{All-contains_itself, All-head, All-nil, All-pop, All-same, All-tail}
+use Rattle.std.proofs.Common.{◌≡◌, ◌∙◌, ◌≤◌, ap, append-nil, append_assoc, arith, inl, inr, refl}
+use Rattle.std.proofs.Common.{subst, sym, ℕ, List, [], ◌∷◌, ◌++◌, Bool, Option, Some, None, Result}
+use Rattle.std.proofs.Common.{Ok, Err}
+use Rattle.std.proofs.lemmas.List.Elements.{All-contains_itself, All-head, All-nil, All-pop}
+use Rattle.std.proofs.lemmas.List.Elements.{All-same, All-tail}
 use Rattle.std.specs.Prelude.{All, ◌⊎◌, IfSome, IsTrue, ⊤}
 use Rattle.jiff.specs.Placed.{IsPosixZone}
 use Rattle.sqlite.specs.Held.{Held, state}
@@ -21,8 +23,9 @@ use Rattle.room_http.specs.ServedRuns.{Served}
 use Rattle.room_http.specs.Session.{Finish, ServeIs, Sides}
 use Rattle.room_http.specs.Dialogues.{IsUnserved, LeavesNext, Stays, Timed, replied}
 use Rattle.room_http.specs.declared.session.ServeEnd.{ServeEnd}
-use Rattle.room_http.specs.declared.session.ServeEnd.TheVariants.{Closed, Cut, ReadFault, WriteFault, ClockFault}
-use Rattle.room_http.specs.declared.session.ServeEnd.TheVariants.{Unkept, ReadsSpent, Memory}
+use Rattle.room_http.specs.declared.session.ServeEnd.TheVariants.{Closed, Cut, ReadFault}
+use Rattle.room_http.specs.declared.session.ServeEnd.TheVariants.{WriteFault, ClockFault, Unkept}
+use Rattle.room_http.specs.declared.session.ServeEnd.TheVariants.{ReadsSpent, Memory}
 use Rattle.room_http.proofs.ExchangeLemmas.{answered_in, exchange_of}
 use Rattle.room_http.proofs.PromiseLaws.{promises_kept}
 use Rattle.room_http.proofs.RunLemmas.{answered_join, room_split, run_first, run_of}
@@ -33,13 +36,16 @@ use Rattle.room_tables.specs.RoomsInTables.{Stands}
 use Rattle.dispatch_room_cli.specs.declared.exit_status.Done.{Done}
 use Rattle.dispatch_room_cli.specs.declared.exit_status.Failure.{Failure}
 use Rattle.dispatch_room_tasks.specs.OpenedRoom.{IsOpened, OpensRoom}
-use Rattle.dispatch_room_serving.specs.Connections.{AreJoined, AreNext, AreServed, Conversation, EndsAs, GoOnBefore}
-use Rattle.dispatch_room_serving.specs.Connections.{GoesOn, IsNext, IsServed, Service, Stage, connected, stage_after}
+use Rattle.dispatch_room_serving.specs.Connections.{AreJoined, AreNext, AreServed, Conversation}
+use Rattle.dispatch_room_serving.specs.Connections.{EndsAs, GoOnBefore, GoesOn, IsNext, IsServed}
+use Rattle.dispatch_room_serving.specs.Connections.{Service, Stage, connected, stage_after}
 use Rattle.dispatch_room_serving.specs.Connections.{stage_before, together}
 use Rattle.dispatch_room_serving.specs.ServedRoom.{KeepsHead, Looks, ServesRoom}
-use Rattle.dispatch_room_serving.specs.Starts.{AreDone, AreOneRun, AreStarts, Exchanged, Follows, IsDone, IsStart}
-use Rattle.dispatch_room_serving.specs.Starts.{IsTrusted, IsUnwritten, OfLast, ServedIsAStart, ServingIsAStart, Start}
-use Rattle.dispatch_room_serving.specs.Starts.{StartsAreOneRun, all_of, connections, left_by, whole_of}
+use Rattle.dispatch_room_serving.specs.Starts.{AreDone, AreOneRun, AreStarts, Exchanged, Follows}
+use Rattle.dispatch_room_serving.specs.Starts.{IsDone, IsStart, IsTrusted, IsUnwritten, OfLast}
+use Rattle.dispatch_room_serving.specs.Starts.{ServedIsAStart, ServingIsAStart, Start}
+use Rattle.dispatch_room_serving.specs.Starts.{StartsAreOneRun, all_of, connections, left_by}
+use Rattle.dispatch_room_serving.specs.Starts.{whole_of}
 use Rattle.dispatch_room_serving.proofs.ConnectionLaws.{attended_none, connected_more}
 use Rattle.room_tables_schema.specs.FileConnections.{IsClean}
 

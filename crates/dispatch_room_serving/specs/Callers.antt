@@ -21,7 +21,7 @@ abbrev pub printing : Bool → Option (List ℕ) → ℕ → Printing
 printing has_begun printed output =
     record { has_begun = has_begun; printed = printed; output = output }
 
--- That a room is served is printed where it was not before, and nothing else is.
+-- That a room is served is printed if it was not before, and nothing else is.
 abbrev pub PrintsStart : Bool → Option (List ℕ) → Option (List ℕ) → Type 0
 PrintsStart true before after = after ≡ before
 PrintsStart false before after = Appends before after (codes "serving\n")
@@ -32,7 +32,7 @@ pub record MayCall (old new : Printing) : Type 0 where
   pub printed : PrintsStart old.has_begun old.printed new.printed
   pub output : new.output ≡ old.output
 
--- that they may could not be printed
+-- that they may call could not be printed
 pub record IsUnprinted (old new : Printing) (fault : Failure) : Type 0 where
   pub first : old.has_begun ≡ false
   pub network : fault ≡ Network

@@ -1,8 +1,7 @@
 -- What is served on connections, one after another.
 use Rattle.std.specs.Prelude.{◌≡◌, ◌≢◌, ◌⊎◌, ◌≤◌, ◌+◌, ⊤, ℕ, List, [], ◌∷◌, ◌++◌, Bool, true, false}
-use Rattle.std.specs.Prelude.{All, filter_map}
-use Rattle.std.specs.Prelude.{flat_map, length, map, option_and_then, option_map, Option, None}
-use Rattle.std.specs.Prelude.{Some, Result, Ok, Err}
+use Rattle.std.specs.Prelude.{All, filter_map, flat_map, length, map, option_and_then, option_map}
+use Rattle.std.specs.Prelude.{Option, None, Some, Result, Ok, Err}
 use Rattle.sqlite_trees.specs.declared.store.Store.{Ghosts}
 use Rattle.room_types.specs.declared.fleet.Terminal.{Terminal}
 use Rattle.room_model.specs.Room.{Room}
@@ -63,13 +62,13 @@ pub record Service (S : Type 0) : Type 0 where
   pub written : Option (List (Option (List ℕ)))
   pub stage : Stage S
 
--- a store that is not sound any longer serves no more
+-- a store that is no longer sound serves no more
 abbrev pub fault_of_store : Bool → Option Failure
 fault_of_store true = None
 fault_of_store false = Some Storage
 
--- why no more is served after a connection that ended so, if it is so, with a store that is sound
--- or is not
+-- why no more is served after a connection that ended so, by whether the store is sound; `None` if
+-- more is served
 abbrev pub fault_by : ServeEnd → Bool → Option Failure
 fault_by end.Memory is_sound = Some Memory
 fault_by end.Unkept is_sound = Some Journal
@@ -110,7 +109,7 @@ module _ {S : Type 0} where
   abbrev pub tapes_after : Conversation S → Tapes
   tapes_after c = record { given = c.after.given; kept = c.keeps; held = c.after.held }
 
-  -- why no more is served after it, if it is so
+  -- why no more is served after it; `None` if more is
   abbrev pub fault_after : Conversation S → Option Failure
   fault_after c = fault_by c.end c.store.is_sound
 
@@ -221,8 +220,8 @@ module _ {S : Type 0} (g : Ghosts S) (setting : Setting) (came_text : ℕ → Li
   AreKept cs first trusted =
       trusted → IsKept g first.stage.store → All (λ c. IsKept g c.from) cs
 
-  -- So many calls came, one after another, and after each more is served. A service is served until
-  -- it is stopped: so this is what holds after each call of it, of all of them.
+  -- So many calls came, one after another, and after each more is served. A service goes on until
+  -- it is stopped, so this holds after each of its calls.
   pub record HasServed (first now : Service S) (count : ℕ) : Type 0 where
     pub calls : List (Option (Conversation S))
     pub counted : length calls ≡ count
@@ -245,8 +244,8 @@ abbrev pub done_or : Option Failure → Result (Unit {0}) Failure
 done_or None = Ok tt
 done_or (Some fault) = Err fault
 
--- The next call was attended to, and why no more is served after it, if it is so. Else what held of
--- so many calls holds of one more.
+-- The next call was attended to, and the result says whether more is served after it. If more is,
+-- what held of so many calls holds of one more.
 pub record AttendsNext {S : Type 0} (g : Ghosts S) (setting : Setting)
     (came_text : ℕ → List ℕ → List ℕ) (response_text : List ℕ → List ℕ) (old new : Service S)
     (result : Result (Unit {0}) Failure) : Type 0 where

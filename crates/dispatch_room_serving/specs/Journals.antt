@@ -1,7 +1,6 @@
 -- What a journal holds, what of it lasts, and when it has failed.
 use Rattle.std.specs.Prelude.{◌≡◌, ◌⊎◌, ℕ, List, Bool, true, false, Option, None, Some}
-use Rattle.std.specs.Prelude.{option_and_then}
-use Rattle.std.specs.Prelude.{Err, IsErr, IsNone, Ok, Result}
+use Rattle.std.specs.Prelude.{option_and_then, Err, IsErr, IsNone, Ok, Result}
 use Rattle.dispatch_room_cli.specs.declared.exit_status.Done.{Done}
 use Rattle.dispatch_room_cli.specs.declared.exit_status.Failure.{Failure}
 use Rattle.dispatch_room_cli.specs.declared.exit_status.Failure.TheVariants as failure
@@ -42,8 +41,8 @@ EndsAfter ends old new (Ok done) (Ok whole) = (whole ≡ done) × EndsBy ends ol
 EndsAfter ends old new (Ok done) (Err fault) = (fault ≡ failure.Journal) × (failed_by new ≡ true)
 EndsAfter ends old new (Err fault) result = (result ≡ Err fault) × (new ≡ old)
 
--- An entry was put behind a keeper where it is to be kept, and nothing else was, so no end; else
--- the keeper stays as it is.
+-- An entry that is to be kept was appended to a keeper, and nothing else was, so no end; one that
+-- is not leaves the keeper as it is.
 abbrev pub PutsKept : {W : Type 0} → (W → W → List ℕ → Type 0) → Bool → W → W → List ℕ → Type 0
 PutsKept puts true old new entry = puts old new entry
 PutsKept puts false old new entry = new ≡ old

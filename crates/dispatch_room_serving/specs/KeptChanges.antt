@@ -1,7 +1,6 @@
 -- What of a room's service is kept where questions are not.
 use Rattle.std.specs.Prelude.{◌≡◌, ◌||◌, ℕ, List, [], ◌∷◌, All, Bool, true, false, bytes_eq, codes}
-use Rattle.std.specs.Prelude.{filter}
-use Rattle.std.specs.Prelude.{if◌then◌else◌, not}
+use Rattle.std.specs.Prelude.{filter, if◌then◌else◌, not}
 use Rattle.room_types.specs.declared.fleet.Terminal.{Terminal}
 use Rattle.room_model.specs.Digests.{DigitsOf}
 use Rattle.room_model.specs.Room.{Room}
@@ -23,12 +22,12 @@ use Rattle.dispatch_room_journal.specs.Replays.{IsReplay}
 abbrev pub asks_only : List ℕ → Bool
 asks_only method = bytes_eq method (codes "GET") || bytes_eq method (codes "HEAD")
 
--- what has arrived is a message that is kept: any, or where questions are not, one that is none
+-- what has arrived is a message that is kept: any, or, where questions are not kept, no question
 abbrev pub is_kept : Bool → Arrived → Bool
 is_kept keeps_questions (Message shown bytes) = keeps_questions || not (asks_only shown.method.now)
 is_kept keeps_questions (Refused r head_only) = false
 
--- what is kept of an arrival of which this text is to be
+-- what is kept of an arrival that has this text
 abbrev pub kept_of : Bool → Arrived → List ℕ → List ℕ
 kept_of keeps_questions arrived text = if is_kept keeps_questions arrived then text else []
 

@@ -6,7 +6,7 @@ use Rattle.dispatch_room_serving.specs.declared.list_places.Finding.TheVariants.
 use Rattle.dispatch_room_serving.specs.declared.list_places.ListPlace.{ListPlace}
 
 -- What stands at the place of a list that had so many bytes: another file, or the list, which was
--- truncated where it has fewer.
+-- truncated if it has fewer.
 abbrev pub finding_of : Bool → ℕ → ℕ → Finding
 finding_of false len bytes = Elsewhere
 finding_of true len bytes = if nat_lt len bytes then Truncated else There

@@ -1,7 +1,6 @@
 -- The list that a room's service keeps over all its starts, and that it can be replayed.
 use Rattle.std.specs.Prelude.{◌≡◌, ◌⊎◌, ◌≤◌, ℕ, List, [], ◌∷◌, ◌++◌, length, All, Bool, MatchResult}
-use Rattle.std.specs.Prelude.{None, Option}
-use Rattle.std.specs.Prelude.{Result, true, Some}
+use Rattle.std.specs.Prelude.{None, Option, Result, true, Some}
 use Rattle.std.specs.List.{flat_map}
 use Rattle.jiff.specs.Placed.{IsPosixZone}
 use Rattle.sqlite.specs.Held.{Held, state}
@@ -29,8 +28,7 @@ use Rattle.dispatch_room_journal.specs.Replays.{IsReplay, Replays}
 use Rattle.dispatch_room_journal.specs.declared.replay_faults.Stopped.{Stopped}
 use Rattle.dispatch_room_journal.specs.declared.replayed_journal.Replayed.{Replayed}
 use Rattle.dispatch_room_journal.specs.ReplayedTurns.{IsBegun, IsReplayed, IsTurn, Turn, answers_of}
-use Rattle.dispatch_room_journal.specs.ReplayedTurns.{ends_open}
-use Rattle.dispatch_room_journal.specs.ReplayedTurns.{entries_of}
+use Rattle.dispatch_room_journal.specs.ReplayedTurns.{ends_open, entries_of}
 use Rattle.dispatch_room_serving.specs.Connections.{Conversation, Service}
 use Rattle.dispatch_room_serving.specs.ServedRoom.{IsHead, ServesRoom}
 use Rattle.dispatch_room_serving.specs.Starts.{AreStarts, IsStart, IsTrusted, OfLast, Start}
@@ -76,8 +74,8 @@ module _ {S : Type 0} (g : Ghosts S) where
   digits_at s = digits_of digest_of s.opened.plan.zone
 
   module _ (terminals : List Terminal) where
-    -- No message leads to the room that was opened from another one that has the same digest: of a
-    -- room before a message and after it the digest shows which it is.
+    -- No message leads to the room that was opened from another one with the same digest: so the
+    -- digest shows whether a room is the one before a message or after it.
     abbrev pub HasNoTwin : Start S → Type 0
     HasNoTwin s = (x : Timed) (room other : Room) (bytes : List ℕ)
         → IsRoom g s.opened terminals other

@@ -37,8 +37,8 @@ abbrev pub PutsLine : Bool → Option (List ℕ) → Option (List ℕ) → Asked
 PutsLine could old new asked answer =
     (text : List ℕ) × IsLineOf asked answer text × PutsAll could old new text
 
--- A log that went on before a message was answered has its line, and goes on where that could be
--- written. One that did not, as none is wanted or it was given up, stays as it is.
+-- A log that went on before a message was answered has its line, and goes on if that could be
+-- written. One that did not, as no log is wanted or it was given up, stays as it is.
 pub record Logs (went_on goes_on : Bool) (old new : Option (List ℕ)) (asked : Asked)
     (answer : List ℕ) : Type 0 where
   pub line : went_on ≡ true → PutsLine goes_on old new asked answer

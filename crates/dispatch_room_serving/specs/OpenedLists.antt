@@ -7,9 +7,9 @@ use Rattle.dispatch_room_journal.specs.declared.whole_records.ListForm.{ListForm
 use Rattle.dispatch_room_journal.specs.declared.whole_records.ListForm.TheVariants as form
 use Rattle.dispatch_room_serving.specs.declared.journal_files.WholeList.{WholeList}
 
--- What is whole of a list of this form, and how it goes on behind that: of a new one nothing, and
--- it is not begun; entry follows entry where it is no chain, and what is whole of that its entries
--- say; a chain has its first line and so many bytes of records, and has come so far with them.
+-- What of a list of this form is whole, and how the list goes on behind that. Of a new list nothing
+-- is, and it is not begun. Of a list that is no chain, its entries say what is whole. Of a chain,
+-- its first line is, and so many bytes of records, and it goes on from the link after them.
 abbrev pub IsWholeOf : ListForm → WholeList → Type 0
 IsWholeOf form.New list = (list.whole ≡ 0) × (list.end ≡ None)
 IsWholeOf form.Plain list = list.end ≡ Some lists.Plain

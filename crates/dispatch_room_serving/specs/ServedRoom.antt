@@ -89,7 +89,7 @@ module _ {S : Type 0} (g : Ghosts S) where
       pub head : KeepsHead old.stage.store new.stage.store old.stage.kept new.stage.kept (Err fault)
 
     module _ (came_text : ℕ → List ℕ → List ℕ) (response_text : List ℕ → List ℕ) where
-      -- from the store that was looked at so many calls were served
+      -- so many calls were served, from the store that was looked at
       pub record ServesFrom (setting : Setting) (old new : Service S) (renews : Bool) (most : ℕ)
           (result : Result Done Failure) : Type 0 where
         pub store : Store S

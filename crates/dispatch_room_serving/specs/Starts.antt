@@ -20,8 +20,8 @@ use Rattle.dispatch_room_cli.specs.declared.exit_status.Done.{Done}
 use Rattle.dispatch_room_cli.specs.declared.exit_status.Failure.{Failure}
 use Rattle.dispatch_room_tasks.specs.OpenedRoom.{OpensRoom}
 use Rattle.dispatch_room_serving.specs.Connections.{AreAttended, AreJoined, AreKept, Conversation}
-use Rattle.dispatch_room_serving.specs.Connections.{GoOnBefore}
-use Rattle.dispatch_room_serving.specs.Connections.{HasServed, Service, connected, together}
+use Rattle.dispatch_room_serving.specs.Connections.{GoOnBefore, HasServed, Service, connected}
+use Rattle.dispatch_room_serving.specs.Connections.{together}
 use Rattle.dispatch_room_serving.specs.ServedRoom.{Looks, LooksOnly, ServesRoom}
 use Rattle.room_tables_schema.specs.FileConnections.{IsClean}
 
@@ -93,8 +93,9 @@ module _ {S : Type 0} (g : Ghosts S) where
         ⊎ (IsClean g s.first.stage.store.conn → IsKept g s.opened
         → IsKept g s.first.stage.store)
 
-  -- A start follows another: it finds what a stop of that may leave, or as a part that begins while
-  -- the room is served, the database that that left. It serves the paths of history where that did.
+  -- A start follows another: it finds what a stop of that one may leave, or, as a part that begins
+  -- while the room is served, the database that the one before left. It serves the paths of history
+  -- if that one did.
   abbrev pub Follows : Start S → Start S → Type 0
   Follows before s = ((state g (left_by before).conn).may_leave (state g s.found).now.trees
       ⊎ (s.found ≡ (left_by before).conn))

@@ -24,7 +24,7 @@ pub trait Callers {
     // What each writer held that was taken back, where that is known.
     ghost written: { Self → Option (List (Option (List ℕ))) };
 
-    // Where they stand with what is printed: nothing but that they may call.
+    // What they have printed: only that they may call.
     ghost prints: { Self → Printing };
 
     /// Begins to take calls. It fails only as `Network`.
@@ -34,7 +34,7 @@ pub trait Callers {
         ensures prints { Prints (prints self.old) (prints self.new) result }
         ensures fault { IfErr result (λ fault. fault ≡ Network) };
 
-    /// The next connection: none where it failed.
+    /// The next connection: `None` if it failed.
     fn next(&mut self) -> Option<(Self::Reader, Self::Writer)>
         ensures heard { Grows (heard self.old) (heard self.new) (option_map (λ sides. record {
           left = Self.Reader.left sides.0;
@@ -45,7 +45,7 @@ pub trait Callers {
         ensures reader { IfSome result (λ sides. Self.Reader.has_failed sides.0 ≡ false) }
         ensures writer { IfSome result (λ sides. Self.Writer.has_failed sides.1 ≡ false) };
 
-    /// Takes a connection back that was served.
+    /// Takes back a connection that was served.
     fn done(&mut self, reader: Self::Reader, writer: Self::Writer)
         ensures heard { heard self.new ≡ heard self.old }
         ensures written { Grows (written self.old) (written self.new)

@@ -18,9 +18,9 @@ use sqlite::Alter;
 /// How many reads a connection has at most.
 pub const MOST_READS: u32 = 100_000;
 
-/// Serves a room to so many calls, one after another, each as `serve_next` does. Where it may end
-/// before, it does as soon as a look before a call finds the list moved or truncated, and only
-/// then.
+/// Serves a room to as many calls as the terms say, one after another, each as `serve_next` does.
+/// If the terms allow a new part (`renews`), it ends early once a look before a call finds the list
+/// moved or truncated, and only then.
 pub fn serve_each<S: Alter, P: Callers, C: Clock, N: Observer>(
     handler: &Handler,
     callers: &mut P,
@@ -68,10 +68,11 @@ pub fn serve_each<S: Alter, P: Callers, C: Clock, N: Observer>(
     Ok(Done::Whole)
 }
 
-/// Serves the next call. Where more is served after it, what held after the calls before holds
-/// after one more: so it does after every number of them, however long the room is served. A
-/// connection that ends badly doesn't end the service, but for lack of memory, where the observer
-/// could not keep what was reported to it, and where the store is not sound any longer.
+/// Serves the next call. If more is served after it, what held after the calls before holds after
+/// this one too: so it holds after any number of them, however long the room is served. A
+/// connection that ends badly ends the service only if memory is refused (`Memory`), if the
+/// observer could not keep what was reported to it (`Journal`), or if the store is no longer sound
+/// (`Storage`).
 pub fn serve_next<S: Alter, P: Callers, C: Clock, N: Observer>(
     handler: &Handler,
     callers: &mut P,

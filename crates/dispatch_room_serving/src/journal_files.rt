@@ -1,6 +1,7 @@
-//! The file of a journal: what a crash cut off is taken away, and entries are put behind the rest.
-ghost use Rattle.std.specs.Prelude.{◌≡◌, ◌↔◌, ◌⊎◌, ◌≤◌, ◌+◌, ℕ, List, false, if◌then◌else◌};
-ghost use Rattle.std.specs.Prelude.{length, min, nat_lt};
+//! The file of a journal: a record that a crash cut off is removed, and entries are appended to the
+//! rest.
+ghost use Rattle.std.specs.Prelude.{◌≡◌, ◌↔◌, ◌⊎◌, ◌≤◌, ◌+◌, ℕ, List, false, if◌then◌else◌, length};
+ghost use Rattle.std.specs.Prelude.{min, nat_lt};
 ghost use Rattle.std.specs.Io.KnownBytes.{WriteAppends};
 ghost use Rattle.std.specs.Option.{option_map};
 ghost use Rattle.dispatch_room_journal.specs.Chains.{sha256_digits};
@@ -51,10 +52,10 @@ pub struct OpenedList {
     pub end: ListEnd,
 }
 
-/// Opens the file of a journal behind its last whole record, and keeps others from writing it. One
-/// that is not there is made, for its owner only, and an empty one begins as a chain. What a crash
-/// cut off is taken away, and reported. What stands in the file then lasts, and so does its name.
-/// Explains why where the file can't be opened, or is no journal.
+/// Opens the file of a journal behind its last whole record, and locks it against other writers. A
+/// missing file is made, for its owner only, and an empty one begins as a chain. A record that a
+/// crash cut off is removed, which is reported to `err`. What stands in the file then lasts, and so
+/// does its name. Explains why if the file can't be opened, or is no journal.
 pub fn open_journal<E: Write>(
     rt: &HostRuntime,
     explainer: Explainer<'_>,
@@ -83,7 +84,7 @@ pub fn open_journal<E: Write>(
     Ok(OpenedList { file, end })
 }
 
-// How a list goes on, of which so much is whole: not, where nothing is.
+// How a list goes on, of which so many bytes are whole: `None` if it is to begin anew.
 fn goes_on_at(list: WholeList) -> Option<ListEnd>
     ensures { result ≡ goes_on_at list }
 {
@@ -105,14 +106,14 @@ fn begin_chain(explainer: Explainer<'_>, path: &str, file: &File) -> Result<List
     }
 }
 
-// What of a file is whole records, and how its list goes on: none where none is begun.
+// How many bytes of a file are whole records, and how its list goes on: `None` if none is begun.
 #[derive(Clone, Copy)]
 struct WholeList {
     whole: u64,
     end: Option<ListEnd>,
 }
 
-// What of a file is whole records. Explains why where that is unknown.
+// Finds how much of a file is whole records. Explains why if that can't be known.
 fn whole_list(
     alloc: Global,
     explainer: Explainer<'_>,
@@ -137,7 +138,7 @@ fn whole_list(
     }
 }
 
-// What is whole of a list of this form.
+// How much of a list of this form is whole.
 fn whole_of_form(
     alloc: Global,
     explainer: Explainer<'_>,
@@ -168,7 +169,7 @@ fn whole_of_form(
     }
 }
 
-// What of a chain is whole records, where what follows them may be left of one.
+// How much of a chain is whole records, if what follows them may be left of one.
 fn whole_chain(
     explainer: Explainer<'_>,
     path: &str,
@@ -199,7 +200,7 @@ fn whole_of(chain: &WholeChain) -> u64
     chain.bytes.saturating_add(OPENING.len() as u64)
 }
 
-// Whether what follows so many bytes of a chain may be left of a record.
+// Whether what follows so many bytes of a chain may be what a stop left of a record.
 fn may_be_cut(file: &File, whole: u64) -> Result<bool, Error> {
     let mut reader = file;
     reader.seek(SeekFrom::Start(whole))?;
@@ -234,7 +235,7 @@ fn may_stand(at: usize, byte: u8) -> bool
     }
 }
 
-// The file of a journal, which nobody else has open for the same.
+// Opens the file of a journal, and locks it against other writers.
 fn opened(rt: &HostRuntime, explainer: Explainer<'_>, path: &str) -> Result<File, Failure>
     ensures { IfErr result (λ fault. (fault ≡ failure.Memory) ⊎ (fault ≡ failure.Journal)) }
 {
@@ -257,11 +258,11 @@ fn opened(rt: &HostRuntime, explainer: Explainer<'_>, path: &str) -> Result<File
     }
 }
 
-// Syncs what stands in a file, and its name in its folder. An earlier program may have ended
-// at a sync that failed: then the system still shows what it has not written, and the next sync
-// succeeds. So first what can be written is, then the system's copies are dropped, and what is
-// read from here on is what the disk has. Only of that it is reported how much is whole, what
-// follows is cut off, and the cut is made to last.
+// Syncs what stands in a file, and its name in its folder. An earlier program may have ended at a
+// sync that failed: then the system still shows what it has not written, and the next sync
+// succeeds. So the file is synced first, and then the system's copies are dropped: what is read
+// from here on is what the disk has. Only in that are whole records looked for, and only what
+// follows them there is cut off.
 fn settle(rt: &HostRuntime, path: &str, file: &File) -> Result<(), Error> {
     file.sync_all()?;
     let advised = libc::posix_fadvise(file.as_raw_fd(), 0, 0, libc::POSIX_FADV_DONTNEED);
@@ -278,7 +279,7 @@ fn folder_of(rt: &HostRuntime, path: &str) -> Result<File, Error> {
     File::open(rt, folder.as_str())
 }
 
-// How many bytes of what a reader gives are whole records. Explains why where that is unknown.
+// How many bytes of what a reader gives are whole records. Explains why if that can't be known.
 fn whole_in<R: Source>(
     alloc: Global,
     explainer: Explainer<'_>,
@@ -324,15 +325,15 @@ fn cut(file: &File, whole: u64) -> Result<bool, Error> {
     }
 }
 
-// Where a file of so many bytes is cut off, of which so many are whole records: nowhere where all
-// are.
+// At which byte a file is cut off, by its length and that of its whole records: `None` if all of it
+// is whole.
 fn cut_to(bytes: u64, whole: u64) -> Option<u64>
     ensures { result ≡ if nat_lt whole bytes then Some whole else None }
 {
     if whole < bytes { Some(whole) } else { None }
 }
 
-// What an error of the file is to the program, and it is explained.
+// Explains an error of the file, and returns the program's failure for it.
 fn fault_of(explainer: Explainer<'_>, path: &str, error: &Error) -> Failure
     ensures { (result ≡ failure.Memory) ⊎ (result ≡ failure.Journal) }
 {
@@ -344,7 +345,7 @@ fn fault_of(explainer: Explainer<'_>, path: &str, error: &Error) -> Failure
     }
 }
 
-/// What bytes are appended to, and made to last.
+/// An output to which bytes are appended, and which can make them last.
 pub trait Lasting: Write {
     // What it holds wherever the machine stops, where that is known.
     ghost lasting: { Self → Option (List ℕ) };
@@ -360,7 +361,7 @@ pub trait Lasting: Write {
     ghost known: { (file : Self) → is_some (Self.contents file) ≡ is_known };
 }
 
-/// A file of the system. It explains why where it can't be written.
+/// A file of the system. It explains why if it can't be written.
 #[derive(Drop)]
 pub struct SystemFile<'a> {
     file: &'a File,
@@ -378,7 +379,7 @@ impl<'a> SystemFile<'a> {
         }
     }
 
-    // Writes some of the first bytes to a file, and explains why where it can't.
+    // Writes some of the first bytes to a file, and explains why if it can't.
     fn write_to<F: Write>(&self, file: &mut F, buf: &[u8]) -> Result<usize, Error>
         ensures bound { IfOk result (λ count. count ≤ length buf.now) }
         ensures bytes { WriteAppends (F.contents file.old) (F.contents file.new) result buf.now }
@@ -390,7 +391,7 @@ impl<'a> SystemFile<'a> {
         written
     }
 
-    // Whether what a file holds lasts after a sync. Explains why where it doesn't.
+    // Whether what a file holds lasts after a sync. Explains why if it doesn't.
     fn lasts(&self, synced: Result<(), Error>) -> bool
         ensures { result ≡ is_ok synced }
     {
@@ -409,7 +410,7 @@ impl<'a> SystemFile<'a> {
     }
 }
 
-// What a file holds no contract can say, nor what of it lasts.
+// No contract can say what a file holds, nor what of it lasts.
 impl<'a> Write for SystemFile<'a> {
     fn write(&mut self, buf: &[u8]) -> Result<usize, Error> {
         let mut file = self.file;
@@ -473,8 +474,8 @@ impl<F: Lasting> Sink for WrittenFile<F> {
     }
 }
 
-/// The file of a journal, behind which entries are put as its list goes on. Once one could not be
-/// put, none is.
+/// The file of a journal, to which entries are appended in the form of its list. Once one could not
+/// be written, none is.
 #[derive(Drop)]
 pub struct JournalFile<F: Lasting> {
     out: WrittenFile<F>,

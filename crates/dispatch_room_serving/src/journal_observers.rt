@@ -7,7 +7,7 @@ ghost use Rattle.room_model.specs.declared.digests.Head.{Head as Heading};
 use room_http::observers::{Observer, Unkept};
 use room_model::digests::Head;
 
-/// An observer of what is served, to which it is reported first with which room it begins.
+/// An observer of what is served, which first gets the digest of the room, if it wants it.
 pub trait JournalObserver: Observer {
     // Whether it wants to know the digest of the room's rows.
     ghost wants: { Self → Bool };

@@ -41,7 +41,7 @@ pub trait Keeper {
         ensures put { OnOk result (puts self.old self.new entry.now) }
         ensures failed { has_failed self.new ≡ (has_failed self.old || is_err result) };
 
-    /// Keeps that the journal ended well, where it can say so.
+    /// Records that the journal ended well, if its form has a record for that.
     fn end(&mut self) -> Result<(), Unkept>
         ensures held { KeepsAll (held self.old) (held self.new) [] result }
         ensures ended { OnOk result (ends self.old self.new) }
@@ -58,12 +58,12 @@ pub trait Keeper {
 }
 
 /// A journal: each message at its moment, as it came, and the status of its answer; or only those
-/// that are no questions. What is refused where there is no message is not kept. Once something
+/// that are no questions. What was refused before it was a message is not kept. Once something
 /// could not be kept, nothing more is.
 #[derive(Drop)]
 pub struct Journal<W> {
     out: W,
-    // Whether a message lasts before the room acts on it, or the system writes it when it likes.
+    // Whether a message lasts before the room acts on it; otherwise the system writes it later.
     is_synced: bool,
     // Whether questions are kept too, which change nothing.
     keeps_questions: bool,
@@ -71,8 +71,9 @@ pub struct Journal<W> {
 }
 
 impl<W: Keeper> Journal<W> {
-    /// A journal that goes on where its writer is. Its messages last before the room acts on them,
-    /// or the system writes them when it likes; and all are kept, or those that are no questions.
+    /// A journal that goes on where its keeper is. With `is_synced` a message lasts before the room
+    /// acts on it; otherwise the system writes it later. Without `keeps_questions` only those
+    /// messages are kept that are no questions.
     pub fn new(out: W, is_synced: bool, keeps_questions: bool) -> Journal<W>
         ensures { result ≡ record {
           out = out;
@@ -99,7 +100,7 @@ impl<W: Keeper> Journal<W> {
         }
     }
 
-    /// A part begins, at a room whose rows have this digest.
+    /// Records that a part begins, at a room whose rows have this digest.
     pub fn begin(&mut self, head: &Head) -> Result<(), Unkept>
         requires { IsDigest head.now.digits }
         ensures kept { KeepsAll (W.held self.old.out) (W.held self.new.out) (room_text head.now)
@@ -117,7 +118,8 @@ impl<W: Keeper> Journal<W> {
         self.noted(kept)
     }
 
-    /// The journal ended well, where nothing failed. Where its messages last, so does that.
+    /// Records that the journal ended well. It fails if something could not be kept before. If
+    /// messages last, so does that.
     pub fn end(&mut self) -> Result<(), Unkept>
         ensures kept { KeepsAll (W.held self.old.out) (W.held self.new.out) [] result }
         ensures ended { OnOk result (W.ends self.old.out self.new.out) }
@@ -133,7 +135,7 @@ impl<W: Keeper> Journal<W> {
         self.noted(kept)
     }
 
-    // What could not be kept, for whatever cause, makes the journal one that has failed.
+    // Notes whether something could be kept: if not, the journal has failed for good.
     fn noted(&mut self, kept: Result<(), Unkept>) -> Result<(), Unkept>
         requires { self.old.has_failed ≡ false }
         ensures same_result { result ≡ kept }
@@ -212,14 +214,14 @@ impl<W: Keeper> Observer for Journal<W> {
     {}
 }
 
-// Whether by this method only questions are asked.
+// Whether only questions are asked by this method.
 fn asks_only(method: &[u8]) -> bool
     ensures { result ≡ asks_only method.now }
 {
     method == b"GET".as_slice() || method == b"HEAD".as_slice()
 }
 
-// Keeps the head with which a part begins, and makes it last, where that is wanted.
+// Keeps the head with which a part begins, and makes it last if `is_synced`.
 fn keep_room<W: Keeper>(out: &mut W, is_synced: bool, head: &Head) -> Result<(), Unkept>
     requires { IsDigest head.now.digits }
     ensures kept { KeepsAll (W.held out.old) (W.held out.new) (room_text head.now) result }
@@ -233,7 +235,7 @@ fn keep_room<W: Keeper>(out: &mut W, is_synced: bool, head: &Head) -> Result<(),
     }
 }
 
-// Keeps a message, and makes it last, where that is wanted.
+// Keeps a message, and makes it last if `is_synced`.
 fn keep_message<W: Keeper>(
     out: &mut W,
     is_synced: bool,
@@ -267,7 +269,7 @@ fn keep_answer<W: Keeper>(out: &mut W, answer: &[u8]) -> Result<(), Unkept>
     }
 }
 
-// Keeps an entry, and makes it last, where that is wanted.
+// Keeps an entry, and makes it last if `is_synced`.
 fn keep_entry<W: Keeper>(out: &mut W, is_synced: bool, entry: &EntryText) -> Result<(), Unkept>
     requires { (e : Entry) × IsEntry e × (entry.now.text.items ≡ text_of e) }
     ensures kept { KeepsAll (W.held out.old) (W.held out.new) entry.now.text.items result }
@@ -280,7 +282,7 @@ fn keep_entry<W: Keeper>(out: &mut W, is_synced: bool, entry: &EntryText) -> Res
     }
 }
 
-// Keeps that the journal ended well, and makes it last, where that is wanted.
+// Records that the journal ended well, and makes it last if `is_synced`.
 fn keep_end<W: Keeper>(out: &mut W, is_synced: bool) -> Result<(), Unkept>
     ensures kept { KeepsAll (W.held out.old) (W.held out.new) [] result }
     ensures ended { OnOk result (W.ends out.old out.new) }
@@ -292,7 +294,7 @@ fn keep_end<W: Keeper>(out: &mut W, is_synced: bool) -> Result<(), Unkept>
     }
 }
 
-// Makes all that was kept last, where that is wanted.
+// Makes all that was kept last if `is_synced`.
 fn make_last<W: Keeper>(out: &mut W, is_synced: bool) -> Result<(), Unkept>
     ensures held { W.held out.new ≡ W.held out.old }
     ensures put { (first : W) (entry : List ℕ) → W.puts first out.old entry

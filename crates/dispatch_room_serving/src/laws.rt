@@ -51,13 +51,13 @@ pub fn the_list_is_replayed<S: Alter, T: Alter>()
     ensures { ListIsReplayed S.Store T.Store }
 {}
 
-/// A room to which only the messages came that are no questions comes to the same room, and answers
-/// them the same.
+/// A room that gets only those of its messages that are no questions comes to the same room, and
+/// answers them the same.
 pub fn questions_change_nothing()
     ensures { QuestionsChangeNothing }
 {}
 
-/// So a list that keeps only these leads to the room, and each status that it keeps is as written.
+/// So a list without questions leads to the room too, and each status in it is as it was written.
 pub fn changes_are_the_room()
     ensures { ChangesAreTheRoom }
 {}

@@ -9,15 +9,15 @@ use std::fs::File;
 use std::io::{Error, ErrorKind};
 use std::os::unix::fs::MetadataExt;
 
-// How many lists that were truncated are set aside at most beside one another.
+// How many truncated lists may lie aside beside one another.
 const MOST_ASIDE: u32 = 1_000;
 
 /// What a look finds at the place of a list.
 #[derive(Clone, Copy, PartialEq, Eq)]
 pub enum Finding {
-    /// The list, or that can't be known.
+    /// The list, or the system doesn't say.
     There,
-    /// The list, which has lost some of its end.
+    /// The list, with fewer bytes than at the last look.
     Truncated,
     /// Another file or none: the list was renamed or removed.
     Elsewhere,
@@ -51,7 +51,7 @@ impl<'a> ListPlace<'a> {
         })
     }
 
-    /// What a look finds there, by one question to the system.
+    /// What a look finds there, by one call of the system.
     pub fn look(&mut self) -> Finding
         ensures left { result ≢ There → self.new.has_left ≡ true }
         ensures stands { result ≡ There → self.new.has_left ≡ self.old.has_left }
@@ -82,8 +82,8 @@ impl<'a> ListPlace<'a> {
         }
     }
 
-    /// Sets aside what stands there, where it is anything, under the first name of its own with
-    /// `.truncated.1`, `.2` and so on that no file has, and returns whether it could.
+    /// Renames what stands there to its own name with `.truncated.1`, `.2` and so on, up to 1,000:
+    /// the first that no file has. Returns whether it could. What has no bytes is left where it is.
     pub fn set_aside(&self, alloc: Global) -> bool {
         let path = self.path;
         match fs::metadata(self.rt, path) {
@@ -117,7 +117,7 @@ fn finding_of(is_same: bool, len: u64, bytes: u64) -> Finding
     }
 }
 
-/// What a look finds of a list, where one is kept.
+/// What a look finds at the place of a list: `There` if no list is kept.
 pub fn standing(place: &mut Option<ListPlace<'_>>) -> Finding
     ensures left { result ≢ There → has_left place.new ≡ true }
     ensures stands { result ≡ There → has_left place.new ≡ has_left place.old }

@@ -38,7 +38,7 @@ fn visible_byte(byte: u8) -> u8
     if byte.is_ascii_graphic() { byte } else { b'?' }
 }
 
-/// Who asked: none where the room knew nobody.
+/// Who asked, if the room knew who it was.
 #[derive(Clone, Copy)]
 pub struct Asker {
     pub who: Option<Who>,

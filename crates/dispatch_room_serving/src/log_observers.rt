@@ -36,7 +36,7 @@ impl<'a, E: Write, T: Clock, W: Keeper> LogAndJournal<'a, E, T, W> {
         LogAndJournal { log, journal }
     }
 
-    /// What was kept ended well, where nothing failed.
+    /// Records in the journal that it ended well, if there is a journal.
     fn end(&mut self) -> Result<(), Unkept>
         ensures kept { KeepsAll (held_by W.held self.old.journal) (held_by W.held self.new.journal)
             [] result }
@@ -50,8 +50,8 @@ impl<'a, E: Write, T: Clock, W: Keeper> LogAndJournal<'a, E, T, W> {
         }
     }
 
-    /// Keeps that serving ended well, where it did, and returns how the service ended: where that
-    /// could not be kept, its journal failed.
+    /// Records in the journal that serving ended well, if it did, and returns how the service ended:
+    /// as serving did, or as `Journal` if that could not be kept.
     pub fn end_after(&mut self, served: Result<Done, Failure>) -> Result<Done, Failure>
         ensures { EndsAfter W.ends self.old.journal self.new.journal served result }
     {
@@ -74,7 +74,7 @@ impl<'a, E: Write, T: Clock, W: Keeper> Observer for LogAndJournal<'a, E, T, W> 
 
     ghost response = { answer_text };
 
-    // The line is written, unless the log is none or given up.
+    // The line is written, unless there is no log, or it was given up.
     ghost notes = { λ old new asked answer. Logs old.log.goes_on new.log.goes_on
         (E.contents old.log.out.now) (E.contents new.log.out.now) asked answer };
 

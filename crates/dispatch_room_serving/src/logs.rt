@@ -21,7 +21,7 @@ use std::time::{Clock, Duration};
 const MOST_TRIES: u32 = u32::MAX;
 
 /// A log, with a line for each message that is answered: the moment of its answer, who asked, its
-/// method and path, the status, and the milliseconds from the message whole to the answer written,
+/// method and path, the status, and the milliseconds from the whole message to the written answer,
 /// as `2026-03-29T08:15:00Z desk 1 GET /queue 200 3 ms`. It never has a token. What is wrong with a
 /// body that is refused is explained after its line.
 #[derive(Drop)]
@@ -164,7 +164,7 @@ impl<'a, E: Write, T: Clock> Observer for Log<'a, E, T> {
 
     ghost response = { λ _. [] };
 
-    // The line is written, unless the log is none or given up.
+    // The line is written, unless there is no log, or it was given up.
     ghost notes = { λ old new asked answer. Logs old.goes_on new.goes_on (E.contents old.out.now)
         (E.contents new.out.now) asked answer };
 

@@ -28,9 +28,9 @@ use std::alloc::Global;
 pub struct Terms {
     /// How many calls are served.
     pub connections: u64,
-    /// Whether the paths of history are.
+    /// Whether the paths of history are served.
     pub history: bool,
-    /// Whether serving ends before, once the list was renamed, removed or truncated.
+    /// Whether serving ends early, once the list was renamed, removed or truncated.
     pub renews: bool,
 }
 
@@ -41,11 +41,12 @@ pub struct ServedPart<'a> {
     pub place: Option<ListPlace<'a>>,
 }
 
-/// Serves the room of a database to so many calls: it is opened, where it begins is reported to the
-/// observer, the callers begin, and each is served from the room that the one before left, in the
-/// zone of the room's plan, with the paths of history or without. Where no room is opened, none of
-/// them is heard. It is the same for each observer. Where the terms say so, it ends before, once a
-/// look at the place of the list finds it moved or truncated, and only then.
+/// Serves the room of a database to as many calls as the terms say. The room is opened, the
+/// observer is given its digest if it wants it, and the callers begin; then each call is served
+/// from the room that the one before left, in the zone of the room's plan, with the paths of
+/// history or without. If no room is opened, no call is heard. If the terms say so (`renews`),
+/// serving ends early once a look at the place of the list finds it moved or truncated, and only
+/// then.
 pub fn serve_in<S: Alter + Drop, P: Callers, C: Clock, N: JournalObserver>(
     alloc: Global,
     conn: Connection<S>,
@@ -106,7 +107,7 @@ pub fn serve_in<S: Alter + Drop, P: Callers, C: Clock, N: JournalObserver>(
     }
 }
 
-// Hands the observer the room where it begins, lets the callers begin, and serves so many calls.
+// Hands the observer the digest of the room, lets the callers begin, and serves the calls.
 fn begin_and_serve<S: Alter, P: Callers, C: Clock, N: JournalObserver>(
     handler: &Handler,
     callers: &mut P,

@@ -1,6 +1,6 @@
 -- Those who are parted from, one after another.
-use Rattle.std.proofs.Common.{◌≡◌, ◌∙◌, sym, ap, arith, length-append, append_assoc, append-nil, ℕ, ◌+◌, ◌<◌, List, []}
-use Rattle.std.proofs.Common.{◌∷◌, ◌++◌, Bool, length, All, if◌then◌else◌}
+use Rattle.std.proofs.Common.{◌≡◌, ◌∙◌, sym, ap, arith, length-append, append_assoc, append-nil, ℕ}
+use Rattle.std.proofs.Common.{◌+◌, ◌<◌, List, [], ◌∷◌, ◌++◌, Bool, length, All, if◌then◌else◌}
 use Rattle.std.proofs.lemmas.List.Elements.{All-nil, All-push}
 use Rattle.std.specs.Duration.{as_nanos}
 use Rattle.std.specs.declared.time.Duration.{Duration}

@@ -1,5 +1,7 @@
 -- What a look at the bytes ahead says.
-use Rattle.std.proofs.Common.{◌≡◌, ◌<◌, ◌++◌, append-nil, length, subst, ℕ, List, []}
+use Rattle.std.proofs.Common.{◌≡◌, ◌∙◌, ◌<◌, ◌++◌, ap, append-nil, append_assoc, length}
+use Rattle.std.proofs.Common.{subst, sym, ℕ, List, []}
+use Rattle.dispatch_room_sockets.specs.Lookaheads.{StaysInFront}
 use Rattle.room_http_messages.specs.Layouts.{LookIs}
 use Rattle.room_http_messages.specs.Messages.{IsPart}
 use Rattle.room_http_messages.specs.declared.message_prefixes.MessagePrefix.{MessagePrefix}
@@ -12,3 +14,14 @@ is_part bytes look count says is =
     let needs = rw is at says in
     let at_end : length (bytes ++ []) < count → IsPart (bytes ++ []) = needs.2 [] in
     subst (λ t. length t < count → IsPart t) (append-nil bytes) at_end needs.0
+
+-- nothing was read
+pub none_read : (bytes : List ℕ) → StaysInFront bytes bytes
+none_read bytes = record { more = []; grown = sym (append-nil bytes) }
+
+-- what was read stays in front of what is read next
+pub read_on : (a b c : List ℕ) → StaysInFront a b → StaysInFront b c → StaysInFront a c
+read_on a b c first then = record {
+  more = first.more ++ then.more;
+  grown = then.grown ∙ ap (λ l. l ++ then.more) first.grown ∙ append_assoc a first.more then.more;
+}

@@ -1,6 +1,6 @@
 -- Who is given at a door to be served, and who is not taken back.
-use Rattle.std.proofs.Common.{◌≡◌, ◌⊎◌, ◌∙◌, ap, arith, inl, inr, refl, ℕ, ◌+◌, ◌<◌, List, length, Bool, false}
-use Rattle.std.proofs.Common.{Option, None, Some, IfSome}
+use Rattle.std.proofs.Common.{◌≡◌, ◌⊎◌, ◌∙◌, ap, arith, inl, inr, refl, ℕ, ◌+◌, ◌<◌, List, length}
+use Rattle.std.proofs.Common.{Bool, false, Option, None, Some, IfSome}
 use Rattle.std.proofs.lemmas.Option.{same_Some}
 use Rattle.std.specs.declared.time.Duration.{Duration}
 use Rattle.dispatch_room_sockets.specs.declared.doors.Client.{Client}

@@ -3,7 +3,8 @@ use Rattle.std.proofs.Common.{◌≡◌, ◌∙◌, ap, refl, List, [], ◌∷�
 use Rattle.std.specs.declared.time.Duration.{Duration}
 use Rattle.dispatch_room_sockets.specs.CallerHistories.{GivesNext}
 use Rattle.dispatch_room_sockets.specs.Rounds.{AreRounds, HasRounds, IsRound, Queues}
-use Rattle.dispatch_room_sockets.proofs.HistoryLaws.{admitted_given, given_after, looked_given, nobody_given}
+use Rattle.dispatch_room_sockets.proofs.HistoryLaws.{admitted_given, given_after, looked_given}
+use Rattle.dispatch_room_sockets.proofs.HistoryLaws.{nobody_given}
 
 module _ {C : Type 0} where
   pub no_round : (old new : Queues C) → new ≡ old → HasRounds old new

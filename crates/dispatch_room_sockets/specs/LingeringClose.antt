@@ -1,6 +1,6 @@
 -- How a peer is parted from: what is done, and in which order.
-use Rattle.std.specs.Prelude.{◌≡◌, ◌⊎◌, ◌<◌, ⊤, ℕ, List, [], ◌∷◌, ◌++◌, Bool, true, false, if◌then◌else◌, Option, None}
-use Rattle.std.specs.Prelude.{Some, replicate}
+use Rattle.std.specs.Prelude.{◌≡◌, ◌⊎◌, ◌<◌, ⊤, ℕ, List, [], ◌∷◌, ◌++◌, Bool, true, false}
+use Rattle.std.specs.Prelude.{if◌then◌else◌, Option, None, Some, replicate}
 use Rattle.std.specs.declared.time.Duration.{Duration}
 
 -- A step: the writing side is shut, or could not be. Or a piece of what the peer still sends is

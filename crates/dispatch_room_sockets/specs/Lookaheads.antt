@@ -45,3 +45,8 @@ may_grow ahead.Part = true
 may_grow (ahead.Whole size) = false
 may_grow ahead.Last = false
 may_grow ahead.End = false
+
+-- what was read ahead stays, in front of what was read after it
+pub record StaysInFront (old new : List ℕ) : Type 0 where
+  pub more : List ℕ
+  pub grown : new ≡ old ++ more

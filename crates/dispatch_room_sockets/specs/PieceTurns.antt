@@ -1,6 +1,6 @@
 -- Who is given at a door to be served, and what becomes of them after it.
-use Rattle.std.specs.Prelude.{◌≡◌, ◌+◌, ◌<◌, ℕ, List, ◌∷◌, Bool, true, false, length}
-use Rattle.std.specs.Prelude.{Option, None, IfSome, IsSome, MatchOption}
+use Rattle.std.specs.Prelude.{◌≡◌, ◌+◌, ◌<◌, ℕ, List, ◌∷◌, Bool, true, false, length, Option, None}
+use Rattle.std.specs.Prelude.{IfSome, IsSome, MatchOption}
 use Rattle.std.specs.declared.time.Duration.{Duration}
 use Rattle.dispatch_room_sockets.specs.declared.doors.Client.{Client}
 use Rattle.dispatch_room_sockets.specs.declared.kept_callers.Kept.{Kept}

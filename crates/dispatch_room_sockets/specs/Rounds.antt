@@ -1,9 +1,11 @@
 -- Rounds: in each, who calls is admitted, and then all are looked at.
-use Rattle.std.specs.Prelude.{◌≡◌, ◌+◌, ℕ, List, [], ◌∷◌, min, Option}
+use Rattle.std.specs.Prelude.{◌≡◌, ◌+◌, ℕ, List, [], ◌∷◌, ◌++◌, min, Option, option_to_list}
 use Rattle.std.specs.Duration.{as_nanos, max_nanos}
 use Rattle.std.specs.declared.time.Duration.{Duration}
+use Rattle.dispatch_room_sockets.specs.declared.entrances.Entrance.{Ghosts}
 use Rattle.dispatch_room_sockets.specs.declared.kept_callers.Heard.{Heard}
 use Rattle.dispatch_room_sockets.specs.declared.kept_callers.Kept.{Kept}
+use Rattle.dispatch_room_sockets.specs.declared.waiting_callers.Waiting.{Waiting}
 use Rattle.dispatch_room_sockets.specs.Sweeps.{IsAdmitted, IsSwept}
 
 -- How long one may be silent and a request may take; those who are looked at, those who are to be
@@ -17,18 +19,22 @@ pub record Queues (C : Type 0) : Type 0 where
   pub came : Option (List C)
   pub heard : Option (List Heard)
 
+-- the queues of those who wait where they come in
+abbrev pub queues : {E C : Type 0} → (g : Ghosts E C) → Waiting E C g → Queues C
+queues g waiting = record {
+  keep = waiting.keep;
+  patience = waiting.patience;
+  line = waiting.line.items;
+  ready = waiting.ready.items;
+  next = waiting.next;
+  came = g.came waiting.entrance;
+  heard = g.heard waiting.entrance;
+}
+
 module _ {C : Type 0} where
-  abbrev pub queues : Duration → Duration → List (Kept C) → List (Kept C) → ℕ → Option (List C)
-      → Option (List Heard) → Queues C
-  queues keep patience line ready next came heard = record {
-    keep = keep;
-    patience = patience;
-    line = line;
-    ready = ready;
-    next = next;
-    came = came;
-    heard = heard;
-  }
+  -- the queues as this one was still the first of those who are to be served
+  abbrev pub before_giving : Option (Kept C) → Queues C → Queues C
+  before_giving given q = record q { ready = option_to_list given ++ q.ready }
 
   -- who calls is admitted, and may be silent as long as one is kept; then all are looked at
   pub record IsRound (now : Duration) (old new : Queues C) : Type 0 where

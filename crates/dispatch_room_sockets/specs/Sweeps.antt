@@ -1,13 +1,14 @@
 -- What one look at all who are kept does: who waits on, who is served, and who is closed.
-use Rattle.std.specs.Prelude.{◌≡◌, ◌+◌, ◌||◌, ◌&&◌, ℕ, List, [], ◌∷◌, ◌++◌, Bool, true, false, not, min, map, filter}
-use Rattle.std.specs.Prelude.{length, All, Option}
+use Rattle.std.specs.Prelude.{◌≡◌, ◌+◌, ◌||◌, ◌&&◌, ℕ, List, [], ◌∷◌, ◌++◌, Bool, true, false, not}
+use Rattle.std.specs.Prelude.{min, map, filter, length, All, Option}
 use Rattle.std.specs.Duration.{as_nanos, max_nanos}
 use Rattle.std.specs.declared.time.Duration.{Duration}
 use Rattle.dispatch_room_sockets.specs.declared.kept_callers.Heard.{Heard}
 use Rattle.dispatch_room_sockets.specs.declared.kept_callers.Kept.{Kept}
 use Rattle.dispatch_room_sockets.specs.declared.kept_callers.Verdict.{Verdict}
 use Rattle.room_http_messages.specs.Streams.{Grows}
-use Rattle.dispatch_room_sockets.specs.Verdicts.{is_closed, is_over, is_part, is_served, verdict_on, waits}
+use Rattle.dispatch_room_sockets.specs.Verdicts.{is_closed, is_over, is_part, is_served, verdict_on}
+use Rattle.dispatch_room_sockets.specs.Verdicts.{waits}
 
 -- a look at one: it before and after, and what was found
 pub record Looked (C : Type 0) : Type 0 where

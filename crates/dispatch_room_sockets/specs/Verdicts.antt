@@ -3,9 +3,11 @@ use Rattle.std.specs.Prelude.{◌≡◌, ◌<◌, ℕ, Bool, true, false, not, n
 use Rattle.std.specs.Duration.{as_nanos}
 use Rattle.std.specs.declared.time.Duration.{Duration}
 use Rattle.dispatch_room_sockets.specs.declared.kept_callers.Heard.{Heard}
-use Rattle.dispatch_room_sockets.specs.declared.kept_callers.Heard.TheVariants.{Gone, Nothing, Part, Whole}
+use Rattle.dispatch_room_sockets.specs.declared.kept_callers.Heard.TheVariants.{Gone, Nothing, Part}
+use Rattle.dispatch_room_sockets.specs.declared.kept_callers.Heard.TheVariants.{Whole}
 use Rattle.dispatch_room_sockets.specs.declared.kept_callers.Verdict.{Verdict}
-use Rattle.dispatch_room_sockets.specs.declared.kept_callers.Verdict.TheVariants.{Closed, Served, Waits}
+use Rattle.dispatch_room_sockets.specs.declared.kept_callers.Verdict.TheVariants.{Closed, Served}
+use Rattle.dispatch_room_sockets.specs.declared.kept_callers.Verdict.TheVariants.{Waits}
 
 -- the moment has come
 abbrev pub is_over : Duration → Duration → Bool

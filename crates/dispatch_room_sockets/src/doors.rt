@@ -1,6 +1,6 @@
 //! The door of a room: its sockets, and the system's set of those that move.
 ghost use Rattle.std.specs.Prelude.{◌≡◌, false, true};
-ghost use Rattle.dispatch_room_sockets.specs.Lookaheads.{StandsAhead, heard_of};
+ghost use Rattle.dispatch_room_sockets.specs.Lookaheads.{StandsAhead, StaysInFront, heard_of};
 
 use crate::entrances::Entrance;
 use crate::kept_callers::{Heard, is_over};
@@ -71,7 +71,8 @@ impl Client {
 
     /// What stands ahead, by what was read of its stream and can be read now.
     pub(crate) fn look_ahead(&mut self, room: &mut [u8]) -> Lookahead
-        ensures { StandsAhead self.new.unserved result }
+        ensures seen { StandsAhead self.new.unserved result }
+        ensures front { StaysInFront self.old.unserved self.new.unserved }
     {
         let mut stream = self.stream.as_ref();
         look_ahead(&mut self.unserved, &mut stream, room)

@@ -1,7 +1,9 @@
 //! How a connection is closed so that its last answer arrives: a lingering close.
-ghost use Rattle.std.specs.Prelude.{◌≡◌, ◌||◌, [], ◌∷◌, List, ℕ, Bool, Option, None, not, if◌then◌else◌};
+ghost use Rattle.std.specs.Prelude.{◌≡◌, ◌||◌, [], ◌∷◌, List, ℕ, Bool, Option, None, not};
+ghost use Rattle.std.specs.Prelude.{if◌then◌else◌};
 ghost use Rattle.std.specs.declared.time.Duration.{Duration as Time};
-ghost use Rattle.dispatch_room_sockets.specs.LingeringClose.{Does, IsDrained, IsParted, Step, drains_until, shut, threw};
+ghost use Rattle.dispatch_room_sockets.specs.LingeringClose.{Does, IsDrained, IsParted, Step};
+ghost use Rattle.dispatch_room_sockets.specs.LingeringClose.{drains_until, shut, threw};
 ghost use Rattle.dispatch_room_sockets.specs.Discards.{ThrowsAway};
 
 use crate::socket_readers::SocketReader;

@@ -2,7 +2,8 @@
 ghost use Rattle.std.specs.Io.KnownBytes.{Keeps, prepend_known};
 ghost use Rattle.std.specs.Prelude.{◌≡◌, ◌≢◌, ◌≤◌, Bool, length};
 ghost use Rattle.room_http_messages.specs.declared.limits.TheConstants.{INBOX_ROOM};
-ghost use Rattle.dispatch_room_sockets.specs.Lookaheads.{LookaheadIs, heard_of, may_grow};
+ghost use Rattle.dispatch_room_sockets.specs.Lookaheads.{LookaheadIs, StaysInFront, heard_of};
+ghost use Rattle.dispatch_room_sockets.specs.Lookaheads.{may_grow};
 ghost use Rattle.dispatch_room_sockets.specs.declared.lookaheads.Lookahead.TheVariants.{End};
 
 use crate::kept_callers::Heard;
@@ -37,6 +38,7 @@ pub(crate) fn look_ahead<T: Read>(
     ensures kept { result ≢ End → Keeps
         (prepend_known unserved.old (T.remaining stream.old))
         (prepend_known unserved.new (T.remaining stream.new)) }
+    ensures front { StaysInFront unserved.old unserved.new }
 {
     for _read in 0..INBOX_ROOM {
         let ahead = lookahead_of(unserved.bytes(), false);

@@ -1,15 +1,16 @@
 //! A connection is served in pieces: each is whole requests, and between two of them others are
 //! served.
-ghost use Rattle.std.specs.Prelude.{◌≡◌, ◌*◌, ◌-◌, ◌≤◌, ◌||◌, if◌then◌else◌, IfOk, IfSome, None, false, is_err, length, true};
-ghost use Rattle.std.specs.Prelude.{◌≢◌, option_map, take};
+ghost use Rattle.std.specs.Prelude.{◌≡◌, ◌*◌, ◌-◌, ◌≤◌, ◌||◌, if◌then◌else◌, IfOk, IfSome, None};
+ghost use Rattle.std.specs.Prelude.{false, is_err, length, true, ◌&&◌, ◌≢◌, not, option_map, take};
 ghost use Rattle.std.specs.Duration.{as_nanos};
 ghost use Rattle.std.specs.Io.KnownBytes.{ReadConsumes, prepend_known};
-ghost use Rattle.dispatch_room_sockets.specs.Lookaheads.{StandsAhead};
-ghost use Rattle.dispatch_room_sockets.specs.Pieces.{Begins, GivesAhead, given_of};
+ghost use Rattle.dispatch_room_sockets.specs.Lookaheads.{StandsAhead, StaysInFront};
+ghost use Rattle.dispatch_room_sockets.specs.Pieces.{Begins, GivesAhead, GivesFront, IsPieceRead};
+ghost use Rattle.dispatch_room_sockets.specs.Pieces.{given_of};
 ghost use Rattle.dispatch_room_sockets.specs.PieceTurns.{GivesPiece, TakesBack};
 ghost use Rattle.dispatch_room_sockets.specs.Turns.{is_turn_over};
 ghost use Rattle.dispatch_room_sockets.specs.declared.lookaheads.Lookahead.TheVariants.{Nothing};
-ghost use Rattle.room_http_messages.specs.Streams.{found_end, known_count};
+ghost use Rattle.room_http_messages.specs.Streams.{CountsBy, found_end, known_count};
 
 use crate::doors::{Client, Door, PAUSE};
 use crate::entrances::Entrance;
@@ -113,6 +114,8 @@ impl<'a> PieceReader<'a> {
     ) -> PieceReader<'a>
         ensures sound { result.failed ≡ false }
         ensures kept { result.kept ≡ kept }
+        ensures begins { (result.is_first ≡ true) × (result.is_paused ≡ false)
+            × (result.ended ≡ false) × (result.reads ≡ 0) }
     {
         PieceReader {
             rt,
@@ -131,17 +134,17 @@ impl<'a> PieceReader<'a> {
 
     // Whether another request begins, or the last of the stream, and how much of it is given.
     fn begins(&mut self, room: &mut [u8]) -> bool
-        ensures first { self.old.is_first ≡ true
-            → Begins self.new.kept.caller.ahead true self.new.left result }
-        ensures next { self.old.is_first ≡ false
-            → Begins self.new.kept.caller.ahead false self.new.left result }
+        ensures begins { Begins self.new.kept.caller.ahead self.old.is_first self.new.left result }
+        ensures first { self.new.is_first ≡ (self.old.is_first && not result) }
         ensures kept { self.old.is_first ≡ true → self.new.kept ≡ self.old.kept }
+        ensures number { self.new.kept.number ≡ self.old.kept.number }
+        ensures front { StaysInFront self.old.kept.caller.unserved self.new.kept.caller.unserved }
         ensures seen { self.old.is_first ≡ false → self.new.kept.caller.ahead ≢ Nothing
             → StandsAhead self.new.kept.caller.unserved self.new.kept.caller.ahead }
         ensures turn { self.old.is_first ≡ false → self.new.kept.caller.ahead ≢ Nothing
             → self.new.reads ≤ 50_000 }
         ensures same { (self.new.failed ≡ self.old.failed) × (self.new.ended ≡ self.old.ended)
-            × (self.new.reads ≡ self.old.reads) }
+            × (self.new.reads ≡ self.old.reads) × (self.new.is_paused ≡ self.old.is_paused) }
     {
         if self.is_first {
             return self.begins_with(self.kept.caller.ahead, true);
@@ -153,11 +156,12 @@ impl<'a> PieceReader<'a> {
     // Whether what stands ahead is given, and how much of it.
     fn begins_with(&mut self, ahead: Lookahead, is_first: bool) -> bool
         ensures begins { Begins self.new.kept.caller.ahead is_first self.new.left result }
+        ensures first { self.new.is_first ≡ (self.old.is_first && not result) }
         ensures kept { self.new.kept ≡ record self.old.kept {
           caller = record self.old.kept.caller { ahead = ahead };
         } }
         ensures same { (self.new.failed ≡ self.old.failed) × (self.new.ended ≡ self.old.ended)
-            × (self.new.reads ≡ self.old.reads) }
+            × (self.new.reads ≡ self.old.reads) × (self.new.is_paused ≡ self.old.is_paused) }
     {
         self.kept.caller.ahead = ahead;
         match given_of(ahead, is_first) {
@@ -174,9 +178,12 @@ impl<'a> PieceReader<'a> {
     // nobody else moves.
     fn next(&mut self, room: &mut [u8]) -> Lookahead
         ensures seen { result ≢ Nothing → StandsAhead self.new.kept.caller.unserved result }
+        ensures front { StaysInFront self.old.kept.caller.unserved self.new.kept.caller.unserved }
         ensures turn { result ≢ Nothing → self.new.reads ≤ 50_000 }
         ensures same { (self.new.failed ≡ self.old.failed) × (self.new.ended ≡ self.old.ended)
-            × (self.new.reads ≡ self.old.reads) }
+            × (self.new.reads ≡ self.old.reads) × (self.new.is_paused ≡ self.old.is_paused) }
+        ensures first { self.new.is_first ≡ self.old.is_first }
+        ensures number { self.new.kept.number ≡ self.old.kept.number }
     {
         let Ok(now) = self.rt.monotonic() else {
             return Lookahead::Nothing;
@@ -217,7 +224,10 @@ impl<'a> PieceReader<'a> {
         ensures ahead { GivesAhead self.old.kept.caller.unserved self.new.kept.caller.unserved
             result (take self.old.left buf.new) }
         ensures same { (self.new.failed ≡ self.old.failed) × (self.new.ended ≡ self.old.ended)
-            × (self.new.reads ≡ self.old.reads) }
+            × (self.new.reads ≡ self.old.reads) × (self.new.is_paused ≡ self.old.is_paused) }
+        ensures begun { (self.new.is_first ≡ self.old.is_first)
+            × (self.new.kept.caller.ahead ≡ self.old.kept.caller.ahead)
+            × (self.new.kept.number ≡ self.old.kept.number) }
     {
         let most = buf.len().min(self.left);
         let client = &mut self.kept.caller;
@@ -230,6 +240,8 @@ impl<'a> PieceReader<'a> {
     // Gives what comes next: nothing where the piece has ended.
     fn give(&mut self, buf: &mut [u8]) -> Result<usize, ReadFailed>
         ensures bound { IfOk result (λ n. n ≤ length buf.new) }
+        ensures piece { IsPieceRead (length buf.old) self.old self.new result }
+        ensures front { GivesFront (length buf.old) self.old self.new result buf.new }
         ensures same { (self.new.failed ≡ self.old.failed) × (self.new.ended ≡ self.old.ended)
             × (self.new.reads ≡ self.old.reads) }
     {
@@ -244,7 +256,9 @@ impl<'a> PieceReader<'a> {
     fn note(&mut self, given: Result<usize, ReadFailed>, room: usize)
         ensures failed { self.new.failed ≡ (self.old.failed || is_err given) }
         ensures ended { self.new.ended ≡ (self.old.ended || found_end given room) }
-        ensures same { self.new.reads ≡ self.old.reads }
+        ensures same { (self.new.reads ≡ self.old.reads) × (self.new.kept ≡ self.old.kept)
+            × (self.new.left ≡ self.old.left) × (self.new.is_first ≡ self.old.is_first)
+            × (self.new.is_paused ≡ self.old.is_paused) }
     {
         match given {
             Ok(count) => {
@@ -271,7 +285,16 @@ impl<'a> Source for PieceReader<'a> {
 
     ghost has_ended = { λ r. r.ended };
 
-    fn read(&mut self, buf: &mut [u8]) -> Result<usize, ReadFailed> {
+    // Beside what each source ensures: where the piece pauses, and how much is given at most.
+    fn read(&mut self, buf: &mut [u8]) -> Result<usize, ReadFailed>
+        ensures bound { IfOk result (λ n. n ≤ length buf.new) }
+        ensures bytes { ReadConsumes None None result buf.new }
+        ensures count { CountsBy 1 (known_count self.old.reads) (known_count self.new.reads) }
+        ensures failed { self.new.failed ≡ (self.old.failed || is_err result) }
+        ensures ended { self.new.ended ≡ (self.old.ended || found_end result (length buf.new)) }
+        ensures piece { IsPieceRead (length buf.old) self.old self.new result }
+        ensures front { GivesFront (length buf.old) self.old self.new result buf.new }
+    {
         self.reads = self.reads.saturating_add(1);
         let given = self.give(buf);
         self.note(given, buf.len());
@@ -282,8 +305,8 @@ impl<'a> Source for PieceReader<'a> {
 /// What is written to on a connection.
 pub type PieceWriter<'a> = SocketWriter<'a, SharedStream, HostRuntime>;
 
-// What is written to in a turn of one who is to be served, and the moment that it is. Without memory
-// or a clock nobody can be served for a while.
+// What is written to in a turn of one who is to be served, and the moment that it is. Without
+// memory or a clock nobody can be served for a while.
 fn begin_turn(rt: &HostRuntime, client: &Client) -> Option<(SharedStream, Duration)>
     ensures { IfSome result (λ it. it.0.stream.value ≡ client.now.stream.value) }
 {
@@ -304,6 +327,8 @@ pub fn next_piece<'a>(
     patience: Duration,
 ) -> Option<(PieceReader<'a>, PieceWriter<'a>)>
     ensures reader { IfSome result (λ sides. sides.0.failed ≡ false) }
+    ensures begins { IfSome result (λ sides. (sides.0.is_first ≡ true)
+        × (sides.0.is_paused ≡ false) × (sides.0.ended ≡ false) × (sides.0.reads ≡ 0)) }
     ensures writer { IfSome result (λ sides. sides.1.failed ≡ false) }
     ensures patient { IfSome result (λ sides. (sides.1.patience ≡ patience)
         × (as_nanos sides.1.last ≡ u64.MAX * 1_000_000_000)) }

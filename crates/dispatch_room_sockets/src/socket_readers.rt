@@ -1,6 +1,7 @@
 //! A socket that is read from.
 ghost use Rattle.std.specs.Duration.{as_nanos, max_nanos};
-ghost use Rattle.std.specs.Prelude.{◌≡◌, ◌≤◌, ◌<◌, ◌-◌, ◌+◌, IfOk, IfSome, false, not, is_err, min, if◌then◌else◌, length, ◌==◌, ◌||◌};
+ghost use Rattle.std.specs.Prelude.{◌≡◌, ◌≤◌, ◌<◌, ◌-◌, ◌+◌, IfOk, IfSome, false, not, is_err, min};
+ghost use Rattle.std.specs.Prelude.{if◌then◌else◌, length, ◌==◌, ◌||◌};
 ghost use Rattle.std.specs.Io.KnownBytes.{ReadConsumes};
 ghost use Rattle.room_http_messages.specs.Streams.{found_end, known_count, CountsBy};
 ghost use Rattle.room_http_messages.specs.declared.limits.TheConstants.{INBOX_ROOM};

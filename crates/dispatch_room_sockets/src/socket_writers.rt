@@ -1,5 +1,6 @@
 //! A socket that is written to.
-ghost use Rattle.std.specs.Prelude.{◌≡◌, ◌≤◌, ◌+◌, min, IfOk, IfSome, IsSome, None, OnOk, Some, if◌then◌else◌, length, nat_lt, true, false, ◌||◌};
+ghost use Rattle.std.specs.Prelude.{◌≡◌, ◌≤◌, ◌+◌, min, IfOk, IfSome, IsSome, None, OnOk, Some};
+ghost use Rattle.std.specs.Prelude.{if◌then◌else◌, length, nat_lt, true, false, ◌||◌};
 ghost use Rattle.std.specs.Duration.{as_nanos, max_nanos};
 ghost use Rattle.std.specs.Io.KnownBytes.{WriteAppends};
 ghost use Rattle.room_http_messages.specs.Streams.{took_none};

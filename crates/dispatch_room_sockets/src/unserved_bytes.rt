@@ -1,7 +1,9 @@
 //! The bytes of a stream that were read ahead of the requests that are served.
-ghost use Rattle.std.specs.Prelude.{◌≡◌, ◌≤◌, ◌++◌, ◌==◌, ℕ, List, [], OnOk, drop, length, min, take};
+ghost use Rattle.std.specs.Prelude.{◌≡◌, ◌≤◌, ◌++◌, ◌==◌, ℕ, List, [], OnOk, drop, length, min};
+ghost use Rattle.std.specs.Prelude.{take};
 ghost use Rattle.std.specs.Io.KnownBytes.{Keeps, prepend_known};
 ghost use Rattle.room_http_messages.specs.declared.limits.TheConstants.{INBOX_ROOM};
+ghost use Rattle.dispatch_room_sockets.specs.Lookaheads.{StaysInFront};
 
 use room_http_messages::limits::INBOX_ROOM;
 use room_http_messages::sources::ReadFailed;
@@ -56,9 +58,10 @@ impl UnservedBytes {
         stream: &mut T,
         room: &mut [u8],
     ) -> Result<Option<usize>, ReadFailed>
-        ensures { OnOk result (Keeps
+        ensures bytes { OnOk result (Keeps
             (prepend_known self.old (T.remaining stream.old))
             (prepend_known self.new (T.remaining stream.new))) }
+        ensures front { StaysInFront self.old self.new }
     {
         let most = room.len().min(INBOX_ROOM - self.bytes.len());
         match stream.read(&mut room[..most]) {

@@ -48,11 +48,12 @@ pub struct Waiting<E: Entrance> {
 
 impl<E: Entrance> Waiting<E> {
     ghost use Rattle.dispatch_room_sockets.specs.CallerHistories.{AreInTime, ComesBack, GivesNext};
-    ghost use Rattle.dispatch_room_sockets.specs.Rounds.{HasRounds, IsRound, queues};
+    ghost use Rattle.dispatch_room_sockets.specs.Rounds.{HasRounds, IsRound, before_giving, queues};
     ghost use Rattle.dispatch_room_sockets.specs.Turns.{IsInTurn, WaitsAgain};
     ghost use Rattle.dispatch_room_sockets.specs.Departures.{Departs};
     ghost use Rattle.dispatch_room_sockets.specs.Pauses.{IsLeast, limits};
-    ghost use Rattle.std.specs.Prelude.{[], ◌∷◌, ◌++◌, ◌≢◌, ◌<◌, ◌==◌, IfSome, IsSome, drop, length, not, option_to_list};
+    ghost use Rattle.std.specs.Prelude.{[], ◌∷◌, ◌≢◌, ◌<◌, ◌==◌, IfSome, IsSome, drop};
+    ghost use Rattle.std.specs.Prelude.{length, not};
     ghost use Rattle.std.specs.Duration.{as_nanos};
 
     /// Nobody waits yet where they come in. Each may be silent so long, and a request may take so
@@ -84,12 +85,8 @@ impl<E: Entrance> Waiting<E> {
     pub fn next(&mut self) -> Option<Kept<E::Caller>>
         ensures given { GivesNext self.old.line.items self.old.ready.items self.old.next
             self.new.line.items self.new.ready.items self.new.next result }
-        ensures rounds { HasRounds
-            (queues self.old.keep self.old.patience self.old.line.items self.old.ready.items
-            self.old.next (E.came self.old.entrance) (E.heard self.old.entrance))
-            (queues self.new.keep self.new.patience self.new.line.items
-            (option_to_list result ++ self.new.ready.items) self.new.next
-            (E.came self.new.entrance) (E.heard self.new.entrance)) }
+        ensures rounds { HasRounds (queues E.Entrance self.old)
+            (before_giving result (queues E.Entrance self.new)) }
         ensures in_turn { IsInTurn self.old.line.items self.new.line.items self.old.ready.items
             self.new.ready.items result }
         ensures room { IsSome result
@@ -102,11 +99,7 @@ impl<E: Entrance> Waiting<E> {
 
     /// Where nobody is to be served yet, looks at all, and then waits for a while.
     pub(crate) fn hear(&mut self)
-        ensures rounds { HasRounds
-            (queues self.old.keep self.old.patience self.old.line.items self.old.ready.items
-            self.old.next (E.came self.old.entrance) (E.heard self.old.entrance))
-            (queues self.new.keep self.new.patience self.new.line.items self.new.ready.items
-            self.new.next (E.came self.new.entrance) (E.heard self.new.entrance)) }
+        ensures rounds { HasRounds (queues E.Entrance self.old) (queues E.Entrance self.new) }
         ensures stay { length self.old.ready.items ≢ 0 → self.new ≡ self.old }
         ensures times { (self.new.keep ≡ self.old.keep) × (self.new.patience ≡ self.old.patience) }
     {
@@ -126,11 +119,7 @@ impl<E: Entrance> Waiting<E> {
     // Looks at all once all are watched, and where nobody is to be served by then, waits until
     // someone moves. So who calls is heard beside those who ask without a pause.
     fn look_around(&mut self)
-        ensures rounds { HasRounds
-            (queues self.old.keep self.old.patience self.old.line.items self.old.ready.items
-            self.old.next (E.came self.old.entrance) (E.heard self.old.entrance))
-            (queues self.new.keep self.new.patience self.new.line.items self.new.ready.items
-            self.new.next (E.came self.new.entrance) (E.heard self.new.entrance)) }
+        ensures rounds { HasRounds (queues E.Entrance self.old) (queues E.Entrance self.new) }
     {
         self.watch_all();
         if self.ready.is_empty() {
@@ -141,11 +130,7 @@ impl<E: Entrance> Waiting<E> {
 
     // Where not all are watched, looks at all as they have moved by now, so that they are.
     fn watch_all(&mut self)
-        ensures rounds { HasRounds
-            (queues self.old.keep self.old.patience self.old.line.items self.old.ready.items
-            self.old.next (E.came self.old.entrance) (E.heard self.old.entrance))
-            (queues self.new.keep self.new.patience self.new.line.items self.new.ready.items
-            self.new.next (E.came self.new.entrance) (E.heard self.new.entrance)) }
+        ensures rounds { HasRounds (queues E.Entrance self.old) (queues E.Entrance self.new) }
     {
         if !self.are_watched() {
             self.wait(Duration::ZERO);
@@ -173,11 +158,7 @@ impl<E: Entrance> Waiting<E> {
     // Waits until someone moves, at most this long, and looks at all. Closing connections are read
     // before the wait, so that nobody who calls meanwhile waits for them.
     fn wait(&mut self, pause: Duration)
-        ensures rounds { HasRounds
-            (queues self.old.keep self.old.patience self.old.line.items self.old.ready.items
-            self.old.next (E.came self.old.entrance) (E.heard self.old.entrance))
-            (queues self.new.keep self.new.patience self.new.line.items self.new.ready.items
-            self.new.next (E.came self.new.entrance) (E.heard self.new.entrance)) }
+        ensures rounds { HasRounds (queues E.Entrance self.old) (queues E.Entrance self.new) }
     {
         self.throw_away();
         self.entrance.wait(pause);
@@ -188,10 +169,7 @@ impl<E: Entrance> Waiting<E> {
 
     // Throws away what those have said who are parted from.
     fn throw_away(&mut self)
-        ensures same { queues self.new.keep self.new.patience self.new.line.items self.new.ready.items
-            self.new.next (E.came self.new.entrance) (E.heard self.new.entrance)
-            ≡ queues self.old.keep self.old.patience self.old.line.items self.old.ready.items
-            self.old.next (E.came self.old.entrance) (E.heard self.old.entrance) }
+        ensures same { queues E.Entrance self.new ≡ queues E.Entrance self.old }
     {
         if let Some(now) = self.entrance.now() {
             throw_away_all(&mut self.entrance, &mut self.leavers, now);
@@ -200,11 +178,7 @@ impl<E: Entrance> Waiting<E> {
 
     // Admits those who call now, and looks at all.
     fn look(&mut self, now: Duration)
-        ensures round { IsRound now
-            (queues self.old.keep self.old.patience self.old.line.items self.old.ready.items
-            self.old.next (E.came self.old.entrance) (E.heard self.old.entrance))
-            (queues self.new.keep self.new.patience self.new.line.items self.new.ready.items
-            self.new.next (E.came self.new.entrance) (E.heard self.new.entrance)) }
+        ensures round { IsRound now (queues E.Entrance self.old) (queues E.Entrance self.new) }
         ensures in_time { AreInTime now self.new.line.items }
     {
         let kept = self.line.len() + self.ready.len();

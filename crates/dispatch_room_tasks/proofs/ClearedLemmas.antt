@@ -16,7 +16,8 @@ use Rattle.room_tables_rows.specs.RoomsInTables.{numbered, places}
 use Rattle.room_tables_rows.specs.AreaSql.{area_row}
 use Rattle.room_tables_rows.specs.TerminalSql.{terminal_row}
 use Rattle.room_tables_rows.specs.Writes.{Changes}
-use Rattle.dispatch_room_tasks.specs.declared.cleared_tables.TheConstants.{CLEAR_AREAS, CLEAR_TERMINALS}
+use Rattle.dispatch_room_tasks.specs.declared.cleared_tables.TheConstants.{CLEAR_AREAS}
+use Rattle.dispatch_room_tasks.specs.declared.cleared_tables.TheConstants.{CLEAR_TERMINALS}
 
 none_left : (rows : List Row) → filter (λ r. not true) rows ≡ []
 none_left [] = refl

@@ -1,7 +1,8 @@
 -- A room that was created, and how many numbers pass a test, counted one by one.
 use Rattle.room_place.specs.declared.plans.Area.{Area}
 use Rattle.dispatch_room_csv.specs.declared.plan_file.PlanFile.{PlanFile}
-use Rattle.dispatch_room_tasks.specs.Creation.{IsCreated, amounts_text, created_text, division_count}
+use Rattle.dispatch_room_tasks.specs.Creation.{IsCreated, amounts_text, created_text}
+use Rattle.dispatch_room_tasks.specs.Creation.{division_count}
 use Rattle.room_store.specs.StoreCreation.{MayBegin}
 use Rattle.room_store.specs.StoredRoom.{IsRoom}
 use Rattle.room_store.specs.declared.store.Store.{Store}
@@ -12,8 +13,8 @@ use Rattle.room_types.specs.declared.fleet.Terminal.{Terminal}
 use Rattle.sqlite.specs.Held.{Held, state}
 use Rattle.sqlite.specs.State.{Survives}
 use Rattle.sqlite_trees.specs.declared.store.Store.{Ghosts}
-use Rattle.std.proofs.Common.{Bool, List, [], ap, cond, filter, length, refl, subst, suc, true, false, vec_len, zero, ℕ}
-use Rattle.std.proofs.Common.{◌+◌, ◌++◌, ◌∙◌, ◌≡◌, ◌∷◌}
+use Rattle.std.proofs.Common.{Bool, List, [], ap, cond, filter, length, refl, subst, suc, true}
+use Rattle.std.proofs.Common.{false, vec_len, zero, ℕ, ◌+◌, ◌++◌, ◌∙◌, ◌≡◌, ◌∷◌}
 use Rattle.room_tables_schema.specs.FileConnections.{IsClean}
 
 -- the numbers from 1 to this one

@@ -1,6 +1,7 @@
 -- What was reported of the lines so far.
-use Rattle.std.proofs.Common.{[], List, None, Option, Some, ap, add-one, append_assoc, drop, drop-cons, false, get_or}
-use Rattle.std.proofs.Common.{length, refl, suc, sym, true, ℕ, ◌+◌, ◌++◌, ◌<◌, ◌∙◌, ◌≡◌, ◌∷◌}
+use Rattle.std.proofs.Common.{[], List, None, Option, Some, ap, add-one, append_assoc, drop}
+use Rattle.std.proofs.Common.{drop-cons, false, get_or, length, refl, suc, sym, true, ℕ, ◌+◌, ◌++◌}
+use Rattle.std.proofs.Common.{◌<◌, ◌∙◌, ◌≡◌, ◌∷◌}
 use Rattle.std.proofs.KnownBytes.{Appends-nil, Appends-trans}
 use Rattle.std.specs.Io.KnownBytes.{Appends}
 use Rattle.dispatch_room_cli.specs.declared.exit_status.Done.{Done}
@@ -9,7 +10,8 @@ use Rattle.dispatch_room_csv.specs.declared.fleet_file.FleetLine.{FleetLine}
 use Rattle.dispatch_room_csv.specs.declared.fleet_file.FleetLine.TheVariants.{Bad, Row}
 use Rattle.room_types.specs.declared.fleet.FleetRow.{FleetRow}
 use Rattle.room_types.specs.declared.fleet.RowFate.{RowFate}
-use Rattle.dispatch_room_tasks.specs.RowOutcomes.{Outcome, done_by, is_kept, outcome_text, outcomes, text_from}
+use Rattle.dispatch_room_tasks.specs.RowOutcomes.{Outcome, done_by, is_kept, outcome_text, outcomes}
+use Rattle.dispatch_room_tasks.specs.RowOutcomes.{text_from}
 
 -- how much is done by lines of which some are reported already
 abbrev pub done_after : Done → List Outcome → Done

@@ -1,7 +1,7 @@
 -- The terminals of a list take the place of those of all that it names, and fit the room.
-use Rattle.std.proofs.Common.{Bool, List, None, Option, Some, [], ap, arith, cond, false, filter, inl, inr, is_eq}
-use Rattle.std.proofs.Common.{is_some, length, not, option_map, refl, subst, sym, take, true, ℕ, ◌&&◌, ◌++◌, ◌<◌, ◌∙◌}
-use Rattle.std.proofs.Common.{◌∷◌, ◌≡◌, ◌||◌, ◌⊎◌, true≢false}
+use Rattle.std.proofs.Common.{Bool, List, None, Option, Some, [], ap, arith, cond, false, filter}
+use Rattle.std.proofs.Common.{inl, inr, is_eq, is_some, length, not, option_map, refl, subst, sym}
+use Rattle.std.proofs.Common.{take, true, ℕ, ◌&&◌, ◌++◌, ◌<◌, ◌∙◌, ◌∷◌, ◌≡◌, ◌||◌, ◌⊎◌, true≢false}
 use Rattle.std.proofs.Math.Seq.{get_or-append_seam, take-append_seam}
 use Rattle.std.proofs.lemmas.Bool.{eqb-true, or_left, or_parts, or_right}
 use Rattle.std.proofs.lemmas.List.{append_assoc, append-nil, length-append}
@@ -26,11 +26,13 @@ use Rattle.room_model.specs.Room.{Room}
 use Rattle.room_store_check_tables.specs.HeldRooms.{IsPlanOf}
 use Rattle.room_store_writes.specs.Configurations.{config_of}
 use Rattle.room_store_writes.specs.NewRoom.{put_all}
-use Rattle.dispatch_room_tasks.specs.ReplacedTerminals.{AreFree, KeepsRoom, Replaces, is_kept, is_listed, is_second}
-use Rattle.dispatch_room_tasks.specs.ReplacedTerminals.{kept_beside, no_row, replaced_by, row_fault, unknown_fault}
+use Rattle.dispatch_room_tasks.specs.ReplacedTerminals.{AreFree, KeepsRoom, Replaces, is_kept}
+use Rattle.dispatch_room_tasks.specs.ReplacedTerminals.{is_listed, is_second, kept_beside, no_row}
+use Rattle.dispatch_room_tasks.specs.ReplacedTerminals.{replaced_by, row_fault, unknown_fault}
 use Rattle.room_store_writes.specs.TerminalHolders.{has_token, is_token_of, may_have, same_who}
 use Rattle.dispatch_room_tasks.specs.declared.replacement_faults.RowFault.{RowFault}
-use Rattle.dispatch_room_tasks.specs.declared.replacement_faults.RowFault.TheVariants.{SecondToken, TokenTaken}
+use Rattle.dispatch_room_tasks.specs.declared.replacement_faults.RowFault.TheVariants.{SecondToken}
+use Rattle.dispatch_room_tasks.specs.declared.replacement_faults.RowFault.TheVariants.{TokenTaken}
 use Rattle.room_store_writes.proofs.FitLaws.{one_of, same_itself}
 
 same_is : (who other : Who) → same_who who other ≡ true → other ≡ who

@@ -1,20 +1,21 @@
 -- A room that gets another plan: which divisions it has then, and that it stays well-formed.
-use Rattle.std.proofs.Common.{Bool, IfSome, List, None, Option, Some, [], ap, cond, eq-eqb, false, is_none, is_some}
-use Rattle.std.proofs.Common.{not, option_map, refl, subst, sym, true, ℕ, ◌&&◌, ◌==◌, ◌∙◌, ◌∷◌, ◌≡◌, ◌||◌, true≢false}
+use Rattle.std.proofs.Common.{Bool, IfSome, List, None, Option, Some, [], ap, cond, eq-eqb, false}
+use Rattle.std.proofs.Common.{is_none, is_some, not, option_map, refl, subst, sym, true, ℕ, ◌&&◌}
+use Rattle.std.proofs.Common.{◌==◌, ◌∙◌, ◌∷◌, ◌≡◌, ◌||◌, true≢false}
 use Rattle.std.proofs.Math.Bool.{or-false, or_assoc}
 use Rattle.std.proofs.lemmas.Bool.{and_from, and_parts, eqb-true, false≢true, or_left, or_right}
 use Rattle.std.proofs.lemmas.Cmp.{nat_cmp_total}
 use Rattle.std.specs.Ordering.{nat_cmp}
 use Rattle.std.specs.List.{cons_option, find}
 use Rattle.sqlite_trees.specs.Tree.{Trees}
-use Rattle.room_place.specs.Plans.{Layout, are_of_divisions, are_rectangles, has_division, has_sound_count, is_division}
-use Rattle.room_place.specs.Plans.{is_zone}
+use Rattle.room_place.specs.Plans.{Layout, are_of_divisions, are_rectangles, has_division}
+use Rattle.room_place.specs.Plans.{has_sound_count, is_division, is_zone}
 use Rattle.room_place.specs.declared.plans.Area.{Area}
 use Rattle.room_place.specs.declared.plans.PlanFault.TheVariants.{Count, Number, Rectangle, Zone}
 use Rattle.room_types.proofs.KeyedLaws.{keyed_put}
 use Rattle.room_types.specs.KeyedRows.{IsKeyed, put_row, row_at}
-use Rattle.room_types.specs.Keys.{callsign_cmp, division_key, incident_key, numbered_cmp, pair_cmp, point_key}
-use Rattle.room_types.specs.Keys.{report_key, turn_key, vehicle_key}
+use Rattle.room_types.specs.Keys.{callsign_cmp, division_key, incident_key, numbered_cmp, pair_cmp}
+use Rattle.room_types.specs.Keys.{point_key, report_key, turn_key, vehicle_key}
 use Rattle.room_types.specs.declared.changes.Change.TheVariants.{PutDivision}
 use Rattle.room_types.specs.declared.fleet.Terminal.{Terminal}
 use Rattle.room_types.specs.declared.tables.Call.{Call}
@@ -27,15 +28,17 @@ use Rattle.room_model.proofs.IncidentChanges.{divisions_put}
 use Rattle.room_model.proofs.VehicleRows.{put_here}
 use Rattle.room_model.specs.FleetRows.{AreTerminals}
 use Rattle.room_model.specs.Room.{Room, apply}
-use Rattle.room_model.specs.RoomAgreements.{CallAgrees, IsGiven, IsPost, IsWellFormed, LastAgrees, NumberAgrees}
-use Rattle.room_model.specs.RoomAgreements.{OfferAgrees, OpenedAgrees, PostAgrees, TurnIsActive}
+use Rattle.room_model.specs.RoomAgreements.{CallAgrees, IsGiven, IsPost, IsWellFormed, LastAgrees}
+use Rattle.room_model.specs.RoomAgreements.{NumberAgrees, OfferAgrees, OpenedAgrees, PostAgrees}
+use Rattle.room_model.specs.RoomAgreements.{TurnIsActive}
 use Rattle.room_store_check_tables.specs.HeldRooms.{IsPlanOf}
 use Rattle.room_store_writes.specs.Configurations.{config_of}
 use Rattle.room_store_writes.specs.NewRoom.{new_division}
 use Rattle.dispatch_room_csv.specs.declared.plan_file.PlanFile.{PlanFile}
 use Rattle.dispatch_room_tasks.proofs.ReplacedLemmas.{replaced_fit}
 use Rattle.dispatch_room_tasks.specs.ReplacedTerminals.{AreFree}
-use Rattle.dispatch_room_tasks.specs.ReplannedRoom.{HasNewPlan, Replans, additions, first_lacking, replanned}
+use Rattle.dispatch_room_tasks.specs.ReplannedRoom.{HasNewPlan, Replans, additions, first_lacking}
+use Rattle.dispatch_room_tasks.specs.ReplannedRoom.{replanned}
 
 -- ---- which divisions the new plan lacks
 module _ (new : List Area) where

@@ -1,6 +1,7 @@
 -- A room that was created by a plan's file, and what is reported of it.
 use Rattle.std.specs.Io.KnownBytes.{Appends}
-use Rattle.std.specs.Prelude.{Err, List, Ok, Option, Result, codes, decimal, filter, length, vec_len, ℕ, ◌++◌, ◌≡◌}
+use Rattle.std.specs.Prelude.{Err, List, Ok, Option, Result, codes, decimal, filter, length}
+use Rattle.std.specs.Prelude.{vec_len, ℕ, ◌++◌, ◌≡◌}
 use Rattle.sqlite.specs.Held.{Held, state}
 use Rattle.sqlite.specs.State.{Survives}
 use Rattle.sqlite_schema.specs.declared.schema.Schema.{Schema}

@@ -1,8 +1,8 @@
 -- Who has a terminal in a room, and what is written of that.
 use Rattle.std.specs.Io.KnownBytes.{Appends}
 use Rattle.std.specs.List.{flat_map}
-use Rattle.std.specs.Prelude.{IfErr, IfOk, IsPermutation, List, OnOk, Option, Result, codes, decimal, map, ℕ, ◌++◌, ◌≡◌}
-use Rattle.std.specs.Prelude.{◌⊎◌}
+use Rattle.std.specs.Prelude.{IfErr, IfOk, IsPermutation, List, OnOk, Option, Result, codes}
+use Rattle.std.specs.Prelude.{decimal, map, ℕ, ◌++◌, ◌≡◌, ◌⊎◌}
 use Rattle.sqlite.specs.Held.{Held, state}
 use Rattle.sqlite.specs.State.{Survives}
 use Rattle.sqlite_trees.specs.declared.store.Store.{Ghosts}
@@ -19,9 +19,11 @@ use Rattle.room_store_file.specs.OpenedFile.{KeepsFile, MayBeIndexed}
 use Rattle.dispatch_room_cli.specs.declared.exit_status.Done.{Done}
 use Rattle.dispatch_room_cli.specs.declared.exit_status.Done.TheVariants.{Whole}
 use Rattle.dispatch_room_cli.specs.declared.exit_status.Failure.{Failure}
-use Rattle.dispatch_room_cli.specs.declared.exit_status.Failure.TheVariants.{Memory, Network, Storage}
+use Rattle.dispatch_room_cli.specs.declared.exit_status.Failure.TheVariants.{Memory, Network}
+use Rattle.dispatch_room_cli.specs.declared.exit_status.Failure.TheVariants.{Storage}
 use Rattle.dispatch_room_tasks.specs.declared.listed_terminals.Listed.{Listed}
-use Rattle.dispatch_room_tasks.specs.declared.listed_terminals.Listed.TheVariants.{Crew, Desk, Position}
+use Rattle.dispatch_room_tasks.specs.declared.listed_terminals.Listed.TheVariants.{Crew, Desk}
+use Rattle.dispatch_room_tasks.specs.declared.listed_terminals.Listed.TheVariants.{Position}
 use Rattle.room_tables_schema.specs.FileConnections.{IsClean}
 
 abbrev pub listed_of : Who → Listed

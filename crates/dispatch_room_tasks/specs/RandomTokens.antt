@@ -1,6 +1,6 @@
 -- The letters of random bytes, and the token that they make.
-use Rattle.std.specs.Prelude.{List, None, Option, Some, filter_map, if◌then◌else◌, length, nat_lt, take}
-use Rattle.std.specs.Prelude.{ℕ, ◌%◌, ◌+◌, ◌-◌, ◌≤◌}
+use Rattle.std.specs.Prelude.{List, None, Option, Some, filter_map, if◌then◌else◌, length, nat_lt}
+use Rattle.std.specs.Prelude.{take, ℕ, ◌%◌, ◌+◌, ◌-◌, ◌≤◌}
 use Rattle.room_types.specs.Texts.{Token}
 
 -- the 26 capitals, the 26 small letters and the 10 digits, in the order of their numbers

@@ -1,7 +1,7 @@
 -- The terminals of all that a list names, replaced by those that it gives.
 use Rattle.std.specs.List.{list_any}
-use Rattle.std.specs.Prelude.{Bool, IfErr, List, None, OnOk, Option, Result, Some, [], cond, false, filter, length, not}
-use Rattle.std.specs.Prelude.{slice_index_or, take, ℕ, ◌&&◌, ◌<◌, ◌||◌, ◌≡◌}
+use Rattle.std.specs.Prelude.{Bool, IfErr, List, None, OnOk, Option, Result, Some, [], cond, false}
+use Rattle.std.specs.Prelude.{filter, length, not, slice_index_or, take, ℕ, ◌&&◌, ◌<◌, ◌||◌, ◌≡◌}
 use Rattle.sqlite.specs.Held.{Held, state}
 use Rattle.sqlite.specs.State.{Survives}
 use Rattle.sqlite_trees.specs.Tree.{Trees}
@@ -27,10 +27,14 @@ use Rattle.room_store_writes.specs.Transactions.{IsSettled, Leaves}
 use Rattle.dispatch_room_cli.specs.declared.exit_status.Failure.{Failure}
 use Rattle.dispatch_room_cli.specs.declared.exit_status.Failure.TheVariants as failure
 use Rattle.dispatch_room_tasks.specs.declared.replacement_faults.ReplaceFault.{ReplaceFault}
-use Rattle.dispatch_room_tasks.specs.declared.replacement_faults.ReplaceFault.TheVariants.{Memory, Row, Storage}
+use Rattle.dispatch_room_tasks.specs.declared.replacement_faults.ReplaceFault.TheVariants.{Memory}
+use Rattle.dispatch_room_tasks.specs.declared.replacement_faults.ReplaceFault.TheVariants.{Row}
+use Rattle.dispatch_room_tasks.specs.declared.replacement_faults.ReplaceFault.TheVariants.{Storage}
 use Rattle.dispatch_room_tasks.specs.declared.replacement_faults.RowFault.{RowFault}
-use Rattle.dispatch_room_tasks.specs.declared.replacement_faults.RowFault.TheVariants.{NoDivision, NoVehicle}
-use Rattle.dispatch_room_tasks.specs.declared.replacement_faults.RowFault.TheVariants.{SecondToken, TokenTaken}
+use Rattle.dispatch_room_tasks.specs.declared.replacement_faults.RowFault.TheVariants.{NoDivision}
+use Rattle.dispatch_room_tasks.specs.declared.replacement_faults.RowFault.TheVariants.{NoVehicle}
+use Rattle.dispatch_room_tasks.specs.declared.replacement_faults.RowFault.TheVariants.{SecondToken}
+use Rattle.dispatch_room_tasks.specs.declared.replacement_faults.RowFault.TheVariants.{TokenTaken}
 use Rattle.room_tables_schema.specs.FileConnections.{IsClean}
 
 -- how a failing machine is reported

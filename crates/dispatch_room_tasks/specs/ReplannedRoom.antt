@@ -1,6 +1,6 @@
 -- A room that gets another plan: of which plans it may, and what it is then.
-use Rattle.std.specs.Prelude.{IfErr, List, None, OnOk, Option, Result, Some, cond, filter_map, find, length, not}
-use Rattle.std.specs.Prelude.{option_map, ℕ, ◌&&◌, ◌≡◌}
+use Rattle.std.specs.Prelude.{IfErr, List, None, OnOk, Option, Result, Some, cond, filter_map, find}
+use Rattle.std.specs.Prelude.{length, not, option_map, ℕ, ◌&&◌, ◌≡◌}
 use Rattle.sqlite.specs.Held.{Held, state}
 use Rattle.sqlite.specs.State.{Survives}
 use Rattle.sqlite_trees.specs.Tree.{Trees}
@@ -26,7 +26,8 @@ use Rattle.dispatch_room_tasks.specs.ReplacedTerminals as terminals
 use Rattle.dispatch_room_tasks.specs.ReplacedTerminals.{AreFree, ExplainsRow, replaced_by}
 use Rattle.dispatch_room_tasks.specs.declared.replacement_faults.ReplaceFault.{ReplaceFault}
 use Rattle.dispatch_room_tasks.specs.declared.replanning_faults.ReplanFault.{ReplanFault}
-use Rattle.dispatch_room_tasks.specs.declared.replanning_faults.ReplanFault.TheVariants.{Division, Terminals}
+use Rattle.dispatch_room_tasks.specs.declared.replanning_faults.ReplanFault.TheVariants.{Division}
+use Rattle.dispatch_room_tasks.specs.declared.replanning_faults.ReplanFault.TheVariants.{Terminals}
 use Rattle.room_tables_schema.specs.FileConnections.{IsClean}
 
 -- ---- of which plans it may

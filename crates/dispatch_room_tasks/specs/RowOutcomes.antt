@@ -1,7 +1,7 @@
 -- What is reported of the rows of a fleet, and how much of an import is done by them.
 use Rattle.std.specs.List.{list_all}
-use Rattle.std.specs.Prelude.{Bool, List, [], None, Option, Some, codes, decimal, false, filter_map, if◌then◌else◌}
-use Rattle.std.specs.Prelude.{true, ℕ, ◌+◌, ◌++◌, ◌∷◌}
+use Rattle.std.specs.Prelude.{Bool, List, [], None, Option, Some, codes, decimal, false, filter_map}
+use Rattle.std.specs.Prelude.{if◌then◌else◌, true, ℕ, ◌+◌, ◌++◌, ◌∷◌}
 use Rattle.room_types.specs.RefusalStatuses.{refusal_number}
 use Rattle.room_types.specs.declared.fleet.FleetRow.{FleetRow}
 use Rattle.room_types.specs.declared.fleet.RowFate.{RowFate}

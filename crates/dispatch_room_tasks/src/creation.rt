@@ -1,7 +1,8 @@
 //! `init`: a room is created in a database, by a plan.
 ghost use Rattle.std.specs.Prelude.{◌≡◌, false, IfErr, IfOk, OnErr};
 ghost use Rattle.sqlite.specs.Held.{state};
-ghost use Rattle.dispatch_room_tasks.specs.Creation.{ExplainsNone, IsCreated, PrintsCreated, division_count};
+ghost use Rattle.dispatch_room_tasks.specs.Creation.{ExplainsNone, IsCreated, PrintsCreated};
+ghost use Rattle.dispatch_room_tasks.specs.Creation.{division_count};
 
 use crate::opened_room::TaskResult;
 use crate::opening_faults::of_creating;

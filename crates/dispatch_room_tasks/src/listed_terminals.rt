@@ -9,7 +9,9 @@ ghost use Rattle.room_tables_schema.specs.FileConnections.{HasRoomSchema, IsClea
 ghost use Rattle.room_store_writes.specs.Transactions.{Leaves};
 ghost use Rattle.dispatch_room_cli.specs.declared.exit_status.Done.TheVariants.{Whole};
 ghost use Rattle.dispatch_room_tasks.specs.OpenedRoom.{HoldsNone};
-ghost use Rattle.dispatch_room_tasks.specs.ListedTerminals.{HasListed, IsMachines, IsListing, Prints, line_text, lines_text, listed_of};
+ghost use Rattle.dispatch_room_tasks.specs.ListedTerminals.{HasListed, IsMachines, IsListing};
+ghost use Rattle.dispatch_room_tasks.specs.ListedTerminals.{Prints, line_text, lines_text};
+ghost use Rattle.dispatch_room_tasks.specs.ListedTerminals.{listed_of};
 
 use crate::opened_room::TaskResult;
 use crate::opening_faults::of_opening;

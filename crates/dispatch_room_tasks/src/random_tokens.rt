@@ -3,7 +3,8 @@ ghost use Rattle.std.specs.List.{list_all};
 ghost use Rattle.std.specs.Option.{SomeIff};
 ghost use Rattle.std.specs.Prelude.{◌≡◌, ◌≤◌, IfOk, length, take, true};
 ghost use Rattle.room_types.specs.Texts.{is_token_letter};
-ghost use Rattle.dispatch_room_tasks.specs.RandomTokens.{AreEnough, first_letters, letter_of, letters_of};
+ghost use Rattle.dispatch_room_tasks.specs.RandomTokens.{AreEnough, first_letters, letter_of};
+ghost use Rattle.dispatch_room_tasks.specs.RandomTokens.{letters_of};
 
 use room_types::token::Token;
 use std::alloc::{AllocError, Global};

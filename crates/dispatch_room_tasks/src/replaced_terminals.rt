@@ -10,9 +10,11 @@ ghost use Rattle.room_tables_schema.specs.FileConnections.{HasRoomSchema, MayWri
 ghost use Rattle.room_tables_schema.specs.Schema.{room_schema};
 ghost use Rattle.room_tables_schema.specs.Outcomes.{CommitsNothing, ReadsInside};
 ghost use Rattle.room_store_writes.specs.NewRoom.{in_order, put_all};
-ghost use Rattle.room_store_writes.specs.Transactions.{IsSettled, Leaves, LeavesOnErr, StandsSettled};
+ghost use Rattle.room_store_writes.specs.Transactions.{IsSettled, Leaves, LeavesOnErr};
+ghost use Rattle.room_store_writes.specs.Transactions.{StandsSettled};
 ghost use Rattle.dispatch_room_tasks.specs.OpenedRoom.{HoldsNone};
-ghost use Rattle.dispatch_room_tasks.specs.ReplacedTerminals.{AreFree, ExplainsRow, HasReplaced, Replaces, failure_of, kept_beside};
+ghost use Rattle.dispatch_room_tasks.specs.ReplacedTerminals.{AreFree, ExplainsRow, HasReplaced};
+ghost use Rattle.dispatch_room_tasks.specs.ReplacedTerminals.{Replaces, failure_of, kept_beside};
 ghost use Rattle.dispatch_room_tasks.specs.declared.replacement_faults.ReplaceFault.{ReplaceFault as Why};
 
 use crate::cleared_tables::clear_terminals;

@@ -5,7 +5,9 @@ ghost use Rattle.std.specs.Prelude.{◌≡◌, length, MatchOption};
 ghost use Rattle.room_tables_schema.specs.DatabaseFaults.{fault_of};
 ghost use Rattle.room_store_writes.specs.TerminalHolders.{is_token_of};
 ghost use Rattle.dispatch_room_tasks.specs.declared.replacement_faults.ReplaceFault.TheVariants as why;
-ghost use Rattle.dispatch_room_tasks.specs.ReplacedTerminals.{AreFree, IsFirstFault, failure_of, is_kept, is_listed, is_second, lack_of, row_fault, unknown_fault};
+ghost use Rattle.dispatch_room_tasks.specs.ReplacedTerminals.{AreFree, IsFirstFault, failure_of};
+ghost use Rattle.dispatch_room_tasks.specs.ReplacedTerminals.{is_kept, is_listed, is_second};
+ghost use Rattle.dispatch_room_tasks.specs.ReplacedTerminals.{lack_of, row_fault, unknown_fault};
 
 use dispatch_room_cli::exit_status::Failure;
 use room_place::plans::Plan;

@@ -7,9 +7,12 @@ ghost use Rattle.room_tables_rows.specs.RoomsInTables.{Configuration, Stands};
 ghost use Rattle.room_tables_schema.specs.FileConnections.{HasRoomSchema, MayWrite, IsClean};
 ghost use Rattle.room_tables_schema.specs.Schema.{room_schema};
 ghost use Rattle.room_tables_schema.specs.Outcomes.{CommitsNothing};
-ghost use Rattle.room_store_writes.specs.Transactions.{IsSettled, Leaves, LeavesOnErr, StandsSettled};
+ghost use Rattle.room_store_writes.specs.Transactions.{IsSettled, Leaves, LeavesOnErr};
+ghost use Rattle.room_store_writes.specs.Transactions.{StandsSettled};
 ghost use Rattle.dispatch_room_tasks.specs.OpenedRoom.{HoldsNone};
-ghost use Rattle.dispatch_room_tasks.specs.ReplannedRoom.{ExplainsPlan, HasReplanned, Replans, addition, additions, failure_of, first_lacking};
+ghost use Rattle.dispatch_room_tasks.specs.ReplannedRoom.{ExplainsPlan, HasReplanned, Replans};
+ghost use Rattle.dispatch_room_tasks.specs.ReplannedRoom.{addition, additions, failure_of};
+ghost use Rattle.dispatch_room_tasks.specs.ReplannedRoom.{first_lacking};
 ghost use Rattle.dispatch_room_tasks.specs.declared.replanning_faults.ReplanFault.{ReplanFault as Why};
 
 use crate::cleared_tables::clear_areas;

@@ -1,7 +1,8 @@
 //! What is reported of the rows of a fleet.
 ghost use Rattle.std.specs.Prelude.{◌≡◌, ◌++◌, IfOk, OnOk};
 ghost use Rattle.std.specs.Io.KnownBytes.{Appends};
-ghost use Rattle.dispatch_room_tasks.specs.RowOutcomes.{done_by, fate_text, fates_text, good_rows, is_enrolled, outcomes, row_in};
+ghost use Rattle.dispatch_room_tasks.specs.RowOutcomes.{done_by, fate_text, fates_text, good_rows};
+ghost use Rattle.dispatch_room_tasks.specs.RowOutcomes.{is_enrolled, outcomes, row_in};
 
 use dispatch_room_cli::exit_status::Done;
 use dispatch_room_csv::fleet_file::FleetLine;

@@ -1,6 +1,6 @@
 -- Parts of a room's service, one after another.
-use Rattle.std.proofs.Common.{◌≡◌, ◌⊎◌, ◌+◌, arith, length, refl, ap, inl, inr, sym, subst, [], ◌∷◌, Bool, true, false}
-use Rattle.std.proofs.Common.{Option, None, Some, Result, Ok, Err}
+use Rattle.std.proofs.Common.{◌≡◌, ◌⊎◌, ◌+◌, arith, length, refl, ap, inl, inr, sym, subst, [], ◌∷◌}
+use Rattle.std.proofs.Common.{Bool, true, false, Option, None, Some, Result, Ok, Err}
 use Rattle.std.specs.Prelude.{IfSome, OnErr, is_err, not}
 use Rattle.sqlite_trees.specs.declared.store.Store.{Ghosts}
 use Rattle.dispatch_room_cli.specs.declared.exit_status.Done.{Done}
@@ -11,8 +11,8 @@ use Rattle.dispatch_room_serving.specs.Journals.{EndsAfter}
 use Rattle.dispatch_room_serving.specs.declared.journal_files.OpenedList.{OpenedList}
 use Rattle.dispatch_room_serving.specs.declared.journals.Journal.{Journal}
 use Rattle.dispatch_room_tcp.specs.ServedFiles.{PrintsServing}
-use Rattle.dispatch_room_tcp.specs.ServedParts.{EndsAs, EndsLast, EndsPart, Interval, IsPart, PartsBefore}
-use Rattle.dispatch_room_tcp.specs.ServedParts.{Watch}
+use Rattle.dispatch_room_tcp.specs.ServedParts.{EndsAs, EndsLast, EndsPart, Interval, IsPart}
+use Rattle.dispatch_room_tcp.specs.ServedParts.{PartsBefore, Watch}
 
 -- where there is a list, a part ends as its service does with it
 pub ends_as : {W : Type 0} (ends : W → W → Type 0) (old new : Option (Journal W))

@@ -6,8 +6,8 @@ use Rattle.dispatch_room_cli.specs.declared.exit_status.Failure.{Failure}
 use Rattle.dispatch_room_cli.specs.declared.tasks.Service.{Service}
 use Rattle.dispatch_room_serving.specs.declared.journal_files.OpenedList.{OpenedList}
 use Rattle.dispatch_room_tcp.specs.Hosts.{Paths}
-use Rattle.dispatch_room_tcp.specs.ServedFiles.{FailsBy, FailsServe, IsFirstList, IsServe, IsServedBy}
-use Rattle.dispatch_room_tcp.specs.ServedFiles.{is_endless}
+use Rattle.dispatch_room_tcp.specs.ServedFiles.{FailsBy, FailsServe, IsFirstList, IsServe}
+use Rattle.dispatch_room_tcp.specs.ServedFiles.{IsServedBy, is_endless}
 
 module _ (paths : Paths) (before after : Option (List ℕ)) (result : Result Done Failure) (file : List ℕ)
     (service : Service) (endless : Bool) (list : Option OpenedList) (is : is_endless service ≡ endless)

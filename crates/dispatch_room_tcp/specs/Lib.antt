@@ -1,6 +1,6 @@
 -- what a command finds at its paths
 pub mod Hosts
--- how those are parted from who called where something listens
+-- how the callers of a listener are parted from
 pub mod Listeners
 -- a room that is served in parts
 pub mod ServedParts

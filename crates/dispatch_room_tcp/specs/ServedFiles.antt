@@ -1,6 +1,6 @@
 -- The room of a file, served to those who call.
-use Rattle.std.specs.Prelude.{Bool, Err, IfOk, IfSome, List, None, Ok, Option, Result, Some, false, is_some, true, ℕ}
-use Rattle.std.specs.Prelude.{◌&&◌, ◌*◌, ◌==◌, ◌≡◌, ◌⊎◌}
+use Rattle.std.specs.Prelude.{Bool, Err, IfOk, IfSome, List, None, Ok, Option, Result, Some, false}
+use Rattle.std.specs.Prelude.{is_some, true, ℕ, ◌&&◌, ◌*◌, ◌==◌, ◌≡◌, ◌⊎◌}
 use Rattle.std.specs.Duration.{as_nanos}
 use Rattle.sqlite.specs.Held.{Held}
 use Rattle.sqlite_trees.specs.declared.store.Store.{Ghosts}
@@ -24,7 +24,7 @@ use Rattle.dispatch_room_tcp.specs.declared.tcp_doors.TcpDoor.{TcpDoor}
 abbrev pub is_endless : Service → Bool
 is_endless service = service.connections == 18446744073709551615
 
--- What is served of a room, by its service. A part may end before all calls came where the service
+-- On which terms a service serves its room. A part may end before all calls came if the service
 -- goes on until it is stopped, and keeps a journal.
 abbrev pub terms_of : Service → Terms
 terms_of service = record {
@@ -54,8 +54,8 @@ abbrev pub begins_at : {S L : Type 0} → (L → Option (List (Option Opening)))
     → (L → Option (List (Option (List ℕ)))) → L → Held S → Interval S
 begins_at heard written listener conn = stands_at (heard listener) (written listener) conn
 
--- What the output holds where serving ended so: that a room is served is printed as it begins to
--- listen, and nothing else is. Where serving failed, the same, or nothing, or that could not be
+-- What the output holds once serving ended so: that a room is served, which is printed as it begins
+-- to listen, and nothing else. If serving failed: the same, or nothing, or that could not be
 -- printed.
 abbrev pub PrintsServing : {T : Type 0} → Bool → Option (List ℕ) → Option (List ℕ)
     → Result T Failure → Type 0
@@ -64,9 +64,9 @@ PrintsServing is_listening before after (Err fault) =
     (after ≡ before) ⊎ (PrintsStart is_listening before after
     ⊎ ((is_listening ≡ false) × (fault ≡ Network)))
 
--- The room was served to so many calls, and a journal kept of it or none. What is known of the
--- calls is what they are to what listened for them, before and after (`heard`, `written`), where
--- that is given back. Of each list that was opened for it, this is said.
+-- The room was served on these terms, with a journal or none. What is known of the calls is what
+-- the listener knew of them before, and what it knows after if it is given back (`heard`,
+-- `written`). `is_list` holds of each list that was opened for it.
 pub record IsServed {S L : Type 0} (heard : L → Option (List (Option Opening)))
     (written : L → Option (List (Option (List ℕ)))) (g : Ghosts S) (old new : Held S)
     (watch : Watch) (terms : Terms) (is_list : OpenedList → Type 0) (listener : L)
@@ -92,7 +92,7 @@ abbrev pub OpensNone : {S L : Type 0} → (L → Option (List (Option Opening)))
 OpensNone heard written g conn watch terms is_list listener =
     OpensNoPart g watch terms is_list (begins_at heard written listener conn)
 
--- or that is so, for the first of them, and nothing is printed, or for a later one
+-- the same, and nothing is printed; or a part before it had printed that the room is served
 abbrev pub ServesNone : {L : Type 0} → (L → Option (List (Option Opening)))
     → (L → Option (List (Option (List ℕ)))) → Bool → Watch → Terms → (OpenedList → Type 0) → L
     → Refusing
@@ -100,12 +100,12 @@ ServesNone heard written is_listening watch terms is_list listener = λ S g conn
     OpensNone heard written g conn watch terms is_list listener fault
     × ((after ≡ before) ⊎ PrintsStart is_listening before after)
 
--- whether each message lasts before the room acts on it: where a journal is asked for that is so
+-- whether each message lasts before the room acts on it: if there is a journal that says so
 abbrev pub is_synced_by : Option Journal → Bool
 is_synced_by None = false
 is_synced_by (Some journal) = journal.is_synced
 
--- whether questions are kept in it: where a journal is asked for that is so
+-- whether questions are kept in it: they are, unless there is a journal that leaves them out
 abbrev pub keeps_questions_by : Option Journal → Bool
 keeps_questions_by None = true
 keeps_questions_by (Some journal) = journal.keeps_questions

@@ -1,7 +1,7 @@
 -- A room that is served in parts, one after another: each begins in a new list, at the room that
 -- the one before left in the same database.
-use Rattle.std.specs.Prelude.{◌≡◌, ◌⊎◌, ℕ, List, [], ◌∷◌, Bool, true, false, IfSome, IsOk, Option, None, Result, Ok}
-use Rattle.std.specs.Prelude.{Err, ◌≢◌, ◌&&◌, is_some, length}
+use Rattle.std.specs.Prelude.{◌≡◌, ◌⊎◌, ℕ, List, [], ◌∷◌, Bool, true, false, IfSome, IsOk, Option}
+use Rattle.std.specs.Prelude.{None, Result, Ok, Err, ◌≢◌, ◌&&◌, is_some, length}
 use Rattle.sqlite.specs.Held.{Held}
 use Rattle.sqlite_trees.specs.declared.store.Store.{Ghosts}
 use Rattle.dispatch_room_cli.specs.declared.exit_status.Done.{Done}
@@ -30,7 +30,7 @@ pub record Interval (S : Type 0) : Type 0 where
   pub written : Option (List (Option (List ℕ)))
   pub given : Option (List ℕ)
 
--- A part ends as serving ended; or serving ended well, and the list that there is could not say so.
+-- A part ends as serving ended; or serving ended well, but no end could be put in the list.
 abbrev pub EndsAs : Bool → Result Done Failure → Result Done Failure → Type 0
 EndsAs has_journal served result = (result ≡ served)
     ⊎ (IsOk served × (has_journal ≡ true) × (result ≡ Err failure.Journal))
@@ -55,8 +55,7 @@ puts_end old new = PutsEnd old.1 new.1 None None
 abbrev pub GoesOn : Option OpenedList → PartJournal → Type 0
 GoesOn list journal = IfSome list (λ list. journal.out.1 ≡ list.end)
 
--- a log that is written or not, and a journal or none, are as a part is observed that has this list
--- or none
+-- the log (`logs`) and the journal are as `watch` says, for a part that has this list or none
 pub record AreOf (watch : Watch) (list : Option OpenedList) (logs : Bool)
     (journal : Option PartJournal) : Type 0 where
   pub logged : logs ≡ watch.logs
@@ -66,10 +65,10 @@ pub record AreOf (watch : Watch) (list : Option OpenedList) (logs : Bool)
   pub goes_on : IfSome journal (GoesOn list)
 
 module _ {S : Type 0} (g : Ghosts S) (watch : Watch) (terms : Terms) where
-  -- A part was served, which is a start, with a log and a journal in this list or none, and ended
-  -- so. Once it was served, and then only, an end is put in the journal, unless its list was
-  -- truncated. What the list holds, and what a look finds at its place, no contract can say, but
-  -- that there is a look only where a part may end before all calls came.
+  -- A part was served, which is a start of the room's service, with a log and a journal in this
+  -- list or none, and ended so. If serving ended well, an end is put in the journal then, and not
+  -- before, unless its list was truncated. No contract can say what the list holds, nor what a look
+  -- finds at its place; but there is a look only where a part may end before all calls came.
   pub record IsPart (list : Option OpenedList) (old new : Interval S)
       (result : Result Done Failure) : Type 0 where
     pub logs : Bool

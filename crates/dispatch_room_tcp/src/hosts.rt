@@ -1,28 +1,57 @@
 //! What a command runs on.
-ghost use Rattle.std.specs.Prelude.{◌≡◌, ◌≢◌, ◌⊎◌, false, IfErr, IfOk};
+ghost use Rattle.std.specs.Prelude.{◌≡◌, ◌≢◌, ◌⊎◌, List, None, Option, false, option_map};
+ghost use Rattle.std.specs.Prelude.{IfErr, IfOk, IfSome, OnOk};
+ghost use Rattle.std.specs.Duration.{as_nanos};
 ghost use Rattle.std.specs.IoError.{error_kind};
 ghost use Rattle.dispatch_room_cli.specs.declared.exit_status.Failure.TheVariants as failure;
+ghost use Rattle.dispatch_room_disk.specs.FileSteps.{Does};
+ghost use Rattle.dispatch_room_disk.specs.ReplacingSteps.{Step};
 ghost use Rattle.dispatch_room_tcp.specs.Hosts.{IsDoneAt, IsUndoneAt, Paths, opens, unknown};
 
 use dispatch_room_cli::exit_status::Failure;
 use dispatch_room_cli::failure_causes::Explainer;
+use dispatch_room_disk::restored_files::Replacing;
 use dispatch_room_disk::room_files::{self, RoomFile, RoomTask};
+use dispatch_room_disk::systems::System;
 use dispatch_room_serving::journal_files::{self, OpenedList};
+use dispatch_room_sockets::client;
+use dispatch_room_sockets::socket_readers::SocketReader;
+use dispatch_room_sockets::socket_writers::SocketWriter;
+use room_http_messages::sinks::Sink;
 use room_http_messages::sources::Source;
 use room_http_messages::standard_wires::Wire;
 use std::alloc::Global;
 use std::fs::{self, File};
 use std::io::{self, ErrorKind, Write};
+use std::net::TcpStream;
+use std::random::RandomSource;
+use std::time::Duration;
 
-/// The machine that a command runs on, with its files. Which files are at its paths a command knows
-/// only by these calls: so where the contract of a command names a path, it can't have opened
-/// another file.
+type CallReader<'a> = SocketReader<'a, TcpStream, HostRuntime>;
+
+type CallWriter<'a> = SocketWriter<'a, TcpStream, HostRuntime>;
+
+/// The machine that a command runs on, with its files. What is at its paths and addresses, and
+/// which bytes are random, a command knows only by these calls: so where the contract of a command
+/// names a path or an address, it can't have opened another file or called another room.
 pub trait Machine: Copy {
     /// A list that is read from its beginning.
     type List: Source + Drop;
 
+    /// The calls by which a copy is put in the place of a file.
+    type Calls: Replacing + Drop;
+
+    /// What is read from on a connection.
+    type Reader: Source + Drop;
+
+    /// What is written to on it.
+    type Writer: Sink + Drop;
+
     // What there is at its paths.
     ghost paths: { Self → Paths };
+
+    // What those calls have done as they are given.
+    ghost begun: { Self → Option (List Step) };
 
     /// The system, who explains failures, and memory.
     fn host(&self) -> Host<'_>;
@@ -57,6 +86,28 @@ pub trait Machine: Copy {
         ensures sound { IfOk result (λ list. Self.List.has_failed list ≡ false) }
         ensures fault { IfErr result (λ fault.
             (fault ≡ failure.Memory) ⊎ (fault ≡ failure.Input)) };
+
+    /// Gives the calls by which a copy is put in the place of a file.
+    fn calls(self) -> Self::Calls
+        ensures { Self.Calls.done result ≡ begun self };
+
+    /// Takes those calls back: what they did since they were given is done.
+    fn release(self, calls: Self::Calls)
+        ensures { (steps : List Step) → Does steps (begun self) (Self.Calls.done calls)
+            → (paths self).replaced steps };
+
+    /// Fills a buffer with random bytes. Explains why where there are none.
+    fn fill_random(self, bytes: &mut [u8]) -> Result<(), Failure>
+        ensures random { OnOk result ((paths self).random bytes.new) }
+        ensures fault { IfErr result (λ fault. fault ≡ failure.Storage) };
+
+    /// The two sides of a connection to an address, on which all that is said ends within a time.
+    /// None, with an explanation, where it is not made within that.
+    fn call(self, address: &str, patience: Duration) -> Option<(Self::Reader, Self::Writer)>
+        ensures called { (paths self).called address.now (as_nanos patience)
+            (option_map (λ sides. Self.Reader.left sides.0) result) }
+        ensures reader { IfSome result (λ sides. Self.Reader.has_failed sides.0 ≡ false) }
+        ensures writer { IfSome result (λ sides. Self.Writer.has_failed sides.1 ≡ false) };
 }
 
 /// What a command runs on: the system, who explains failures on its standard error, and memory.
@@ -70,7 +121,15 @@ pub struct Host<'a> {
 impl<'a> Machine for Host<'a> {
     type List = Wire<File>;
 
+    type Calls = System<'a>;
+
+    type Reader = CallReader<'a>;
+
+    type Writer = CallWriter<'a>;
+
     ghost paths = { λ _. unknown };
+
+    ghost begun = { λ _. None };
 
     fn host(&self) -> Host<'_> {
         *self
@@ -101,6 +160,34 @@ impl<'a> Machine for Host<'a> {
             Ok(file) => Ok(Wire::new(file)),
             Err(error) => Err(self.unread(path, &error)),
         }
+    }
+
+    fn calls(self) -> System<'a> {
+        System {
+            rt: self.rt,
+            explainer: self.explainer,
+        }
+    }
+
+    fn release(self, _calls: System<'a>) {}
+
+    fn fill_random(self, bytes: &mut [u8]) -> Result<(), Failure> {
+        if let Err(error) = self.rt.fill_bytes(bytes) {
+            self.explainer
+                .explain(format_args!("no random bytes: {error}"));
+            return Err(Failure::Storage);
+        }
+        Ok(())
+    }
+
+    // Beside what each machine ensures: how long both sides wait.
+    fn call(self, address: &str, patience: Duration) -> Option<(CallReader<'a>, CallWriter<'a>)>
+        ensures reader { IfSome result (λ sides. sides.0.failed ≡ false) }
+        ensures writer { IfSome result (λ sides. sides.1.failed ≡ false) }
+        ensures patient { IfSome result (λ sides. (sides.0.idle ≡ patience)
+            × (sides.1.patience ≡ patience)) }
+    {
+        client::call(self.rt, self.explainer, address, patience)
     }
 }
 

@@ -1,5 +1,6 @@
 //! What listens at an address: it gives the connections of those who call, and lets their peers go.
-ghost use Rattle.std.specs.Prelude.{◌≡◌, ℕ, List, [], ◌∷◌, Bool, None, Option, IfErr, IfSome, OnErr, OnOk, false, is_some, option_map, true};
+ghost use Rattle.std.specs.Prelude.{◌≡◌, ℕ, List, [], ◌∷◌, Bool, None, Option, IfErr, IfSome};
+ghost use Rattle.std.specs.Prelude.{OnErr, OnOk, false, is_some, option_map, true};
 ghost use Rattle.dispatch_room_cli.specs.declared.exit_status.Failure.TheVariants.{Network};
 ghost use Rattle.room_http_messages.specs.Streams.{Grows};
 ghost use Rattle.dispatch_room_serving.specs.Callers.{Opening};
@@ -20,8 +21,8 @@ use std::net::{SocketAddr, TcpListener, TcpStream};
 use std::thread;
 use std::time::Duration;
 
-/// What listens: it gives the two sides of each connection, makes its peer of them once it was
-/// served, and lets that go.
+/// What listens for connections: it gives the two sides of each, makes its peer of them once it was
+/// served, and releases the peer once the room parted from it.
 pub trait Listener: Drop {
     /// What is read from.
     type Reader: Source;
@@ -29,7 +30,7 @@ pub trait Listener: Drop {
     /// What is written to.
     type Writer: Sink;
 
-    /// Who is parted from.
+    /// The peer of a connection, from which the room parts.
     type Peer: Parting;
 
     // The calls that came so far, where they are known: what each began with, or none where no
@@ -60,7 +61,7 @@ pub trait Listener: Drop {
     fn is_listening(&self) -> bool
         ensures { result ≡ is_listening self.now };
 
-    /// The sides of the next connection: none where it failed.
+    /// The sides of the next connection: `None` if it failed.
     fn accept(&mut self) -> Option<(Self::Reader, Self::Writer)>
         ensures heard { Grows (heard self.old) (heard self.new) (option_map (λ sides. record {
           left = Self.Reader.left sides.0;
@@ -71,7 +72,7 @@ pub trait Listener: Drop {
         ensures reader { IfSome result (λ sides. Self.Reader.has_failed sides.0 ≡ false) }
         ensures writer { IfSome result (λ sides. Self.Writer.has_failed sides.1 ≡ false) };
 
-    /// Takes the sides of a connection back that was served, as its peer.
+    /// Takes back the sides of a connection that was served, as its peer.
     fn peer(&mut self, reader: Self::Reader, writer: Self::Writer) -> Self::Peer
         ensures heard { heard self.new ≡ heard self.old }
         ensures written { Grows (written self.old) (written self.new)
@@ -80,7 +81,7 @@ pub trait Listener: Drop {
         ensures listens { is_listening self.new ≡ is_listening self.old }
         ensures peer { result ≡ peer_of reader writer };
 
-    /// Lets a peer go that was parted from.
+    /// Releases a peer from which the room parted.
     fn release(&mut self, peer: Self::Peer)
         ensures heard { heard self.new ≡ heard self.old }
         ensures written { written self.new ≡ written self.old }
@@ -100,7 +101,7 @@ pub struct TcpAddress<'a> {
 
 impl<'a> TcpAddress<'a> {
     /// An address at which nobody listens yet, and how long its connections are waited for. It
-    /// explains why where nobody can listen there.
+    /// explains why if it can't be listened at.
     pub fn new(
         rt: &'a HostRuntime,
         explainer: Explainer<'a>,
@@ -120,7 +121,7 @@ impl<'a> TcpAddress<'a> {
     }
 }
 
-// What is said on a socket no contract can say.
+// No contract can say what is said on a socket.
 impl<'a> Listener for TcpAddress<'a> {
     type Reader = SocketReader<'a, TcpStream, HostRuntime>;
 
@@ -152,7 +153,7 @@ impl<'a> Listener for TcpAddress<'a> {
         self.listener.is_some()
     }
 
-    // Beside what all that listens ensures: the sides have the waits of the address.
+    // Beside what every listener ensures: the sides have the waits of the address.
     fn accept(&mut self) -> Option<(Self::Reader, Self::Writer)>
         ensures listens { is_some self.new.listener ≡ is_some self.old.listener }
         ensures reader { IfSome result (λ sides. sides.0.failed ≡ false) }
@@ -179,7 +180,7 @@ impl<'a> Listener for TcpAddress<'a> {
     }
 }
 
-/// What listens at an address of TCP. It fails only as `Network`, which is explained.
+/// Begins to listen at an address of TCP. It fails only as `Network`, and explains why.
 pub(crate) fn bound(
     rt: &HostRuntime,
     explainer: Explainer<'_>,
@@ -196,7 +197,7 @@ pub(crate) fn bound(
     }
 }
 
-// Waits after a connection that failed, but where it was the peer's doing.
+// Pauses after a connection that failed, unless its peer aborted it.
 fn pause_after(rt: &HostRuntime, error: &Error) {
     if error.kind() != ErrorKind::ConnectionAborted {
         thread::sleep(rt, Duration::from_millis(PAUSE));

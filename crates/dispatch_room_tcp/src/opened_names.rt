@@ -1,6 +1,6 @@
 //! The names at which the files of a served room were opened, and whether the files still lie
-//! there. The room is served from the files that were opened, wherever these went; but a start
-//! would find what lies at the names then.
+//! there. The room is served from the files that were opened, wherever these were moved; but the
+//! next start would open what lies at the names then.
 ghost use Rattle.std.specs.Prelude.{◌≡◌, ◌+◌, ◌&&◌, min, nat_lt, not, if◌then◌else◌};
 ghost use Rattle.std.specs.Duration.{as_nanos, max_nanos};
 
@@ -10,7 +10,7 @@ use std::fs;
 use std::os::unix::fs::MetadataExt;
 use std::time::{Clock, Duration};
 
-// How many milliseconds pass at least between two looks. A look asks the system twice: one after
+// How many milliseconds pass at least between two looks. A look asks the system twice: a look after
 // each answer would add a tenth to the answer's cost.
 const BETWEEN_LOOKS: u64 = 1000;
 
@@ -44,8 +44,8 @@ impl OpenedNames {
         }
     }
 
-    /// Looks at both, where the last look is a second old, by a question to the system for each. Of
-    /// a file that lies there no more it is explained once what became of it.
+    /// Looks at both, by a question to the system for each, if the last look is at least a second
+    /// old. If a file is not there any more, that is explained once.
     pub fn look(&mut self, rt: &HostRuntime, explainer: Explainer<'_>) {
         let Ok(now) = rt.monotonic() else {
             return;
@@ -61,7 +61,7 @@ impl OpenedNames {
         }
     }
 
-    // Whether both are looked at now, and then they rest for a second.
+    // Whether a look is due now. If it is, the next one is due in a second.
     fn is_due(&mut self, now: Duration) -> bool
         ensures due { result ≡ not (nat_lt (as_nanos now) (as_nanos self.old.rests_until)) }
         ensures rests { as_nanos self.new.rests_until ≡ if result
@@ -114,8 +114,8 @@ impl OpenedName {
         }
     }
 
-    // Notes whether the file lies there, and returns whether that is to be explained: only when it
-    // does not for the first time.
+    // Notes whether the file lies there, and returns whether to explain: only if it does not and
+    // did at the look before.
     fn note(&mut self, is_there: bool) -> bool
         ensures once { result ≡ (not is_there && not self.old.is_missed) }
         ensures missed { self.new.is_missed ≡ not is_there }

@@ -1,17 +1,22 @@
-//! `serve`: a room is served over TCP, to so many connections one after another, or to all who
-//! call, until it is stopped. Then it may be served in parts, each with a list of its own.
-ghost use Rattle.std.specs.Prelude.{◌≡◌, ◌≢◌, ◌⊎◌, ◌*◌, Option, None, false, true, is_some, IfErr, IfOk, IfSome, OnErr};
+//! `serve`: a room is served over TCP, either to a number of connections, one after another, or to
+//! all who call, until it is stopped. In the second case it may be served in parts, each with a
+//! list of its own.
+ghost use Rattle.std.specs.Prelude.{◌≡◌, ◌≢◌, ◌⊎◌, ◌*◌, Option, None, false, true, is_some, IfErr};
+ghost use Rattle.std.specs.Prelude.{IfOk, IfSome, OnErr};
 ghost use Rattle.std.specs.Duration.{as_nanos};
 ghost use Rattle.dispatch_room_cli.specs.declared.exit_status.Failure.TheVariants as failure;
 ghost use Rattle.dispatch_room_tasks.specs.OpenedRoom.{IsUnopened};
 ghost use Rattle.dispatch_room_serving.specs.Callers.{MayCall, Prints, PrintsStart};
 ghost use Rattle.dispatch_room_serving.specs.Journals.{EndsAfter, failed_by};
 ghost use Rattle.dispatch_room_serving.specs.declared.list_places.Finding.TheVariants.{Truncated};
-ghost use Rattle.dispatch_room_tcp.specs.ServedFiles.{FailsAt, FailsBy, FailsServe, IsAddressOf, IsDoorOf, IsFirstList, IsListOf, IsServe};
-ghost use Rattle.dispatch_room_tcp.specs.ServedFiles.{IsOpenedFor, IsServed, IsServedAt, IsServedBy};
-ghost use Rattle.dispatch_room_tcp.specs.ServedFiles.{OpensNone, PrintsServing};
-ghost use Rattle.dispatch_room_tcp.specs.ServedFiles.{Serves, ServesNone, ended, is_endless, is_synced_by, keeps_questions_by, terms_of, watch_of};
-ghost use Rattle.dispatch_room_tcp.specs.ServedParts.{EndsAs, GoesOn, IsPart, OpensNoPart, ServesParts};
+ghost use Rattle.dispatch_room_tcp.specs.ServedFiles.{FailsAt, FailsBy, FailsServe, IsAddressOf};
+ghost use Rattle.dispatch_room_tcp.specs.ServedFiles.{IsDoorOf, IsFirstList, IsListOf, IsServe};
+ghost use Rattle.dispatch_room_tcp.specs.ServedFiles.{IsOpenedFor, IsServed, IsServedAt};
+ghost use Rattle.dispatch_room_tcp.specs.ServedFiles.{IsServedBy, OpensNone, PrintsServing, Serves};
+ghost use Rattle.dispatch_room_tcp.specs.ServedFiles.{ServesNone, ended, is_endless, is_synced_by};
+ghost use Rattle.dispatch_room_tcp.specs.ServedFiles.{keeps_questions_by, terms_of, watch_of};
+ghost use Rattle.dispatch_room_tcp.specs.ServedParts.{EndsAs, GoesOn, IsPart, OpensNoPart};
+ghost use Rattle.dispatch_room_tcp.specs.ServedParts.{ServesParts};
 
 use crate::hosts::{Host, Machine};
 use crate::listeners::{Listener, TcpAddress};
@@ -36,11 +41,11 @@ use std::alloc::Global;
 use std::io::Write;
 use std::time::{self, Duration};
 
-/// Serves the room of a file, with a log and a journal of it where they are wanted: to so many
-/// connections, one after another, each to its end; or where it goes on until it is stopped, in
-/// pieces, so that nobody waits for a silent caller. A connection that ends badly ends it only for
-/// lack of memory, where the journal can't be kept, and where the room's file failed so that it has
-/// to be opened again.
+/// Serves the room of a file, with a log and a journal if they are asked for: to a number of
+/// connections, one after another, each to its end; or, if it goes on until it is stopped, in
+/// pieces, so that nobody waits for a silent caller. A connection that ends badly ends the service
+/// only if memory is refused, if the journal can't be kept, or if the room's file failed so that it
+/// has to be opened again.
 pub fn serve_file<M: Machine, O: Write, E: Write>(
     machine: M,
     file: &str,
@@ -74,8 +79,8 @@ struct ServiceRun<'a, M> {
     service: &'a Service<'a>,
 }
 
-// Whether a service goes on until it is stopped: without `--connections` there are 2^64 - 1. Else a
-// connection counts as soon as it is asked for, whatever becomes of it.
+// Whether a service goes on until it is stopped: 2^64 - 1 connections mean that, and are the
+// default. Otherwise a connection counts as soon as it is waited for, whatever becomes of it.
 fn is_endless(service: &Service<'_>) -> bool
     ensures { result ≡ is_endless service.now }
 {
@@ -137,7 +142,7 @@ fn address_of<'a, M>(run: &ServiceRun<'a, M>) -> TcpAddress<'a>
     )
 }
 
-// Serves the room of a file to those who call where something listens.
+// Serves the room of a file to the callers of a listener.
 fn serve_at<M: Machine, L: Listener, O: Write, E: Write>(
     file: &str,
     run: &ServiceRun<'_, M>,
@@ -167,7 +172,7 @@ fn serve_at<M: Machine, L: Listener, O: Write, E: Write>(
     }
 }
 
-// The file of a journal, where one is wanted.
+// Opens the list of a journal, if a journal is asked for.
 fn journal_file<M: Machine, E: Write>(
     machine: M,
     service: &Service<'_>,
@@ -183,14 +188,14 @@ fn journal_file<M: Machine, E: Write>(
     }
 }
 
-/// A room that was served, and what listened for those who called.
+/// How serving a room ended, and its listener.
 #[derive(Drop)]
 pub struct Served<L> {
     done: Done,
     listener: L,
 }
 
-// The room is served to those who call where something listens.
+// The room is served to the callers of a listener.
 #[derive(Drop)]
 struct Serving<'a, M, L, E> {
     run: &'a ServiceRun<'a, M>,
@@ -230,7 +235,7 @@ impl<'a, M: Machine, L: Listener, E: Write> RoomTask for Serving<'a, M, L, E> {
     }
 }
 
-// Serves the room of a database to those who call where something listens, which is given back.
+// Serves the room of a database to the callers of a listener, which is given back.
 fn serve_listened<M: Machine, S: Alter + Drop, L: Listener, O: Write, E: Write>(
     conn: Connection<S>,
     run: &ServiceRun<'_, M>,
@@ -259,7 +264,7 @@ fn serve_listened<M: Machine, S: Alter + Drop, L: Listener, O: Write, E: Write>(
     Ok((given_back(done, listener), conn))
 }
 
-// How serving ended, with what listened for it.
+// How serving ended, with its listener.
 fn given_back<L: Drop>(done: Result<Done, Failure>, listener: L) -> Result<Served<L>, Failure>
     ensures done { ended result ≡ done }
     ensures listener { IfOk result (λ served. served.listener ≡ listener) }
@@ -270,8 +275,8 @@ fn given_back<L: Drop>(done: Result<Done, Failure>, listener: L) -> Result<Serve
     }
 }
 
-// Serves the room of a database to those who call, in parts where the service says so: as often as
-// one ends well, the next begins in a new list.
+// Serves the room of a database to its callers, in parts if the service allows that: whenever one
+// ends well, the next begins with a new list.
 fn serve_parts<M: Machine, S: Alter + Drop, P: Callers, C: Clock, E: Write>(
     conn: Connection<S>,
     run: &ServiceRun<'_, M>,
@@ -333,7 +338,7 @@ fn serve_parts<M: Machine, S: Alter + Drop, P: Callers, C: Clock, E: Write>(
     Ok((done, conn))
 }
 
-// Lets the list of a part go, and opens that of the next, where there was one.
+// Closes the list of a part, if it has one, and opens that of the next.
 fn next_list<M: Machine, E: Write>(
     run: &ServiceRun<'_, M>,
     list: Option<OpenedList>,
@@ -354,9 +359,9 @@ fn next_list<M: Machine, E: Write>(
     }
 }
 
-// Serves the room of a database to those who call, so many as the service says, or until its list
-// is moved or truncated, and keeps a journal where there is a list for it. Where that ended well,
-// the list says so; where it can't, the part ends as a failure of the journal.
+// Serves the room of a database to as many callers as the service says, or until its list is moved
+// or truncated, and keeps a journal if there is a list for it. If that ended well, an end is put in
+// the list, unless it was truncated; where that fails, the part fails as `Journal`.
 fn serve_part<M: Machine, S: Alter + Drop, P: Callers, C: Clock, E: Write>(
     conn: Connection<S>,
     run: &ServiceRun<'_, M>,
@@ -420,8 +425,8 @@ fn serve_part<M: Machine, S: Alter + Drop, P: Callers, C: Clock, E: Write>(
     Ok((done, conn))
 }
 
-// How a part ends that was served: where that went well, its list says so, if there is one that has
-// lost nothing.
+// How a part ends that was served: if that went well, an end is put in its list, if there is one
+// that was not truncated.
 #[tactic(auto, using(crate::proofs::PartLemmas::ends_as))]
 fn end_part<E: Write, T: time::Clock, W: Keeper>(
     list: &Option<OpenedList>,
@@ -444,7 +449,7 @@ fn end_part<E: Write, T: time::Clock, W: Keeper>(
     }
 }
 
-// The place of the list of a service that may be served in parts, where the system says which file
+// The place of the list of a service that may be served in parts, if the system says which file
 // stands there.
 fn place_of<'a, M>(
     run: &ServiceRun<'a, M>,
@@ -461,8 +466,8 @@ fn place_of<'a, M>(
     }
 }
 
-// Reports why a new part begins, where one does. What is left of a list that was truncated is set
-// aside: what was put behind it since goes on from records that are lost.
+// Reports why a new part begins, if one does. What is left of a truncated list is set aside, since
+// what was appended to it afterwards follows records that are lost.
 fn leave<E: Write>(alloc: Global, place: Option<ListPlace<'_>>, left: Finding, err: &mut E) {
     let Some(place) = place else {
         return;
@@ -477,7 +482,7 @@ fn leave<E: Write>(alloc: Global, place: Option<ListPlace<'_>>, left: Finding, e
     };
 }
 
-// What is served of a room.
+// The terms on which a service serves its room.
 fn terms_of(service: &Service<'_>) -> Terms
     ensures { result ≡ terms_of service.now }
 {
@@ -515,7 +520,7 @@ fn journal_of<'a>(
     }
 }
 
-// How long a connection of a service is waited for.
+// How long a service waits for a connection.
 fn waits_of(service: &Service<'_>) -> Waits
     ensures idle { as_nanos result.idle ≡ service.now.idle * 1_000_000 }
     ensures patience { as_nanos result.patience ≡ service.now.patience * 1_000_000_000 }

@@ -1,6 +1,7 @@
-//! Those who call where something listens.
+//! The callers of a listener.
 ghost use Rattle.std.specs.Io.KnownBytes.{Appends};
-ghost use Rattle.std.specs.Prelude.{◌≡◌, ◌⊎◌, ◌∷◌, [], IfErr, IfSome, IsOk, MatchBool, OnErr, OnOk, codes, false, option_map, true};
+ghost use Rattle.std.specs.Prelude.{◌≡◌, ◌⊎◌, ◌∷◌, [], IfErr, IfSome, IsOk, MatchBool, OnErr, OnOk};
+ghost use Rattle.std.specs.Prelude.{codes, false, option_map, true};
 ghost use Rattle.dispatch_room_cli.specs.declared.exit_status.Failure.TheVariants.{Network};
 ghost use Rattle.room_http_messages.specs.Streams.{Grows};
 ghost use Rattle.dispatch_room_serving.specs.Callers.{Prints, printing};
@@ -12,7 +13,7 @@ use dispatch_room_serving::callers::Callers;
 use dispatch_room_sockets::lingering_close::part;
 use std::io::Write;
 
-/// Those who call where something listens. That they may call is printed, and each connection is
+/// The callers of a listener. Once they may call, `serving` is printed, and each connection is
 /// closed so that its last answer arrives.
 #[derive(Drop)]
 pub struct TcpCallers<'a, L, O> {
@@ -21,7 +22,7 @@ pub struct TcpCallers<'a, L, O> {
 }
 
 impl<'a, L: Listener, O: Write> TcpCallers<'a, L, O> {
-    /// Those who call where this listens.
+    /// The callers of this listener.
     pub fn new(listener: L, out: &'a mut O) -> TcpCallers<'a, L, O>
         ensures listener { result.listener ≡ listener }
         ensures out { result.out.now ≡ out.old }
@@ -30,7 +31,7 @@ impl<'a, L: Listener, O: Write> TcpCallers<'a, L, O> {
         TcpCallers { listener, out }
     }
 
-    /// What listened for them.
+    /// Their listener.
     pub fn into_listener(self) -> L
         ensures listener { result ≡ self.entry.listener }
         ensures out { self.exit.1.0.now ≡ self.entry.out.now }
@@ -51,8 +52,8 @@ impl<'a, L: Listener, O: Write> Callers for TcpCallers<'a, L, O> {
     ghost prints = { λ callers. printing (L.is_listening callers.listener)
         (O.contents callers.out.now) callers.out.ghost_name };
 
-    // Beside what all callers ensure: something listens for them, and where nothing did, that is
-    // reported.
+    // Beside what all callers ensure: the listener listens, and if it did not before, `serving` is
+    // printed.
     fn begin(&mut self) -> Result<(), Failure>
         ensures heard { L.heard self.new.listener ≡ L.heard self.old.listener }
         ensures written { L.written self.new.listener ≡ L.written self.old.listener }
@@ -122,7 +123,7 @@ impl<'a, L: Listener, O: Write> Callers for TcpCallers<'a, L, O> {
     }
 }
 
-// Prints that a room is served.
+// Prints that a room is served, and flushes the output.
 fn print_serving<O: Write>(out: &mut O) -> Result<(), Failure>
     ensures said { OnOk result (Appends (O.contents out.old) (O.contents out.new)
         (codes "serving\n")) }

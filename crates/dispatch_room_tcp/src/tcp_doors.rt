@@ -1,6 +1,7 @@
 //! A door at which nobody waits for a silent caller: each connection is served in pieces, and
-//! between two of them it waits among the others.
-ghost use Rattle.std.specs.Prelude.{◌≡◌, if◌then◌else◌, IfErr, IfOk, IfSome, None, OnErr, OnOk, false, is_some, option_map, true};
+//! between two pieces it waits among the others.
+ghost use Rattle.std.specs.Prelude.{◌≡◌, if◌then◌else◌, IfErr, IfOk, IfSome, None, OnErr, OnOk};
+ghost use Rattle.std.specs.Prelude.{false, is_some, option_map, true};
 ghost use Rattle.dispatch_room_cli.specs.declared.exit_status.Failure.TheVariants.{Network};
 ghost use Rattle.dispatch_room_sockets.specs.PieceTurns.{GivesPiece, TakesBack};
 
@@ -31,8 +32,9 @@ pub struct TcpDoor<'a> {
 }
 
 impl<'a> TcpDoor<'a> {
-    /// A door at which nobody waits yet, for the room of a file. It explains why where nobody can
-    /// listen there, and that the file lies no more at its name where it does not.
+    /// A door at which nobody waits yet, for the room of a file. A connection may be silent for
+    /// `keep`, and a request and its answer may each take `patience`. It explains why if it can't
+    /// be listened at, and later, if the file is no longer at its name.
     pub fn new(
         host: Host<'a>,
         file: &'a str,
@@ -55,7 +57,7 @@ impl<'a> TcpDoor<'a> {
         }
     }
 
-    // Those who wait where this listens. It fails only as `Network`.
+    // Those who wait at a listener: nobody yet. It fails only as `Network`.
     fn opened(&self, listener: TcpListener) -> Result<Waiting<Door<'a>>, Failure>
         ensures times { IfOk result (λ waiting. (waiting.keep ≡ self.now.keep)
             × (waiting.patience ≡ self.now.patience)) }
@@ -84,7 +86,7 @@ pub struct PiecePeer<'a> {
     writer: PieceWriter<'a>,
 }
 
-// What was done with a socket no contract can say.
+// No contract can say what was done with a socket.
 impl<'a> Parting for PiecePeer<'a> {
     ghost left = { λ _. None };
 
@@ -111,7 +113,7 @@ impl<'a> Parting for PiecePeer<'a> {
     }
 }
 
-// What is said on a socket no contract can say.
+// No contract can say what is said on a socket.
 impl<'a> Listener for TcpDoor<'a> {
     type Reader = PieceReader<'a>;
 
@@ -129,7 +131,7 @@ impl<'a> Listener for TcpDoor<'a> {
 
     ghost peer_of = { λ reader writer. record { reader = reader; writer = writer } };
 
-    // Beside what all that listens ensures: who waits at the door has its times.
+    // Beside what every listener ensures: those who wait at the door have its times.
     fn listen(&mut self) -> Result<(), Failure>
         ensures listens { OnOk result (is_some self.new.waiting ≡ true) }
         ensures times { OnOk result (IfSome self.new.waiting (λ waiting.
@@ -154,8 +156,8 @@ impl<'a> Listener for TcpDoor<'a> {
         self.waiting.is_some()
     }
 
-    // Beside what all that listens ensures: an answer has the patience of the door and goes to whom
-    // the request came from, and nobody who waits or is to be served is lost.
+    // Beside what every listener ensures: an answer has the patience of the door and goes to the
+    // sender of the request, and nobody who waits or is to be served is lost.
     fn accept(&mut self) -> Option<(Self::Reader, Self::Writer)>
         ensures listens { is_some self.new.waiting ≡ is_some self.old.waiting }
         ensures reader { IfSome result (λ sides. sides.0.failed ≡ false) }
@@ -177,8 +179,8 @@ impl<'a> Listener for TcpDoor<'a> {
         PiecePeer { reader, writer }
     }
 
-    // Beside what all that listens ensures: who was served waits again or is parted from, and all
-    // others stay.
+    // Beside what every listener ensures: the caller that was served waits again or is parted from,
+    // and all others stay.
     fn release(&mut self, peer: Self::Peer)
         ensures listens { is_some self.new.waiting ≡ is_some self.old.waiting }
         ensures taken { IfSome self.old.waiting (λ old. IfSome self.new.waiting (λ new.

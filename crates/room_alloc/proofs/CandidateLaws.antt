@@ -1,6 +1,7 @@
 -- The points that are short, and what may be proposed by them.
-use Rattle.std.proofs.Common.{add-one, drop, drop-cons, get_or, length, suc, ◌+◌, ◌<◌, List, Option, Some, None, [], ap}
-use Rattle.std.proofs.Common.{append_assoc, refl, subst, sym, ℕ, ◌++◌, ◌∙◌, ◌∷◌, ◌≡◌, Bool, true, false, cond}
+use Rattle.std.proofs.Common.{add-one, drop, drop-cons, get_or, length, suc, ◌+◌, ◌<◌, List, Option}
+use Rattle.std.proofs.Common.{Some, None, [], ap, append_assoc, refl, subst, sym, ℕ, ◌++◌, ◌∙◌, ◌∷◌}
+use Rattle.std.proofs.Common.{◌≡◌, Bool, true, false, cond}
 use Rattle.std.specs.Cmp.{IsTotalOrder}
 use Rattle.std.specs.Ordering.{ordering_reverse}
 use Rattle.std.specs.Prelude.{IfSome, map, filter, is_some, ◌&&◌}
@@ -23,7 +24,8 @@ use Rattle.room_model.specs.Proposals.{candidates, proposal_of}
 use Rattle.room_model.specs.Queries.{holders, is_eligible, point_of}
 use Rattle.room_model.specs.Room.{Room}
 use Rattle.room_model.specs.RoomSlices.{unplanned}
-use Rattle.room_alloc.specs.Candidates.{AreShort, candidates_by, is_candidate, is_point_short, proposal_by}
+use Rattle.room_alloc.specs.Candidates.{AreShort, candidates_by, is_candidate, is_point_short}
+use Rattle.room_alloc.specs.Candidates.{proposal_by}
 
 module _ {R K : Type 0} (cmp : K → K → Ordering) (key : R → K) (total : IsTotalOrder cmp) where
   below_one : (k : K) (xs : List R) (x : R) (ys : List R) → IsBelowAll cmp key k (xs ++ x ∷ ys)

@@ -2,8 +2,9 @@
 use Rattle.std.proofs.Common.{◌≡◌, ◌-◌, ℕ, true, false, refl, arith, ◌==◌, Err, IfOk, Ok, Result}
 use Rattle.std.specs.Prelude.{nat_le}
 use Rattle.room_types.specs.Codes.{is_busy, is_free}
-use Rattle.room_types.specs.declared.codes.Status.TheVariants.{AtHospital, AtScene, Available, Leaving, Mobilised}
-use Rattle.room_types.specs.declared.codes.Status.TheVariants.{OffDuty, Offered, Returning}
+use Rattle.room_types.specs.declared.codes.Status.TheVariants.{AtHospital, AtScene, Available}
+use Rattle.room_types.specs.declared.codes.Status.TheVariants.{Leaving, Mobilised, OffDuty, Offered}
+use Rattle.room_types.specs.declared.codes.Status.TheVariants.{Returning}
 use Rattle.room_types.specs.declared.codes.Status.{Status}
 
 pub free_idle : (s : Status) → is_free s ≡ true → is_busy s ≡ false

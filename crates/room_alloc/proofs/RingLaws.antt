@@ -1,8 +1,9 @@
 -- Candidates in the order of their rings, and what a search over them finds.
-use Rattle.std.proofs.Common.{add-one, ap, arith, get_or, inl, inr, length, refl, subst, suc, sym, take, zero, ℕ, ◌+◌}
-use Rattle.std.proofs.Common.{◌<◌, ◌∙◌, ◌∷◌, ◌≡◌, ◌≤◌, ◌⊎◌, List, [], map}
-use Rattle.std.proofs.lemmas.List.Elements.{All-cons, All-contains, All-weaker, Contains-append_left}
-use Rattle.std.proofs.lemmas.List.Elements.{Contains-append_right, Contains-push}
+use Rattle.std.proofs.Common.{add-one, ap, arith, get_or, inl, inr, length, refl, subst, suc, sym}
+use Rattle.std.proofs.Common.{take, zero, ℕ, ◌+◌, ◌<◌, ◌∙◌, ◌∷◌, ◌≡◌, ◌≤◌, ◌⊎◌, List, [], map}
+use Rattle.std.proofs.lemmas.List.Elements.{All-cons, All-contains, All-weaker}
+use Rattle.std.proofs.lemmas.List.Elements.{Contains-append_left, Contains-append_right}
+use Rattle.std.proofs.lemmas.List.Elements.{Contains-push}
 use Rattle.std.proofs.lemmas.List.Sorted.{Contains-permutation, IsPermutation-sym}
 use Rattle.std.specs.List.{All, Contains}
 use Rattle.std.specs.List.Sorted.{IsNonDecreasingBy, IsPermutation}

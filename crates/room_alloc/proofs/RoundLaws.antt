@@ -1,6 +1,7 @@
 -- The candidates round an incident, and those of both marks together.
-use Rattle.std.proofs.Common.{ap, arith, inl, inr, refl, subst, sym, ℕ, ◌+◌, ◌++◌, ◌-◌, ◌∙◌, ◌∷◌, ◌≡◌, ◌⊎◌, Bool, List}
-use Rattle.std.proofs.Common.{None, [], cond, false, length, length-append, map, suc, true}
+use Rattle.std.proofs.Common.{ap, arith, inl, inr, refl, subst, sym, ℕ, ◌+◌, ◌++◌, ◌-◌, ◌∙◌, ◌∷◌}
+use Rattle.std.proofs.Common.{◌≡◌, ◌⊎◌, Bool, List, None, [], cond, false, length, length-append}
+use Rattle.std.proofs.Common.{map, suc, true}
 use Rattle.std.proofs.lemmas.Cmp.{nat_cmp_total, on_total, then_total}
 use Rattle.std.specs.Cmp.{IsTotalOrder, bool_cmp_total}
 use Rattle.std.specs.Ordering.{bool_cmp, is_lt, nat_cmp, ordering_reverse, ordering_then}
@@ -29,12 +30,12 @@ use Rattle.room_model.specs.Queries.{is_eligible}
 use Rattle.room_model.specs.Room.{IsInOrder}
 use Rattle.room_model.specs.RoomSlices.{unplanned}
 use Rattle.room_alloc.specs.Candidates.{AreShort, is_candidate, proposal_by}
-use Rattle.room_alloc.specs.Rings.{AreApart, AreOfKind, ArePlaced, IsPlaced, candidate_of, candidates_round}
-use Rattle.room_alloc.specs.Rings.{is_breaking}
-use Rattle.room_alloc.specs.Rings.{proposal_at}
+use Rattle.room_alloc.specs.Rings.{AreApart, AreOfKind, ArePlaced, IsPlaced, candidate_of}
+use Rattle.room_alloc.specs.Rings.{candidates_round, is_breaking, proposal_at}
 use Rattle.room_alloc.specs.declared.nearness.Candidate.{Candidate}
 use Rattle.room_alloc.proofs.CandidateLaws.{candidates_so}
-use Rattle.room_alloc.proofs.FirstLaws.{among_either, among_left, among_right, first_then, same_first}
+use Rattle.room_alloc.proofs.FirstLaws.{among_either, among_left, among_right, first_then}
+use Rattle.room_alloc.proofs.FirstLaws.{same_first}
 
 -- ---- what holds of all candidates
 pub placed_more : (i : Incident) (xs : List Candidate) (x : Candidate) → ArePlaced i xs

@@ -1,6 +1,7 @@
 -- A search by rings finds the first few.
-use Rattle.std.proofs.Common.{ap, arith, inl, inr, refl, subst, sym, suc, take, zero, ℕ, ◌<◌, ◌∙◌, ◌∷◌, ◌≡◌, ◌≤◌, ◌⊎◌}
-use Rattle.std.proofs.Common.{Bool, List, None, Some, [], drop, false, length, map, min, true}
+use Rattle.std.proofs.Common.{ap, arith, inl, inr, refl, subst, sym, suc, take, zero, ℕ, ◌<◌, ◌∙◌}
+use Rattle.std.proofs.Common.{◌∷◌, ◌≡◌, ◌≤◌, ◌⊎◌, Bool, List, None, Some, [], drop, false, length}
+use Rattle.std.proofs.Common.{map, min, true}
 use borrow.Author.Tests.{ltb-true}
 use Rattle.std.proofs.lemmas.Bool.{cases_lt}
 use Rattle.std.specs.Cmp.{nat_cmp_is}
@@ -10,7 +11,8 @@ use Rattle.std.specs.declared.cmp.Ordering.TheVariants.{Equal, Greater, Less}
 use Rattle.std.specs.declared.cmp.Ordering.{Ordering}
 use Rattle.room_model.proofs.Tests.{among_filter, map_among}
 use Rattle.room_model.specs.Proposals.{is_before}
-use Rattle.room_place.specs.Choice.{Among, AreBefore, AreDistinct, AreFirst, IsRising, comes_after, first}
+use Rattle.room_place.specs.Choice.{Among, AreBefore, AreDistinct, AreFirst, IsRising, comes_after}
+use Rattle.room_place.specs.Choice.{first}
 use Rattle.room_place.specs.Places.{ring_floor}
 use Rattle.room_types.proofs.KeyedLaws.{keyed_filter}
 use Rattle.room_types.specs.KeyedRows.{IsBelowAll, IsKeyed}
@@ -21,8 +23,8 @@ use Rattle.room_types.specs.declared.codes.Kind.{Kind}
 use Rattle.room_types.specs.declared.tables.Incident.{Incident}
 use Rattle.room_alloc.specs.Nearness.{is_nearer, nearness_cmp, proposal_with, whole}
 use Rattle.room_alloc.specs.NearnessLemmas.{nearness_total}
-use Rattle.room_alloc.specs.Rings.{AreApart, AreOfKind, ArePlaced, IsSearched, is_below, is_breaking, is_enough}
-use Rattle.room_alloc.specs.Rings.{nearness_of, proposal_at}
+use Rattle.room_alloc.specs.Rings.{AreApart, AreOfKind, ArePlaced, IsSearched, is_below}
+use Rattle.room_alloc.specs.Rings.{is_breaking, is_enough, nearness_of, proposal_at}
 use Rattle.room_alloc.specs.declared.nearness.Candidate.{Candidate}
 use Rattle.room_alloc.specs.declared.nearness.Nearness.{Nearness}
 use Rattle.room_alloc.proofs.FirstLaws.{first_of_set}

@@ -1,5 +1,6 @@
 -- What may be proposed, by the points that are short of holders.
-use Rattle.std.specs.Prelude.{Bool, List, None, Option, Some, [], false, filter, is_some, length, map, ℕ, ◌&&◌, ◌≡◌}
+use Rattle.std.specs.Prelude.{Bool, List, None, Option, Some, [], false, filter, is_some, length}
+use Rattle.std.specs.Prelude.{map, ℕ, ◌&&◌, ◌≡◌}
 use Rattle.room_place.specs.Places.{distance}
 use Rattle.room_types.specs.Codes.{same_kind}
 use Rattle.room_types.specs.KeyedRows.{row_at}

@@ -1,6 +1,6 @@
 -- Candidates ring by ring of cells round an incident.
-use Rattle.std.specs.Prelude.{Bool, List, None, Option, Some, [], drop, false, filter, map, nat_lt, not, suc, true}
-use Rattle.std.specs.Prelude.{zero, ℕ, ◌<◌, ◌∷◌, ◌≡◌, ◌≤◌, ◌⊎◌}
+use Rattle.std.specs.Prelude.{Bool, List, None, Option, Some, [], drop, false, filter, map, nat_lt}
+use Rattle.std.specs.Prelude.{not, suc, true, zero, ℕ, ◌<◌, ◌∷◌, ◌≡◌, ◌≤◌, ◌⊎◌}
 use Rattle.room_place.specs.Choice.{Among, first}
 use Rattle.room_place.specs.Places.{cell_of, distance, ring_floor, ring_of}
 use Rattle.room_types.specs.KeyedRows.{IsKeyed}

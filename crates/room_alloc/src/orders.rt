@@ -1,5 +1,6 @@
 //! A vehicle's order for an incident, and its end by the desk.
-ghost use Rattle.std.specs.Prelude.{◌≡◌, ◌+◌, ℕ, List, IfErr, IfOk, None, Some, nat_le, if◌then◌else◌, option_copied};
+ghost use Rattle.std.specs.Prelude.{◌≡◌, ◌+◌, ℕ, List, IfErr, IfOk, None, Some, nat_le};
+ghost use Rattle.std.specs.Prelude.{if◌then◌else◌, option_copied};
 ghost use Rattle.room_place.specs.declared.plans.Area.{Area};
 ghost use Rattle.room_types.specs.Needs.{need_of};
 ghost use Rattle.room_types.specs.Slices.{assignment_at, vehicle_at};
@@ -10,7 +11,8 @@ ghost use Rattle.room_model.specs.Decisions.{Decides};
 ghost use Rattle.room_model.specs.Moments.{number_limit};
 ghost use Rattle.room_model.specs.Queries.{open_turn, served};
 ghost use Rattle.room_model.specs.RoomSlices.{room_of};
-ghost use Rattle.room_model.specs.Vehicles.{assignment_row, mobilise, stand_down, turn_row, turn_stood_down};
+ghost use Rattle.room_model.specs.Vehicles.{assignment_row, mobilise, stand_down, turn_row};
+ghost use Rattle.room_model.specs.Vehicles.{turn_stood_down};
 
 use crate::held_vehicles::held;
 use room_incident::active_incidents::active;

@@ -10,7 +10,9 @@ ghost use Rattle.room_types.specs.KeyedRows.{IsKeyed};
 ghost use Rattle.room_types.specs.declared.refusal_statuses.Refusal.TheVariants.{Memory};
 ghost use Rattle.room_model.specs.Proposals.{is_before};
 ghost use Rattle.room_alloc.specs.Nearness.{nearness_cmp, proposal_with, whole};
-ghost use Rattle.room_alloc.specs.Rings.{AreApart, AreByRing, AreOfKind, ArePlaced, IsByRing, IsPlaced, IsSearched, candidate_of, candidates_round, is_breaking, is_enough, nearness_of, proposal_at};
+ghost use Rattle.room_alloc.specs.Rings.{AreApart, AreByRing, AreOfKind, ArePlaced, IsByRing};
+ghost use Rattle.room_alloc.specs.Rings.{IsPlaced, IsSearched, candidate_of, candidates_round};
+ghost use Rattle.room_alloc.specs.Rings.{is_breaking, is_enough, nearness_of, proposal_at};
 
 use crate::candidates::{has_point, is_candidate};
 use crate::nearness::{Candidate, Nearness};

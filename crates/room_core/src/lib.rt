@@ -5,4 +5,4 @@
 pub mod call_decisions;
 pub mod crew_decisions;
 pub mod desk_decisions;
-pub mod repeated_messages;
+pub mod kept_answers;

@@ -2,7 +2,8 @@
 use Rattle.std.proofs.Common.{None, Option, Some, refl, ℕ}
 use Rattle.std.specs.Prelude.{option_map}
 use Rattle.room_types.specs.declared.codes.Button.{Button}
-use Rattle.room_types.specs.declared.codes.Button.TheVariants.{Home, Hospital, Leave, Mobile, Position, Return, Scene}
+use Rattle.room_types.specs.declared.codes.Button.TheVariants.{Home, Hospital, Leave, Mobile}
+use Rattle.room_types.specs.declared.codes.Button.TheVariants.{Position, Return, Scene}
 use Rattle.room_types.specs.declared.tables.Turn.{Turn}
 use Rattle.room_model.specs.Moments.{first_of}
 use Rattle.room_model.specs.Reports.{turn_after}

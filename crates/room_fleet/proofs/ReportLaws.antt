@@ -1,5 +1,6 @@
 -- The reported rows are what the room decides of a report.
-use Rattle.std.proofs.Common.{Bool, None, Option, Some, eq-eqb, false, refl, true, ap, ◌∙◌, subst, sym, cond, ℕ, ◌≡◌}
+use Rattle.std.proofs.Common.{Bool, None, Option, Some, eq-eqb, false, refl, true, ap, ◌∙◌, subst}
+use Rattle.std.proofs.Common.{sym, cond, ℕ, ◌≡◌}
 use Rattle.std.proofs.lemmas.Bool.{false≢true}
 use Rattle.std.specs.List.{cons_option}
 use Rattle.std.specs.Prelude.{List, [], is_none, is_some, IfSome, option_map, ◌&&◌, ◌++◌, ◌==◌, ◌∷◌}
@@ -25,9 +26,10 @@ use Rattle.room_model.proofs.OpenTurns.{open_is, open_there}
 use Rattle.room_model.proofs.Tests.{none_of}
 use Rattle.room_model.specs.Decisions.{Verdict, with_changes}
 use Rattle.room_model.specs.Queries.{borrowed, held, kept_report, open_turn, vehicle_at}
-use Rattle.room_model.specs.Reports.{back_changes, drop_changes, ends_turn, is_due, is_home, outcome_of, report_acts}
-use Rattle.room_model.specs.Reports.{report_held, report_in, report_kept, report_made, report_somewhere, take_report}
-use Rattle.room_model.specs.Reports.{turn_after, turn_changes}
+use Rattle.room_model.specs.Reports.{back_changes, drop_changes, ends_turn, is_due, is_home}
+use Rattle.room_model.specs.Reports.{outcome_of, report_acts, report_held, report_in, report_kept}
+use Rattle.room_model.specs.Reports.{report_made, report_somewhere, take_report, turn_after}
+use Rattle.room_model.specs.Reports.{turn_changes}
 use Rattle.room_model.specs.Room.{Room}
 use Rattle.room_model.specs.RoomSlices.{AreCrewRows}
 use Rattle.room_model.specs.RoomAgreements.{IsWellFormed, LoanAgrees, OpenAgrees, TurnAgrees}

@@ -6,8 +6,8 @@ use Rattle.room_types.specs.declared.crews.CrewRows.{CrewRows}
 use Rattle.room_types.specs.declared.tables.Turn.{Turn}
 use Rattle.room_types.specs.Codes.{acts}
 use Rattle.room_model.specs.Queries.{borrowed, held, open_turn}
-use Rattle.room_model.specs.Reports.{is_due, is_home, outcome_of, report_row, status_after, turn_after, vehicle_after}
-use Rattle.room_model.specs.Reports.{with_report}
+use Rattle.room_model.specs.Reports.{is_due, is_home, outcome_of, report_row, status_after}
+use Rattle.room_model.specs.Reports.{turn_after, vehicle_after, with_report}
 use Rattle.room_model.specs.Room.{Room}
 use Rattle.room_fleet.specs.declared.reports.Reported.{Reported}
 

@@ -1,20 +1,25 @@
 //! What a crew's report does to its vehicle's rows.
 ghost use Rattle.std.specs.List.{cons_option};
-ghost use Rattle.std.specs.Prelude.{◌≡◌, ◌++◌, ◌∷◌, ◌&&◌, ℕ, [], IfErr, IfOk, None, Some, false, is_none, is_some, max, option_copied, option_map, true};
+ghost use Rattle.std.specs.Prelude.{◌≡◌, ◌++◌, ◌∷◌, ◌&&◌, ℕ, [], IfErr, IfOk, None, Some, false};
+ghost use Rattle.std.specs.Prelude.{is_none, is_some, max, option_copied, option_map, true};
 ghost use Rattle.room_types.specs.Codes.{acts};
 ghost use Rattle.room_types.specs.declared.answers.Answer.TheVariants as answer;
 ghost use Rattle.room_types.specs.declared.asks.Press.{Press};
-ghost use Rattle.room_types.specs.declared.changes.Change.TheVariants.{PutReport, PutTurn, PutVehicle};
+ghost use Rattle.room_types.specs.declared.changes.Change.TheVariants.{PutReport, PutTurn};
+ghost use Rattle.room_types.specs.declared.changes.Change.TheVariants.{PutVehicle};
 ghost use Rattle.room_types.specs.declared.crews.CrewRows.{CrewRows};
 ghost use Rattle.room_types.specs.declared.refusal_statuses.Refusal.TheVariants.{Memory};
 ghost use Rattle.room_model.specs.Decisions.{Decides};
 ghost use Rattle.room_model.specs.Moments.{first_of};
 ghost use Rattle.room_model.specs.Queries.{kept_report};
-ghost use Rattle.room_model.specs.Reports.{back_changes, drop_changes, ends_turn, is_due, outcome_of, report_held, report_in, report_row, take_report, turn_after, with_report};
+ghost use Rattle.room_model.specs.Reports.{back_changes, drop_changes, ends_turn, is_due};
+ghost use Rattle.room_model.specs.Reports.{outcome_of, report_held, report_in, report_row};
+ghost use Rattle.room_model.specs.Reports.{take_report, turn_after, with_report};
 ghost use Rattle.room_model.specs.Room.{Room};
 ghost use Rattle.room_model.specs.RoomSlices.{AreCrewRows};
 ghost use Rattle.room_model.specs.RoomAgreements.{IsWellFormed};
-ghost use Rattle.room_fleet.specs.ReportedRows.{AreHolders, IsOnlyKept, TurnKeepsMoments, acted, only_kept, reported};
+ghost use Rattle.room_fleet.specs.ReportedRows.{AreHolders, IsOnlyKept, TurnKeepsMoments, acted};
+ghost use Rattle.room_fleet.specs.ReportedRows.{only_kept, reported};
 
 use crate::buttons::{acts, ends_turn, is_home, names_order, press as outcome_at, status_after};
 use room_types::answers::{Answer, Listed};

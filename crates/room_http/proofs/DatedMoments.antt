@@ -1,13 +1,14 @@
 -- Each moment before the year 10000 has a date.
-use Rattle.std.proofs.Common.{◌≡◌, ◌∙◌, sym, ap, refl, arith, ℕ, zero, suc, ◌+◌, ◌-◌, ◌*◌, ◌/◌, ◌%◌, ◌<◌, ◌≤◌, ◌⊎◌, inl}
-use Rattle.std.proofs.Common.{inr}
+use Rattle.std.proofs.Common.{◌≡◌, ◌∙◌, sym, ap, refl, arith, ℕ, zero, suc, ◌+◌, ◌-◌, ◌*◌, ◌/◌, ◌%◌}
+use Rattle.std.proofs.Common.{◌<◌, ◌≤◌, ◌⊎◌, inl, inr}
 use Rattle.std.proofs.lemmas.Bool.{cases_order}
 use Rattle.std.proofs.lemmas.Bool.Decides.{nat_tests}
-use Rattle.httpdate.specs.Calendar.{IsCivilDate, days_from_civil, days_in_month, days_in_year, days_of_months}
-use Rattle.httpdate.specs.Calendar.{days_of_years, weekday}
+use Rattle.httpdate.specs.Calendar.{IsCivilDate, days_from_civil, days_in_month, days_in_year}
+use Rattle.httpdate.specs.Calendar.{days_of_months, days_of_years, weekday}
 use Rattle.httpdate.specs.Date.{date_text, unix_secs}
 use Rattle.httpdate.specs.declared.date.HttpDate.{HttpDate}
-use Rattle.httpdate.proofs.CalendarLemmas.{days_of_months_all, days_of_months_more, days_of_years_closed}
+use Rattle.httpdate.proofs.CalendarLemmas.{days_of_months_all, days_of_months_more}
+use Rattle.httpdate.proofs.CalendarLemmas.{days_of_years_closed}
 use Rattle.room_http.specs.ReplyLaws.{IsAlwaysThere}
 use Rattle.room_http.specs.ReplyMessages.{IsDateOf, reply_bytes}
 

@@ -1,5 +1,6 @@
 -- Lemmas on dialogues, one after another.
-use Rattle.std.proofs.Common.{◌≡◌, ◌∙◌, ap, sym, refl, ℕ, List, [], ◌∷◌, ◌++◌, append-nil, append_assoc, Option}
+use Rattle.std.proofs.Common.{◌≡◌, ◌∙◌, ap, sym, refl, ℕ, List, [], ◌∷◌, ◌++◌, append-nil}
+use Rattle.std.proofs.Common.{append_assoc, Option}
 use Rattle.std.specs.Io.KnownBytes.{Appends}
 use Rattle.room_types.specs.declared.fleet.Terminal.{Terminal}
 use Rattle.room_model.specs.Room.{Room}

@@ -1,6 +1,7 @@
 -- Lemmas on what an observer keeps.
-use Rattle.std.proofs.Common.{◌≡◌, ◌∙◌, ◌≤◌, ap, sym, refl, inl, inr, ℕ, List, [], ◌∷◌, ◌++◌, map, append-nil}
-use Rattle.std.proofs.Common.{append_assoc, Bool, false, Option, Some, None, Result, Ok, Err, All}
+use Rattle.std.proofs.Common.{◌≡◌, ◌∙◌, ◌≤◌, ap, sym, refl, inl, inr, ℕ, List, [], ◌∷◌, ◌++◌, map}
+use Rattle.std.proofs.Common.{append-nil, append_assoc, Bool, false, Option, Some, None, Result, Ok}
+use Rattle.std.proofs.Common.{Err, All}
 use Rattle.std.proofs.lemmas.List.{map-append}
 use Rattle.std.proofs.lemmas.List.Elements.{All-nil, All-push}
 use Rattle.std.proofs.lemmas.List.Folds.{concat-append}
@@ -18,12 +19,14 @@ use Rattle.room_model.specs.Rooms.{IsUnavailable, Step}
 use Rattle.room_http.specs.declared.arrivals.Arrived.{Arrived}
 use Rattle.room_http.specs.declared.arrivals.Arrived.TheVariants.{Message, Refused}
 use Rattle.room_http.specs.declared.session.ServeEnd.{ServeEnd}
-use Rattle.room_http.specs.declared.session.ServeEnd.TheVariants.{Closed, Cut, ReadFault, WriteFault, ClockFault}
-use Rattle.room_http.specs.declared.session.ServeEnd.TheVariants.{Unkept, ReadsSpent, Memory}
-use Rattle.room_http.specs.Arrivals.{Arrival, message, refused, is_closing, is_head_only, Begins, HasNext, IsShown}
-use Rattle.room_http.specs.KeptMessages.{Acts, ActsOnEach, AreKept, AreReplies, DoesNothing, Grow, IsBegun, IsCome}
-use Rattle.room_http.specs.KeptMessages.{IsRecord}
-use Rattle.room_http.specs.KeptMessages.{KeepsEach, KeepsOne, Tapes, Unmoved, answer_kept, came_of, response_of}
+use Rattle.room_http.specs.declared.session.ServeEnd.TheVariants.{Closed, Cut, ReadFault}
+use Rattle.room_http.specs.declared.session.ServeEnd.TheVariants.{WriteFault, ClockFault, Unkept}
+use Rattle.room_http.specs.declared.session.ServeEnd.TheVariants.{ReadsSpent, Memory}
+use Rattle.room_http.specs.Arrivals.{Arrival, message, refused, is_closing, is_head_only, Begins}
+use Rattle.room_http.specs.Arrivals.{HasNext, IsShown}
+use Rattle.room_http.specs.KeptMessages.{Acts, ActsOnEach, AreKept, AreReplies, DoesNothing, Grow}
+use Rattle.room_http.specs.KeptMessages.{IsBegun, IsCome, IsRecord, KeepsEach, KeepsOne, Tapes}
+use Rattle.room_http.specs.KeptMessages.{Unmoved, answer_kept, came_of, response_of}
 use Rattle.room_http.specs.Dialogues.{Timed, IsFront, IsReplyTo}
 use Rattle.room_http.specs.Course.{Course}
 use Rattle.room_http.proofs.ServeLemmas.{last_of, still_begins}

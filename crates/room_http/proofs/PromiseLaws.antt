@@ -1,6 +1,6 @@
 -- Every run of a connection keeps the promises.
-use Rattle.std.proofs.Common.{◌≡◌, ◌∙◌, ap, append_assoc, inl, inr, refl, subst, sym, ℕ, List, [], ◌∷◌, ◌++◌, Bool}
-use Rattle.std.proofs.Common.{true, Some, Result, Ok, Err}
+use Rattle.std.proofs.Common.{◌≡◌, ◌∙◌, ap, append_assoc, inl, inr, refl, subst, sym, ℕ, List, []}
+use Rattle.std.proofs.Common.{◌∷◌, ◌++◌, Bool, true, Some, Result, Ok, Err}
 use Rattle.std.specs.Prelude.{cond, false, is_ok, ⊤}
 use Rattle.room_place.specs.Choice.{Among}
 use Rattle.room_types.specs.Texts.{Callsign}
@@ -17,7 +17,8 @@ use Rattle.room_model.proofs.CrewLaws.{mine_answer, mine_equal}
 use Rattle.room_model.proofs.KeptEvents.{addressed_run, run_kept}
 use Rattle.room_model.proofs.RefusedAgain.{outside_still, report_answered_again, serial_again}
 use Rattle.room_model.proofs.RepeatLaws.{call_repeated}
-use Rattle.room_model.proofs.Runs.{equal_answers, equal_shares, meet_well_formed, run_answers, run_everyday, run_share}
+use Rattle.room_model.proofs.Runs.{equal_answers, equal_shares, meet_well_formed, run_answers}
+use Rattle.room_model.proofs.Runs.{run_everyday, run_share}
 use Rattle.room_model.proofs.Unlent.{unlent_run}
 use Rattle.room_model.specs.Calls.{outside_again}
 use Rattle.room_model.specs.Crossing.{crossings}
@@ -35,8 +36,9 @@ use Rattle.room_http.specs.declared.settings.Setting.{Setting}
 use Rattle.room_model.specs.Rooms.{machine}
 use Rattle.room_http.specs.Arrivals.{is_closing, is_head_only}
 use Rattle.room_http.specs.Promises.{ActsOnce, IsDeskAlike, AreSentOnce, Promises, StaysOutside}
-use Rattle.room_http.specs.Runs.{AreAnswered, Exchange, HasAnswer, HaveAnswers, IsRun, answers_of, arrivals_of, asker}
-use Rattle.room_http.specs.Runs.{event_then, events_of, is_by_desk, room_by, with_desk}
+use Rattle.room_http.specs.Runs.{AreAnswered, Exchange, HasAnswer, HaveAnswers, IsRun, answers_of}
+use Rattle.room_http.specs.Runs.{arrivals_of, asker, event_then, events_of, is_by_desk, room_by}
+use Rattle.room_http.specs.Runs.{with_desk}
 use Rattle.room_http.specs.Dialogues.{Finds, Timed, replied}
 use Rattle.room_http.proofs.RunLemmas.{found_asked_by, room_push, room_split, run_first}
 

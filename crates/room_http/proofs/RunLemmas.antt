@@ -1,6 +1,6 @@
 -- A dialogue with the dispatch machine is a run of events that the room knows.
-use Rattle.std.proofs.Common.{◌≡◌, ◌∙◌, ap, refl, subst, sym, ℕ, List, [], ◌∷◌, ◌++◌, Bool, true, Option, Some, None}
-use Rattle.std.proofs.Common.{Result, Ok, Err}
+use Rattle.std.proofs.Common.{◌≡◌, ◌∙◌, ap, refl, subst, sym, ℕ, List, [], ◌∷◌, ◌++◌, Bool, true}
+use Rattle.std.proofs.Common.{Option, Some, None, Result, Ok, Err}
 use Rattle.std.specs.Prelude.{MatchBool, false, option_and_then}
 use Rattle.room_types.specs.Texts.{Token}
 use Rattle.room_types.specs.declared.asks.Ask.{Ask}
@@ -8,7 +8,8 @@ use Rattle.room_types.specs.declared.asks.Event.{Event}
 use Rattle.room_types.specs.declared.asks.Who.{Who}
 use Rattle.room_types.specs.declared.fleet.Terminal.{Terminal}
 use Rattle.room_types.specs.declared.refusal_statuses.Refusal.{Refusal}
-use Rattle.room_types.specs.declared.refusal_statuses.Refusal.TheVariants.{BadBody, NoTerminal, WrongRole}
+use Rattle.room_types.specs.declared.refusal_statuses.Refusal.TheVariants.{BadBody, NoTerminal}
+use Rattle.room_types.specs.declared.refusal_statuses.Refusal.TheVariants.{WrongRole}
 use Rattle.room_model.specs.FleetRows.{AreTerminals}
 use Rattle.room_model.specs.Events.{AreAddressed, IsNumbered}
 use Rattle.room_model.specs.Room.{Room}
@@ -24,9 +25,10 @@ use Rattle.room_http_requests.proofs.RoleLaws.{asked_is}
 use Rattle.room_http.specs.declared.settings.Setting.{Setting}
 use Rattle.room_model.specs.Rooms.{machine, who_at}
 use Rattle.room_http.specs.Arrivals.{message, refused}
-use Rattle.room_http.specs.MessageEvents.{AsksAs, AsksAt, AsksBy, AsksFor, IsAskFor, named, token_of}
-use Rattle.room_http.specs.Runs.{AreAnswered, Exchange, IsRun, IsRunOf, arrivals_of, asker, bytes_of, event_then}
-use Rattle.room_http.specs.Runs.{events_of, room_by}
+use Rattle.room_http.specs.MessageEvents.{AsksAs, AsksAt, AsksBy, AsksFor, IsAskFor, named}
+use Rattle.room_http.specs.MessageEvents.{token_of}
+use Rattle.room_http.specs.Runs.{AreAnswered, Exchange, IsRun, IsRunOf, arrivals_of, asker}
+use Rattle.room_http.specs.Runs.{bytes_of, event_then, events_of, room_by}
 use Rattle.room_http.specs.Dialogues.{Finds, IsDialogue, Timed, replied}
 use Rattle.room_http.proofs.AskLemmas.{request_addressed}
 use Rattle.room_http.proofs.TerminalLemmas.{found_known}

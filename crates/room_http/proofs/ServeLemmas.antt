@@ -1,6 +1,7 @@
 -- Lemmas on a connection that is served.
-use Rattle.std.proofs.Common.{◌≡◌, ◌∙◌, ◌≤◌, ◌-◌, arith, subst, sym, refl, ℕ, List, [], ◌∷◌, ◌++◌, map, append-nil, inl}
-use Rattle.std.proofs.Common.{inr, Bool, true, false, Option, Some, None, Result, Ok, Err, All}
+use Rattle.std.proofs.Common.{◌≡◌, ◌∙◌, ◌≤◌, ◌-◌, arith, subst, sym, refl, ℕ, List, [], ◌∷◌, ◌++◌}
+use Rattle.std.proofs.Common.{map, append-nil, inl, inr, Bool, true, false, Option, Some, None}
+use Rattle.std.proofs.Common.{Result, Ok, Err, All}
 use Rattle.std.proofs.lemmas.List.{length-map, map-append}
 use Rattle.std.proofs.lemmas.List.Elements.{All-nil, All-push}
 use Rattle.std.specs.Prelude.{⊤}
@@ -10,16 +11,19 @@ use Rattle.room_types.specs.declared.refusal_statuses.Refusal.{Refusal}
 use Rattle.room_model.specs.Room.{Room}
 use Rattle.room_http_messages.specs.declared.messages.Layout.{Layout}
 use Rattle.room_http_messages.specs.declared.read_faults.Unread.{Unread}
-use Rattle.room_http_messages.specs.declared.read_faults.Unread.TheVariants.{End, Cut as UnreadCut, ReadFault as Fault}
-use Rattle.room_http_messages.specs.declared.read_faults.Unread.TheVariants.{ReadsSpent as Spent, Refused}
+use Rattle.room_http_messages.specs.declared.read_faults.Unread.TheVariants.{End, Cut as UnreadCut}
+use Rattle.room_http_messages.specs.declared.read_faults.Unread.TheVariants.{ReadFault as Fault}
+use Rattle.room_http_messages.specs.declared.read_faults.Unread.TheVariants.{ReadsSpent as Spent}
+use Rattle.room_http_messages.specs.declared.read_faults.Unread.TheVariants.{Refused}
 use Rattle.room_http_messages.specs.Messages.{IsCut, IsPart}
 use Rattle.room_http_messages.specs.Readings.{SaysOf}
 use Rattle.room_http_messages.specs.Streams.{CountsBy}
 use Rattle.room_http_messages.proofs.StreamLemmas.{Appends-more, Appends-none}
 use Rattle.room_types.specs.declared.numbers.TheConstants.{LAST_MOMENT}
 use Rattle.room_http.specs.declared.session.ServeEnd.{ServeEnd}
-use Rattle.room_http.specs.declared.session.ServeEnd.TheVariants.{Closed, Cut, ReadFault, WriteFault, ClockFault}
-use Rattle.room_http.specs.declared.session.ServeEnd.TheVariants.{Unkept, ReadsSpent, Memory}
+use Rattle.room_http.specs.declared.session.ServeEnd.TheVariants.{Closed, Cut, ReadFault}
+use Rattle.room_http.specs.declared.session.ServeEnd.TheVariants.{WriteFault, ClockFault, Unkept}
+use Rattle.room_http.specs.declared.session.ServeEnd.TheVariants.{ReadsSpent, Memory}
 use Rattle.room_http.specs.ReplyMessages.{fixed_bytes}
 use Rattle.room_http.specs.ArrivalAnswers.{Answers, EndsAnswering}
 use Rattle.room_http.specs.ClockMoments.{HasNoMoment}
@@ -28,11 +32,13 @@ use Rattle.room_http.specs.declared.settings.Setting.{Setting}
 use Rattle.room_model.specs.Rooms.{Step}
 use Rattle.room_http.specs.Course.{Course}
 use Rattle.room_http.specs.ConnectionReads.{EndsAs}
-use Rattle.room_http.specs.Session.{Sides, Finish, Answered, Unserved, Unwritten, Broken, LeavesPart, MissesNone}
-use Rattle.room_http.specs.Session.{ServeIs}
-use Rattle.room_http.specs.Dialogues.{Timed, IsCaused, IsFront, BreaksOff, Stays, WritesDialogue, IsUnserved}
+use Rattle.room_http.specs.Session.{Sides, Finish, Answered, Unserved, Unwritten, Broken}
+use Rattle.room_http.specs.Session.{LeavesPart, MissesNone, ServeIs}
+use Rattle.room_http.specs.Dialogues.{Timed, IsCaused, IsFront, BreaksOff, Stays, WritesDialogue}
+use Rattle.room_http.specs.Dialogues.{IsUnserved}
 use Rattle.room_http.proofs.StreamLemmas.{Passes, Begins-push, nothing_left}
-use Rattle.room_http.proofs.DialogueLemmas.{WritesDialogue-append, WritesDialogue-as, WritesDialogue-none}
+use Rattle.room_http.proofs.DialogueLemmas.{WritesDialogue-append, WritesDialogue-as}
+use Rattle.room_http.proofs.DialogueLemmas.{WritesDialogue-none}
 
 -- the arrivals were answered, all of them stay open, and these bytes are left
 pub record Going (step : Step) (setting : Setting) (old : Sides) (left held given : Option (List ℕ))

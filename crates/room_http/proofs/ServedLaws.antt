@@ -1,6 +1,6 @@
 -- What was served is a run that keeps the promises.
-use Rattle.std.proofs.Common.{◌≡◌, ◌∙◌, ap, append-nil, inl, inr, refl, subst, sym, ℕ, List, [], ◌∷◌, ◌++◌, Bool, map}
-use Rattle.std.proofs.Common.{Option, Some, Result, Ok, Err}
+use Rattle.std.proofs.Common.{◌≡◌, ◌∙◌, ap, append-nil, inl, inr, refl, subst, sym, ℕ, List, []}
+use Rattle.std.proofs.Common.{◌∷◌, ◌++◌, Bool, map, Option, Some, Result, Ok, Err}
 use Rattle.std.proofs.lemmas.List.{map-append}
 use Rattle.std.specs.Prelude.{⊤, ◌⊎◌}
 use Rattle.std.specs.Io.KnownBytes.{Appends}
@@ -13,18 +13,21 @@ use Rattle.room_http.specs.declared.settings.Setting.{Setting}
 use Rattle.room_http.specs.ClockMoments.{HasNoMoment}
 use Rattle.room_model.specs.Rooms.{IsUnavailable, Step, machine}
 use Rattle.room_http.specs.declared.session.ServeEnd.{ServeEnd}
-use Rattle.room_http.specs.declared.session.ServeEnd.TheVariants.{Closed, Cut, ReadFault, WriteFault, ClockFault}
-use Rattle.room_http.specs.declared.session.ServeEnd.TheVariants.{Unkept, ReadsSpent, Memory}
+use Rattle.room_http.specs.declared.session.ServeEnd.TheVariants.{Closed, Cut, ReadFault}
+use Rattle.room_http.specs.declared.session.ServeEnd.TheVariants.{WriteFault, ClockFault, Unkept}
+use Rattle.room_http.specs.declared.session.ServeEnd.TheVariants.{ReadsSpent, Memory}
 use Rattle.room_http_messages.specs.Messages.{IsCut}
 use Rattle.room_http.specs.ReplyMessages.{fixed_bytes}
 use Rattle.room_http.specs.ArrivalAnswers.{Answers}
 use Rattle.room_http.specs.Arrivals.{Arrival, Begins, HasNext, is_head_only}
 use Rattle.room_http.specs.Course.{AreFirstIn, Course, OneCourse}
-use Rattle.room_http.specs.ServedRuns.{AreFirst, AreGiven, AreWritten, IsAtMost, IsUnservedTail, KeepsPromises, Served}
+use Rattle.room_http.specs.ServedRuns.{AreFirst, AreGiven, AreWritten, IsAtMost, IsUnservedTail}
+use Rattle.room_http.specs.ServedRuns.{KeepsPromises, Served}
 use Rattle.room_http.specs.Runs.{Exchange, HasAnswer, IsRun, arrivals_of, room_by}
-use Rattle.room_http.specs.Session.{Answered, Broken, Finish, HasActed, ServeIs, Sides, Unserved, Untimed, Unwritten}
-use Rattle.room_http.specs.Dialogues.{BreaksOff, IsCaused, IsDialogue, IsFront, IsUnserved, LeavesNext, Stays, Timed}
-use Rattle.room_http.specs.Dialogues.{WritesDialogue, replied}
+use Rattle.room_http.specs.Session.{Answered, Broken, Finish, HasActed, ServeIs, Sides, Unserved}
+use Rattle.room_http.specs.Session.{Untimed, Unwritten}
+use Rattle.room_http.specs.Dialogues.{BreaksOff, IsCaused, IsDialogue, IsFront, IsUnserved}
+use Rattle.room_http.specs.Dialogues.{LeavesNext, Stays, Timed, WritesDialogue, replied}
 use Rattle.room_http.proofs.PromiseLaws.{promises_kept}
 use Rattle.room_http.proofs.RunLemmas.{answered_join, dialogue_run, room_push, run_of}
 use Rattle.room_http.proofs.DialogueLemmas.{WritesDialogue-as, WritesDialogue-none}

@@ -1,7 +1,8 @@
 -- Lemmas on what is read of a stream.
-use Rattle.std.proofs.Common.{◌≡◌, ◌∙◌, ap, sym, subst, refl, arith, ℕ, ◌+◌, ◌-◌, ◌<◌, ◌≤◌, List, [], ◌∷◌, ◌++◌, drop}
-use Rattle.std.proofs.Common.{length, take, length-append, length-drop, length-take-le, map, append-nil, append_assoc}
-use Rattle.std.proofs.Common.{Bool, false, Option, Some, None, Result, Ok, Err, All}
+use Rattle.std.proofs.Common.{◌≡◌, ◌∙◌, ap, sym, subst, refl, arith, ℕ, ◌+◌, ◌-◌, ◌<◌, ◌≤◌, List}
+use Rattle.std.proofs.Common.{[], ◌∷◌, ◌++◌, drop, length, take, length-append, length-drop}
+use Rattle.std.proofs.Common.{length-take-le, map, append-nil, append_assoc, Bool, false, Option}
+use Rattle.std.proofs.Common.{Some, None, Result, Ok, Err, All}
 use Rattle.std.proofs.lemmas.List.{take_at}
 use Rattle.std.proofs.lemmas.List.Elements.{All-head, All-tail}
 use Rattle.std.specs.Prelude.{IfOk}
@@ -14,13 +15,13 @@ use Rattle.room_http_messages.specs.Layouts.{IsLayout, IsWhole}
 use Rattle.room_http_messages.specs.Messages.{WholeMessage, HasMessage, IsRefused}
 use Rattle.room_http_messages.specs.Streams.{CountsBy}
 use Rattle.room_http_messages.specs.declared.read_faults.Unread.{Unread}
-use Rattle.room_http_messages.specs.declared.read_faults.Unread.TheVariants.{End, Cut, ReadFault, ReadsSpent, Refused}
+use Rattle.room_http_messages.specs.declared.read_faults.Unread.TheVariants.{End, Cut, ReadFault}
+use Rattle.room_http_messages.specs.declared.read_faults.Unread.TheVariants.{ReadsSpent, Refused}
 use Rattle.room_http_messages.specs.Readings.{SaysOf}
 use Rattle.room_http.specs.declared.arrivals.Arrived.{Arrived}
 use Rattle.room_http.specs.declared.arrivals.Arrived.TheVariants.{Message, Refused as Shut}
-use Rattle.room_http.specs.Arrivals.{Arrival, message, refused, is_closing, BeginsWith, Begins, IsJustMessage}
-use Rattle.room_http.specs.Arrivals.{IsBounded}
-use Rattle.room_http.specs.Arrivals.{IsShown}
+use Rattle.room_http.specs.Arrivals.{Arrival, message, refused, is_closing, BeginsWith, Begins}
+use Rattle.room_http.specs.Arrivals.{IsJustMessage, IsBounded, IsShown}
 use Rattle.room_http.specs.ConnectionReads.{IsReadAs, kept_after}
 
 pub CountsBy-none : (known : Option ℕ) → CountsBy 0 known known

@@ -4,7 +4,8 @@ use Rattle.serde_json.specs.Data.{Data, boolean, number, string}
 use Rattle.serde_json.specs.Find.{of_integer}
 use Rattle.serde_json.specs.Written.{compact_text}
 use Rattle.room_place.specs.declared.places.Place.{Place}
-use Rattle.room_types.specs.Codes.{kind_number, merged_into, outcome_name, state_number, status_number}
+use Rattle.room_types.specs.Codes.{kind_number, merged_into, outcome_name, state_number}
+use Rattle.room_types.specs.Codes.{status_number}
 use Rattle.room_types.specs.RefusalStatuses.{refusal_name, refusal_number}
 use Rattle.room_types.specs.declared.answers.Answer.{Answer}
 use Rattle.room_types.specs.declared.answers.Answer.TheVariants as answer

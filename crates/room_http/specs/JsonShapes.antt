@@ -1,6 +1,7 @@
 -- The shapes of JSON that answers are made of.
 use Rattle.std.specs.Prelude.{ℕ, List, [], ◌∷◌, Option, None, Some, map}
-use Rattle.serde_json.specs.Data.{Data, null, number, unsigned, array, object, Members, no_members, member}
+use Rattle.serde_json.specs.Data.{Data, null, number, unsigned, array, object, Members, no_members}
+use Rattle.serde_json.specs.Data.{member}
 use Rattle.serde_json.specs.View.{items_of}
 
 -- a whole number

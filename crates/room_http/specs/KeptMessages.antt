@@ -1,5 +1,6 @@
 -- What an observer keeps of what is served.
-use Rattle.std.specs.Prelude.{◌≡◌, ◌⊎◌, ◌<◌, ◌≤◌, ⊤, ℕ, List, [], ◌∷◌, ◌++◌, map, Option, Some, None, Result, Ok, Err}
+use Rattle.std.specs.Prelude.{◌≡◌, ◌⊎◌, ◌<◌, ◌≤◌, ⊤, ℕ, List, [], ◌∷◌, ◌++◌, map, Option, Some}
+use Rattle.std.specs.Prelude.{None, Result, Ok, Err}
 use Rattle.std.specs.Io.KnownBytes.{Appends}
 use Rattle.std.specs.List.{concat}
 use Rattle.room_types.specs.declared.fleet.Terminal.{Terminal}
@@ -13,7 +14,8 @@ use Rattle.room_http.specs.declared.arrivals.Arrived.{Arrived}
 use Rattle.room_http.specs.declared.arrivals.Arrived.TheVariants.{Message, Refused}
 use Rattle.room_http.specs.declared.session.ServeEnd.{ServeEnd}
 use Rattle.room_http.specs.declared.session.ServeEnd.TheVariants.{ClockFault, Unkept}
-use Rattle.room_http.specs.Arrivals.{Arrival, Begins, HasNext, IsJustMessage, is_head_only, message, refused}
+use Rattle.room_http.specs.Arrivals.{Arrival, Begins, HasNext, IsJustMessage, is_head_only, message}
+use Rattle.room_http.specs.Arrivals.{refused}
 use Rattle.room_http.specs.Course.{Course}
 use Rattle.room_http.specs.Dialogues.{IsFront, IsReplyTo, Timed}
 

@@ -1,7 +1,8 @@
 -- What the room promises of every run, whatever is asked: the machine's laws, of messages and the
 -- bytes that answer them.
 use Rattle.std.specs.List.{list_all}
-use Rattle.std.specs.Prelude.{◌≡◌, ⊤, ℕ, List, [], ◌∷◌, ◌++◌, None, Some, Result, Ok, Err, is_ok, true}
+use Rattle.std.specs.Prelude.{◌≡◌, ⊤, ℕ, List, [], ◌∷◌, ◌++◌, None, Some, Result, Ok, Err, is_ok}
+use Rattle.std.specs.Prelude.{true}
 use Rattle.room_place.specs.Choice.{Among}
 use Rattle.room_types.specs.Texts.{Callsign}
 use Rattle.room_types.specs.declared.answers.Answer.{Answer}
@@ -12,13 +13,15 @@ use Rattle.room_types.specs.declared.asks.Event.{Event}
 use Rattle.room_types.specs.declared.asks.Press.{Press}
 use Rattle.room_types.specs.declared.fleet.Terminal.{Terminal}
 use Rattle.room_types.specs.declared.refusal_statuses.Refusal.{Refusal}
-use Rattle.room_types.specs.declared.refusal_statuses.Refusal.TheVariants.{OutsideArea, SerialReused}
+use Rattle.room_types.specs.declared.refusal_statuses.Refusal.TheVariants.{OutsideArea}
+use Rattle.room_types.specs.declared.refusal_statuses.Refusal.TheVariants.{SerialReused}
 use Rattle.room_types.specs.declared.tables.Assignment.{Assignment}
 use Rattle.room_types.specs.declared.tables.Turn.{Turn}
 use Rattle.room_model.specs.Isolation.{share_answers, share_run}
 use Rattle.room_model.specs.Calls.{outside_again}
 use Rattle.room_model.specs.Crossing.{crossings}
-use Rattle.room_model.specs.Events.{IsUnlent, NobodyLends, by_crew, by_position, is_everyday, received}
+use Rattle.room_model.specs.Events.{IsUnlent, NobodyLends, by_crew, by_position, is_everyday}
+use Rattle.room_model.specs.Events.{received}
 use Rattle.room_model.specs.Queries.{kept_call}
 use Rattle.room_model.specs.Room.{IsInOrder, Room}
 use Rattle.room_model.specs.Run.{desk_answers}
@@ -26,9 +29,8 @@ use Rattle.room_model.specs.Shares.{mine, own}
 use Rattle.room_model.specs.Step.{answer_to, room_after}
 use Rattle.room_model.specs.RoomAgreements.{IsWellFormed}
 use Rattle.room_http.specs.declared.settings.Setting.{Setting}
-use Rattle.room_http.specs.Runs.{Exchange, HasAnswer, HaveAnswers, IsRun, answers_of, arrivals_of, asker, events_of}
-use Rattle.room_http.specs.Runs.{room_by}
-use Rattle.room_http.specs.Runs.{with_desk}
+use Rattle.room_http.specs.Runs.{Exchange, HasAnswer, HaveAnswers, IsRun, answers_of, arrivals_of}
+use Rattle.room_http.specs.Runs.{asker, events_of, room_by, with_desk}
 
 -- no vehicle is sent to two incidents
 pub record AreSentOnce (room : Room) : Type 0 where

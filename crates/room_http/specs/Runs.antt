@@ -1,7 +1,7 @@
 -- A dialogue with the dispatch machine, as a run: what each arrival asked for, and what it was
 -- answered.
-use Rattle.std.specs.Prelude.{◌≡◌, ⊤, ℕ, List, [], ◌∷◌, Bool, false, filter, flat_map, map, Option, None, Result, Ok}
-use Rattle.std.specs.Prelude.{Err}
+use Rattle.std.specs.Prelude.{◌≡◌, ⊤, ℕ, List, [], ◌∷◌, Bool, false, filter, flat_map, map, Option}
+use Rattle.std.specs.Prelude.{None, Result, Ok, Err}
 use Rattle.room_types.specs.declared.answers.Answer.{Answer}
 use Rattle.room_types.specs.declared.asks.Event.{Event}
 use Rattle.room_types.specs.declared.asks.Who.{Who}

@@ -1,6 +1,6 @@
 -- How a connection is served, and how that ends.
-use Rattle.std.specs.Prelude.{◌≡◌, ◌⊎◌, ◌≤◌, ℕ, List, [], ◌∷◌, ◌++◌, length, map, All, Bool, true, ⊤, Option, Some}
-use Rattle.std.specs.Prelude.{None}
+use Rattle.std.specs.Prelude.{◌≡◌, ◌⊎◌, ◌≤◌, ℕ, List, [], ◌∷◌, ◌++◌, length, map, All, Bool, true}
+use Rattle.std.specs.Prelude.{⊤, Option, Some, None}
 use Rattle.std.specs.Io.KnownBytes.{Appends}
 use Rattle.room_types.specs.declared.fleet.Terminal.{Terminal}
 use Rattle.room_types.specs.declared.refusal_statuses.Refusal.{Refusal}
@@ -9,8 +9,9 @@ use Rattle.room_http.specs.ReplyMessages.{fixed_bytes}
 use Rattle.room_http_messages.specs.Messages.{IsCut, IsPart}
 use Rattle.room_http_messages.specs.Streams.{CountsBy}
 use Rattle.room_http.specs.declared.session.ServeEnd.{ServeEnd}
-use Rattle.room_http.specs.declared.session.ServeEnd.TheVariants.{Closed, Cut, ReadFault, WriteFault, ClockFault}
-use Rattle.room_http.specs.declared.session.ServeEnd.TheVariants.{Unkept, ReadsSpent, Memory}
+use Rattle.room_http.specs.declared.session.ServeEnd.TheVariants.{Closed, Cut, ReadFault}
+use Rattle.room_http.specs.declared.session.ServeEnd.TheVariants.{WriteFault, ClockFault, Unkept}
+use Rattle.room_http.specs.declared.session.ServeEnd.TheVariants.{ReadsSpent, Memory}
 use Rattle.room_types.specs.declared.numbers.TheConstants.{LAST_MOMENT}
 use Rattle.room_model.specs.Rooms.{Step}
 use Rattle.room_http.specs.Arrivals.{Arrival, is_head_only, is_closing, Begins, HasNext}

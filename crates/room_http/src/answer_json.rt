@@ -1,7 +1,11 @@
 //! The content of each answer, with the lines of longer ones, and of each refusal.
 ghost use Rattle.std.specs.Prelude.{◌≡◌, IfOk};
 ghost use Rattle.room_http.specs.Objects.{Sends};
-ghost use Rattle.room_http.specs.AnswerJson.{answer_json, assignment_json, call_json, callsign_or_empty, content, entry_json, history_json, incident_json, json_of, loan_json, offer_json, point_json, proposal_json, refusal_json, times_json, times_line_json, turn_json, vehicle_json};
+ghost use Rattle.room_http.specs.AnswerJson.{answer_json, assignment_json, call_json};
+ghost use Rattle.room_http.specs.AnswerJson.{callsign_or_empty, content, entry_json, history_json};
+ghost use Rattle.room_http.specs.AnswerJson.{incident_json, json_of, loan_json, offer_json};
+ghost use Rattle.room_http.specs.AnswerJson.{point_json, proposal_json, refusal_json, times_json};
+ghost use Rattle.room_http.specs.AnswerJson.{times_line_json, turn_json, vehicle_json};
 
 use crate::json_values::ToJson;
 use crate::objects::{End, Member, write_object};

@@ -1,6 +1,7 @@
 //! What is to be answered.
 ghost use Rattle.std.specs.Prelude.{◌≡◌};
-ghost use Rattle.room_http.specs.Arrivals.{Arrival, IsShown, is_head_only, is_closing as closes_after};
+ghost use Rattle.room_http.specs.Arrivals.{Arrival, IsShown, is_head_only};
+ghost use Rattle.room_http.specs.Arrivals.{is_closing as closes_after};
 
 use room_http_messages::messages::Message;
 use room_types::refusal_statuses::Refusal;

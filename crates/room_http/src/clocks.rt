@@ -1,5 +1,6 @@
 //! What gives the moment, in whole seconds of UTC since 1970.
-ghost use Rattle.std.specs.Prelude.{◌≡◌, ◌<◌, ◌/◌, ℕ, List, [], ◌∷◌, Bool, true, false, Option, Some, None, MatchOption, replicate};
+ghost use Rattle.std.specs.Prelude.{◌≡◌, ◌<◌, ◌/◌, ℕ, List, [], ◌∷◌, Bool, true, false, Option};
+ghost use Rattle.std.specs.Prelude.{Some, None, MatchOption, replicate};
 ghost use Rattle.std.specs.Io.KnownBytes.{Appends, Keeps};
 ghost use Rattle.std.specs.Time.{system_time_nanos};
 

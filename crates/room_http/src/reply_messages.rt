@@ -1,7 +1,8 @@
 //! Answers as messages of HTTP/1.1. The content is made first, as the head gives its length; then
 //! the message gets room for all of it, so that it is put together once.
 ghost use Rattle.std.specs.Prelude.{◌≡◌, ◌++◌, IfErr, IfOk, IfSome, OnOk, string_bytes};
-ghost use Rattle.room_http.specs.ReplyMessages.{IsReply, allow_field, closing_field, field, methods, status_of};
+ghost use Rattle.room_http.specs.ReplyMessages.{IsReply, allow_field, closing_field, field};
+ghost use Rattle.room_http.specs.ReplyMessages.{methods, status_of};
 
 use crate::answer_json::content;
 use http::StatusCode;

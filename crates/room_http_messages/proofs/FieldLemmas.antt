@@ -1,6 +1,7 @@
 -- Lemmas on the fields of a name, and on the Connection fields.
-use Rattle.std.proofs.Common.{◌≡◌, sym, refl, ℕ, ◌+◌, ◌<◌, List, [], ◌∷◌, ◌++◌, length, map, take, get_or, Bool, true}
-use Rattle.std.proofs.Common.{false, arith, length-append, append-nil, IsTrue, ◌↔◌, codes, ◌&&◌, ◌||◌, ◌==◌}
+use Rattle.std.proofs.Common.{◌≡◌, sym, refl, ℕ, ◌+◌, ◌<◌, List, [], ◌∷◌, ◌++◌, length, map, take}
+use Rattle.std.proofs.Common.{get_or, Bool, true, false, arith, length-append, append-nil, IsTrue}
+use Rattle.std.proofs.Common.{◌↔◌, codes, ◌&&◌, ◌||◌, ◌==◌}
 use Rattle.std.specs.List.{filter, list_any}
 use Rattle.std.specs.Bool.{Decides}
 use Rattle.std.proofs.lemmas.List.{map-append, take_more, length-map, get_or-map}
@@ -12,8 +13,10 @@ use Rattle.httparse.specs.declared.spans.HeaderSpan.{HeaderSpan}
 use Rattle.httparse.specs.Spans.{span_bytes, header_bytes, IsWithin, IsHeaderWithin}
 use Rattle.room_http_messages.specs.declared.head_fields.Found.{Found}
 use Rattle.room_http_messages.specs.declared.head_fields.Found.TheVariants.{Nowhere, Once, Repeated}
-use Rattle.room_http_messages.specs.HeadFields.{Fields, is_named, lower, values_of, found_with, AreWithin, FoundIs}
-use Rattle.room_http_messages.specs.ConnectionOptions.{asks_for_close, has_option, is_close_field, is_closing}
+use Rattle.room_http_messages.specs.HeadFields.{Fields, is_named, lower, values_of, found_with}
+use Rattle.room_http_messages.specs.HeadFields.{AreWithin, FoundIs}
+use Rattle.room_http_messages.specs.ConnectionOptions.{asks_for_close, has_option, is_close_field}
+use Rattle.room_http_messages.specs.ConnectionOptions.{is_closing}
 
 -- one field more
 pub values_of-named : (name : List ℕ) (fields : List (List ℕ × List ℕ)) (field : List ℕ × List ℕ)

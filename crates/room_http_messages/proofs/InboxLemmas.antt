@@ -1,6 +1,7 @@
 -- Lemmas on the room of an inbox, of which the first bytes are used.
-use Rattle.std.proofs.Common.{◌≡◌, ◌∙◌, refl, ap, sym, ℕ, ◌+◌, ◌-◌, ◌<◌, ◌≤◌, ◌||◌, Bool, true, false, Ok, List, ◌++◌}
-use Rattle.std.proofs.Common.{length, take, drop, arith, length-take-le, length-drop}
+use Rattle.std.proofs.Common.{◌≡◌, ◌∙◌, refl, ap, sym, ℕ, ◌+◌, ◌-◌, ◌<◌, ◌≤◌, ◌||◌, Bool, true}
+use Rattle.std.proofs.Common.{false, Ok, List, ◌++◌, length, take, drop, arith, length-take-le}
+use Rattle.std.proofs.Common.{length-drop}
 use Rattle.std.specs.List.{copy_within}
 use Rattle.std.proofs.lemmas.List.{take_at, drop_at, drop-take, take-append-le}
 use Rattle.std.proofs.lemmas.Bool.{lt-ltb}

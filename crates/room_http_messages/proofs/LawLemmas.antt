@@ -1,6 +1,7 @@
 -- What the stream decides by itself.
-use Rattle.std.proofs.Common.{◌≡◌, ◌∙◌, sym, ap, subst, refl, arith, ℕ, ◌+◌, ◌-◌, ◌<◌, ◌≤◌, List, [], ◌∷◌, ◌++◌, length}
-use Rattle.std.proofs.Common.{take, drop, append-nil, length-append, ◌⊎◌, inl, inr, Bool, false, None, All}
+use Rattle.std.proofs.Common.{◌≡◌, ◌∙◌, sym, ap, subst, refl, arith, ℕ, ◌+◌, ◌-◌, ◌<◌, ◌≤◌, List}
+use Rattle.std.proofs.Common.{[], ◌∷◌, ◌++◌, length, take, drop, append-nil, length-append, ◌⊎◌}
+use Rattle.std.proofs.Common.{inl, inr, Bool, false, None, All}
 use Rattle.std.proofs.lemmas.List.{take_at, drop_at, take-append-drop}
 use Rattle.std.proofs.lemmas.Bool.{cases_lt}
 use Rattle.std.proofs.lemmas.List.Elements.{All-head, All-tail}
@@ -10,10 +11,12 @@ use Rattle.httparse.proofs.GrammarLemmas.{request_unique}
 use Rattle.room_types.specs.declared.refusal_statuses.Refusal.{Refusal}
 use Rattle.room_http_messages.specs.declared.limits.TheConstants.{HEAD_LIMIT, FIELD_LIMIT}
 use Rattle.room_http_messages.specs.declared.read_faults.Unread.{Unread}
-use Rattle.room_http_messages.specs.declared.read_faults.Unread.TheVariants.{End, Cut, ReadFault, ReadsSpent, Refused}
+use Rattle.room_http_messages.specs.declared.read_faults.Unread.TheVariants.{End, Cut, ReadFault}
+use Rattle.room_http_messages.specs.declared.read_faults.Unread.TheVariants.{ReadsSpent, Refused}
 use Rattle.room_http_messages.specs.Laws.{IsOneMessage, IsNoEnd, IsOneSplit, IsOneReading}
-use Rattle.room_http_messages.specs.Messages.{WholeMessage, window, HasHead, HasMessage, IsRefused, no_head, too_long}
-use Rattle.room_http_messages.specs.Messages.{by_rule, IsPart, in_head, in_body, EndsWith, Splits, closes}
+use Rattle.room_http_messages.specs.Messages.{WholeMessage, window, HasHead, HasMessage, IsRefused}
+use Rattle.room_http_messages.specs.Messages.{no_head, too_long, by_rule, IsPart, in_head, in_body}
+use Rattle.room_http_messages.specs.Messages.{EndsWith, Splits, closes}
 use Rattle.room_http_messages.proofs.LookLemmas.{head_not_empty}
 use Rattle.room_http_messages.specs.Rules.{head_fields, fault_of, body_length}
 

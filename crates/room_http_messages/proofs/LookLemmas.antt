@@ -1,24 +1,26 @@
 -- Lemmas on the first bytes of a stream.
-use Rattle.std.proofs.Common.{◌≡◌, ◌∙◌, sym, ap, subst, refl, inl, inr, ℕ, ◌+◌, ◌-◌, ◌<◌, ◌≤◌, List, [], ◌∷◌, ◌++◌}
-use Rattle.std.proofs.Common.{length, take, drop, map, min, arith, append_assoc, append-nil, take_all, length-append}
-use Rattle.std.proofs.Common.{length-drop, length-take, length-take-le, Some, None, Bool, false, ◌⊎◌, Option, IfSome}
-use Rattle.std.proofs.Common.{codes}
+use Rattle.std.proofs.Common.{◌≡◌, ◌∙◌, sym, ap, subst, refl, inl, inr, ℕ, ◌+◌, ◌-◌, ◌<◌, ◌≤◌, List}
+use Rattle.std.proofs.Common.{[], ◌∷◌, ◌++◌, length, take, drop, map, min, arith, append_assoc}
+use Rattle.std.proofs.Common.{append-nil, take_all, length-append, length-drop, length-take}
+use Rattle.std.proofs.Common.{length-take-le, Some, None, Bool, false, ◌⊎◌, Option, IfSome, codes}
 use Rattle.std.specs.List.{slice_range}
 use Rattle.std.specs.Option.{option_map}
-use Rattle.std.proofs.lemmas.List.{take-append-drop, take-append-le, length-map, drop-append-le, drop-drop}
+use Rattle.std.proofs.lemmas.List.{take-append-drop, take-append-le, length-map, drop-append-le}
+use Rattle.std.proofs.lemmas.List.{drop-drop}
 use Rattle.std.proofs.lemmas.Bool.{cases_lt}
 use Rattle.std.proofs.Math.Seq.{take-length, take-append-add, drop-append_seam}
 use Rattle.httparse.specs.Grammar.{RequestHead, print_request, ReadsRequest}
 use Rattle.httparse.specs.declared.spans.Span.{Span}
 use Rattle.httparse.specs.declared.spans.HeaderSpan.{HeaderSpan}
 use Rattle.httparse.specs.declared.spans.RequestSpans.{RequestSpans}
-use Rattle.httparse.specs.Spans.{span_bytes, header_bytes, IsWithin, IsRequestAt, IsRequestWithin, RequestOverflows}
+use Rattle.httparse.specs.Spans.{span_bytes, header_bytes, IsWithin, IsRequestAt, IsRequestWithin}
+use Rattle.httparse.specs.Spans.{RequestOverflows}
 use Rattle.room_types.specs.declared.refusal_statuses.Refusal.{Refusal}
 use Rattle.room_types.specs.declared.refusal_statuses.Refusal.TheVariants.{BadMessage, HeadTooLong}
 use Rattle.room_http_messages.specs.declared.limits.TheConstants.{HEAD_LIMIT, FIELD_LIMIT}
 use Rattle.room_http_messages.specs.declared.messages.Layout.{Layout}
-use Rattle.room_http_messages.specs.Messages.{window, HasHead, HasPartHead, IsRefused, no_head, too_long, by_rule}
-use Rattle.room_http_messages.specs.Messages.{IsPart, in_head, in_body, is_head}
+use Rattle.room_http_messages.specs.Messages.{window, HasHead, HasPartHead, IsRefused, no_head}
+use Rattle.room_http_messages.specs.Messages.{too_long, by_rule, IsPart, in_head, in_body, is_head}
 use Rattle.room_http_messages.specs.HeadFields.{Fields, values_of, only_value}
 use Rattle.room_http_messages.specs.ConnectionOptions.{is_closing}
 use Rattle.room_http_messages.specs.Layouts.{IsWhole}

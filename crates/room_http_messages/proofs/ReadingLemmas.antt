@@ -1,12 +1,13 @@
 -- Lemmas on reads.
-use Rattle.std.proofs.Common.{◌≡◌, ◌∙◌, ap, refl, sym, arith, ℕ, ◌+◌, ◌-◌, ◌<◌, ◌≤◌, List, [], ◌∷◌, ◌++◌, length}
-use Rattle.std.proofs.Common.{append-nil, append_assoc, subst, drop, take, Bool, true, false, Option, Some, None}
-use Rattle.std.proofs.Common.{Result, Ok, Err}
+use Rattle.std.proofs.Common.{◌≡◌, ◌∙◌, ap, refl, sym, arith, ℕ, ◌+◌, ◌-◌, ◌<◌, ◌≤◌, List, [], ◌∷◌}
+use Rattle.std.proofs.Common.{◌++◌, length, append-nil, append_assoc, subst, drop, take, Bool, true}
+use Rattle.std.proofs.Common.{false, Option, Some, None, Result, Ok, Err}
 use Rattle.std.specs.Io.KnownBytes.{prepend_known, Keeps, Consumes, IsAtEnd}
 use Rattle.std.proofs.lemmas.List.{drop-append-le}
 use Rattle.httparse.specs.Grammar.{print_request}
 use Rattle.room_http_messages.specs.declared.read_faults.Unread.{Unread}
-use Rattle.room_http_messages.specs.declared.read_faults.Unread.TheVariants.{End, Cut, ReadFault, ReadsSpent, Refused}
+use Rattle.room_http_messages.specs.declared.read_faults.Unread.TheVariants.{End, Cut, ReadFault}
+use Rattle.room_http_messages.specs.declared.read_faults.Unread.TheVariants.{ReadsSpent, Refused}
 use Rattle.room_http_messages.specs.declared.limits.TheConstants.{INBOX_ROOM}
 use Rattle.room_http_messages.specs.declared.messages.Layout.{Layout}
 use Rattle.room_http_messages.specs.Messages.{WholeMessage, HasMessage, IsPart}

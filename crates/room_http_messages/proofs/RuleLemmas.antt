@@ -1,6 +1,6 @@
 -- Lemmas on numerals and the rules of heads.
-use Rattle.std.proofs.Common.{◌≡◌, ℕ, ◌+◌, ◌-◌, ◌*◌, ◌<◌, ◌≤◌, List, [], ◌∷◌, length, take, get_or, true, min, arith}
-use Rattle.std.proofs.Common.{Bool, nat_lt, false, refl, None, Some}
+use Rattle.std.proofs.Common.{◌≡◌, ℕ, ◌+◌, ◌-◌, ◌*◌, ◌<◌, ◌≤◌, List, [], ◌∷◌, length, take, get_or}
+use Rattle.std.proofs.Common.{true, min, arith, Bool, nat_lt, false, refl, None, Some}
 use Rattle.std.specs.Prelude.{codes, ◌&&◌, ◌==◌}
 use Rattle.std.specs.List.{list_all}
 use Rattle.std.specs.Char.{is_ascii_digit, digit_value}
@@ -11,7 +11,8 @@ use Rattle.std.proofs.lemmas.Str.{digit_value_digit}
 use Rattle.std.proofs.lemmas.List.{take_more}
 use Rattle.std.proofs.lemmas.List.Folds.{list_all-append}
 use Rattle.std.proofs.lemmas.Int.Digits.{digits_value_push}
-use Rattle.room_types.specs.declared.refusal_statuses.Refusal.TheVariants.{BadMessage, BodyTooLong, Expectation, Coding}
+use Rattle.room_types.specs.declared.refusal_statuses.Refusal.TheVariants.{BadMessage, BodyTooLong}
+use Rattle.room_types.specs.declared.refusal_statuses.Refusal.TheVariants.{Expectation, Coding}
 use Rattle.room_http_messages.specs.declared.limits.TheConstants.{BODY_LIMIT}
 use Rattle.room_http_messages.specs.HeadFields.{Fields, is_there, values_of}
 use Rattle.room_http_messages.specs.Rules.{body_length, fault_of, has_host_fault, has_length_fault}

@@ -1,7 +1,8 @@
 -- Lemmas on streams.
-use Rattle.std.proofs.Common.{◌≡◌, ◌∙◌, refl, min, ◌==◌, ◌⊎◌, inl, inr, ◌≤◌, ℕ, ◌+◌, List, [], ◌++◌, sym, ap}
-use Rattle.std.proofs.Common.{append-nil, append_assoc, ne_eqb, ◌||◌, Ok, take, drop, ◌-◌, take_all, length-drop, Bool}
-use Rattle.std.proofs.Common.{true, false, Option, Some, None, arith, ◌<◌, length}
+use Rattle.std.proofs.Common.{◌≡◌, ◌∙◌, refl, min, ◌==◌, ◌⊎◌, inl, inr, ◌≤◌, ℕ, ◌+◌, List, [], ◌++◌}
+use Rattle.std.proofs.Common.{sym, ap, append-nil, append_assoc, ne_eqb, ◌||◌, Ok, take, drop, ◌-◌}
+use Rattle.std.proofs.Common.{take_all, length-drop, Bool, true, false, Option, Some, None, arith}
+use Rattle.std.proofs.Common.{◌<◌, length}
 use Rattle.std.specs.Io.KnownBytes.{Keeps, Appends}
 use Rattle.std.proofs.lemmas.Bool.{lt-ltb, cases_lt}
 use Rattle.room_http_messages.specs.Streams.{took_none, CountsBy, known_count}

@@ -7,8 +7,11 @@ use Rattle.room_http_messages.specs.declared.limits.TheConstants.{INBOX_ROOM}
 use Rattle.room_http_messages.specs.declared.messages.Layout.{Layout}
 use Rattle.room_http_messages.specs.declared.messages.Message.{Message}
 use Rattle.room_http_messages.specs.declared.message_prefixes.MessagePrefix.{MessagePrefix}
-use Rattle.room_http_messages.specs.declared.message_prefixes.MessagePrefix.TheVariants.{Whole, Refused, Needs}
-use Rattle.room_http_messages.specs.Messages.{WholeMessage, is_head, closes, terminal_of, HasMessage, IsRefused, IsPart}
+use Rattle.room_http_messages.specs.declared.message_prefixes.MessagePrefix.TheVariants.{Whole}
+use Rattle.room_http_messages.specs.declared.message_prefixes.MessagePrefix.TheVariants.{Refused}
+use Rattle.room_http_messages.specs.declared.message_prefixes.MessagePrefix.TheVariants.{Needs}
+use Rattle.room_http_messages.specs.Messages.{WholeMessage, is_head, closes, terminal_of}
+use Rattle.room_http_messages.specs.Messages.{HasMessage, IsRefused, IsPart}
 
 -- the parts of a message that is in the bytes
 pub record IsLayout (bytes : List ℕ) (layout : Layout) (m : WholeMessage) : Type 0 where

@@ -1,12 +1,14 @@
 -- What one call of `read_message` gives, and how it leaves the reader and the inbox.
-use Rattle.std.specs.Prelude.{◌≡◌, ℕ, ◌+◌, List, [], ◌++◌, drop, Bool, true, false, Option, Some, Result, Ok, Err}
-use Rattle.std.specs.Prelude.{MatchResult}
+use Rattle.std.specs.Prelude.{◌≡◌, ℕ, ◌+◌, List, [], ◌++◌, drop, Bool, true, false, Option, Some}
+use Rattle.std.specs.Prelude.{Result, Ok, Err, MatchResult}
 use Rattle.std.specs.Io.KnownBytes.{IsAtEnd, prepend_known}
 use Rattle.room_http_messages.specs.declared.messages.Layout.{Layout}
 use Rattle.room_http_messages.specs.declared.read_faults.Unread.{Unread}
-use Rattle.room_http_messages.specs.declared.read_faults.Unread.TheVariants.{End, Cut, ReadFault, ReadsSpent, Refused}
+use Rattle.room_http_messages.specs.declared.read_faults.Unread.TheVariants.{End, Cut, ReadFault}
+use Rattle.room_http_messages.specs.declared.read_faults.Unread.TheVariants.{ReadsSpent, Refused}
 use Rattle.room_http_messages.specs.Layouts.{IsLayout, IsWhole}
-use Rattle.room_http_messages.specs.Messages.{WholeMessage, HasMessage, IsCut, IsPart, IsRefused, EndsWith}
+use Rattle.room_http_messages.specs.Messages.{WholeMessage, HasMessage, IsCut, IsPart, IsRefused}
+use Rattle.room_http_messages.specs.Messages.{EndsWith}
 use Rattle.room_http_messages.specs.Streams.{Reads}
 
 -- Why reading stopped: what holds of the bytes in the inbox, of the budget and of the reader. Where

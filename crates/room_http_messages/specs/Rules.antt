@@ -1,13 +1,14 @@
 -- What a complete head must not break.
-use Rattle.std.specs.Prelude.{ℕ, List, [], ◌∷◌, length, map, codes, Bool, true, false, not, ◌&&◌, ◌==◌, nat_lt}
-use Rattle.std.specs.Prelude.{if◌then◌else◌, Option, Some, None}
+use Rattle.std.specs.Prelude.{ℕ, List, [], ◌∷◌, length, map, codes, Bool, true, false, not, ◌&&◌}
+use Rattle.std.specs.Prelude.{◌==◌, nat_lt, if◌then◌else◌, Option, Some, None}
 use Rattle.std.specs.List.{list_all}
 use Rattle.std.specs.Char.{is_ascii_digit}
 use Rattle.std.specs.Str.Parse.{digits_value}
 use Rattle.httparse.specs.Grammar.{RequestHead}
 use Rattle.httparse.specs.Spans.{name_and_value}
 use Rattle.room_types.specs.declared.refusal_statuses.Refusal.{Refusal}
-use Rattle.room_types.specs.declared.refusal_statuses.Refusal.TheVariants.{BadMessage, BodyTooLong, Expectation, Coding}
+use Rattle.room_types.specs.declared.refusal_statuses.Refusal.TheVariants.{BadMessage, BodyTooLong}
+use Rattle.room_types.specs.declared.refusal_statuses.Refusal.TheVariants.{Expectation, Coding}
 use Rattle.room_http_messages.specs.declared.limits.TheConstants.{BODY_LIMIT}
 use Rattle.room_http_messages.specs.HeadFields.{Fields, values_of, is_there}
 

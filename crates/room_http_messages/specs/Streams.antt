@@ -1,6 +1,7 @@
 -- What reads and writes do to what is left of a stream, and to what was written.
-use Rattle.std.specs.Prelude.{◌≡◌, ⊤, ℕ, ◌+◌, ◌*◌, ◌-◌, ◌≤◌, ◌&&◌, List, ◌++◌, length, Bool, true, false, nat_lt, ◌==◌}
-use Rattle.std.specs.Prelude.{if◌then◌else◌, Option, Some, None, Result, Ok, Err, OnOk, OnErr}
+use Rattle.std.specs.Prelude.{◌≡◌, ⊤, ℕ, ◌+◌, ◌*◌, ◌-◌, ◌≤◌, ◌&&◌, List, ◌++◌, length, Bool, true}
+use Rattle.std.specs.Prelude.{false, nat_lt, ◌==◌, if◌then◌else◌, Option, Some, None, Result, Ok}
+use Rattle.std.specs.Prelude.{Err, OnOk, OnErr}
 use Rattle.std.specs.Io.KnownBytes.{prepend_known, Keeps, Appends}
 use Rattle.room_http_messages.specs.declared.limits.TheConstants.{INBOX_ROOM}
 

@@ -2,7 +2,8 @@
 ghost use Rattle.std.specs.Prelude.{◌≡◌, ℕ, List, map, length, IfSome};
 ghost use Rattle.std.specs.Option.{option_map};
 ghost use Rattle.httparse.specs.Spans.{header_bytes, span_bytes, IsWithin};
-ghost use Rattle.room_http_messages.specs.HeadFields.{AreWithin, FoundIs, found_with, is_there, only_value, values_of};
+ghost use Rattle.room_http_messages.specs.HeadFields.{AreWithin, FoundIs, found_with, is_there};
+ghost use Rattle.room_http_messages.specs.HeadFields.{only_value, values_of};
 
 use httparse::spans::{HeaderSpan, Span};
 

@@ -1,9 +1,11 @@
 //! What a complete head must not break, in the order in which it is tested.
-ghost use Rattle.std.specs.Prelude.{◌≡◌, ◌<◌, ◌≤◌, ◌^◌, ℕ, List, codes, map, min, MatchOption, MatchResult, None, Some, true, false};
+ghost use Rattle.std.specs.Prelude.{◌≡◌, ◌<◌, ◌≤◌, ◌^◌, ℕ, List, codes, map, min, MatchOption};
+ghost use Rattle.std.specs.Prelude.{MatchResult, None, Some, true, false};
 ghost use Rattle.std.specs.Str.Parse.{digits_value};
 ghost use Rattle.httparse.specs.Spans.{header_bytes};
 ghost use Rattle.room_http_messages.specs.HeadFields.{AreWithin, FoundIs, values_of};
-ghost use Rattle.room_http_messages.specs.Rules.{body_length, fault_of, has_host_fault, has_length_fault, is_numeral, length_of};
+ghost use Rattle.room_http_messages.specs.Rules.{body_length, fault_of, has_host_fault};
+ghost use Rattle.room_http_messages.specs.Rules.{has_length_fault, is_numeral, length_of};
 
 use crate::head_fields::{Found, find_field};
 use crate::limits::BODY_LIMIT;

@@ -1,5 +1,6 @@
 //! The bytes of a stream that were read and that no message has taken yet.
-ghost use Rattle.std.specs.Prelude.{◌≡◌, ◌≤◌, ◌<◌, ℕ, List, [], length, drop, take, vec_len, IfOk, false};
+ghost use Rattle.std.specs.Prelude.{◌≡◌, ◌≤◌, ◌<◌, ℕ, List, [], length, drop, take, vec_len, IfOk};
+ghost use Rattle.std.specs.Prelude.{false};
 ghost use Rattle.room_http_messages.specs.declared.limits.TheConstants.{INBOX_ROOM};
 ghost use Rattle.room_http_messages.specs.Layouts.{IsLayout, LiesWithin, Shows};
 ghost use Rattle.room_http_messages.specs.Messages.{IsPart, WholeMessage};

@@ -2,8 +2,8 @@
 use Rattle.std.proofs.Common.{◌≡◌, refl, false}
 use Rattle.std.specs.Prelude.{None}
 use Rattle.serde_json.specs.Data.{Data}
-use Rattle.room_http_requests.specs.Bodies.{ask_with_body, call_form, duty, exactly, lend, merge, mobilise}
-use Rattle.room_http_requests.specs.Bodies.{needs_change, point_form, press, standby}
+use Rattle.room_http_requests.specs.Bodies.{ask_with_body, call_form, duty, exactly, lend, merge}
+use Rattle.room_http_requests.specs.Bodies.{mobilise, needs_change, point_form, press, standby}
 use Rattle.room_http_requests.specs.BodyFields.{has_members}
 use Rattle.room_http_requests.specs.RequestTable.{members_of}
 use Rattle.room_http_requests.specs.declared.request_table.Target.{Target}

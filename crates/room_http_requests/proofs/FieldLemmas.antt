@@ -1,6 +1,6 @@
 -- How the values in memory are seen as data: their numbers of parts, and what is read from them.
-use Rattle.std.proofs.Common.{◌≡◌, ◌≢◌, ◌∙◌, ℕ, ◌==◌, List, [], ◌∷◌, length, refl, sym, ap, arith, eq-eqb, Bool, true}
-use Rattle.std.proofs.Common.{false, cond}
+use Rattle.std.proofs.Common.{◌≡◌, ◌≢◌, ◌∙◌, ℕ, ◌==◌, List, [], ◌∷◌, length, refl, sym, ap, arith}
+use Rattle.std.proofs.Common.{eq-eqb, Bool, true, false, cond}
 use Rattle.std.specs.List.{find}
 use Rattle.std.specs.Prelude.{String, Option, Some, None, IsUtf8, bytes_eq}
 use Rattle.std.specs.declared.alloc.Global.{Global}
@@ -13,8 +13,10 @@ use Rattle.serde_json.specs.View.{items_view, members_view}
 use Rattle.serde_json.specs.declared.value.Value.{Value}
 use Rattle.room_types.specs.Codes.{Decodes, button_name}
 use Rattle.room_types.specs.declared.codes.Button.{Button}
-use Rattle.room_types.specs.declared.codes.Button.TheVariants.{Position, Mobile, Scene, Leave, Hospital, Return, Home}
-use Rattle.room_http_requests.specs.BodyFields.{button_of, buttons, fields_of, members_count, needs_at, needs_of}
+use Rattle.room_types.specs.declared.codes.Button.TheVariants.{Position, Mobile, Scene, Leave}
+use Rattle.room_types.specs.declared.codes.Button.TheVariants.{Hospital, Return, Home}
+use Rattle.room_http_requests.specs.BodyFields.{button_of, buttons, fields_of, members_count}
+use Rattle.room_http_requests.specs.BodyFields.{needs_at, needs_of}
 
 -- the members of a map are as many as its entries
 pub members_count-view : (entries : List (String Global × Value))

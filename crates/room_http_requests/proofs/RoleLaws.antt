@@ -1,6 +1,7 @@
 -- That what a request asks for is of its target's role.
 use Rattle.std.proofs.Common.{◌≡◌, ◌&&◌, ◌≤◌, ℕ, List, Bool, true, false, refl, arith}
-use Rattle.std.specs.Prelude.{if◌then◌else◌, Option, None, Some, IfSome, option_and_then, option_map}
+use Rattle.std.specs.Prelude.{if◌then◌else◌, Option, None, Some, IfSome, option_and_then}
+use Rattle.std.specs.Prelude.{option_map}
 use Rattle.std.proofs.lemmas.Bool.{and_parts}
 use borrow.Author.Tests.{leb-true}
 use Rattle.serde_json.specs.Data.{Data}
@@ -15,9 +16,11 @@ use Rattle.room_http_requests.specs.declared.request_table.Target.TheVariants as
 use Rattle.room_model.specs.Events.{IsNumbered}
 use Rattle.room_model.specs.Room.{Room}
 use Rattle.room_model.specs.Step.{is_crews, is_desks, is_for, is_positions}
-use Rattle.room_http_requests.specs.RequestTable.{ask_without_body, is_known, is_of, or_posted, request_by, role_of}
-use Rattle.room_http_requests.specs.Bodies.{and_then, call_form, exactly, duty, lend, merge, mobilise, needs_change}
-use Rattle.room_http_requests.specs.Bodies.{point_form, ask_with_body, press, standby}
+use Rattle.room_http_requests.specs.RequestTable.{ask_without_body, is_known, is_of, or_posted}
+use Rattle.room_http_requests.specs.RequestTable.{request_by, role_of}
+use Rattle.room_http_requests.specs.Bodies.{and_then, call_form, exactly, duty, lend, merge}
+use Rattle.room_http_requests.specs.Bodies.{mobilise, needs_change, point_form, ask_with_body}
+use Rattle.room_http_requests.specs.Bodies.{press, standby}
 use Rattle.room_http_requests.specs.BodyFields.{fields_of, has_members, number_at, number_in}
 use Rattle.room_http_requests.specs.declared.request_table.Request.{Request}
 use Rattle.room_http_requests.specs.declared.request_table.Request.TheVariants as request

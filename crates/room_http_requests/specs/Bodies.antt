@@ -1,5 +1,6 @@
 -- What the fields of a body ask for: exactly the members named, each of its form and range.
-use Rattle.std.specs.Prelude.{ℕ, if◌then◌else◌, Option, Some, None, option_map, option_and_then, codes}
+use Rattle.std.specs.Prelude.{ℕ, if◌then◌else◌, Option, Some, None, option_map, option_and_then}
+use Rattle.std.specs.Prelude.{codes}
 use Rattle.serde_json.specs.Data.{Data}
 use Rattle.room_types.specs.Texts.{Callsign}
 use Rattle.room_types.specs.declared.asks.Ask.{Ask}
@@ -8,8 +9,8 @@ use Rattle.room_types.specs.declared.asks.CallForm.{CallForm}
 use Rattle.room_types.specs.declared.asks.Press.{Press}
 use Rattle.room_http_requests.specs.declared.request_table.Target.{Target}
 use Rattle.room_http_requests.specs.declared.request_table.Target.TheVariants as target
-use Rattle.room_http_requests.specs.BodyFields.{button_at, callsign_at, has_members, needs_at, note_at, number_at}
-use Rattle.room_http_requests.specs.BodyFields.{place_at, point_at}
+use Rattle.room_http_requests.specs.BodyFields.{button_at, callsign_at, has_members, needs_at}
+use Rattle.room_http_requests.specs.BodyFields.{note_at, number_at, place_at, point_at}
 
 -- what is found next, of what was found
 unfoldable pub and_then : {A B : Type 0} → Option A → (A → Option B) → Option B

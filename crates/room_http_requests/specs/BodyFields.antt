@@ -1,6 +1,7 @@
 -- The fields of a body: an object of JSON, and the values under its names.
-use Rattle.std.specs.Prelude.{ℕ, List, [], ◌∷◌, length, Bool, false, bytes_eq, nat_le, is_some, ◌==◌, ◌+◌}
-use Rattle.std.specs.Prelude.{if◌then◌else◌, Option, Some, None, option_map, option_and_then}
+use Rattle.std.specs.Prelude.{ℕ, List, [], ◌∷◌, length, Bool, false, bytes_eq, nat_le, is_some}
+use Rattle.std.specs.Prelude.{◌==◌, ◌+◌, if◌then◌else◌, Option, Some, None, option_map}
+use Rattle.std.specs.Prelude.{option_and_then}
 use Rattle.std.specs.Result.{result_ok}
 use Rattle.std.specs.List.{find}
 use Rattle.std.specs.Str.Lossy.{utf8_valid_len}
@@ -14,7 +15,8 @@ use Rattle.room_types.specs.Needs.{is_some_need}
 use Rattle.room_types.specs.Numerals.{within}
 use Rattle.room_types.specs.Texts.{Callsign, Note, callsign_of}
 use Rattle.room_types.specs.declared.codes.Button.{Button}
-use Rattle.room_types.specs.declared.codes.Button.TheVariants.{Position, Mobile, Scene, Leave, Hospital, Return, Home}
+use Rattle.room_types.specs.declared.codes.Button.TheVariants.{Position, Mobile, Scene, Leave}
+use Rattle.room_types.specs.declared.codes.Button.TheVariants.{Hospital, Return, Home}
 use Rattle.room_types.specs.declared.needs.Counts.{Counts}
 
 -- the bytes are UTF-8

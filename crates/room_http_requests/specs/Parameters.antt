@@ -1,6 +1,6 @@
 -- The parameters in a target: its segments, and the numbers that they write.
-use Rattle.std.specs.Prelude.{ℕ, List, [], Bool, nat_le, nat_lt, ◌==◌, ◌&&◌, if◌then◌else◌, slice_index, unwrap_or}
-use Rattle.std.specs.Prelude.{Option, Some, None}
+use Rattle.std.specs.Prelude.{ℕ, List, [], Bool, nat_le, nat_lt, ◌==◌, ◌&&◌, if◌then◌else◌}
+use Rattle.std.specs.Prelude.{slice_index, unwrap_or, Option, Some, None}
 use Rattle.std.specs.List.{list_all, slice_get, slice_split}
 use Rattle.std.specs.Str.Parse.{digits_value}
 use Rattle.room_types.specs.Numerals.{are_digits, within}

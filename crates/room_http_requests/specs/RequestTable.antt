@@ -1,7 +1,7 @@
 -- The table of requests: each path, its pattern and methods, what its target names, who may ask,
 -- and what is asked.
-use Rattle.std.specs.Prelude.{ℕ, List, codes, Bool, true, false, is_some, Option, Some, None, option_map}
-use Rattle.std.specs.Prelude.{option_and_then}
+use Rattle.std.specs.Prelude.{ℕ, List, codes, Bool, true, false, is_some, Option, Some, None}
+use Rattle.std.specs.Prelude.{option_map, option_and_then}
 use Rattle.room_place.specs.Plans.{has_division}
 use Rattle.room_types.specs.Texts.{callsign_of}
 use Rattle.room_types.specs.declared.asks.Ask.TheVariants as ask
@@ -20,7 +20,8 @@ use Rattle.room_http_requests.specs.declared.request_table.Path.TheVariants as p
 use Rattle.room_http_requests.specs.declared.request_table.Request.{Request}
 use Rattle.room_http_requests.specs.declared.request_table.Request.TheVariants as request
 use Rattle.room_http_requests.specs.declared.request_table.Role.{Role}
-use Rattle.room_http_requests.specs.declared.request_table.Role.TheVariants.{Desk, Position, Crew, Sender}
+use Rattle.room_http_requests.specs.declared.request_table.Role.TheVariants.{Desk, Position, Crew}
+use Rattle.room_http_requests.specs.declared.request_table.Role.TheVariants.{Sender}
 use Rattle.room_http_requests.specs.declared.request_table.Target.{Target}
 use Rattle.room_http_requests.specs.declared.request_table.Target.TheVariants as target
 

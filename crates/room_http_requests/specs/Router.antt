@@ -1,6 +1,7 @@
 -- The paths in a router, how a target is looked up among them, and what a request names.
-use Rattle.std.specs.Prelude.{ℕ, List, [], codes, Bool, false, not, ◌||◌, bytes_eq, is_none, if◌then◌else◌}
-use Rattle.std.specs.Prelude.{Option, Some, None, option_map, option_and_then, Result, Ok, Err}
+use Rattle.std.specs.Prelude.{ℕ, List, [], codes, Bool, false, not, ◌||◌, bytes_eq, is_none}
+use Rattle.std.specs.Prelude.{if◌then◌else◌, Option, Some, None, option_map, option_and_then}
+use Rattle.std.specs.Prelude.{Result, Ok, Err}
 use Rattle.std.specs.List.{fold}
 use Rattle.matchit.specs.Order.{placed}
 use Rattle.matchit.specs.Route.{Scan, parse_route}
@@ -14,7 +15,8 @@ use Rattle.room_types.specs.declared.refusal_statuses.Allow.TheVariants.{GetHead
 use Rattle.room_types.specs.declared.refusal_statuses.Refusal.{Refusal}
 use Rattle.room_types.specs.declared.refusal_statuses.Refusal.TheVariants.{NoPath, WrongMethod}
 use Rattle.room_http_requests.specs.Parameters.{text_of}
-use Rattle.room_http_requests.specs.RequestTable.{allow_of, is_of_history, named_by, path_of, pattern_of}
+use Rattle.room_http_requests.specs.RequestTable.{allow_of, is_of_history, named_by, path_of}
+use Rattle.room_http_requests.specs.RequestTable.{pattern_of}
 use Rattle.room_http_requests.specs.declared.request_table.Path.{Path}
 use Rattle.room_http_requests.specs.declared.request_table.Target.{Target}
 use Rattle.room_http_requests.specs.declared.request_table.TheConstants.{PATHS}

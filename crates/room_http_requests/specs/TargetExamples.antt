@@ -1,7 +1,7 @@
 -- Which targets name which paths: each path by a target that fills its pattern, and in examples
 -- what targets name, and targets that miss a path narrowly.
-use Rattle.std.specs.Prelude.{Bool, true, ◌≡◌, ℕ, List, [], ◌∷◌, ◌++◌, bytes_eq, codes, if◌then◌else◌, map, option_map}
-use Rattle.std.specs.Prelude.{Some, None, Result, Ok, Err}
+use Rattle.std.specs.Prelude.{Bool, true, ◌≡◌, ℕ, List, [], ◌∷◌, ◌++◌, bytes_eq, codes}
+use Rattle.std.specs.Prelude.{if◌then◌else◌, map, option_map, Some, None, Result, Ok, Err}
 use Rattle.std.specs.List.{list_any, slice_split}
 use Rattle.room_types.specs.declared.refusal_statuses.Allow.TheVariants.{GetHead, Post}
 use Rattle.room_types.specs.declared.refusal_statuses.Refusal.{Refusal}

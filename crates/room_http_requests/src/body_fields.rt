@@ -3,7 +3,9 @@ ghost use Rattle.std.specs.Prelude.{◌≡◌, ◌≤◌, IfOk, MatchResult, Som
 ghost use Rattle.serde_json.specs.Data.{object, no_members};
 ghost use Rattle.serde_json.specs.View.{view};
 ghost use Rattle.room_types.specs.declared.refusal_statuses.Refusal.TheVariants.{BadBody, Memory};
-ghost use Rattle.room_http_requests.specs.BodyFields.{button_at, callsign_at, fields_of, has_members, needs_at, needs_of, number_at, number_in, place_at, point_at};
+ghost use Rattle.room_http_requests.specs.BodyFields.{button_at, callsign_at, fields_of};
+ghost use Rattle.room_http_requests.specs.BodyFields.{has_members, needs_at, needs_of, number_at};
+ghost use Rattle.room_http_requests.specs.BodyFields.{number_in, place_at, point_at};
 
 use room_place::bounded_numbers::Bounded;
 use room_place::places::Place;

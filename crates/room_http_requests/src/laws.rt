@@ -1,6 +1,11 @@
 //! What holds of paths and asks. A law is the contract of a function that does nothing.
 
-ghost use Rattle.room_http_requests.specs.TargetExamples.{AreFound, AreRouted, IsListed, Name, NameNothing, history_requests, incident_names, other_names, requests, stray_days, stray_incidents, stray_numbers, stray_paths, stray_points, stray_vehicles, vehicle_names};
+ghost use Rattle.room_http_requests.specs.TargetExamples.{AreFound, AreRouted, IsListed, Name};
+ghost use Rattle.room_http_requests.specs.TargetExamples.{NameNothing, history_requests};
+ghost use Rattle.room_http_requests.specs.TargetExamples.{incident_names, other_names, requests};
+ghost use Rattle.room_http_requests.specs.TargetExamples.{stray_days, stray_incidents};
+ghost use Rattle.room_http_requests.specs.TargetExamples.{stray_numbers, stray_paths, stray_points};
+ghost use Rattle.room_http_requests.specs.TargetExamples.{stray_vehicles, vehicle_names};
 ghost use Rattle.std.specs.Prelude.{◌≡◌, ℕ, ℤ, List, Some, true, false, Err, IfSome};
 ghost use Rattle.room_types.specs.declared.refusal_statuses.Refusal.TheVariants.{NoPath};
 ghost use Rattle.room_http_requests.specs.RequestTable.{is_known, is_of, is_of_history, path_of};

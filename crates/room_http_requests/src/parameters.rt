@@ -1,7 +1,8 @@
 //! The parameters in a target: its segments, and the numbers that they write.
 ghost use Rattle.std.specs.Prelude.{◌≡◌, option_map};
 ghost use Rattle.room_types.specs.Numerals.{are_digits};
-ghost use Rattle.room_http_requests.specs.Parameters.{is_plain_numeral, segment_at, text_of, whole_of};
+ghost use Rattle.room_http_requests.specs.Parameters.{is_plain_numeral, segment_at, text_of};
+ghost use Rattle.room_http_requests.specs.Parameters.{whole_of};
 
 use room_place::bounded_numbers::Bounded;
 

@@ -1,7 +1,7 @@
 //! The paths in a router, and the one that a request names.
 ghost use Rattle.std.specs.Prelude.{◌≡◌, true, OnOk, IfErr};
-ghost use Rattle.room_http_requests.specs.Router.{is_allowed, is_free_for, routed};
-ghost use Rattle.room_http_requests.specs.Router.{table, with_path};
+ghost use Rattle.room_http_requests.specs.Router.{is_allowed, is_free_for, routed, table};
+ghost use Rattle.room_http_requests.specs.Router.{with_path};
 ghost use Rattle.room_types.specs.declared.refusal_statuses.Refusal.TheVariants.{Memory};
 
 use crate::parameters::text_of;

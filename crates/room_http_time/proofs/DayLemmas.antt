@@ -1,14 +1,15 @@
 -- Days lie well within the calendar that jiff has, and so their midnights within its instants.
-use Rattle.std.proofs.Common.{FitsSigned, arith, w64, ℕ, ℤ, neg_ℤ, pos, ◌+ℤ◌, ◌*ℤ◌, ◌<◌, ◌≡◌, ◌∙◌, ap}
-use Rattle.jiff.specs.Words.{ambiguous_at, civil_nanos, compatible_offset, epoch_day, instant_of, time_nanos}
-use Rattle.jiff.specs.Words.{IsTimestampNanos}
+use Rattle.std.proofs.Common.{FitsSigned, arith, w64, ℕ, ℤ, neg_ℤ, pos, ◌+ℤ◌, ◌*ℤ◌, ◌<◌, ◌≡◌, ◌∙◌}
+use Rattle.std.proofs.Common.{ap}
+use Rattle.jiff.specs.Words.{ambiguous_at, civil_nanos, compatible_offset, epoch_day, instant_of}
+use Rattle.jiff.specs.Words.{time_nanos, IsTimestampNanos}
 use Rattle.jiff_core.specs.Calendar.{day_count, days_from_civil, IsCivilDate}
 use Rattle.jiff_core.specs.declared.civil.date.Date.{Date}
 use Rattle.jiff_core.specs.declared.civil.datetime.DateTime.{DateTime}
 use Rattle.jiff_core.specs.declared.offset.Offset.{Offset}
-use Rattle.jiff_core.proofs.CalendarLemmas.{day_count-day_of_year, day_count-later_year, day_count-lt_year}
-use Rattle.jiff_core.proofs.CalendarLemmas.{day_count-min, day_count-year_bounds, days_from_civil-day_count}
-use Rattle.jiff_core.proofs.CalendarLemmas.{days_in_year_bounds}
+use Rattle.jiff_core.proofs.CalendarLemmas.{day_count-day_of_year, day_count-later_year}
+use Rattle.jiff_core.proofs.CalendarLemmas.{day_count-lt_year, day_count-min, day_count-year_bounds}
+use Rattle.jiff_core.proofs.CalendarLemmas.{days_from_civil-day_count, days_in_year_bounds}
 use Rattle.jiff_core.proofs.DateTimeLemmas.{civil_nanos-parts}
 use Rattle.jiff_core.proofs.SignedLemmas.{signed_arith}
 use Rattle.jiff_tz.specs.declared.timezone.TimeZone.{TimeZone}

@@ -1,6 +1,7 @@
 -- Two zones that one text gives have the same days: an instant that is picked goes by what the
 -- text says and by nothing else.
-use Rattle.std.proofs.Common.{ap, int_div, pos, sym, ℤ, IsTrue, None, Option, Some, option_map, ◌+ℤ◌, ◌≡◌, ◌∙◌}
+use Rattle.std.proofs.Common.{ap, int_div, pos, sym, ℤ, IsTrue, None, Option, Some, option_map}
+use Rattle.std.proofs.Common.{◌+ℤ◌, ◌≡◌, ◌∙◌}
 use Rattle.std.proofs.Props.{props}
 use Rattle.std.proofs.lemmas.Option.{none-some, same_Some}
 use mathlib.Core.HLevel.{is_prop→PathP}

@@ -1,6 +1,6 @@
 -- The days of the calendar from 1970 to 2099.
-use Rattle.std.specs.Prelude.{ℕ, List, length, slice_index, option_and_then, Bool, not, nat_le, ◌+◌, ◌-◌, ◌*◌, ◌%◌}
-use Rattle.std.specs.Prelude.{◌==◌, ◌&&◌, ◌||◌, if◌then◌else◌, Option, Some, None}
+use Rattle.std.specs.Prelude.{ℕ, List, length, slice_index, option_and_then, Bool, not, nat_le, ◌+◌}
+use Rattle.std.specs.Prelude.{◌-◌, ◌*◌, ◌%◌, ◌==◌, ◌&&◌, ◌||◌, if◌then◌else◌, Option, Some, None}
 use Rattle.std.specs.Char.{is_ascii_digit}
 
 -- every fourth year, but of the full centuries every fourth only

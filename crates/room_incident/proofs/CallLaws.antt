@@ -1,5 +1,6 @@
 -- An incident covers the calls that it gets, and a new call is its division's.
-use Rattle.std.proofs.Common.{None, Some, [], ap, arith, false, inl, inr, refl, subst, sym, true, ◌∙◌, ◌∷◌, ℕ, ◌≡◌}
+use Rattle.std.proofs.Common.{None, Some, [], ap, arith, false, inl, inr, refl, subst, sym, true}
+use Rattle.std.proofs.Common.{◌∙◌, ◌∷◌, ℕ, ◌≡◌}
 use Rattle.room_place.specs.Choice.{Among}
 use Rattle.room_place.specs.Plans.{division_of}
 use Rattle.room_types.specs.Codes.{is_active}
@@ -9,7 +10,8 @@ use Rattle.room_types.specs.declared.decisions.Decision.{Decision}
 use Rattle.room_types.specs.declared.tables.Call.{Call}
 use Rattle.room_types.specs.declared.tables.Division.{Division}
 use Rattle.room_types.specs.declared.tables.Incident.{Incident}
-use Rattle.room_model.specs.Calls.{call_in, call_kept, call_row, call_somewhere, new_incident, take_call, with_call}
+use Rattle.room_model.specs.Calls.{call_in, call_kept, call_row, call_somewhere, new_incident}
+use Rattle.room_model.specs.Calls.{take_call, with_call}
 use Rattle.room_model.specs.Queries.{kept_call}
 use Rattle.room_model.specs.Room.{Room}
 use Rattle.room_incident.proofs.MergeLaws.{larger_second}

@@ -1,6 +1,6 @@
 -- What two incidents are joined to.
-use Rattle.std.proofs.Common.{List, None, Option, Some, [], ap, arith, inl, inr, map, refl, subst, sym, ℕ, ◌∙◌, ◌∷◌}
-use Rattle.std.proofs.Common.{◌≡◌, ◌≤◌}
+use Rattle.std.proofs.Common.{List, None, Option, Some, [], ap, arith, inl, inr, map, refl, subst}
+use Rattle.std.proofs.Common.{sym, ℕ, ◌∙◌, ◌∷◌, ◌≡◌, ◌≤◌}
 use Rattle.room_place.specs.Choice.{Among}
 use Rattle.room_types.specs.Needs.{larger, need_of}
 use Rattle.room_types.specs.declared.changes.Change.{Change}

@@ -1,6 +1,7 @@
 -- What one number more does to the tallies of incidents, and what they count.
-use Rattle.std.proofs.Common.{Bool, List, [], ap, arith, cond, eq-eqb, false, get_or, length, map, not, refl, set, suc}
-use Rattle.std.proofs.Common.{sym, take, true, zero, ℕ, ◌+◌, ◌++◌, ◌<◌, ◌&&◌, ◌∙◌, ◌∷◌, ◌≡◌, ◌≤◌, ◌||◌}
+use Rattle.std.proofs.Common.{Bool, List, [], ap, arith, cond, eq-eqb, false, get_or, length, map}
+use Rattle.std.proofs.Common.{not, refl, set, suc, sym, take, true, zero, ℕ, ◌+◌, ◌++◌, ◌<◌, ◌&&◌}
+use Rattle.std.proofs.Common.{◌∙◌, ◌∷◌, ◌≡◌, ◌≤◌, ◌||◌}
 use Rattle.std.proofs.lemmas.List.{get_or-map, length-take, map-append}
 use Rattle.std.proofs.lemmas.Bool.Decides.{nat_tests}
 use Rattle.std.proofs.lemmas.List.Filters.{length-filter_both, length-filter_more}

@@ -1,6 +1,6 @@
 -- A division's incidents have numbers of their own, and those of a day are the room's.
-use Rattle.std.proofs.Common.{Bool, List, [], ap, arith, cond, get_or, length, map, refl, subst, suc, false, sym, true}
-use Rattle.std.proofs.Common.{zero, ℕ, ℤ, ◌+◌, ◌∙◌, ◌∷◌, ◌<◌, ◌≡◌, ◌≤◌}
+use Rattle.std.proofs.Common.{Bool, List, [], ap, arith, cond, get_or, length, map, refl, subst}
+use Rattle.std.proofs.Common.{suc, false, sym, true, zero, ℕ, ℤ, ◌+◌, ◌∙◌, ◌∷◌, ◌<◌, ◌≡◌, ◌≤◌}
 use Rattle.std.proofs.lemmas.Bool.{eqb-true}
 use Rattle.std.proofs.lemmas.Cmp.{nat_cmp_total, ranked, tied_itself}
 use Rattle.std.specs.List.{list_all}

@@ -3,7 +3,8 @@ ghost use Rattle.std.specs.Prelude.{◌≡◌, IfErr, IfOk, map};
 ghost use Rattle.room_types.specs.Keys.{incident_key, pair_cmp};
 ghost use Rattle.room_types.specs.declared.refusal_statuses.Refusal.TheVariants.{Memory};
 ghost use Rattle.room_types.specs.KeyedRows.{IsAt, IsGapFor, IsKeyed};
-ghost use Rattle.room_incident.specs.Tallies.{AreTallies, call_numbers, served_numbers, serves_here, times};
+ghost use Rattle.room_incident.specs.Tallies.{AreTallies, call_numbers, served_numbers};
+ghost use Rattle.room_incident.specs.Tallies.{serves_here, times};
 
 use crate::served_needs::counts;
 use room_place::plans::DivisionNumber;

@@ -1,7 +1,7 @@
 -- What another desk asks leaves a division's share as it is, where nothing is handed over.
 use Rattle.std.proofs.Common.{ap, eqb-true, inl, inr, sym}
-use Rattle.std.specs.Prelude.{Bool, List, None, Option, Some, [], false, is_none, map, not, refl, true, ℕ, ◌&&◌, ◌+◌}
-use Rattle.std.specs.Prelude.{◌==◌, ◌∷◌, ◌≡◌}
+use Rattle.std.specs.Prelude.{Bool, List, None, Option, Some, [], false, is_none, map, not, refl}
+use Rattle.std.specs.Prelude.{true, ℕ, ◌&&◌, ◌+◌, ◌==◌, ◌∷◌, ◌≡◌}
 use Rattle.room_place.specs.Choice.{Among}
 use Rattle.room_place.specs.declared.places.Place.{Place}
 use Rattle.room_types.specs.Keys.{incident_key, pair_cmp, same_callsign}
@@ -10,7 +10,8 @@ use Rattle.room_types.specs.declared.asks.Ask.{Ask}
 use Rattle.room_types.specs.declared.asks.Who.TheVariants.{Desk}
 use Rattle.room_types.specs.declared.needs.Counts.{Counts}
 use Rattle.room_types.specs.declared.codes.State.TheVariants.{Closed, Merged}
-use Rattle.room_types.specs.declared.codes.Status.TheVariants.{Available, Mobilised, OffDuty, Returning}
+use Rattle.room_types.specs.declared.codes.Status.TheVariants.{Available, Mobilised, OffDuty}
+use Rattle.room_types.specs.declared.codes.Status.TheVariants.{Returning}
 use Rattle.room_types.specs.declared.refusal_statuses.Refusal.{Refusal}
 use Rattle.room_types.specs.declared.tables.Call.{Call}
 use Rattle.room_types.specs.declared.tables.Incident.{Incident}
@@ -20,8 +21,9 @@ use Rattle.room_types.specs.declared.tables.Turn.{Turn}
 use Rattle.room_types.specs.declared.tables.Vehicle.{Vehicle}
 use Rattle.room_types.specs.Texts.{Callsign}
 use Rattle.room_model.proofs.Foreign.{AllForeign, foreign_append}
-use Rattle.room_model.proofs.Others.{IsHeld, call_foreign, held_is, incident_foreign, no_turn, other_assignment}
-use Rattle.room_model.proofs.Others.{point_foreign, report_foreign, turn_foreign, vehicle_foreign}
+use Rattle.room_model.proofs.Others.{IsHeld, call_foreign, held_is, incident_foreign, no_turn}
+use Rattle.room_model.proofs.Others.{other_assignment, point_foreign, report_foreign, turn_foreign}
+use Rattle.room_model.proofs.Others.{vehicle_foreign}
 use Rattle.room_model.proofs.Questions.{by_quiet}
 use Rattle.room_model.proofs.Tests.{among_filter, first_among, left_true, row_key}
 use Rattle.room_types.specs.Codes.{is_active}
@@ -34,7 +36,8 @@ use Rattle.room_model.specs.Queue.{clear, clear_found}
 use Rattle.room_model.specs.Room.{Room}
 use Rattle.room_model.specs.Shares.{own}
 use Rattle.room_model.specs.Step.{desk_asks}
-use Rattle.room_model.specs.Vehicles.{duty, mobilise, off, posted, stand_down, standby, standby_at, turn_stood_down}
+use Rattle.room_model.specs.Vehicles.{duty, mobilise, off, posted, stand_down, standby, standby_at}
+use Rattle.room_model.specs.Vehicles.{turn_stood_down}
 use Rattle.room_model.specs.RoomAgreements.{IsWellFormed}
 use Rattle.room_types.specs.declared.asks.Ask.TheVariants as ask
 use Rattle.room_types.specs.declared.refusal_statuses.Refusal.TheVariants as refusal

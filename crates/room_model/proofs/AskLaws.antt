@@ -1,8 +1,8 @@
 -- A desk decides alike in rooms that agree on what it asks.
 use Rattle.std.proofs.Common.{ap, eq-eqb, subst, sym, ◌∙◌}
 use Rattle.std.specs.Ordering.{is_eq, ordering_reverse}
-use Rattle.std.specs.Prelude.{Bool, List, None, Option, Some, [], is_some, length, map, nat_le, not, option_map, refl}
-use Rattle.std.specs.Prelude.{true, ℕ, ℤ, ◌&&◌, ◌++◌, ◌-◌, ◌==◌, ◌≡◌}
+use Rattle.std.specs.Prelude.{Bool, List, None, Option, Some, [], is_some, length, map, nat_le, not}
+use Rattle.std.specs.Prelude.{option_map, refl, true, ℕ, ℤ, ◌&&◌, ◌++◌, ◌-◌, ◌==◌, ◌≡◌}
 use Rattle.std.specs.declared.cmp.Ordering.{Ordering}
 use Rattle.std.specs.declared.cmp.Ordering.TheVariants.{Equal, Greater, Less}
 use Rattle.room_place.specs.Choice.{Among, chosen}
@@ -27,21 +27,24 @@ use Rattle.room_types.specs.Codes.{is_active, is_free}
 use Rattle.room_types.specs.Needs.{need_of, needs_by}
 use Rattle.room_model.specs.DayTimes.{show_times, times_line, times_of}
 use Rattle.room_model.specs.Decisions.{Verdict, refuse_if, show, where_active, where_held}
-use Rattle.room_model.specs.Incidents.{change_needs, close, close_active, history_of, incident_line, lacking, merge}
-use Rattle.room_model.specs.Incidents.{merge_of, needs_changed, show_incident, show_incidents}
-use Rattle.room_model.specs.Loans.{accept, accepted, decline, declined, give_back, given_back, lend, offered, recall}
-use Rattle.room_model.specs.Loans.{recall_lent, show_loans, show_offers, withdraw, withdrawn}
+use Rattle.room_model.specs.Incidents.{change_needs, close, close_active, history_of, incident_line}
+use Rattle.room_model.specs.Incidents.{lacking, merge, merge_of, needs_changed, show_incident}
+use Rattle.room_model.specs.Incidents.{show_incidents}
+use Rattle.room_model.specs.Loans.{accept, accepted, decline, declined, give_back, given_back, lend}
+use Rattle.room_model.specs.Loans.{offered, recall, recall_lent, show_loans, show_offers, withdraw}
+use Rattle.room_model.specs.Loans.{withdrawn}
 use Rattle.room_model.specs.Points.{breaks_post, is_short, point_line, show_points}
-use Rattle.room_model.specs.Proposals.{all_proposed, candidates, eligible, is_before, proposal_of, propose, proposed}
-use Rattle.room_model.specs.Queries.{active_incidents, all_held, assignment_of, borrowed, calls_of, held, holders}
-use Rattle.room_model.specs.Queries.{incident_of, incidents_opened, is_attended, is_eligible, lent, loans_of}
-use Rattle.room_model.specs.Queries.{offered_by, offered_to, offers_of, open_turn, point_of, points_of, report_of}
-use Rattle.room_model.specs.Queries.{served, turns_of}
+use Rattle.room_model.specs.Proposals.{all_proposed, candidates, eligible, is_before, proposal_of}
+use Rattle.room_model.specs.Proposals.{propose, proposed}
+use Rattle.room_model.specs.Queries.{active_incidents, all_held, assignment_of, borrowed, calls_of}
+use Rattle.room_model.specs.Queries.{held, holders, incident_of, incidents_opened, is_attended}
+use Rattle.room_model.specs.Queries.{is_eligible, lent, loans_of, offered_by, offered_to, offers_of}
+use Rattle.room_model.specs.Queries.{open_turn, point_of, points_of, report_of, served, turns_of}
 use Rattle.room_model.specs.Queue.{clear, clear_found, entries, ordered_from, show_queue}
 use Rattle.room_model.specs.Room.{Room}
 use Rattle.room_model.specs.Step.{desk_asks}
-use Rattle.room_model.specs.Vehicles.{duty, mobilise, mobilise_held, off, posted, show_vehicles, stand_down}
-use Rattle.room_model.specs.Vehicles.{stand_down_held, standby, stands_by, vehicle_line}
+use Rattle.room_model.specs.Vehicles.{duty, mobilise, mobilise_held, off, posted, show_vehicles}
+use Rattle.room_model.specs.Vehicles.{stand_down, stand_down_held, standby, stands_by, vehicle_line}
 use Rattle.room_model.specs.WorkingRows.{reads_point}
 use Rattle.room_types.specs.declared.answers.Answer.TheVariants as answer
 use Rattle.room_types.specs.declared.asks.Ask.TheVariants as ask

@@ -10,7 +10,8 @@ use Rattle.room_types.specs.declared.tables.Turn.{Turn}
 use Rattle.room_types.specs.declared.tables.Vehicle.{Vehicle}
 use Rattle.room_model.proofs.Tests.{row_among}
 use Rattle.room_model.specs.Room.{Room}
-use Rattle.room_model.specs.RoomAgreements.{AssignmentAgrees, IsWellFormed, OpenAgrees, SameIncident, TurnAgrees}
+use Rattle.room_model.specs.RoomAgreements.{AssignmentAgrees, IsWellFormed, OpenAgrees}
+use Rattle.room_model.specs.RoomAgreements.{SameIncident, TurnAgrees}
 
 module _ (r : Room) (w : IsWellFormed r) where
   assignment_there : (a : Assignment) → Among a r.assignments

@@ -3,8 +3,8 @@ use Rattle.std.proofs.Common.{ap, eq-eqb, eqb-true, inl, inr, sym, ◌∙◌}
 use Rattle.std.proofs.lemmas.Cmp.{nat_cmp_total}
 use Rattle.std.proofs.lemmas.Map.Lookups.{exact_unsigned}
 use Rattle.std.specs.Ordering.{nat_cmp}
-use Rattle.std.specs.Prelude.{Bool, List, None, Option, Some, [], cond, false, nat_le, refl, true, ℕ, ◌&&◌, ◌+◌, ◌==◌}
-use Rattle.std.specs.Prelude.{◌∷◌, ◌≡◌, ◌⊎◌}
+use Rattle.std.specs.Prelude.{Bool, List, None, Option, Some, [], cond, false, nat_le, refl, true}
+use Rattle.std.specs.Prelude.{ℕ, ◌&&◌, ◌+◌, ◌==◌, ◌∷◌, ◌≡◌, ◌⊎◌}
 use Rattle.room_place.specs.Choice.{Among, least, least_from}
 use Rattle.room_place.specs.Places.{distance}
 use Rattle.room_place.specs.Plans.{division_of}
@@ -29,11 +29,11 @@ use Rattle.room_model.proofs.DecisionLaws.{by_refuse}
 use Rattle.room_model.proofs.NearLaws.{near_around}
 use Rattle.room_model.proofs.OwnChanges.{own_apply_own}
 use Rattle.room_model.proofs.OwnDesk.{call_own}
-use Rattle.room_model.proofs.Tests.{among_filter, both_true, filter_filter, is_equal, keep_row, left_true, right_true}
-use Rattle.room_model.proofs.Tests.{row_key}
+use Rattle.room_model.proofs.Tests.{among_filter, both_true, filter_filter, is_equal, keep_row}
+use Rattle.room_model.proofs.Tests.{left_true, right_true, row_key}
 use Rattle.room_model.specs.Isolation.{answers_by, share_by}
-use Rattle.room_model.specs.Calls.{call_in, call_kept, call_somewhere, call_taken, new_call, new_incident, take_call}
-use Rattle.room_model.specs.Calls.{with_call}
+use Rattle.room_model.specs.Calls.{call_in, call_kept, call_somewhere, call_taken, new_call}
+use Rattle.room_model.specs.Calls.{new_incident, take_call, with_call}
 use Rattle.room_types.specs.Codes.{is_active}
 use Rattle.room_model.specs.Crossing.{CallIn, cross_call, cross_position, is_division_of}
 use Rattle.room_model.specs.Decisions.{changes_of}
@@ -43,7 +43,8 @@ use Rattle.room_model.specs.Room.{IsInOrder, Room, apply}
 use Rattle.room_model.specs.Shares.{IsPlain, own}
 use Rattle.room_model.specs.Step.{position_asks}
 use Rattle.room_model.specs.RoomAgreements.{IsWellFormed}
-use Rattle.room_model.specs.WorkingRows.{reads_calls, reads_division, reads_incident, reads_number, working}
+use Rattle.room_model.specs.WorkingRows.{reads_calls, reads_division, reads_incident, reads_number}
+use Rattle.room_model.specs.WorkingRows.{working}
 use Rattle.room_types.specs.declared.asks.Ask.TheVariants as ask
 
 -- the least of a list is one of it

@@ -1,8 +1,8 @@
 -- What an event may change: a fact of each change that an event may make is a fact of all that it
 -- makes.
 use Rattle.std.proofs.Common.{ap, inl, inr, sym, ◌∙◌}
-use Rattle.std.specs.Prelude.{Bool, List, None, Option, Some, [], false, is_some, map, not, refl, true, ℕ, ◌&&◌, ◌++◌}
-use Rattle.std.specs.Prelude.{◌==◌, ◌∷◌, ◌≡◌}
+use Rattle.std.specs.Prelude.{Bool, List, None, Option, Some, [], false, is_some, map, not, refl}
+use Rattle.std.specs.Prelude.{true, ℕ, ◌&&◌, ◌++◌, ◌==◌, ◌∷◌, ◌≡◌}
 use Rattle.room_place.specs.Choice.{Among}
 use Rattle.room_place.specs.Plans.{division_of}
 use Rattle.room_types.specs.KeyedRows.{row_at}
@@ -15,8 +15,9 @@ use Rattle.room_types.specs.declared.asks.Press.{Press}
 use Rattle.room_types.specs.declared.asks.Who.{Who}
 use Rattle.room_types.specs.declared.asks.Who.TheVariants.{Crew, Desk, Position}
 use Rattle.room_types.specs.declared.changes.Change.{Change}
-use Rattle.room_types.specs.declared.changes.Change.TheVariants.{DropAssignment, PutCall, PutLoan, PutOffer, PutReport}
-use Rattle.room_types.specs.declared.changes.Change.TheVariants.{PutVehicle, Settle}
+use Rattle.room_types.specs.declared.changes.Change.TheVariants.{DropAssignment, PutCall, PutLoan}
+use Rattle.room_types.specs.declared.changes.Change.TheVariants.{PutOffer, PutReport, PutVehicle}
+use Rattle.room_types.specs.declared.changes.Change.TheVariants.{Settle}
 use Rattle.room_types.specs.declared.codes.Button.{Button}
 use Rattle.room_types.specs.declared.codes.Status.TheVariants.{Returning}
 use Rattle.room_types.specs.declared.refusal_statuses.Refusal.{Refusal}
@@ -35,20 +36,23 @@ use Rattle.room_model.proofs.Tests.{among_filter}
 use Rattle.room_model.specs.Calls.{call_in, call_kept, call_somewhere, call_taken, new_call}
 use Rattle.room_types.specs.Codes.{is_active}
 use Rattle.room_model.specs.Decisions.{Verdict, changes_of, refuse_if, where_active, where_held}
-use Rattle.room_model.specs.Incidents.{change_needs, close, close_active, merge, merge_of, moved_call, needs_changed}
-use Rattle.room_model.specs.Loans.{accept, accepted, decline, declined, give_back, given_back, lend, offered, recall}
-use Rattle.room_model.specs.Loans.{recall_lent, withdraw, withdrawn}
-use Rattle.room_model.specs.Queries.{borrowed, calls_of, held, incident_of, is_attended, kept_call, kept_report}
-use Rattle.room_model.specs.Queries.{last_number, lent, link_target, offered_by, offered_to, open_turn, point_of}
-use Rattle.room_model.specs.Queries.{report_of, served, vehicle_at}
+use Rattle.room_model.specs.Incidents.{change_needs, close, close_active, merge, merge_of}
+use Rattle.room_model.specs.Incidents.{moved_call, needs_changed}
+use Rattle.room_model.specs.Loans.{accept, accepted, decline, declined, give_back, given_back, lend}
+use Rattle.room_model.specs.Loans.{offered, recall, recall_lent, withdraw, withdrawn}
+use Rattle.room_model.specs.Queries.{borrowed, calls_of, held, incident_of, is_attended, kept_call}
+use Rattle.room_model.specs.Queries.{kept_report, last_number, lent, link_target, offered_by}
+use Rattle.room_model.specs.Queries.{offered_to, open_turn, point_of, report_of, served, vehicle_at}
 use Rattle.room_model.specs.Queue.{clear, clear_found}
-use Rattle.room_model.specs.Reports.{back_changes, drop_changes, ends_turn, is_due, is_home, outcome_of, report_held}
-use Rattle.room_model.specs.Reports.{report_in, report_kept, report_somewhere, turn_changes}
+use Rattle.room_model.specs.Reports.{back_changes, drop_changes, ends_turn, is_due, is_home}
+use Rattle.room_model.specs.Reports.{outcome_of, report_held, report_in, report_kept}
+use Rattle.room_model.specs.Reports.{report_somewhere, turn_changes}
 use Rattle.room_model.specs.Room.{Room}
 use Rattle.room_model.specs.Shares.{ArePlain, IsPlain}
 use Rattle.room_model.specs.Step.{crew_asks, decided, desk_asks, position_asks, who_asks}
-use Rattle.room_model.specs.Vehicles.{duty, mobilise, mobilise_held, mobilised, off, off_duty, on_duty, stand_down}
-use Rattle.room_model.specs.Vehicles.{stand_down_held, standby, standby_at, stands_by, turn_stood_down}
+use Rattle.room_model.specs.Vehicles.{duty, mobilise, mobilise_held, mobilised, off, off_duty}
+use Rattle.room_model.specs.Vehicles.{on_duty, stand_down, stand_down_held, standby, standby_at}
+use Rattle.room_model.specs.Vehicles.{stands_by, turn_stood_down}
 use Rattle.room_types.specs.declared.asks.Ask.TheVariants as ask
 use Rattle.room_types.specs.declared.refusal_statuses.Refusal.TheVariants as refusal
 

@@ -2,23 +2,25 @@
 use Rattle.std.proofs.Common.{ap, eq-eqb, subst, sym, ◌∙◌}
 use Rattle.std.specs.Cmp.{IsTotalOrder}
 use Rattle.std.specs.Ordering.{is_eq, ordering_reverse}
-use Rattle.std.specs.Prelude.{Bool, List, None, Option, Some, [], cond, filter, is_none, refl, true, ℕ, ◌&&◌, ◌==◌, ◌∷◌}
-use Rattle.std.specs.Prelude.{◌≡◌}
+use Rattle.std.specs.Prelude.{Bool, List, None, Option, Some, [], cond, filter, is_none, refl, true}
+use Rattle.std.specs.Prelude.{ℕ, ◌&&◌, ◌==◌, ◌∷◌, ◌≡◌}
 use Rattle.std.specs.declared.cmp.Ordering.{Ordering}
 use Rattle.std.specs.declared.cmp.Ordering.TheVariants.{Equal, Greater, Less}
 use Rattle.room_place.specs.Choice.{first}
 use Rattle.room_types.proofs.KeyedLaws.{filter_drop, filter_put, keyed_filter, row_filter}
 use Rattle.room_types.specs.KeyedRows.{IsKeyed, drop_row, keep, put_row}
-use Rattle.room_types.specs.Keys.{assignment_key, callsign_cmp, loan_key, numbered_cmp, offer_key, report_key}
-use Rattle.room_types.specs.Keys.{same_callsign, turn_key, vehicle_key}
+use Rattle.room_types.specs.Keys.{assignment_key, callsign_cmp, loan_key, numbered_cmp, offer_key}
+use Rattle.room_types.specs.Keys.{report_key, same_callsign, turn_key, vehicle_key}
 use Rattle.room_types.specs.KeyLemmas.{callsigns_total, exact_numbered, numbered_total}
 use Rattle.room_types.specs.Texts.{Callsign}
 use Rattle.room_types.specs.declared.asks.Ask.{Ask}
 use Rattle.room_types.specs.declared.asks.Press.{Press}
 use Rattle.room_types.specs.declared.changes.Change.{Change}
-use Rattle.room_types.specs.declared.changes.Change.TheVariants.{DropAssignment, DropLoan, DropOffer, PutAssignment}
-use Rattle.room_types.specs.declared.changes.Change.TheVariants.{PutCall, PutDivision, PutIncident, PutLoan, PutOffer}
-use Rattle.room_types.specs.declared.changes.Change.TheVariants.{PutPoint, PutReport, PutTurn, PutVehicle, Settle}
+use Rattle.room_types.specs.declared.changes.Change.TheVariants.{DropAssignment, DropLoan}
+use Rattle.room_types.specs.declared.changes.Change.TheVariants.{DropOffer, PutAssignment, PutCall}
+use Rattle.room_types.specs.declared.changes.Change.TheVariants.{PutDivision, PutIncident, PutLoan}
+use Rattle.room_types.specs.declared.changes.Change.TheVariants.{PutOffer, PutPoint, PutReport}
+use Rattle.room_types.specs.declared.changes.Change.TheVariants.{PutTurn, PutVehicle, Settle}
 use Rattle.room_types.specs.declared.tables.Report.{Report}
 use Rattle.room_types.specs.declared.tables.Vehicle.{Vehicle}
 use Rattle.room_model.proofs.Changes.{all_plain, crew_all, plain_allowed}
@@ -27,8 +29,10 @@ use Rattle.room_model.proofs.Tests.{both_true, filter_filter, is_equal, keep_row
 use Rattle.room_model.specs.Decisions.{changes_of}
 use Rattle.room_model.specs.Events.{by_crew}
 use Rattle.room_model.specs.CrewRows.{in_hand}
-use Rattle.room_model.specs.Queries.{assignment_at, borrowed, held, kept_report, loan_at, open_turn, vehicle_at}
-use Rattle.room_model.specs.Reports.{last_of, order_of, report_held, report_in, report_kept, report_somewhere}
+use Rattle.room_model.specs.Queries.{assignment_at, borrowed, held, kept_report, loan_at, open_turn}
+use Rattle.room_model.specs.Queries.{vehicle_at}
+use Rattle.room_model.specs.Reports.{last_of, order_of, report_held, report_in, report_kept}
+use Rattle.room_model.specs.Reports.{report_somewhere}
 use Rattle.room_model.specs.Room.{IsInOrder, Room, apply, apply_one}
 use Rattle.room_model.specs.Shares.{ArePlain, IsPlain, mine}
 use Rattle.room_model.specs.Step.{crew_asks, room_after}

@@ -7,9 +7,10 @@ use Rattle.room_types.proofs.EachRow.{row_key}
 use Rattle.room_types.proofs.KeyedLaws.{row_filter}
 use Rattle.room_types.specs.Crews.{IsCrew}
 use Rattle.room_types.specs.KeyedRows.{IsKeyed, keep, row_at}
-use Rattle.room_types.specs.Keys.{assignment_key, callsign_cmp, loan_key, numbered_cmp, same_callsign, turn_key}
-use Rattle.room_types.specs.Keys.{vehicle_key}
-use Rattle.room_types.specs.KeyLemmas.{callsigns_total, exact_callsigns, exact_numbered, numbered_total}
+use Rattle.room_types.specs.Keys.{assignment_key, callsign_cmp, loan_key, numbered_cmp}
+use Rattle.room_types.specs.Keys.{same_callsign, turn_key, vehicle_key}
+use Rattle.room_types.specs.KeyLemmas.{callsigns_total, exact_callsigns, exact_numbered}
+use Rattle.room_types.specs.KeyLemmas.{numbered_total}
 use Rattle.room_types.specs.SentVehicles.{OrderAgrees}
 use Rattle.room_types.specs.Texts.{Callsign}
 use Rattle.room_types.specs.declared.crews.CrewRows.{CrewRows}

@@ -9,7 +9,8 @@ use Rattle.room_types.specs.declared.tables.Loan.{Loan}
 use Rattle.room_types.specs.declared.tables.Turn.{Turn}
 use Rattle.room_types.specs.declared.tables.Vehicle.{Vehicle}
 use Rattle.room_model.specs.Decisions.{Verdict, refuse_if, with_changes}
-use Rattle.room_model.specs.Reports.{is_due, is_home, report_acts, report_made, report_row, status_after, with_report}
+use Rattle.room_model.specs.Reports.{is_due, is_home, report_acts, report_made, report_row}
+use Rattle.room_model.specs.Reports.{status_after, with_report}
 use Rattle.room_types.specs.declared.answers.Answer.TheVariants as answer
 
 pub by_refuse : (P : Verdict → Type 0) (b : Bool) (e : Refusal) (x : Verdict) → P (Err e)

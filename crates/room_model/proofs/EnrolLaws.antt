@@ -5,8 +5,8 @@ use Rattle.std.proofs.lemmas.Cmp.{tied_itself}
 use Rattle.std.proofs.lemmas.Map.Lookups.{CmpEqualImpliesEq}
 use Rattle.std.specs.Cmp.{IsTotalOrder}
 use Rattle.std.specs.Ordering.{is_eq}
-use Rattle.std.specs.Prelude.{Bool, List, None, Option, Some, [], cond, false, is_some, option_map, refl, true, ℕ, ◌==◌}
-use Rattle.std.specs.Prelude.{◌∷◌, ◌≡◌, ◌⊎◌}
+use Rattle.std.specs.Prelude.{Bool, List, None, Option, Some, [], cond, false, is_some, option_map}
+use Rattle.std.specs.Prelude.{refl, true, ℕ, ◌==◌, ◌∷◌, ◌≡◌, ◌⊎◌}
 use Rattle.room_place.specs.Plans.{has_division}
 use Rattle.room_types.proofs.KeyedLaws.{keyed_put}
 use Rattle.room_types.specs.KeyedRows.{put_row, row_at}
@@ -34,12 +34,13 @@ use Rattle.room_model.proofs.Tests.{both_true}
 use Rattle.room_model.proofs.VehicleAgreements.{Agrees, agreed, kept_by}
 use Rattle.room_model.proofs.VehicleRows.{VehicleRows, bare, put_here, rows_of}
 use Rattle.room_types.specs.Codes.{same_kind}
-use Rattle.room_model.specs.FleetRows.{AreTerminals, fate_again, fate_by, fate_of, is_same_vehicle, new_terminal}
-use Rattle.room_model.specs.FleetRows.{new_vehicle, room_by, room_enrolled, terminal_at, terminal_key, terminals_by}
-use Rattle.room_model.specs.FleetRows.{terminals_enrolled, token_cmp}
+use Rattle.room_model.specs.FleetRows.{AreTerminals, fate_again, fate_by, fate_of, is_same_vehicle}
+use Rattle.room_model.specs.FleetRows.{new_terminal, new_vehicle, room_by, room_enrolled}
+use Rattle.room_model.specs.FleetRows.{terminal_at, terminal_key, terminals_by, terminals_enrolled}
+use Rattle.room_model.specs.FleetRows.{token_cmp}
 use Rattle.room_model.specs.Room.{Room}
-use Rattle.room_model.specs.RoomAgreements.{AssignmentAgrees, IsWellFormed, LoanAgrees, OfferAgrees, ReportAgrees}
-use Rattle.room_model.specs.RoomAgreements.{TurnAgrees}
+use Rattle.room_model.specs.RoomAgreements.{AssignmentAgrees, IsWellFormed, LoanAgrees, OfferAgrees}
+use Rattle.room_model.specs.RoomAgreements.{ReportAgrees, TurnAgrees}
 use Rattle.room_types.specs.declared.refusal_statuses.Refusal.TheVariants as refusal
 
 -- the rows of a callsign that no vehicle has

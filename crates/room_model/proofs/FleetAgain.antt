@@ -1,7 +1,7 @@
 -- A fleet that is imported again, after whatever came in between.
 use Rattle.std.proofs.Common.{ap, inl, inr, subst, sym, ◌∙◌}
-use Rattle.std.specs.Prelude.{Bool, List, None, Option, Some, [], cond, false, is_some, option_map, refl, true, ℕ, ◌&&◌}
-use Rattle.std.specs.Prelude.{◌==◌, ◌∷◌, ◌≡◌}
+use Rattle.std.specs.Prelude.{Bool, List, None, Option, Some, [], cond, false, is_some, option_map}
+use Rattle.std.specs.Prelude.{refl, true, ℕ, ◌&&◌, ◌==◌, ◌∷◌, ◌≡◌}
 use Rattle.room_place.specs.Plans.{has_division}
 use Rattle.room_types.specs.Codes.{same_kind}
 use Rattle.room_types.specs.KeyedRows.{row_at}
@@ -17,19 +17,21 @@ use Rattle.room_types.specs.declared.fleet.RowFate.{RowFate}
 use Rattle.room_types.specs.declared.fleet.RowFate.TheVariants.{Added, Refused, Same}
 use Rattle.room_types.specs.declared.fleet.Terminal.{Terminal}
 use Rattle.room_types.specs.declared.tables.Vehicle.{Vehicle}
-use Rattle.room_model.proofs.EnrolLaws.{IsAdded, enrolled_again, exact_tokens, is_added, terminals_kept, terminals_put}
-use Rattle.room_model.proofs.EnrolLaws.{tokens_total}
+use Rattle.room_model.proofs.EnrolLaws.{IsAdded, enrolled_again, exact_tokens, is_added}
+use Rattle.room_model.proofs.EnrolLaws.{terminals_kept, terminals_put, tokens_total}
 use Rattle.room_model.proofs.FleetStays.{fate_alike, fleet_stays}
 use Rattle.room_model.proofs.IncidentChanges.{vehicles_put}
 use Rattle.room_model.proofs.KeptCalls.{row_stays}
 use Rattle.room_model.proofs.KeptEvents.{plan_stays}
 use Rattle.room_model.proofs.Tests.{is_equal, row_key}
 use Rattle.room_model.specs.Decisions.{changes_of}
-use Rattle.room_model.specs.FleetRows.{AreTerminals, fate_again, fate_by, fate_of, fleet_at, home_and_kind, is_crew}
-use Rattle.room_model.specs.FleetRows.{is_crews_terminal, is_same_vehicle, new_terminal, new_vehicle, room_by}
-use Rattle.room_model.specs.FleetRows.{room_enrolled, terminal_at, terminal_key, terminals_by, terminals_enrolled}
+use Rattle.room_model.specs.FleetRows.{AreTerminals, fate_again, fate_by, fate_of, fleet_at}
+use Rattle.room_model.specs.FleetRows.{home_and_kind, is_crew, is_crews_terminal, is_same_vehicle}
+use Rattle.room_model.specs.FleetRows.{new_terminal, new_vehicle, room_by, room_enrolled}
+use Rattle.room_model.specs.FleetRows.{terminal_at, terminal_key, terminals_by, terminals_enrolled}
 use Rattle.room_model.specs.FleetRows.{token_cmp}
-use Rattle.room_model.specs.Fleets.{AreAgain, Imported, MayBecome, Reaching, Sent, enrolled, fates_of, since}
+use Rattle.room_model.specs.Fleets.{AreAgain, Imported, MayBecome, Reaching, Sent, enrolled}
+use Rattle.room_model.specs.Fleets.{fates_of, since}
 use Rattle.room_model.specs.Room.{Room}
 use Rattle.room_model.specs.Step.{decided, room_after}
 use Rattle.room_types.specs.declared.refusal_statuses.Refusal.TheVariants as refusal

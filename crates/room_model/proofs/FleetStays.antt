@@ -1,7 +1,7 @@
 -- No event adds a vehicle, or changes a vehicle's home or kind.
 use Rattle.std.proofs.Common.{ap, sym, ◌∙◌}
-use Rattle.std.specs.Prelude.{Bool, List, None, Option, Some, [], cond, false, is_some, map, option_map, refl, true, ℕ}
-use Rattle.std.specs.Prelude.{◌&&◌, ◌++◌, ◌==◌, ◌∷◌, ◌≡◌}
+use Rattle.std.specs.Prelude.{Bool, List, None, Option, Some, [], cond, false, is_some, map}
+use Rattle.std.specs.Prelude.{option_map, refl, true, ℕ, ◌&&◌, ◌++◌, ◌==◌, ◌∷◌, ◌≡◌}
 use Rattle.room_place.specs.Plans.{has_division}
 use Rattle.room_types.specs.KeyedRows.{row_at}
 use Rattle.room_types.specs.Keys.{callsign_cmp, vehicle_key}
@@ -14,7 +14,8 @@ use Rattle.room_types.specs.declared.asks.Press.{Press}
 use Rattle.room_types.specs.declared.asks.Who.{Who}
 use Rattle.room_types.specs.declared.asks.Who.TheVariants.{Crew, Desk, Position}
 use Rattle.room_types.specs.declared.changes.Change.{Change}
-use Rattle.room_types.specs.declared.changes.Change.TheVariants.{DropAssignment, PutReport, PutVehicle, Settle}
+use Rattle.room_types.specs.declared.changes.Change.TheVariants.{DropAssignment, PutReport}
+use Rattle.room_types.specs.declared.changes.Change.TheVariants.{PutVehicle, Settle}
 use Rattle.room_types.specs.declared.codes.Button.{Button}
 use Rattle.room_types.specs.declared.codes.Kind.{Kind}
 use Rattle.room_types.specs.declared.codes.Outcome.{Outcome}
@@ -37,24 +38,30 @@ use Rattle.room_model.proofs.Others.{held_is}
 use Rattle.room_model.proofs.Questions.{IsQuiet, by_quiet}
 use Rattle.room_model.proofs.Tests.{row_key}
 use Rattle.room_model.proofs.VehicleRows.{settle}
-use Rattle.room_model.specs.Calls.{call_in, call_kept, call_new, call_somewhere, call_taken, new_call}
+use Rattle.room_model.specs.Calls.{call_in, call_kept, call_new, call_somewhere, call_taken}
+use Rattle.room_model.specs.Calls.{new_call}
 use Rattle.room_types.specs.Codes.{acts, same_kind}
-use Rattle.room_model.specs.Decisions.{Verdict, changes_of, refuse_if, where_active, where_held, with_changes}
-use Rattle.room_model.specs.FleetRows.{AreTerminals, fate_by, fate_of, fleet_at, home_and_kind, is_crews_terminal}
-use Rattle.room_model.specs.FleetRows.{terminal_at}
-use Rattle.room_model.specs.Incidents.{change_needs, close, close_active, merge, merge_of, moved_call, needs_changed}
-use Rattle.room_model.specs.Loans.{accept, accepted, decline, declined, give_back, given_back, lend, offered, recall}
-use Rattle.room_model.specs.Loans.{recall_lent, withdraw, withdrawn}
-use Rattle.room_model.specs.Queries.{borrowed, held, incident_of, is_attended, lent, offered_by, open_turn, point_of}
-use Rattle.room_model.specs.Queries.{served}
+use Rattle.room_model.specs.Decisions.{Verdict, changes_of, refuse_if, where_active, where_held}
+use Rattle.room_model.specs.Decisions.{with_changes}
+use Rattle.room_model.specs.FleetRows.{AreTerminals, fate_by, fate_of, fleet_at, home_and_kind}
+use Rattle.room_model.specs.FleetRows.{is_crews_terminal, terminal_at}
+use Rattle.room_model.specs.Incidents.{change_needs, close, close_active, merge, merge_of}
+use Rattle.room_model.specs.Incidents.{moved_call, needs_changed}
+use Rattle.room_model.specs.Loans.{accept, accepted, decline, declined, give_back, given_back, lend}
+use Rattle.room_model.specs.Loans.{offered, recall, recall_lent, withdraw, withdrawn}
+use Rattle.room_model.specs.Queries.{borrowed, held, incident_of, is_attended, lent, offered_by}
+use Rattle.room_model.specs.Queries.{open_turn, point_of, served}
 use Rattle.room_model.specs.Queue.{clear, clear_found}
-use Rattle.room_model.specs.Reports.{back_changes, drop_changes, ends_turn, is_due, is_home, report_held, report_in}
-use Rattle.room_model.specs.Reports.{report_kept, report_made, report_row, report_somewhere, turn_changes, with_report}
+use Rattle.room_model.specs.Reports.{back_changes, drop_changes, ends_turn, is_due, is_home}
+use Rattle.room_model.specs.Reports.{report_held, report_in, report_kept, report_made, report_row}
+use Rattle.room_model.specs.Reports.{report_somewhere, turn_changes, with_report}
 use Rattle.room_model.specs.Room.{Room, apply, apply_one, settled}
 use Rattle.room_model.specs.Run.{room_run}
-use Rattle.room_model.specs.Step.{crew_asks, decided, desk_asks, position_asks, room_after, who_asks}
-use Rattle.room_model.specs.Vehicles.{duty, mobilise, mobilise_held, mobilised, off, off_duty, on_duty, stand_down}
-use Rattle.room_model.specs.Vehicles.{stand_down_held, standby, standby_at, stands_by, turn_stood_down}
+use Rattle.room_model.specs.Step.{crew_asks, decided, desk_asks, position_asks, room_after}
+use Rattle.room_model.specs.Step.{who_asks}
+use Rattle.room_model.specs.Vehicles.{duty, mobilise, mobilise_held, mobilised, off, off_duty}
+use Rattle.room_model.specs.Vehicles.{on_duty, stand_down, stand_down_held, standby, standby_at}
+use Rattle.room_model.specs.Vehicles.{stands_by, turn_stood_down}
 use Rattle.room_types.specs.declared.answers.Answer.TheVariants as answer
 use Rattle.room_types.specs.declared.asks.Ask.TheVariants as ask
 use Rattle.room_types.specs.declared.refusal_statuses.Refusal.TheVariants as refusal

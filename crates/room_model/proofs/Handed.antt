@@ -2,21 +2,24 @@
 use Rattle.std.proofs.Common.{ap, eq-eqb, eqb-true, subst, sym, ◌∙◌}
 use Rattle.std.specs.Cmp.{IsTotalOrder}
 use Rattle.std.specs.Ordering.{is_eq, ordering_reverse}
-use Rattle.std.specs.Prelude.{Bool, List, None, Option, Some, [], cond, false, filter, is_ok, not, option_map, refl}
-use Rattle.std.specs.Prelude.{true, ℕ, ◌&&◌, ◌==◌, ◌||◌, ◌∷◌, ◌≡◌}
+use Rattle.std.specs.Prelude.{Bool, List, None, Option, Some, [], cond, false, filter, is_ok, not}
+use Rattle.std.specs.Prelude.{option_map, refl, true, ℕ, ◌&&◌, ◌==◌, ◌||◌, ◌∷◌, ◌≡◌}
 use Rattle.std.specs.declared.cmp.Ordering.{Ordering}
 use Rattle.std.specs.declared.cmp.Ordering.TheVariants.{Equal, Greater, Less}
-use Rattle.room_types.proofs.KeyedLaws.{filter_put, keyed_filter, row_drop_same, row_filter, row_put}
+use Rattle.room_types.proofs.KeyedLaws.{filter_put, keyed_filter, row_drop_same, row_filter}
+use Rattle.room_types.proofs.KeyedLaws.{row_put}
 use Rattle.room_types.specs.KeyedRows.{drop_row, keep, put_row, row_at}
-use Rattle.room_types.specs.Keys.{callsign_cmp, loan_key, offer_key, owns_loan, owns_offer, owns_vehicle, vehicle_key}
+use Rattle.room_types.specs.Keys.{callsign_cmp, loan_key, offer_key, owns_loan, owns_offer}
+use Rattle.room_types.specs.Keys.{owns_vehicle, vehicle_key}
 use Rattle.room_types.specs.KeyLemmas.{callsigns_total, exact_callsigns}
 use Rattle.room_types.specs.declared.asks.Ask.{Ask}
 use Rattle.room_types.specs.declared.changes.Change.{Change}
-use Rattle.room_types.specs.declared.changes.Change.TheVariants.{DropLoan, DropOffer, PutLoan, PutOffer, PutVehicle}
-use Rattle.room_types.specs.declared.changes.Change.TheVariants.{Settle}
+use Rattle.room_types.specs.declared.changes.Change.TheVariants.{DropLoan, DropOffer, PutLoan}
+use Rattle.room_types.specs.declared.changes.Change.TheVariants.{PutOffer, PutVehicle, Settle}
 use Rattle.room_types.specs.declared.codes.Status.{Status}
-use Rattle.room_types.specs.declared.codes.Status.TheVariants.{AtHospital, AtScene, Available, Leaving, Mobilised}
-use Rattle.room_types.specs.declared.codes.Status.TheVariants.{OffDuty, Offered, Returning}
+use Rattle.room_types.specs.declared.codes.Status.TheVariants.{AtHospital, AtScene, Available}
+use Rattle.room_types.specs.declared.codes.Status.TheVariants.{Leaving, Mobilised, OffDuty, Offered}
+use Rattle.room_types.specs.declared.codes.Status.TheVariants.{Returning}
 use Rattle.room_types.specs.declared.refusal_statuses.Refusal.{Refusal}
 use Rattle.room_types.specs.declared.tables.Loan.{Loan}
 use Rattle.room_types.specs.declared.tables.Offer.{Offer}
@@ -24,18 +27,21 @@ use Rattle.room_types.specs.declared.tables.Vehicle.{Vehicle}
 use Rattle.room_types.specs.Texts.{Callsign}
 use Rattle.room_model.proofs.Apart.{local_leaves}
 use Rattle.room_model.proofs.Foreign.{IsForeign, own_foreign, own_foreign_one}
-use Rattle.room_model.proofs.Others.{IsHeld, apart_from, found_same, held_is, keep_some, none_own, put_same}
-use Rattle.room_model.proofs.Others.{vehicle_foreign}
+use Rattle.room_model.proofs.Others.{IsHeld, apart_from, found_same, held_is, keep_some, none_own}
+use Rattle.room_model.proofs.Others.{put_same, vehicle_foreign}
 use Rattle.room_model.proofs.OwnChanges.{in_order_one, own_apply_one}
 use Rattle.room_model.proofs.Tests.{or_left, or_right, row_key}
 use Rattle.room_model.specs.Isolation.{freed, marked, share_by}
 use Rattle.room_types.specs.Codes.{is_free, is_offered}
-use Rattle.room_model.specs.Crossing.{Arrive, Crossing, Declined, Left, OfferIn, Recalled, Withdrawn, cross_other}
-use Rattle.room_model.specs.Crossing.{is_loan_ended, is_local, is_offered_by, is_offered_to, newly_recalled}
+use Rattle.room_model.specs.Crossing.{Arrive, Crossing, Declined, Left, OfferIn, Recalled}
+use Rattle.room_model.specs.Crossing.{Withdrawn, cross_other, is_loan_ended, is_local}
+use Rattle.room_model.specs.Crossing.{is_offered_by, is_offered_to, newly_recalled}
 use Rattle.room_model.specs.Decisions.{Verdict, changes_of, done, refuse_if, where_held}
-use Rattle.room_model.specs.Loans.{accept, accepted, decline, declined, give_back, given_back, lend, lender_of}
-use Rattle.room_model.specs.Loans.{loan_row, offer_row, offered, recall, recall_lent, withdraw, withdrawn}
-use Rattle.room_model.specs.Queries.{borrowed, held, lent, loan_at, offer_at, offered_by, offered_to, vehicle_at}
+use Rattle.room_model.specs.Loans.{accept, accepted, decline, declined, give_back, given_back, lend}
+use Rattle.room_model.specs.Loans.{lender_of, loan_row, offer_row, offered, recall, recall_lent}
+use Rattle.room_model.specs.Loans.{withdraw, withdrawn}
+use Rattle.room_model.specs.Queries.{borrowed, held, lent, loan_at, offer_at, offered_by}
+use Rattle.room_model.specs.Queries.{offered_to, vehicle_at}
 use Rattle.room_model.specs.Room.{Room, apply, apply_one, settled}
 use Rattle.room_model.proofs.ShareChanges.{share_one}
 use Rattle.room_model.specs.Shares.{IsPlain, own}

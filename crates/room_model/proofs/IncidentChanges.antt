@@ -4,13 +4,15 @@ use Rattle.std.proofs.lemmas.Cmp.{nat_cmp_total}
 use Rattle.std.proofs.lemmas.Map.Lookups.{CmpEqualImpliesEq}
 use Rattle.std.specs.Cmp.{IsTotalOrder}
 use Rattle.std.specs.Ordering.{is_eq, nat_cmp}
-use Rattle.std.specs.Prelude.{Bool, List, None, Option, Some, cond, false, is_some, refl, true, ℕ, ◌≡◌, ◌≤◌}
+use Rattle.std.specs.Prelude.{Bool, List, None, Option, Some, cond, false, is_some, refl, true, ℕ}
+use Rattle.std.specs.Prelude.{◌≡◌, ◌≤◌}
 use Rattle.std.specs.declared.cmp.Ordering.{Ordering}
 use Rattle.room_types.proofs.KeyedLaws.{row_put}
 use Rattle.room_types.specs.KeyedRows.{put_row, row_at}
-use Rattle.room_types.specs.Keys.{call_key, callsign_cmp, division_key, incident_key, numbered_cmp, pair_cmp, point_key}
-use Rattle.room_types.specs.Keys.{turn_key, vehicle_key}
-use Rattle.room_types.specs.KeyLemmas.{callsigns_total, exact_callsigns, exact_number, exact_pair, pairs_total}
+use Rattle.room_types.specs.Keys.{call_key, callsign_cmp, division_key, incident_key, numbered_cmp}
+use Rattle.room_types.specs.Keys.{pair_cmp, point_key, turn_key, vehicle_key}
+use Rattle.room_types.specs.KeyLemmas.{callsigns_total, exact_callsigns, exact_number, exact_pair}
+use Rattle.room_types.specs.KeyLemmas.{pairs_total}
 use Rattle.room_types.specs.Texts.{Callsign}
 use Rattle.room_types.specs.declared.changes.Change.TheVariants.{PutIncident}
 use Rattle.room_types.specs.declared.tables.Call.{Call}
@@ -26,8 +28,8 @@ use Rattle.room_model.proofs.VehicleRows.{bare}
 use Rattle.room_types.specs.Codes.{is_active, is_merged}
 use Rattle.room_model.specs.Room.{IsInOrder, Room}
 use Rattle.room_types.specs.Slices.{IsActive}
-use Rattle.room_model.specs.RoomAgreements.{CallAgrees, IsOfIncident, IsPost, IsWellFormed, NumberAgrees, OpenedAgrees}
-use Rattle.room_model.specs.RoomAgreements.{PostAgrees, TurnIsActive}
+use Rattle.room_model.specs.RoomAgreements.{CallAgrees, IsOfIncident, IsPost, IsWellFormed}
+use Rattle.room_model.specs.RoomAgreements.{NumberAgrees, OpenedAgrees, PostAgrees, TurnIsActive}
 
 -- what is found at each key, after a row was put
 pub put_rows : {R K : Type 0} (cmp : K → K → Ordering) (key : R → K) (total : IsTotalOrder cmp)

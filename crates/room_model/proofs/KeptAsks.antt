@@ -1,15 +1,17 @@
 -- A desk's asks about vehicles, and a point that is set, keep a room well-formed.
 use Rattle.std.proofs.Common.{ap, inl, inr, subst, sym, ◌∙◌}
-use Rattle.std.specs.Prelude.{Bool, IfSome, None, Option, Some, [], false, is_some, refl, true, ℕ, ◌++◌, ◌+◌, ◌∷◌, ◌≡◌}
+use Rattle.std.specs.Prelude.{Bool, IfSome, None, Option, Some, [], false, is_some, refl, true, ℕ}
+use Rattle.std.specs.Prelude.{◌++◌, ◌+◌, ◌∷◌, ◌≡◌}
 use Rattle.room_place.specs.Plans.{has_division}
 use Rattle.room_place.specs.declared.places.Place.{Place}
 use Rattle.room_types.specs.KeyedRows.{row_at}
 use Rattle.room_types.specs.Keys.{incident_key, numbered_cmp, pair_cmp, point_key, turn_key}
 use Rattle.room_types.specs.KeyLemmas.{exact_numbered, numbered_total, pairs_total}
 use Rattle.room_types.specs.Texts.{Callsign}
-use Rattle.room_types.specs.declared.changes.Change.TheVariants.{DropAssignment, PutAssignment, PutIncident, PutTurn}
-use Rattle.room_types.specs.declared.changes.Change.TheVariants.{PutVehicle}
-use Rattle.room_types.specs.declared.codes.Status.TheVariants.{Available, Mobilised, OffDuty, Returning}
+use Rattle.room_types.specs.declared.changes.Change.TheVariants.{DropAssignment, PutAssignment}
+use Rattle.room_types.specs.declared.changes.Change.TheVariants.{PutIncident, PutTurn, PutVehicle}
+use Rattle.room_types.specs.declared.codes.Status.TheVariants.{Available, Mobilised, OffDuty}
+use Rattle.room_types.specs.declared.codes.Status.TheVariants.{Returning}
 use Rattle.room_types.specs.declared.refusal_statuses.Refusal.{Refusal}
 use Rattle.room_types.specs.declared.tables.Incident.{Incident}
 use Rattle.room_types.specs.declared.tables.Report.{Report}
@@ -20,17 +22,20 @@ use Rattle.room_model.proofs.OpenTurns.{open_held, open_there}
 use Rattle.room_model.proofs.Others.{IsHeld, held_is}
 use Rattle.room_model.proofs.Tests.{row_key}
 use Rattle.room_model.proofs.TurnChanges.{put_some, stood_down_agrees, with_turn}
-use Rattle.room_model.proofs.VehicleAgreements.{Agrees, IsLast, agreed, free_is_idle, kept_by, known}
-use Rattle.room_model.proofs.VehicleChanges.{idle_agrees, is_true, like_post, mobilised_agrees, off_is, replaced}
+use Rattle.room_model.proofs.VehicleAgreements.{Agrees, IsLast, agreed, free_is_idle, kept_by}
+use Rattle.room_model.proofs.VehicleAgreements.{known}
+use Rattle.room_model.proofs.VehicleChanges.{idle_agrees, is_true, like_post, mobilised_agrees}
+use Rattle.room_model.proofs.VehicleChanges.{off_is, replaced}
 use Rattle.room_model.proofs.VehicleRows.{VehicleRows, bare, put_at, put_here, rows_of}
 use Rattle.room_types.specs.Codes.{is_active, is_busy, is_free, is_offered}
-use Rattle.room_model.specs.Decisions.{Verdict, changes_of, done, refuse_if, where_active, where_held}
+use Rattle.room_model.specs.Decisions.{Verdict, changes_of, done, refuse_if, where_active}
+use Rattle.room_model.specs.Decisions.{where_held}
 use Rattle.room_model.specs.Moments.{first_of}
 use Rattle.room_model.specs.Queries.{held, incident_of, lent, open_turn, point_of, served}
 use Rattle.room_model.specs.Room.{Room, apply}
-use Rattle.room_model.specs.Vehicles.{assignment_row, duty, mobilise, mobilise_held, mobilised, off, off_duty, on_duty}
-use Rattle.room_model.specs.Vehicles.{posted, stand_down, stand_down_held, standby, standby_at, stands_by, turn_row}
-use Rattle.room_model.specs.Vehicles.{turn_stood_down}
+use Rattle.room_model.specs.Vehicles.{assignment_row, duty, mobilise, mobilise_held, mobilised, off}
+use Rattle.room_model.specs.Vehicles.{off_duty, on_duty, posted, stand_down, stand_down_held}
+use Rattle.room_model.specs.Vehicles.{standby, standby_at, stands_by, turn_row, turn_stood_down}
 use Rattle.room_types.specs.Slices.{IsActive}
 use Rattle.room_model.specs.RoomAgreements.{IsPost, IsWellFormed, ReportAgrees}
 

@@ -4,8 +4,8 @@ use Rattle.std.proofs.lemmas.Cmp.{nat_cmp_total}
 use Rattle.std.proofs.lemmas.Map.Lookups.{CmpEqualImpliesEq}
 use Rattle.std.specs.Cmp.{IsTotalOrder}
 use Rattle.std.specs.Ordering.{nat_cmp}
-use Rattle.std.specs.Prelude.{Bool, List, None, Option, Some, [], cond, false, filter, is_some, min, refl, true, ℕ, ◌+◌}
-use Rattle.std.specs.Prelude.{◌==◌, ◌∷◌, ◌≡◌, ◌≤◌, ◌⊎◌}
+use Rattle.std.specs.Prelude.{Bool, List, None, Option, Some, [], cond, false, filter, is_some, min}
+use Rattle.std.specs.Prelude.{refl, true, ℕ, ◌+◌, ◌==◌, ◌∷◌, ◌≡◌, ◌≤◌, ◌⊎◌}
 use Rattle.std.specs.declared.cmp.Ordering.{Ordering}
 use Rattle.room_place.specs.Choice.{Among, least_from}
 use Rattle.room_place.specs.Plans.{division_of, has_division}
@@ -18,19 +18,20 @@ use Rattle.room_types.specs.declared.changes.Change.TheVariants.{PutCall, PutDiv
 use Rattle.room_types.specs.declared.tables.Call.{Call}
 use Rattle.room_types.specs.declared.tables.Division.{Division}
 use Rattle.room_types.specs.declared.tables.Incident.{Incident}
-use Rattle.room_model.proofs.IncidentChanges.{amended_kept, calls_put, divisions_put, found_key, incidents_put}
-use Rattle.room_model.proofs.IncidentChanges.{no_later, put_active, put_rows}
+use Rattle.room_model.proofs.IncidentChanges.{amended_kept, calls_put, divisions_put, found_key}
+use Rattle.room_model.proofs.IncidentChanges.{incidents_put, no_later, put_active, put_rows}
 use Rattle.room_model.proofs.KeptAsks.{Kept, refuse_kept}
 use Rattle.room_model.proofs.KeptIncidents.{active_not_merged}
 use Rattle.room_model.proofs.OwnChanges.{in_order_apply}
 use Rattle.room_model.proofs.Tests.{among_filter, left_true, right_true, row_among, row_key}
 use Rattle.room_model.proofs.VehicleRows.{bare, put_here}
-use Rattle.room_model.specs.Calls.{call_in, call_kept, call_new, call_row, call_somewhere, call_taken, new_incident}
-use Rattle.room_model.specs.Calls.{take_call, with_call}
+use Rattle.room_model.specs.Calls.{call_in, call_kept, call_new, call_row, call_somewhere}
+use Rattle.room_model.specs.Calls.{call_taken, new_incident, take_call, with_call}
 use Rattle.room_types.specs.Codes.{is_active}
 use Rattle.room_model.specs.Queries.{is_candidate, is_nearer, kept_call, last_number, link_target}
 use Rattle.room_model.specs.Room.{IsInOrder, Room}
-use Rattle.room_model.specs.RoomAgreements.{CallAgrees, IsGiven, IsOfIncident, IsWellFormed, NumberAgrees, OpenedAgrees}
+use Rattle.room_model.specs.RoomAgreements.{CallAgrees, IsGiven, IsOfIncident, IsWellFormed}
+use Rattle.room_model.specs.RoomAgreements.{NumberAgrees, OpenedAgrees}
 
 -- a row that is there stays, where one with a new key is put
 pub row_stays : {R K : Type 0} (cmp : K → K → Ordering) (key : R → K) (total : IsTotalOrder cmp)

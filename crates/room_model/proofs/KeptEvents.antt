@@ -10,16 +10,19 @@ use Rattle.room_types.specs.declared.asks.Event.{Event}
 use Rattle.room_types.specs.declared.asks.Who.{Who}
 use Rattle.room_types.specs.declared.asks.Who.TheVariants.{Crew, Desk, Position}
 use Rattle.room_types.specs.declared.changes.Change.{Change}
-use Rattle.room_types.specs.declared.changes.Change.TheVariants.{DropAssignment, DropLoan, DropOffer, PutAssignment}
-use Rattle.room_types.specs.declared.changes.Change.TheVariants.{PutCall, PutDivision, PutIncident, PutLoan, PutOffer}
-use Rattle.room_types.specs.declared.changes.Change.TheVariants.{PutPoint, PutReport, PutTurn, PutVehicle, Settle}
+use Rattle.room_types.specs.declared.changes.Change.TheVariants.{DropAssignment, DropLoan}
+use Rattle.room_types.specs.declared.changes.Change.TheVariants.{DropOffer, PutAssignment, PutCall}
+use Rattle.room_types.specs.declared.changes.Change.TheVariants.{PutDivision, PutIncident, PutLoan}
+use Rattle.room_types.specs.declared.changes.Change.TheVariants.{PutOffer, PutPoint, PutReport}
+use Rattle.room_types.specs.declared.changes.Change.TheVariants.{PutTurn, PutVehicle, Settle}
 use Rattle.room_types.specs.declared.tables.Vehicle.{Vehicle}
 use Rattle.room_model.proofs.IncidentChanges.{vehicles_put}
-use Rattle.room_model.proofs.KeptAsks.{Kept, duty_kept, mobilise_kept, off_kept, stand_down_kept, standby_kept}
+use Rattle.room_model.proofs.KeptAsks.{Kept, duty_kept, mobilise_kept, off_kept, stand_down_kept}
+use Rattle.room_model.proofs.KeptAsks.{standby_kept}
 use Rattle.room_model.proofs.KeptCalls.{take_call_kept}
 use Rattle.room_model.proofs.KeptIncidents.{clear_kept, close_kept, needs_kept, set_point_kept}
-use Rattle.room_model.proofs.KeptLoans.{accept_kept, decline_kept, give_back_kept, lend_kept, recall_kept}
-use Rattle.room_model.proofs.KeptLoans.{withdraw_kept}
+use Rattle.room_model.proofs.KeptLoans.{accept_kept, decline_kept, give_back_kept, lend_kept}
+use Rattle.room_model.proofs.KeptLoans.{recall_kept, withdraw_kept}
 use Rattle.room_model.proofs.KeptMerge.{merge_kept}
 use Rattle.room_model.proofs.KeptReports.{take_report_kept}
 use Rattle.room_model.proofs.Questions.{IsQuiet, by_quiet}
@@ -31,8 +34,8 @@ use Rattle.room_model.specs.Decisions.{changes_of}
 use Rattle.room_model.specs.Queries.{vehicle_at}
 use Rattle.room_model.specs.Room.{Room, apply, apply_one, settled}
 use Rattle.room_model.specs.Run.{room_run}
-use Rattle.room_model.specs.Step.{IsAddressed, crew_asks, decided, desk_asks, is_crews, is_desks, is_for, position_asks}
-use Rattle.room_model.specs.Step.{room_after, who_asks}
+use Rattle.room_model.specs.Step.{IsAddressed, crew_asks, decided, desk_asks, is_crews, is_desks}
+use Rattle.room_model.specs.Step.{is_for, position_asks, room_after, who_asks}
 use Rattle.room_model.specs.RoomAgreements.{IsWellFormed}
 use Rattle.room_types.specs.declared.asks.Ask.TheVariants as ask
 

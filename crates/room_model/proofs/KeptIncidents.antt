@@ -1,13 +1,14 @@
 -- Asks about incidents and points keep a room well-formed.
 use Rattle.std.proofs.Common.{ap, eq-eqb, inl, inr, subst, sym, ◌∙◌}
 use Rattle.std.specs.List.{list_any}
-use Rattle.std.specs.Prelude.{Bool, IfSome, List, None, Option, Some, [], false, is_none, is_some, refl, true, ℕ, ◌&&◌}
-use Rattle.std.specs.Prelude.{◌==◌, ◌||◌, ◌∷◌, ◌≡◌}
+use Rattle.std.specs.Prelude.{Bool, IfSome, List, None, Option, Some, [], false, is_none, is_some}
+use Rattle.std.specs.Prelude.{refl, true, ℕ, ◌&&◌, ◌==◌, ◌||◌, ◌∷◌, ◌≡◌}
 use Rattle.room_place.specs.Choice.{Among}
 use Rattle.room_place.specs.Plans.{has_division}
 use Rattle.room_place.specs.declared.places.Place.{Place}
 use Rattle.room_types.specs.KeyedRows.{put_row, row_at}
-use Rattle.room_types.specs.Keys.{incident_key, numbered_cmp, pair_cmp, point_key, report_key, turn_key}
+use Rattle.room_types.specs.Keys.{incident_key, numbered_cmp, pair_cmp, point_key, report_key}
+use Rattle.room_types.specs.Keys.{turn_key}
 use Rattle.room_types.specs.KeyLemmas.{exact_numbered, numbered_total}
 use Rattle.room_types.specs.Texts.{Callsign}
 use Rattle.room_types.specs.declared.changes.Change.TheVariants.{PutPoint, PutReport}

@@ -1,14 +1,14 @@
 -- Offers and loans keep a room well-formed.
 use Rattle.std.proofs.Common.{ap, eq-eqb, eqb-true, inl, inr, subst, sym, ◌∙◌}
-use Rattle.std.specs.Prelude.{Bool, None, Option, Some, [], cond, false, option_map, refl, true, ℕ, ◌==◌, ◌||◌, ◌∷◌}
-use Rattle.std.specs.Prelude.{◌≡◌, ◌≢◌, ◌⊎◌}
+use Rattle.std.specs.Prelude.{Bool, None, Option, Some, [], cond, false, option_map, refl, true, ℕ}
+use Rattle.std.specs.Prelude.{◌==◌, ◌||◌, ◌∷◌, ◌≡◌, ◌≢◌, ◌⊎◌}
 use Rattle.room_place.specs.Plans.{has_division}
 use Rattle.room_types.specs.KeyedRows.{keep, row_at}
 use Rattle.room_types.specs.Keys.{callsign_cmp, loan_key, offer_key, vehicle_key}
 use Rattle.room_types.specs.KeyLemmas.{callsigns_total, exact_callsigns}
 use Rattle.room_types.specs.Texts.{Callsign}
-use Rattle.room_types.specs.declared.changes.Change.TheVariants.{DropLoan, DropOffer, PutLoan, PutOffer, PutVehicle}
-use Rattle.room_types.specs.declared.changes.Change.TheVariants.{Settle}
+use Rattle.room_types.specs.declared.changes.Change.TheVariants.{DropLoan, DropOffer, PutLoan}
+use Rattle.room_types.specs.declared.changes.Change.TheVariants.{PutOffer, PutVehicle, Settle}
 use Rattle.room_types.specs.declared.codes.Status.TheVariants.{Available, Offered}
 use Rattle.room_types.specs.declared.tables.Loan.{Loan}
 use Rattle.room_types.specs.declared.tables.Offer.{Offer}
@@ -17,10 +17,12 @@ use Rattle.room_model.proofs.KeptAsks.{Kept, held_kept, refuse_kept}
 use Rattle.room_model.proofs.Others.{IsHeld, keep_some}
 use Rattle.room_model.proofs.Tests.{row_key}
 use Rattle.room_model.proofs.VehicleAgreements.{Agrees, agreed, kept_by, known}
-use Rattle.room_model.proofs.VehicleChanges.{is_true, offered_agrees, returned_agrees, settled_agrees}
+use Rattle.room_model.proofs.VehicleChanges.{is_true, offered_agrees, returned_agrees}
+use Rattle.room_model.proofs.VehicleChanges.{settled_agrees}
 use Rattle.room_model.proofs.VehicleRows.{VehicleRows, bare, rows_of, settle}
-use Rattle.room_model.specs.Loans.{accept, accepted, decline, declined, give_back, given_back, lend, lender_of}
-use Rattle.room_model.specs.Loans.{loan_row, offer_row, offered, recall, recall_lent, withdraw, withdrawn}
+use Rattle.room_model.specs.Loans.{accept, accepted, decline, declined, give_back, given_back, lend}
+use Rattle.room_model.specs.Loans.{lender_of, loan_row, offer_row, offered, recall, recall_lent}
+use Rattle.room_model.specs.Loans.{withdraw, withdrawn}
 use Rattle.room_model.specs.Queries.{borrowed, held, lent, offered_by, offered_to}
 use Rattle.room_model.specs.Room.{Room}
 use Rattle.room_model.specs.RoomAgreements.{IsWellFormed, LoanAgrees, OfferAgrees}

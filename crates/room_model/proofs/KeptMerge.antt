@@ -2,8 +2,8 @@
 use Rattle.std.proofs.Common.{ap, arith, eq-eqb, eqb-true, inl, inr, subst, sym, ◌∙◌}
 use Rattle.std.proofs.lemmas.Cmp.{tied_itself}
 use Rattle.std.specs.Ordering.{is_eq}
-use Rattle.std.specs.Prelude.{Bool, List, None, Option, Some, [], cond, false, filter, map, refl, true, ℕ, ◌&&◌, ◌==◌}
-use Rattle.std.specs.Prelude.{◌∷◌, ◌≡◌, ◌≢◌}
+use Rattle.std.specs.Prelude.{Bool, List, None, Option, Some, [], cond, false, filter, map, refl}
+use Rattle.std.specs.Prelude.{true, ℕ, ◌&&◌, ◌==◌, ◌∷◌, ◌≡◌, ◌≢◌}
 use Rattle.room_types.proofs.KeyedLaws.{keyed_filter, row_below, row_filter, row_put}
 use Rattle.room_types.specs.KeyedRows.{IsKeyed, keep, put_row, row_at}
 use Rattle.room_types.specs.Keys.{call_key, incident_key, pair_cmp}
@@ -12,7 +12,8 @@ use Rattle.room_types.specs.declared.changes.Change.TheVariants.{PutIncident}
 use Rattle.room_types.specs.declared.codes.State.TheVariants.{Merged}
 use Rattle.room_types.specs.declared.tables.Call.{Call}
 use Rattle.room_types.specs.declared.tables.Incident.{Incident}
-use Rattle.room_model.proofs.IncidentChanges.{amended_kept, incidents_put, no_later, put_active, with_incident}
+use Rattle.room_model.proofs.IncidentChanges.{amended_kept, incidents_put, no_later, put_active}
+use Rattle.room_model.proofs.IncidentChanges.{with_incident}
 use Rattle.room_model.proofs.KeptAsks.{Kept, refuse_kept}
 use Rattle.room_model.proofs.KeptCalls.{min_either}
 use Rattle.room_model.proofs.KeptIncidents.{active_not_merged, incident_there, unattended}
@@ -25,7 +26,8 @@ use Rattle.room_types.specs.Codes.{is_active}
 use Rattle.room_model.specs.Incidents.{joined, merge, merge_of, moved_call}
 use Rattle.room_model.specs.Queries.{calls_of, incident_of, is_attended}
 use Rattle.room_model.specs.Room.{IsInOrder, Room, apply, apply_one}
-use Rattle.room_model.specs.RoomAgreements.{CallAgrees, IsOfIncident, IsWellFormed, NumberAgrees, OpenedAgrees}
+use Rattle.room_model.specs.RoomAgreements.{CallAgrees, IsOfIncident, IsWellFormed, NumberAgrees}
+use Rattle.room_model.specs.RoomAgreements.{OpenedAgrees}
 
 -- calls, each put with another incident
 abbrev pub put_calls : ℕ → List Call → List Call → List Call

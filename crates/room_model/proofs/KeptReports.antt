@@ -1,7 +1,7 @@
 -- A crew's report keeps a room well-formed.
 use Rattle.std.proofs.Common.{ap, inl, inr, subst, sym, ◌∙◌}
-use Rattle.std.specs.Prelude.{Bool, None, Option, Some, [], cond, false, is_some, nat_lt, not, refl, true, ℕ, ◌&&◌}
-use Rattle.std.specs.Prelude.{◌++◌, ◌==◌, ◌∷◌, ◌≡◌, ◌≢◌, ◌≤◌, ◌⊎◌}
+use Rattle.std.specs.Prelude.{Bool, None, Option, Some, [], cond, false, is_some, nat_lt, not, refl}
+use Rattle.std.specs.Prelude.{true, ℕ, ◌&&◌, ◌++◌, ◌==◌, ◌∷◌, ◌≡◌, ◌≢◌, ◌≤◌, ◌⊎◌}
 use Rattle.room_types.specs.Texts.{Callsign}
 use Rattle.room_types.specs.declared.asks.Press.{Press}
 use Rattle.room_types.specs.declared.changes.Change.TheVariants.{PutReport, PutVehicle}
@@ -9,8 +9,9 @@ use Rattle.room_types.specs.declared.codes.Button.{Button}
 use Rattle.room_types.specs.declared.codes.Outcome.{Outcome}
 use Rattle.room_types.specs.declared.codes.Outcome.TheVariants.{Late, Stale}
 use Rattle.room_types.specs.declared.codes.Status.{Status}
-use Rattle.room_types.specs.declared.codes.Status.TheVariants.{AtHospital, AtScene, Available, Leaving, Mobilised}
-use Rattle.room_types.specs.declared.codes.Status.TheVariants.{OffDuty, Offered, Returning}
+use Rattle.room_types.specs.declared.codes.Status.TheVariants.{AtHospital, AtScene, Available}
+use Rattle.room_types.specs.declared.codes.Status.TheVariants.{Leaving, Mobilised, OffDuty, Offered}
+use Rattle.room_types.specs.declared.codes.Status.TheVariants.{Returning}
 use Rattle.room_types.specs.declared.tables.Assignment.{Assignment}
 use Rattle.room_types.specs.declared.tables.Loan.{Loan}
 use Rattle.room_types.specs.declared.tables.Report.{Report}
@@ -20,20 +21,25 @@ use Rattle.room_model.proofs.KeptAsks.{Kept, refuse_kept}
 use Rattle.room_model.proofs.KeptLoans.{borrowed_either, lender_is_home}
 use Rattle.room_model.proofs.OpenTurns.{open_held, open_there}
 use Rattle.room_model.proofs.Others.{IsHeld, held_is}
-use Rattle.room_model.proofs.TurnChanges.{IsOpenTurn, IsTurnOf, divisions_of_reports, divisions_of_turns, ended_turns}
-use Rattle.room_model.proofs.TurnChanges.{incidents_stay, last_up, moved_turns, reports_up, still_active, with_turn}
-use Rattle.room_model.proofs.VehicleAgreements.{Agrees, agreed, free_is_idle, kept_by, known, like_assignment}
+use Rattle.room_model.proofs.TurnChanges.{IsOpenTurn, IsTurnOf, divisions_of_reports}
+use Rattle.room_model.proofs.TurnChanges.{divisions_of_turns, ended_turns, incidents_stay, last_up}
+use Rattle.room_model.proofs.TurnChanges.{moved_turns, reports_up, still_active, with_turn}
+use Rattle.room_model.proofs.VehicleAgreements.{Agrees, agreed, free_is_idle, kept_by, known}
+use Rattle.room_model.proofs.VehicleAgreements.{like_assignment}
 use Rattle.room_model.proofs.VehicleChanges.{like_offer, like_post, returned_agrees}
-use Rattle.room_model.proofs.VehicleRows.{AllConcern, VehicleRows, all_after, all_concern, bare, put_at, rows_of}
+use Rattle.room_model.proofs.VehicleRows.{AllConcern, VehicleRows, all_after, all_concern, bare}
+use Rattle.room_model.proofs.VehicleRows.{put_at, rows_of}
 use Rattle.room_types.specs.Codes.{acts, is_busy, is_free, is_offered}
 use Rattle.room_model.specs.Decisions.{changes_of, with_changes}
 use Rattle.room_model.specs.Queries.{borrowed, held, kept_report, open_turn, vehicle_at}
-use Rattle.room_model.specs.Reports.{back_changes, drop_changes, ends_turn, is_acknowledged, is_due, is_home}
-use Rattle.room_model.specs.Reports.{names_order, outcome_of, press, report_acts, report_held, report_in, report_kept}
-use Rattle.room_model.specs.Reports.{report_made, report_row, report_somewhere, status_after, take_report, turn_after}
+use Rattle.room_model.specs.Reports.{back_changes, drop_changes, ends_turn, is_acknowledged, is_due}
+use Rattle.room_model.specs.Reports.{is_home, names_order, outcome_of, press, report_acts}
+use Rattle.room_model.specs.Reports.{report_held, report_in, report_kept, report_made, report_row}
+use Rattle.room_model.specs.Reports.{report_somewhere, status_after, take_report, turn_after}
 use Rattle.room_model.specs.Reports.{turn_changes, vehicle_after, with_report}
 use Rattle.room_model.specs.Room.{Room, apply}
-use Rattle.room_model.specs.RoomAgreements.{AssignmentAgrees, IsWellFormed, LoanAgrees, SameIncident, TurnAgrees}
+use Rattle.room_model.specs.RoomAgreements.{AssignmentAgrees, IsWellFormed, LoanAgrees}
+use Rattle.room_model.specs.RoomAgreements.{SameIncident, TurnAgrees}
 use Rattle.room_types.specs.declared.answers.Answer.TheVariants as answer
 use Rattle.room_types.specs.declared.codes.Button.TheVariants as button
 

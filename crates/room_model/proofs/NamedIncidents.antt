@@ -1,6 +1,7 @@
 -- What comes of an ask that names an incident which isn't there, or isn't active.
 use Rattle.std.proofs.Common.{ap, eqb-true, inl, inr, subst, sym, ◌∙◌}
-use Rattle.std.specs.Prelude.{Bool, Err, IfSome, List, None, Option, Some, false, not, refl, true, ℕ, ◌==◌, ◌≡◌, ◌⊎◌}
+use Rattle.std.specs.Prelude.{Bool, Err, IfSome, List, None, Option, Some, false, not, refl, true}
+use Rattle.std.specs.Prelude.{ℕ, ◌==◌, ◌≡◌, ◌⊎◌}
 use Rattle.room_types.specs.Codes.{is_active}
 use Rattle.room_types.specs.declared.asks.Ask.{Ask}
 use Rattle.room_types.specs.declared.asks.Who.TheVariants.{Desk}
@@ -10,7 +11,8 @@ use Rattle.room_model.proofs.DecisionLaws.{by_refuse}
 use Rattle.room_model.proofs.Questions.{ChangesNothing, quiet_shows}
 use Rattle.room_model.proofs.Tests.{either_true}
 use Rattle.room_model.specs.Decisions.{Verdict, where_active}
-use Rattle.room_model.specs.Incidents.{change_needs, close, close_active, merge, merge_of, needs_changed, show_incident}
+use Rattle.room_model.specs.Incidents.{change_needs, close, close_active, merge, merge_of}
+use Rattle.room_model.specs.Incidents.{needs_changed, show_incident}
 use Rattle.room_model.specs.Proposals.{propose}
 use Rattle.room_model.specs.Queries.{calls_of, held, incident_of, is_attended, lent, served}
 use Rattle.room_model.specs.Room.{Room}

@@ -1,6 +1,6 @@
 -- Whatever is near a place lies in the square around it.
-use Rattle.std.proofs.Common.{Bool, arith, cond, false, inl, inr, leb, refl, suc, true, zero, ℕ, ◌*◌, ◌+◌, ◌<◌, ◌^◌}
-use Rattle.std.proofs.Common.{◌≡◌, ◌≤◌}
+use Rattle.std.proofs.Common.{Bool, arith, cond, false, inl, inr, leb, refl, suc, true, zero, ℕ}
+use Rattle.std.proofs.Common.{◌*◌, ◌+◌, ◌<◌, ◌^◌, ◌≡◌, ◌≤◌}
 use Rattle.std.proofs.Math.Nat.{mul-le-mul}
 use Rattle.std.proofs.lemmas.Bool.{cases_lt, le-leb, leb-true}
 use Rattle.std.specs.Int.{abs_diff}

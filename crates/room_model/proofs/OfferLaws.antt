@@ -1,7 +1,7 @@
 -- What doesn't speak of offers needs none.
 use Rattle.std.proofs.Common.{ap, append_assoc, subst, sym, ◌∙◌}
-use Rattle.std.specs.Prelude.{Bool, Err, List, None, Option, Some, [], cond, false, filter, filter_map, is_ok, map}
-use Rattle.std.specs.Prelude.{refl, ℕ, ◌&&◌, ◌++◌, ◌==◌, ◌∷◌, ◌≡◌, ◌↔◌}
+use Rattle.std.specs.Prelude.{Bool, Err, List, None, Option, Some, [], cond, false, filter}
+use Rattle.std.specs.Prelude.{filter_map, is_ok, map, refl, ℕ, ◌&&◌, ◌++◌, ◌==◌, ◌∷◌, ◌≡◌, ◌↔◌}
 use Rattle.room_place.specs.Choice.{chosen}
 use Rattle.room_types.specs.Codes.{is_mobilised}
 use Rattle.room_types.specs.KeyedRows.{keep, row_at}
@@ -32,27 +32,34 @@ use Rattle.room_model.proofs.OffersMade.{AllMakeNone, MakesNone, none_made}
 use Rattle.room_model.proofs.OpenTurns.{row_there}
 use Rattle.room_model.proofs.Tests.{row_among}
 use Rattle.room_model.specs.Calls.{call_in, call_kept, call_somewhere, new_call}
-use Rattle.room_model.specs.Crossing.{Crossing, cross, cross_call, cross_crew, cross_desk, cross_other, cross_own}
-use Rattle.room_model.specs.Crossing.{cross_position, cross_report, cross_who}
+use Rattle.room_model.specs.Crossing.{Crossing, cross, cross_call, cross_crew, cross_desk}
+use Rattle.room_model.specs.Crossing.{cross_other, cross_own, cross_position, cross_report}
+use Rattle.room_model.specs.Crossing.{cross_who}
 use Rattle.room_model.specs.DayTimes.{show_times}
 use Rattle.room_model.specs.Decisions.{Verdict, changes_of, show, where_active, where_held}
 use Rattle.room_model.specs.Events.{by_desk, is_lend}
-use Rattle.room_model.specs.Incidents.{change_needs, close, lacking, merge, show_incident, show_incidents}
-use Rattle.room_model.specs.Loans.{accept, accepted, decline, declined, give_back, recall, show_loans, show_offers}
-use Rattle.room_model.specs.Loans.{withdraw, withdrawn}
-use Rattle.room_model.specs.UnofferedRooms.{IsUnoffered, NoneIsReserved, OffersAgree, speaks_of_offers, without_offers}
+use Rattle.room_model.specs.Incidents.{change_needs, close, lacking, merge, show_incident}
+use Rattle.room_model.specs.Incidents.{show_incidents}
+use Rattle.room_model.specs.Loans.{accept, accepted, decline, declined, give_back, recall}
+use Rattle.room_model.specs.Loans.{show_loans, show_offers, withdraw, withdrawn}
+use Rattle.room_model.specs.UnofferedRooms.{IsUnoffered, NoneIsReserved, OffersAgree}
+use Rattle.room_model.specs.UnofferedRooms.{speaks_of_offers, without_offers}
 use Rattle.room_model.specs.Points.{breaks_post, show_points}
-use Rattle.room_model.specs.Proposals.{all_proposed, candidates, eligible, is_before, proposal_of, propose, proposed}
-use Rattle.room_model.specs.Queries.{active_incidents, all_held, assignment_at, assignment_of, borrowed, calls_of, held}
-use Rattle.room_model.specs.Queries.{holders, incident_of, incidents_opened, is_attended, is_eligible, kept_call}
-use Rattle.room_model.specs.Queries.{kept_report, last_number, last_serial, lent, link_target, loan_at, loans_of}
-use Rattle.room_model.specs.Queries.{offered_by, offered_to, offers_of, open_turn, point_of, points_of, report_of}
-use Rattle.room_model.specs.Queries.{served, turns_of, vehicle_at}
-use Rattle.room_model.specs.Queue.{clear, entries, exception, overdue, shift_over, slow, slow_turn, unanswered}
-use Rattle.room_model.specs.Queue.{uncovered, unread, unserved}
+use Rattle.room_model.specs.Proposals.{all_proposed, candidates, eligible, is_before, proposal_of}
+use Rattle.room_model.specs.Proposals.{propose, proposed}
+use Rattle.room_model.specs.Queries.{active_incidents, all_held, assignment_at, assignment_of}
+use Rattle.room_model.specs.Queries.{borrowed, calls_of, held, holders, incident_of}
+use Rattle.room_model.specs.Queries.{incidents_opened, is_attended, is_eligible, kept_call}
+use Rattle.room_model.specs.Queries.{kept_report, last_number, last_serial, lent, link_target}
+use Rattle.room_model.specs.Queries.{loan_at, loans_of, offered_by, offered_to, offers_of}
+use Rattle.room_model.specs.Queries.{open_turn, point_of, points_of, report_of, served, turns_of}
+use Rattle.room_model.specs.Queries.{vehicle_at}
+use Rattle.room_model.specs.Queue.{clear, entries, exception, overdue, shift_over, slow, slow_turn}
+use Rattle.room_model.specs.Queue.{unanswered, uncovered, unread, unserved}
 use Rattle.room_model.specs.Reports.{report_in, report_kept, report_somewhere}
 use Rattle.room_model.specs.Room.{IsInOrder, Room, apply, apply_one}
-use Rattle.room_model.specs.Step.{crew_asks, decided, desk_asks, position_asks, room_after, who_asks}
+use Rattle.room_model.specs.Step.{crew_asks, decided, desk_asks, position_asks, room_after}
+use Rattle.room_model.specs.Step.{who_asks}
 use Rattle.room_model.specs.Vehicles.{duty, mobilise, off, show_vehicles, stand_down, standby}
 use Rattle.room_model.specs.RoomAgreements.{OfferAgrees}
 use Rattle.room_types.specs.declared.answers.Answer.TheVariants as answer

@@ -1,7 +1,7 @@
 -- Nothing but a lend makes an offer.
 use Rattle.std.proofs.Common.{ap}
-use Rattle.std.specs.Prelude.{Bool, List, None, Option, Some, [], cond, false, is_some, map, refl, true, ℕ, ◌&&◌, ◌++◌}
-use Rattle.std.specs.Prelude.{◌∷◌, ◌≡◌}
+use Rattle.std.specs.Prelude.{Bool, List, None, Option, Some, [], cond, false, is_some, map, refl}
+use Rattle.std.specs.Prelude.{true, ℕ, ◌&&◌, ◌++◌, ◌∷◌, ◌≡◌}
 use Rattle.room_types.specs.Codes.{acts}
 use Rattle.room_types.specs.KeyedRows.{drop_row}
 use Rattle.room_types.specs.Keys.{callsign_cmp, offer_key}
@@ -13,8 +13,8 @@ use Rattle.room_types.specs.declared.asks.Press.{Press}
 use Rattle.room_types.specs.declared.asks.Who.{Who}
 use Rattle.room_types.specs.declared.asks.Who.TheVariants.{Crew, Desk, Position}
 use Rattle.room_types.specs.declared.changes.Change.{Change}
-use Rattle.room_types.specs.declared.changes.Change.TheVariants.{DropAssignment, DropOffer, PutOffer, PutReport}
-use Rattle.room_types.specs.declared.changes.Change.TheVariants.{PutVehicle}
+use Rattle.room_types.specs.declared.changes.Change.TheVariants.{DropAssignment, DropOffer}
+use Rattle.room_types.specs.declared.changes.Change.TheVariants.{PutOffer, PutReport, PutVehicle}
 use Rattle.room_types.specs.declared.codes.Button.{Button}
 use Rattle.room_types.specs.declared.codes.Outcome.{Outcome}
 use Rattle.room_types.specs.declared.codes.Status.TheVariants.{Returning}
@@ -28,23 +28,29 @@ use Rattle.room_types.specs.declared.tables.Report.{Report}
 use Rattle.room_types.specs.declared.tables.Turn.{Turn}
 use Rattle.room_types.specs.declared.tables.Vehicle.{Vehicle}
 use Rattle.room_model.proofs.Questions.{IsQuiet, by_quiet}
-use Rattle.room_model.specs.Calls.{call_in, call_kept, call_new, call_somewhere, call_taken, new_call}
-use Rattle.room_model.specs.Decisions.{Verdict, changes_of, refuse_if, where_active, where_held, with_changes}
-use Rattle.room_model.specs.Incidents.{change_needs, close, close_active, merge, merge_of, moved_call, needs_changed}
-use Rattle.room_model.specs.Loans.{accept, accepted, decline, declined, give_back, given_back, recall, recall_lent}
-use Rattle.room_model.specs.Loans.{withdraw, withdrawn}
+use Rattle.room_model.specs.Calls.{call_in, call_kept, call_new, call_somewhere, call_taken}
+use Rattle.room_model.specs.Calls.{new_call}
+use Rattle.room_model.specs.Decisions.{Verdict, changes_of, refuse_if, where_active, where_held}
+use Rattle.room_model.specs.Decisions.{with_changes}
+use Rattle.room_model.specs.Incidents.{change_needs, close, close_active, merge, merge_of}
+use Rattle.room_model.specs.Incidents.{moved_call, needs_changed}
+use Rattle.room_model.specs.Loans.{accept, accepted, decline, declined, give_back, given_back}
+use Rattle.room_model.specs.Loans.{recall, recall_lent, withdraw, withdrawn}
 use Rattle.room_model.specs.UnofferedRooms.{IsUnoffered, NobodyAsksToLend}
 use Rattle.room_model.specs.Events.{is_lend}
-use Rattle.room_model.specs.Queries.{borrowed, held, incident_of, is_attended, lent, offered_by, open_turn, point_of}
-use Rattle.room_model.specs.Queries.{served}
+use Rattle.room_model.specs.Queries.{borrowed, held, incident_of, is_attended, lent, offered_by}
+use Rattle.room_model.specs.Queries.{open_turn, point_of, served}
 use Rattle.room_model.specs.Queue.{clear, clear_found}
-use Rattle.room_model.specs.Reports.{back_changes, drop_changes, ends_turn, is_due, is_home, report_held, report_in}
-use Rattle.room_model.specs.Reports.{report_kept, report_made, report_row, report_somewhere, turn_changes, with_report}
+use Rattle.room_model.specs.Reports.{back_changes, drop_changes, ends_turn, is_due, is_home}
+use Rattle.room_model.specs.Reports.{report_held, report_in, report_kept, report_made, report_row}
+use Rattle.room_model.specs.Reports.{report_somewhere, turn_changes, with_report}
 use Rattle.room_model.specs.Room.{Room, apply, apply_one}
 use Rattle.room_model.specs.Run.{room_run}
-use Rattle.room_model.specs.Step.{crew_asks, decided, desk_asks, position_asks, room_after, who_asks}
-use Rattle.room_model.specs.Vehicles.{duty, mobilise, mobilise_held, mobilised, off, off_duty, on_duty, stand_down}
-use Rattle.room_model.specs.Vehicles.{stand_down_held, standby, standby_at, stands_by, turn_stood_down}
+use Rattle.room_model.specs.Step.{crew_asks, decided, desk_asks, position_asks, room_after}
+use Rattle.room_model.specs.Step.{who_asks}
+use Rattle.room_model.specs.Vehicles.{duty, mobilise, mobilise_held, mobilised, off, off_duty}
+use Rattle.room_model.specs.Vehicles.{on_duty, stand_down, stand_down_held, standby, standby_at}
+use Rattle.room_model.specs.Vehicles.{stands_by, turn_stood_down}
 use Rattle.room_types.specs.declared.answers.Answer.TheVariants as answer
 use Rattle.room_types.specs.declared.asks.Ask.TheVariants as ask
 

@@ -1,7 +1,7 @@
 -- One event, and what a share becomes by what it is handed.
 use Rattle.std.proofs.Common.{ap, sym, ◌∙◌}
-use Rattle.std.specs.Prelude.{Bool, List, None, Option, Some, [], cond, false, is_ok, is_some, map, not, refl, true, ℕ}
-use Rattle.std.specs.Prelude.{◌++◌, ◌==◌, ◌∷◌, ◌≡◌}
+use Rattle.std.specs.Prelude.{Bool, List, None, Option, Some, [], cond, false, is_ok, is_some, map}
+use Rattle.std.specs.Prelude.{not, refl, true, ℕ, ◌++◌, ◌==◌, ◌∷◌, ◌≡◌}
 use Rattle.room_types.specs.declared.asks.Ask.{Ask}
 use Rattle.room_types.specs.declared.asks.Who.TheVariants.{Desk}
 use Rattle.room_types.specs.declared.changes.Change.{Change}
@@ -23,16 +23,19 @@ use Rattle.room_model.specs.Isolation.{share_by}
 use Rattle.room_types.specs.Codes.{is_active}
 use Rattle.room_model.specs.Crossing.{cross, cross_other, cross_own}
 use Rattle.room_model.specs.Decisions.{Verdict, changes_of, refuse_if, where_active, where_held}
-use Rattle.room_model.specs.Incidents.{change_needs, close, close_active, merge, merge_of, moved_call, needs_changed}
-use Rattle.room_model.specs.Loans.{give_back, given_back, lend, offered, recall, recall_lent, withdraw, withdrawn}
-use Rattle.room_model.specs.Queries.{borrowed, held, incident_of, is_attended, lent, offered_by, open_turn, point_of}
-use Rattle.room_model.specs.Queries.{served}
+use Rattle.room_model.specs.Incidents.{change_needs, close, close_active, merge, merge_of}
+use Rattle.room_model.specs.Incidents.{moved_call, needs_changed}
+use Rattle.room_model.specs.Loans.{give_back, given_back, lend, offered, recall, recall_lent}
+use Rattle.room_model.specs.Loans.{withdraw, withdrawn}
+use Rattle.room_model.specs.Queries.{borrowed, held, incident_of, is_attended, lent, offered_by}
+use Rattle.room_model.specs.Queries.{open_turn, point_of, served}
 use Rattle.room_model.specs.Queue.{clear, clear_found}
 use Rattle.room_model.specs.Room.{IsInOrder, Room, apply}
 use Rattle.room_model.specs.Shares.{ArePlain, own}
 use Rattle.room_model.specs.Step.{desk_asks, room_after}
-use Rattle.room_model.specs.Vehicles.{duty, mobilise, mobilise_held, mobilised, off, off_duty, on_duty, stand_down}
-use Rattle.room_model.specs.Vehicles.{stand_down_held, standby, standby_at, stands_by, turn_stood_down}
+use Rattle.room_model.specs.Vehicles.{duty, mobilise, mobilise_held, mobilised, off, off_duty}
+use Rattle.room_model.specs.Vehicles.{on_duty, stand_down, stand_down_held, standby, standby_at}
+use Rattle.room_model.specs.Vehicles.{stands_by, turn_stood_down}
 use Rattle.room_model.specs.RoomAgreements.{IsWellFormed}
 use Rattle.room_types.specs.declared.asks.Ask.TheVariants as ask
 use Rattle.room_types.specs.declared.refusal_statuses.Refusal.TheVariants as refusal

@@ -2,19 +2,20 @@
 use Rattle.std.proofs.Common.{ap, eq-eqb, inl, inr, subst, sym, ◌∙◌}
 use Rattle.std.proofs.lemmas.Cmp.{tied_itself}
 use Rattle.std.specs.Ordering.{is_eq}
-use Rattle.std.specs.Prelude.{Bool, List, None, Option, Some, [], cond, false, filter, is_none, refl, true, ℕ, ◌&&◌}
-use Rattle.std.specs.Prelude.{◌==◌, ◌∷◌, ◌≡◌}
+use Rattle.std.specs.Prelude.{Bool, List, None, Option, Some, [], cond, false, filter, is_none}
+use Rattle.std.specs.Prelude.{refl, true, ℕ, ◌&&◌, ◌==◌, ◌∷◌, ◌≡◌}
 use Rattle.std.specs.declared.cmp.Ordering.{Ordering}
 use Rattle.room_place.specs.Choice.{Among, first}
 use Rattle.room_types.specs.KeyedRows.{row_at}
 use Rattle.room_types.specs.Keys.{numbered_cmp, same_callsign, turn_key}
-use Rattle.room_types.specs.KeyLemmas.{callsigns_total, exact_callsigns, exact_numbered, numbered_total}
+use Rattle.room_types.specs.KeyLemmas.{callsigns_total, exact_callsigns, exact_numbered}
+use Rattle.room_types.specs.KeyLemmas.{numbered_total}
 use Rattle.room_types.specs.Texts.{Callsign}
 use Rattle.room_types.specs.declared.tables.Turn.{Turn}
 use Rattle.room_types.specs.declared.tables.Vehicle.{Vehicle}
 use Rattle.room_model.proofs.Others.{IsHeld}
-use Rattle.room_model.proofs.Tests.{among_filter, both_true, first_among, is_equal, left_true, none_of, right_true}
-use Rattle.room_model.proofs.Tests.{row_among, row_key}
+use Rattle.room_model.proofs.Tests.{among_filter, both_true, first_among, is_equal, left_true}
+use Rattle.room_model.proofs.Tests.{none_of, right_true, row_among, row_key}
 use Rattle.room_model.proofs.TurnChanges.{IsOpenTurn}
 use Rattle.room_model.specs.Queries.{open_turn}
 use Rattle.room_model.specs.Room.{IsInOrder, Room}

@@ -2,20 +2,21 @@
 use Rattle.std.proofs.Common.{ap, arith, eqb-true, subst, sym, ◌∙◌}
 use Rattle.std.specs.Cmp.{IsTotalOrder}
 use Rattle.std.specs.Ordering.{is_eq}
-use Rattle.std.specs.Prelude.{Bool, List, None, Option, Some, [], cond, false, filter, refl, true, ℕ, ◌+◌, ◌==◌, ◌∷◌}
-use Rattle.std.specs.Prelude.{◌≡◌}
+use Rattle.std.specs.Prelude.{Bool, List, None, Option, Some, [], cond, false, filter, refl, true}
+use Rattle.std.specs.Prelude.{ℕ, ◌+◌, ◌==◌, ◌∷◌, ◌≡◌}
 use Rattle.std.specs.declared.cmp.Ordering.{Ordering}
 use Rattle.std.specs.declared.cmp.Ordering.TheVariants.{Equal, Greater, Less}
 use Rattle.room_place.specs.Choice.{Among}
 use Rattle.room_types.proofs.KeyedLaws.{below_from_less, row_below, row_filter}
 use Rattle.room_types.specs.KeyedRows.{IsKeyed, keep, put_row, row_at}
-use Rattle.room_types.specs.Keys.{assignment_key, call_key, callsign_cmp, incident_key, numbered_cmp, owns_assignment}
-use Rattle.room_types.specs.Keys.{owns_call, owns_incident, owns_point, owns_report, owns_turn, owns_vehicle, pair_cmp}
+use Rattle.room_types.specs.Keys.{assignment_key, call_key, callsign_cmp, incident_key}
+use Rattle.room_types.specs.Keys.{numbered_cmp, owns_assignment, owns_call, owns_incident}
+use Rattle.room_types.specs.Keys.{owns_point, owns_report, owns_turn, owns_vehicle, pair_cmp}
 use Rattle.room_types.specs.Keys.{point_key, report_key, turn_key, vehicle_key}
-use Rattle.room_types.specs.KeyLemmas.{callsigns_total, exact_callsigns, exact_numbered, exact_pair, numbered_total}
-use Rattle.room_types.specs.KeyLemmas.{pairs_total}
-use Rattle.room_types.specs.declared.changes.Change.TheVariants.{PutCall, PutIncident, PutPoint, PutReport, PutTurn}
-use Rattle.room_types.specs.declared.changes.Change.TheVariants.{PutVehicle}
+use Rattle.room_types.specs.KeyLemmas.{callsigns_total, exact_callsigns, exact_numbered, exact_pair}
+use Rattle.room_types.specs.KeyLemmas.{numbered_total, pairs_total}
+use Rattle.room_types.specs.declared.changes.Change.TheVariants.{PutCall, PutIncident, PutPoint}
+use Rattle.room_types.specs.declared.changes.Change.TheVariants.{PutReport, PutTurn, PutVehicle}
 use Rattle.room_types.specs.declared.tables.Assignment.{Assignment}
 use Rattle.room_types.specs.declared.tables.Call.{Call}
 use Rattle.room_types.specs.declared.tables.Incident.{Incident}

@@ -3,15 +3,15 @@ use Rattle.std.proofs.Common.{ap, eq-eqb, sym, ◌∙◌}
 use Rattle.std.proofs.lemmas.Cmp.{nat_cmp_total}
 use Rattle.std.proofs.lemmas.Map.Lookups.{exact_unsigned}
 use Rattle.std.specs.Ordering.{nat_cmp}
-use Rattle.std.specs.Prelude.{Bool, None, Option, Some, cond, false, filter, filter_map, length, nat_lt, refl, ℕ, ℤ}
-use Rattle.std.specs.Prelude.{◌&&◌, ◌++◌, ◌==◌, ◌≡◌}
+use Rattle.std.specs.Prelude.{Bool, None, Option, Some, cond, false, filter, filter_map, length}
+use Rattle.std.specs.Prelude.{nat_lt, refl, ℕ, ℤ, ◌&&◌, ◌++◌, ◌==◌, ◌≡◌}
 use Rattle.room_place.specs.Choice.{first, least}
 use Rattle.room_place.specs.declared.places.Place.{Place}
 use Rattle.room_types.proofs.KeyedLaws.{row_filter}
 use Rattle.room_types.specs.KeyedRows.{keep}
-use Rattle.room_types.specs.Keys.{division_key, incident_key, numbered_cmp, owns_call, owns_division, owns_incident}
-use Rattle.room_types.specs.Keys.{owns_loan, owns_offer, owns_point, owns_report, owns_turn, owns_vehicle, pair_cmp}
-use Rattle.room_types.specs.Keys.{report_key}
+use Rattle.room_types.specs.Keys.{division_key, incident_key, numbered_cmp, owns_call}
+use Rattle.room_types.specs.Keys.{owns_division, owns_incident, owns_loan, owns_offer, owns_point}
+use Rattle.room_types.specs.Keys.{owns_report, owns_turn, owns_vehicle, pair_cmp, report_key}
 use Rattle.room_types.specs.KeyLemmas.{exact_pair, numbered_total, pairs_total}
 use Rattle.room_types.specs.declared.answers.QueueEntry.{QueueEntry}
 use Rattle.room_types.specs.declared.asks.Ask.{Ask}
@@ -25,17 +25,19 @@ use Rattle.room_types.specs.declared.tables.Turn.{Turn}
 use Rattle.room_types.specs.declared.tables.Vehicle.{Vehicle}
 use Rattle.room_types.specs.Texts.{Callsign}
 use Rattle.room_model.proofs.AskLaws.{asked_same, clear_same}
-use Rattle.room_model.proofs.Sights.{SeesAsked, SeesCover, SeesIncident, SeesVehicle, SeesVehicles, sees_beside}
-use Rattle.room_model.proofs.Tests.{any_filter, filter_filter, filter_map_among, filter_map_filter, is_equal, keep_keep}
-use Rattle.room_model.proofs.Tests.{keep_row, left_true}
+use Rattle.room_model.proofs.Sights.{SeesAsked, SeesCover, SeesIncident, SeesVehicle, SeesVehicles}
+use Rattle.room_model.proofs.Sights.{sees_beside}
+use Rattle.room_model.proofs.Tests.{any_filter, filter_filter, filter_map_among, filter_map_filter}
+use Rattle.room_model.proofs.Tests.{is_equal, keep_keep, keep_row, left_true}
 use Rattle.room_model.specs.Calls.{call_in, call_taken}
 use Rattle.room_types.specs.Codes.{is_active, is_mobilised}
 use Rattle.room_model.specs.Moments.{age}
-use Rattle.room_model.specs.Queries.{active_incidents, borrowed, calls_of, held, incident_of, incidents_opened}
-use Rattle.room_model.specs.Queries.{is_attended, is_candidate, is_nearer, last_number, link_target, open_turn}
-use Rattle.room_model.specs.Queries.{report_of, served, turns_of}
-use Rattle.room_model.specs.Queue.{entries, exception, overdue, shift_over, slow, slow_incident, slow_turn, unanswered}
-use Rattle.room_model.specs.Queue.{uncovered, unread, unread_turn, unserved}
+use Rattle.room_model.specs.Queries.{active_incidents, borrowed, calls_of, held, incident_of}
+use Rattle.room_model.specs.Queries.{incidents_opened, is_attended, is_candidate, is_nearer}
+use Rattle.room_model.specs.Queries.{last_number, link_target, open_turn, report_of, served}
+use Rattle.room_model.specs.Queries.{turns_of}
+use Rattle.room_model.specs.Queue.{entries, exception, overdue, shift_over, slow, slow_incident}
+use Rattle.room_model.specs.Queue.{slow_turn, unanswered, uncovered, unread, unread_turn, unserved}
 use Rattle.room_model.specs.Reports.{report_held, report_in}
 use Rattle.room_model.specs.Room.{IsInOrder, Room}
 use Rattle.room_model.specs.Shares.{own}

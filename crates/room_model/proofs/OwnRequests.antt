@@ -1,6 +1,7 @@
 -- A desk's own request: its share's step is the room's, with the vehicle at hand that it accepts.
 use Rattle.std.proofs.Common.{ap, eqb-true, subst, sym, ◌∙◌}
-use Rattle.std.specs.Prelude.{Bool, List, None, Option, Some, [], cond, false, is_ok, refl, true, ℕ, ◌==◌, ◌∷◌, ◌≡◌}
+use Rattle.std.specs.Prelude.{Bool, List, None, Option, Some, [], cond, false, is_ok, refl, true, ℕ}
+use Rattle.std.specs.Prelude.{◌==◌, ◌∷◌, ◌≡◌}
 use Rattle.room_types.specs.KeyedRows.{keep, row_at}
 use Rattle.room_types.specs.Keys.{callsign_cmp, offer_key, owns_vehicle, vehicle_key}
 use Rattle.room_types.specs.KeyLemmas.{callsigns_total, exact_callsigns}
@@ -8,7 +9,8 @@ use Rattle.room_types.specs.declared.asks.Ask.{Ask}
 use Rattle.room_types.specs.declared.asks.Event.{Event}
 use Rattle.room_types.specs.declared.asks.Who.TheVariants.{Desk}
 use Rattle.room_types.specs.declared.changes.Change.{Change}
-use Rattle.room_types.specs.declared.changes.Change.TheVariants.{DropOffer, PutLoan, PutVehicle, Settle}
+use Rattle.room_types.specs.declared.changes.Change.TheVariants.{DropOffer, PutLoan, PutVehicle}
+use Rattle.room_types.specs.declared.changes.Change.TheVariants.{Settle}
 use Rattle.room_types.specs.declared.codes.Status.TheVariants.{Available}
 use Rattle.room_types.specs.declared.tables.Offer.{Offer}
 use Rattle.room_types.specs.declared.tables.Vehicle.{Vehicle}
@@ -17,7 +19,8 @@ use Rattle.room_model.proofs.Foreign.{share_foreign}
 use Rattle.room_model.proofs.Handed.{put_found}
 use Rattle.room_model.proofs.OneEvent.{own_desk}
 use Rattle.room_model.proofs.Others.{keep_some, none_own}
-use Rattle.room_model.proofs.OwnChanges.{in_order_one, in_order_own, own_apply, own_apply_one, own_apply_own, own_twice}
+use Rattle.room_model.proofs.OwnChanges.{in_order_one, in_order_own, own_apply, own_apply_one}
+use Rattle.room_model.proofs.OwnChanges.{own_apply_own, own_twice}
 use Rattle.room_model.proofs.OwnDesk.{desk_own, sees_own}
 use Rattle.room_model.proofs.Tests.{row_key}
 use Rattle.room_model.specs.Isolation.{answers_by, put_vehicle, share_by}

@@ -4,13 +4,13 @@ use Rattle.std.proofs.lemmas.Cmp.{nat_cmp_total, on_total, then_total}
 use Rattle.std.proofs.lemmas.Map.Lookups.{CmpEqualImpliesEq, exact_pairs, exact_unsigned}
 use Rattle.std.specs.Cmp.{IsTotalOrder, bool_cmp_total}
 use Rattle.std.specs.Ordering.{bool_cmp, is_lt, nat_cmp, ordering_reverse, ordering_then}
-use Rattle.std.specs.Prelude.{Bool, List, None, Option, Some, [], cond, false, filter, length, map, min, option_map}
-use Rattle.std.specs.Prelude.{refl, suc, true, zero, ℕ, ◌&&◌, ◌∷◌, ◌≡◌}
+use Rattle.std.specs.Prelude.{Bool, List, None, Option, Some, [], cond, false, filter, length, map}
+use Rattle.std.specs.Prelude.{min, option_map, refl, suc, true, zero, ℕ, ◌&&◌, ◌∷◌, ◌≡◌}
 use Rattle.std.specs.declared.cmp.Ordering.{Ordering}
 use Rattle.std.specs.declared.cmp.Ordering.TheVariants.{Equal, Greater, Less}
 use Rattle.room_place.proofs.Choices.{chosen_first}
-use Rattle.room_place.specs.Choice.{Among, AreBefore, AreDistinct, AreFirst, IsRising, IsStrict, chosen, comes_after}
-use Rattle.room_place.specs.Choice.{extend, least, least_from}
+use Rattle.room_place.specs.Choice.{Among, AreBefore, AreDistinct, AreFirst, IsRising, IsStrict}
+use Rattle.room_place.specs.Choice.{chosen, comes_after, extend, least, least_from}
 use Rattle.room_types.specs.Keys.{callsign_cmp, vehicle_key}
 use Rattle.room_types.specs.KeyedRows.{IsBelowAll, IsKeyed}
 use Rattle.room_types.specs.KeyLemmas.{callsigns_total, exact_callsigns}
@@ -27,8 +27,8 @@ use Rattle.room_model.proofs.Tests.{among_filter, right_true}
 use Rattle.room_types.proofs.KeyedLaws.{keyed_filter}
 use Rattle.room_types.specs.Codes.{same_kind}
 use Rattle.room_model.specs.Incidents.{lacking}
-use Rattle.room_model.specs.Proposals.{AreProposed, candidates, eligible, is_before, proposal_cmp, proposal_of}
-use Rattle.room_model.specs.Proposals.{proposed}
+use Rattle.room_model.specs.Proposals.{AreProposed, candidates, eligible, is_before, proposal_cmp}
+use Rattle.room_model.specs.Proposals.{proposal_of, proposed}
 use Rattle.room_model.specs.Queries.{is_eligible}
 use Rattle.room_model.specs.Room.{IsInOrder, Room}
 

@@ -23,7 +23,8 @@ use Rattle.room_model.specs.Points.{show_points}
 use Rattle.room_model.specs.Proposals.{propose}
 use Rattle.room_model.specs.Queue.{show_queue}
 use Rattle.room_model.specs.Room.{Room, apply}
-use Rattle.room_model.specs.Step.{crew_asks, desk_asks, is_of_role, is_question, position_asks, room_after, who_asks}
+use Rattle.room_model.specs.Step.{crew_asks, desk_asks, is_of_role, is_question, position_asks}
+use Rattle.room_model.specs.Step.{room_after, who_asks}
 use Rattle.room_model.specs.Vehicles.{show_vehicles}
 use Rattle.room_types.specs.declared.asks.Ask.TheVariants as ask
 use Rattle.room_types.specs.declared.refusal_statuses.Refusal.TheVariants as refusal

@@ -1,5 +1,6 @@
 -- What the machine refuses.
-use Rattle.std.specs.Prelude.{Bool, Err, IfErr, List, None, Ok, Option, Some, false, refl, true, ℕ, ◌≡◌}
+use Rattle.std.specs.Prelude.{Bool, Err, IfErr, List, None, Ok, Option, Some, false, refl, true, ℕ}
+use Rattle.std.specs.Prelude.{◌≡◌}
 use Rattle.room_types.specs.declared.asks.Ask.{Ask}
 use Rattle.room_types.specs.declared.asks.Event.{Event}
 use Rattle.room_types.specs.declared.asks.NewCall.{NewCall}
@@ -17,19 +18,24 @@ use Rattle.room_types.specs.declared.tables.Turn.{Turn}
 use Rattle.room_types.specs.declared.tables.Vehicle.{Vehicle}
 use Rattle.room_types.specs.Texts.{Callsign}
 use Rattle.room_model.proofs.DecisionLaws.{by_report}
-use Rattle.room_model.specs.Calls.{call_in, call_kept, call_new, call_somewhere, call_taken, new_call}
+use Rattle.room_model.specs.Calls.{call_in, call_kept, call_new, call_somewhere, call_taken}
+use Rattle.room_model.specs.Calls.{new_call}
 use Rattle.room_model.specs.DayTimes.{show_times}
-use Rattle.room_model.specs.Decisions.{Verdict, answer_of, refuse_if, where_active, where_found, where_held}
-use Rattle.room_model.specs.Incidents.{change_needs, close, merge, merge_of, show_incident, show_incidents}
-use Rattle.room_model.specs.Loans.{accept, accepted, decline, declined, give_back, lend, recall, recall_lent}
-use Rattle.room_model.specs.Loans.{show_loans, show_offers, withdraw, withdrawn}
+use Rattle.room_model.specs.Decisions.{Verdict, answer_of, refuse_if, where_active, where_found}
+use Rattle.room_model.specs.Decisions.{where_held}
+use Rattle.room_model.specs.Incidents.{change_needs, close, merge, merge_of, show_incident}
+use Rattle.room_model.specs.Incidents.{show_incidents}
+use Rattle.room_model.specs.Loans.{accept, accepted, decline, declined, give_back, lend, recall}
+use Rattle.room_model.specs.Loans.{recall_lent, show_loans, show_offers, withdraw, withdrawn}
 use Rattle.room_model.specs.Points.{show_points}
 use Rattle.room_model.specs.Proposals.{propose}
 use Rattle.room_model.specs.Queue.{clear, clear_found, show_queue}
 use Rattle.room_model.specs.Reports.{report_held, report_in, report_kept, report_somewhere}
 use Rattle.room_model.specs.Room.{Room}
-use Rattle.room_model.specs.Step.{answer_to, crew_asks, desk_asks, is_of_role, is_of_the_room, position_asks, who_asks}
-use Rattle.room_model.specs.Vehicles.{duty, mobilise, off, show_vehicles, stand_down, standby, standby_at}
+use Rattle.room_model.specs.Step.{answer_to, crew_asks, desk_asks, is_of_role, is_of_the_room}
+use Rattle.room_model.specs.Step.{position_asks, who_asks}
+use Rattle.room_model.specs.Vehicles.{duty, mobilise, off, show_vehicles, stand_down, standby}
+use Rattle.room_model.specs.Vehicles.{standby_at}
 use Rattle.room_types.specs.declared.asks.Ask.TheVariants as ask
 use Rattle.room_types.specs.declared.refusal_statuses.Refusal.TheVariants as refusal
 

@@ -1,8 +1,8 @@
 -- A report or a call that was refused for its number, its serial or its place is refused again.
 use Rattle.std.proofs.Common.{ap, eq-eqb, subst, sym, ◌∙◌}
 use Rattle.std.specs.Ordering.{is_eq}
-use Rattle.std.specs.Prelude.{Bool, Err, IfErr, IfSome, List, None, Ok, Option, Result, Some, [], cond, false, is_ok}
-use Rattle.std.specs.Prelude.{is_some, not, refl, true, ℕ, ◌==◌, ◌∷◌, ◌≡◌}
+use Rattle.std.specs.Prelude.{Bool, Err, IfErr, IfSome, List, None, Ok, Option, Result, Some, []}
+use Rattle.std.specs.Prelude.{cond, false, is_ok, is_some, not, refl, true, ℕ, ◌==◌, ◌∷◌, ◌≡◌}
 use Rattle.room_place.specs.Plans.{division_of}
 use Rattle.room_place.specs.declared.plans.Area.{Area}
 use Rattle.room_types.proofs.KeyedLaws.{row_put}
@@ -29,16 +29,18 @@ use Rattle.room_model.proofs.Changes.{AllOf, Allows, event_all, is_silent}
 use Rattle.room_model.proofs.DecisionLaws.{by_refuse, by_report}
 use Rattle.room_model.proofs.KeptEvents.{plan_stays}
 use Rattle.room_model.proofs.OwnChanges.{in_order_apply}
-use Rattle.room_model.proofs.RepeatLaws.{CallThere, ReportThere, call_lasts, call_later, exact_place, only_answers}
-use Rattle.room_model.proofs.RepeatLaws.{refused_if, report_lasts, report_later, report_repeated}
+use Rattle.room_model.proofs.RepeatLaws.{CallThere, ReportThere, call_lasts, call_later}
+use Rattle.room_model.proofs.RepeatLaws.{exact_place, only_answers, refused_if, report_lasts}
+use Rattle.room_model.proofs.RepeatLaws.{report_later, report_repeated}
 use Rattle.room_model.proofs.Tests.{is_equal, left_true, row_among, row_key}
-use Rattle.room_model.specs.Calls.{call_in, call_kept, call_somewhere, call_taken, new_call, outside_again, same_call}
-use Rattle.room_model.specs.Calls.{take_call}
+use Rattle.room_model.specs.Calls.{call_in, call_kept, call_somewhere, call_taken, new_call}
+use Rattle.room_model.specs.Calls.{outside_again, same_call, take_call}
 use Rattle.room_model.specs.Decisions.{Verdict, answer_of, changes_of, refuse_if, show}
 use Rattle.room_model.specs.Events.{OnlyAnswers, by_crew, by_position}
-use Rattle.room_model.specs.Queries.{borrowed, held, kept_call, kept_report, last_number, link_target, open_turn}
-use Rattle.room_model.specs.Queries.{vehicle_at}
-use Rattle.room_model.specs.Reports.{outcome_of, report_held, report_in, report_kept, report_somewhere, same_press}
+use Rattle.room_model.specs.Queries.{borrowed, held, kept_call, kept_report, last_number}
+use Rattle.room_model.specs.Queries.{link_target, open_turn, vehicle_at}
+use Rattle.room_model.specs.Reports.{outcome_of, report_held, report_in, report_kept}
+use Rattle.room_model.specs.Reports.{report_somewhere, same_press}
 use Rattle.room_model.specs.Room.{IsInOrder, Room, apply, apply_one}
 use Rattle.room_model.specs.Run.{room_run}
 use Rattle.room_model.specs.Step.{IsAddressed, answer_to, decided, room_after}

@@ -4,8 +4,8 @@ use Rattle.std.proofs.lemmas.Cmp.{tied_itself}
 use Rattle.std.proofs.lemmas.Map.Lookups.{CmpEqualImpliesEq}
 use Rattle.std.specs.Cmp.{IsTotalOrder}
 use Rattle.std.specs.Ordering.{is_eq}
-use Rattle.std.specs.Prelude.{Bool, Err, List, None, Ok, Option, Result, Some, [], cond, false, is_ok, not, refl, true}
-use Rattle.std.specs.Prelude.{ℕ, ◌&&◌, ◌+◌, ◌==◌, ◌∷◌, ◌≡◌, ◌⊎◌}
+use Rattle.std.specs.Prelude.{Bool, Err, List, None, Ok, Option, Result, Some, [], cond, false}
+use Rattle.std.specs.Prelude.{is_ok, not, refl, true, ℕ, ◌&&◌, ◌+◌, ◌==◌, ◌∷◌, ◌≡◌, ◌⊎◌}
 use Rattle.std.specs.declared.cmp.Ordering.{Ordering}
 use Rattle.room_place.specs.Places.{same_place}
 use Rattle.room_place.specs.Plans.{division_of}
@@ -13,18 +13,19 @@ use Rattle.room_place.specs.declared.places.Place.{Place}
 use Rattle.room_types.proofs.KeyedLaws.{row_put}
 use Rattle.room_types.specs.KeyedRows.{put_row, row_at}
 use Rattle.room_types.specs.Keys.{call_key, numbered_cmp, pair_cmp, report_key}
-use Rattle.room_types.specs.KeyLemmas.{callsigns_total, exact_callsigns, exact_numbered, exact_pair, numbered_total}
-use Rattle.room_types.specs.KeyLemmas.{pairs_total}
+use Rattle.room_types.specs.KeyLemmas.{callsigns_total, exact_callsigns, exact_numbered, exact_pair}
+use Rattle.room_types.specs.KeyLemmas.{numbered_total, pairs_total}
 use Rattle.room_types.specs.Texts.{Callsign}
 use Rattle.room_types.specs.declared.answers.Answer.{Answer}
 use Rattle.room_types.specs.declared.asks.CallForm.{CallForm}
 use Rattle.room_types.specs.declared.asks.Event.{Event}
 use Rattle.room_types.specs.declared.asks.Press.{Press}
 use Rattle.room_types.specs.declared.changes.Change.{Change}
-use Rattle.room_types.specs.declared.changes.Change.TheVariants.{PutCall, PutDivision, PutIncident, PutReport}
-use Rattle.room_types.specs.declared.changes.Change.TheVariants.{PutVehicle}
+use Rattle.room_types.specs.declared.changes.Change.TheVariants.{PutCall, PutDivision, PutIncident}
+use Rattle.room_types.specs.declared.changes.Change.TheVariants.{PutReport, PutVehicle}
 use Rattle.room_types.specs.declared.codes.Button.{Button}
-use Rattle.room_types.specs.declared.codes.Button.TheVariants.{Home, Hospital, Leave, Mobile, Position, Return, Scene}
+use Rattle.room_types.specs.declared.codes.Button.TheVariants.{Home, Hospital, Leave, Mobile}
+use Rattle.room_types.specs.declared.codes.Button.TheVariants.{Position, Return, Scene}
 use Rattle.room_types.specs.declared.codes.Outcome.{Outcome}
 use Rattle.room_types.specs.declared.codes.Status.{Status}
 use Rattle.room_types.specs.declared.needs.Counts.{Counts}
@@ -43,16 +44,18 @@ use Rattle.room_model.proofs.DecisionLaws.{by_refuse, by_report}
 use Rattle.room_model.proofs.OwnChanges.{in_order_apply}
 use Rattle.room_model.proofs.ReportsApart.{left_by}
 use Rattle.room_model.proofs.Tests.{both_true, is_equal, left_true, right_true, row_among, row_key}
-use Rattle.room_model.specs.Calls.{call_in, call_kept, call_row, call_somewhere, call_taken, new_call, new_incident}
-use Rattle.room_model.specs.Calls.{same_call, take_call, with_call}
+use Rattle.room_model.specs.Calls.{call_in, call_kept, call_row, call_somewhere, call_taken}
+use Rattle.room_model.specs.Calls.{new_call, new_incident, same_call, take_call, with_call}
 use Rattle.room_types.specs.Codes.{same_button}
 use Rattle.room_types.specs.Needs.{same_needs}
-use Rattle.room_model.specs.Decisions.{Verdict, answer_of, changes_of, refuse_if, show, with_changes}
+use Rattle.room_model.specs.Decisions.{Verdict, answer_of, changes_of, refuse_if, show}
+use Rattle.room_model.specs.Decisions.{with_changes}
 use Rattle.room_model.specs.Events.{OnlyAnswers, by_crew, by_position}
-use Rattle.room_model.specs.Queries.{borrowed, held, kept_call, kept_report, last_number, link_target, open_turn}
-use Rattle.room_model.specs.Queries.{vehicle_at}
-use Rattle.room_model.specs.Reports.{ends_turn, is_due, is_home, outcome_of, report_acts, report_held, report_in}
-use Rattle.room_model.specs.Reports.{report_kept, report_row, report_somewhere, same_press, status_after, vehicle_after}
+use Rattle.room_model.specs.Queries.{borrowed, held, kept_call, kept_report, last_number}
+use Rattle.room_model.specs.Queries.{link_target, open_turn, vehicle_at}
+use Rattle.room_model.specs.Reports.{ends_turn, is_due, is_home, outcome_of, report_acts}
+use Rattle.room_model.specs.Reports.{report_held, report_in, report_kept, report_row}
+use Rattle.room_model.specs.Reports.{report_somewhere, same_press, status_after, vehicle_after}
 use Rattle.room_model.specs.Reports.{with_report}
 use Rattle.room_model.specs.Room.{IsInOrder, Room, apply, apply_one}
 use Rattle.room_model.specs.Run.{room_run}

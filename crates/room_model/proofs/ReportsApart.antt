@@ -1,13 +1,13 @@
 -- A report, and what a share becomes by it.
 use Rattle.std.proofs.Common.{ap, eqb-true, subst, sym, ◌∙◌}
 use Rattle.std.proofs.lemmas.List.{append_assoc}
-use Rattle.std.specs.Prelude.{Bool, List, None, Option, Some, [], cond, false, is_none, option_map, refl, true, ℕ, ◌&&◌}
-use Rattle.std.specs.Prelude.{◌++◌, ◌==◌, ◌||◌, ◌∷◌, ◌≡◌}
+use Rattle.std.specs.Prelude.{Bool, List, None, Option, Some, [], cond, false, is_none, option_map}
+use Rattle.std.specs.Prelude.{refl, true, ℕ, ◌&&◌, ◌++◌, ◌==◌, ◌||◌, ◌∷◌, ◌≡◌}
 use Rattle.room_place.specs.Choice.{Among}
 use Rattle.room_types.proofs.KeyedLaws.{row_drop_same, row_filter}
 use Rattle.room_types.specs.KeyedRows.{drop_row, keep, put_row, row_at}
-use Rattle.room_types.specs.Keys.{callsign_cmp, loan_key, numbered_cmp, owns_loan, owns_report, owns_vehicle}
-use Rattle.room_types.specs.Keys.{report_key, same_callsign, vehicle_key}
+use Rattle.room_types.specs.Keys.{callsign_cmp, loan_key, numbered_cmp, owns_loan, owns_report}
+use Rattle.room_types.specs.Keys.{owns_vehicle, report_key, same_callsign, vehicle_key}
 use Rattle.room_types.specs.KeyLemmas.{callsigns_total, numbered_total}
 use Rattle.room_types.specs.Texts.{Callsign}
 use Rattle.room_types.specs.declared.asks.Ask.{Ask}
@@ -23,10 +23,11 @@ use Rattle.room_types.specs.declared.tables.Loan.{Loan}
 use Rattle.room_types.specs.declared.tables.Report.{Report}
 use Rattle.room_types.specs.declared.tables.Turn.{Turn}
 use Rattle.room_types.specs.declared.tables.Vehicle.{Vehicle}
-use Rattle.room_model.proofs.Foreign.{AllForeign, IsForeign, foreign_append, own_foreign, own_foreign_one}
+use Rattle.room_model.proofs.Foreign.{AllForeign, IsForeign, foreign_append, own_foreign}
+use Rattle.room_model.proofs.Foreign.{own_foreign_one}
 use Rattle.room_model.proofs.Handed.{put_found}
-use Rattle.room_model.proofs.Others.{IsHeld, apart_from, held_is, keep_some, none_own, other_assignment, turn_foreign}
-use Rattle.room_model.proofs.Others.{vehicle_foreign}
+use Rattle.room_model.proofs.Others.{IsHeld, apart_from, held_is, keep_some, none_own}
+use Rattle.room_model.proofs.Others.{other_assignment, turn_foreign, vehicle_foreign}
 use Rattle.room_model.proofs.Changes.{all_plain, plain_allowed, report_all}
 use Rattle.room_model.proofs.DecisionLaws.{by_refuse, by_report}
 use Rattle.room_model.proofs.OwnChanges.{in_order_one, own_apply, own_apply_own}
@@ -34,13 +35,14 @@ use Rattle.room_model.proofs.OwnDesk.{report_in_own}
 use Rattle.room_model.proofs.Questions.{quiet_shows}
 use Rattle.room_model.proofs.Tests.{among_filter, first_among, left_true, right_true}
 use Rattle.room_model.specs.Isolation.{answers_by, share_by}
-use Rattle.room_model.specs.Crossing.{Arrive, Crossing, ReportIn, arrival, cross_crew, cross_report, is_held_by}
-use Rattle.room_model.specs.Crossing.{is_loan_ended}
+use Rattle.room_model.specs.Crossing.{Arrive, Crossing, ReportIn, arrival, cross_crew, cross_report}
+use Rattle.room_model.specs.Crossing.{is_held_by, is_loan_ended}
 use Rattle.room_model.specs.Decisions.{Verdict, changes_of, with_changes}
 use Rattle.room_model.specs.Queries.{borrowed, held, kept_report, loan_at, open_turn, vehicle_at}
-use Rattle.room_model.specs.Reports.{back_changes, drop_changes, ends_turn, is_due, is_home, outcome_of, report_acts}
-use Rattle.room_model.specs.Reports.{report_held, report_in, report_kept, report_row, report_somewhere, status_after}
-use Rattle.room_model.specs.Reports.{take_report, turn_after, turn_changes, vehicle_after, with_report}
+use Rattle.room_model.specs.Reports.{back_changes, drop_changes, ends_turn, is_due, is_home}
+use Rattle.room_model.specs.Reports.{outcome_of, report_acts, report_held, report_in, report_kept}
+use Rattle.room_model.specs.Reports.{report_row, report_somewhere, status_after, take_report}
+use Rattle.room_model.specs.Reports.{turn_after, turn_changes, vehicle_after, with_report}
 use Rattle.room_model.specs.Room.{IsInOrder, Room, apply, apply_one}
 use Rattle.room_model.proofs.ShareChanges.{share_after}
 use Rattle.room_model.specs.Shares.{ArePlain, IsPlain, own}

@@ -1,8 +1,9 @@
 -- Any event, and runs of events, seen by one division.
 use Rattle.std.proofs.Common.{ap, eqb-true, subst, sym, ◌∙◌}
 use Rattle.std.specs.List.{list_all}
-use Rattle.std.specs.Prelude.{Bool, Err, List, None, Ok, Option, Some, [], cond, false, is_err, is_ok, map, not}
-use Rattle.std.specs.Prelude.{option_map, refl, true, ℕ, ◌&&◌, ◌++◌, ◌==◌, ◌||◌, ◌∷◌, ◌≡◌}
+use Rattle.std.specs.Prelude.{Bool, Err, List, None, Ok, Option, Some, [], cond, false, is_err}
+use Rattle.std.specs.Prelude.{is_ok, map, not, option_map, refl, true, ℕ, ◌&&◌, ◌++◌, ◌==◌, ◌||◌}
+use Rattle.std.specs.Prelude.{◌∷◌, ◌≡◌}
 use Rattle.room_place.specs.Plans.{division_of}
 use Rattle.room_types.specs.KeyedRows.{row_at}
 use Rattle.room_types.specs.Keys.{callsign_cmp, loan_key}
@@ -24,10 +25,12 @@ use Rattle.room_model.proofs.OwnRequests.{answers_request, own_request}
 use Rattle.room_model.proofs.ReportsApart.{answers_crew, crew_event, not_ended}
 use Rattle.room_model.proofs.Tests.{both_true}
 use Rattle.room_model.specs.Isolation.{answers_by, share_answers, share_by, share_run}
-use Rattle.room_model.specs.Crossing.{Arrive, CallIn, Crossing, Declined, Left, OfferIn, Recalled, ReportIn, Withdrawn}
-use Rattle.room_model.specs.Crossing.{cross, cross_call, cross_crew, cross_other, cross_own, cross_position}
-use Rattle.room_model.specs.Crossing.{cross_report, cross_who, crossings, is_division_of, is_held_by, is_loan_ended}
-use Rattle.room_model.specs.Crossing.{is_local, is_offered_by, is_offered_to, newly_recalled}
+use Rattle.room_model.specs.Crossing.{Arrive, CallIn, Crossing, Declined, Left, OfferIn, Recalled}
+use Rattle.room_model.specs.Crossing.{ReportIn, Withdrawn, cross, cross_call, cross_crew}
+use Rattle.room_model.specs.Crossing.{cross_other, cross_own, cross_position, cross_report}
+use Rattle.room_model.specs.Crossing.{cross_who, crossings, is_division_of, is_held_by}
+use Rattle.room_model.specs.Crossing.{is_loan_ended, is_local, is_offered_by, is_offered_to}
+use Rattle.room_model.specs.Crossing.{newly_recalled}
 use Rattle.room_model.specs.Events.{AreAddressed, AreLocal, is_everyday, received}
 use Rattle.room_model.specs.Decisions.{Verdict, answer_of, changes_of}
 use Rattle.room_model.specs.Queries.{kept_call, kept_report, lent, loan_at, offer_at, vehicle_at}

@@ -9,12 +9,13 @@ use Rattle.room_types.specs.declared.codes.Button.TheVariants as button
 use Rattle.room_types.specs.declared.codes.Kind.TheVariants.{Ambulance, Car, Support}
 use Rattle.room_types.specs.declared.codes.Outcome.TheVariants.{Normal, Wrong}
 use Rattle.room_types.specs.declared.codes.State.TheVariants.{Active, Merged}
-use Rattle.room_types.specs.declared.codes.Status.TheVariants.{Available, Mobilised, OffDuty, Offered, Returning}
+use Rattle.room_types.specs.declared.codes.Status.TheVariants.{Available, Mobilised, OffDuty}
+use Rattle.room_types.specs.declared.codes.Status.TheVariants.{Offered, Returning}
 use Rattle.room_types.specs.declared.refusal_statuses.Refusal.TheVariants as refusal
 use Rattle.room_model.specs.Room.{Room}
 use Rattle.room_model.specs.ComputedDefinitions.{machine}
-use Rattle.room_model.specs.ExampleRows.{assignment, call, call_form, division, grid, incident, loan, offer}
-use Rattle.room_model.specs.ExampleRows.{point, report, turn, vehicle}
+use Rattle.room_model.specs.ExampleRows.{assignment, call, call_form, division, grid, incident}
+use Rattle.room_model.specs.ExampleRows.{loan, offer, point, report, turn, vehicle}
 use Rattle.room_model.specs.SampledRooms.{A1, A2, A3, B1, B2, overlapping_divisions, two_divisions}
 use Rattle.room_model.specs.SampledSteps.{Steps}
 use Rattle.room_model.specs.StepWords.{at, needs}

@@ -14,9 +14,11 @@ use Rattle.room_types.specs.declared.refusal_statuses.Refusal.TheVariants as ref
 use Rattle.room_model.specs.Crossing.{Accepted, Arrive, Asked, CallIn, Declined}
 use Rattle.room_model.specs.Room.{Room}
 use Rattle.room_model.specs.ComputedDefinitions.{machine}
-use Rattle.room_model.specs.ExampleRows.{call, call_form, division, grid, incident, loan, offer, point}
-use Rattle.room_model.specs.ExampleRows.{pressed, report, times, times_line, vehicle, vehicle_line}
-use Rattle.room_model.specs.SampledRooms.{A1, A2, A3, B1, B2, Z9, overlapping_divisions, two_divisions}
+use Rattle.room_model.specs.ExampleRows.{call, call_form, division, grid, incident, loan, offer}
+use Rattle.room_model.specs.ExampleRows.{point, pressed, report, times, times_line, vehicle}
+use Rattle.room_model.specs.ExampleRows.{vehicle_line}
+use Rattle.room_model.specs.SampledRooms.{A1, A2, A3, B1, B2, Z9, overlapping_divisions}
+use Rattle.room_model.specs.SampledRooms.{two_divisions}
 use Rattle.room_model.specs.SampledSteps.{Hands}
 use Rattle.room_model.specs.StepWords.{at, needs}
 

@@ -12,8 +12,8 @@ use Rattle.room_types.specs.declared.codes.Status.TheVariants.{Available, OffDut
 use Rattle.room_model.specs.Crossing.{Declined, Left, OfferIn, Recalled, ReportIn, Withdrawn}
 use Rattle.room_model.specs.Room.{Room}
 use Rattle.room_model.specs.ComputedDefinitions.{machine}
-use Rattle.room_model.specs.ExampleRows.{call, call_form, division, grid, incident, loan, offer, point}
-use Rattle.room_model.specs.ExampleRows.{pressed, report, vehicle}
+use Rattle.room_model.specs.ExampleRows.{call, call_form, division, grid, incident, loan, offer}
+use Rattle.room_model.specs.ExampleRows.{point, pressed, report, vehicle}
 use Rattle.room_model.specs.SampledRooms.{A1, A2, A3, B1, Z9, overlapping_divisions, two_divisions}
 use Rattle.room_model.specs.SampledSteps.{Hands}
 use Rattle.room_model.specs.StepWords.{at, needs}

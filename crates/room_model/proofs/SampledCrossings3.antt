@@ -8,12 +8,14 @@ use Rattle.room_types.specs.declared.codes.Button.TheVariants as button
 use Rattle.room_types.specs.declared.codes.Kind.TheVariants.{Ambulance, Car, Support}
 use Rattle.room_types.specs.declared.codes.Outcome.TheVariants.{Normal, Wrong}
 use Rattle.room_types.specs.declared.codes.State.TheVariants.{Active}
-use Rattle.room_types.specs.declared.codes.Status.TheVariants.{Available, Mobilised, OffDuty, Offered}
+use Rattle.room_types.specs.declared.codes.Status.TheVariants.{Available, Mobilised, OffDuty}
+use Rattle.room_types.specs.declared.codes.Status.TheVariants.{Offered}
 use Rattle.room_model.specs.Room.{Room}
 use Rattle.room_model.specs.ComputedDefinitions.{machine}
-use Rattle.room_model.specs.ExampleRows.{assignment, call, division, grid, incident, loan, offer, point}
-use Rattle.room_model.specs.ExampleRows.{pressed, report, turn, vehicle}
-use Rattle.room_model.specs.SampledRooms.{A1, A2, A3, B1, B2, Z9, overlapping_divisions, two_divisions}
+use Rattle.room_model.specs.ExampleRows.{assignment, call, division, grid, incident, loan, offer}
+use Rattle.room_model.specs.ExampleRows.{point, pressed, report, turn, vehicle}
+use Rattle.room_model.specs.SampledRooms.{A1, A2, A3, B1, B2, Z9, overlapping_divisions}
+use Rattle.room_model.specs.SampledRooms.{two_divisions}
 use Rattle.room_model.specs.SampledSteps.{Hands}
 use Rattle.room_model.specs.StepWords.{at, needs}
 

@@ -9,13 +9,14 @@ use Rattle.room_types.specs.declared.codes.Button.TheVariants as button
 use Rattle.room_types.specs.declared.codes.Kind.TheVariants.{Ambulance, Car, Support}
 use Rattle.room_types.specs.declared.codes.Outcome.TheVariants.{Late, Normal, Skipped, Wrong}
 use Rattle.room_types.specs.declared.codes.State.TheVariants.{Active}
-use Rattle.room_types.specs.declared.codes.Status.TheVariants.{AtHospital, AtScene, Available, Leaving, Mobilised}
-use Rattle.room_types.specs.declared.codes.Status.TheVariants.{OffDuty, Offered, Returning}
+use Rattle.room_types.specs.declared.codes.Status.TheVariants.{AtHospital, AtScene, Available}
+use Rattle.room_types.specs.declared.codes.Status.TheVariants.{Leaving, Mobilised, OffDuty, Offered}
+use Rattle.room_types.specs.declared.codes.Status.TheVariants.{Returning}
 use Rattle.room_types.specs.declared.refusal_statuses.Refusal.TheVariants as refusal
 use Rattle.room_model.specs.Room.{Room}
 use Rattle.room_model.specs.ComputedDefinitions.{machine}
-use Rattle.room_model.specs.ExampleRows.{assignment, call, division, grid, incident, loan, offer, point}
-use Rattle.room_model.specs.ExampleRows.{point_line, report, turn, vehicle}
+use Rattle.room_model.specs.ExampleRows.{assignment, call, division, grid, incident, loan, offer}
+use Rattle.room_model.specs.ExampleRows.{point, point_line, report, turn, vehicle}
 use Rattle.room_model.specs.SampledRooms.{A1, A2, A3, B1, B2, overlapping_divisions, two_divisions}
 use Rattle.room_model.specs.SampledSteps.{Steps}
 use Rattle.room_model.specs.StepWords.{at, needs}

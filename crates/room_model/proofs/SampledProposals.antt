@@ -9,12 +9,13 @@ use Rattle.room_types.specs.declared.codes.Button.TheVariants as button
 use Rattle.room_types.specs.declared.codes.Kind.TheVariants.{Ambulance, Car, Support}
 use Rattle.room_types.specs.declared.codes.Outcome.TheVariants.{Normal, Skipped, Wrong}
 use Rattle.room_types.specs.declared.codes.State.TheVariants.{Active, Closed}
-use Rattle.room_types.specs.declared.codes.Status.TheVariants.{Available, Leaving, OffDuty, Offered, Returning}
+use Rattle.room_types.specs.declared.codes.Status.TheVariants.{Available, Leaving, OffDuty, Offered}
+use Rattle.room_types.specs.declared.codes.Status.TheVariants.{Returning}
 use Rattle.room_types.specs.declared.refusal_statuses.Refusal.TheVariants as refusal
 use Rattle.room_model.specs.Room.{Room}
 use Rattle.room_model.specs.ComputedDefinitions.{machine}
-use Rattle.room_model.specs.ExampleRows.{call, division, grid, incident, loan, offer, point, proposal, report}
-use Rattle.room_model.specs.ExampleRows.{turn, vehicle}
+use Rattle.room_model.specs.ExampleRows.{call, division, grid, incident, loan, offer, point}
+use Rattle.room_model.specs.ExampleRows.{proposal, report, turn, vehicle}
 use Rattle.room_model.specs.SampledRooms.{A1, A2, A3, B1, B2, overlapping_divisions, two_divisions}
 use Rattle.room_model.specs.SampledSteps.{Steps}
 use Rattle.room_model.specs.StepWords.{at, needs}

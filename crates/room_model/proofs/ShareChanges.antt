@@ -2,14 +2,17 @@
 use Rattle.std.specs.Ordering.{nat_cmp}
 use Rattle.std.specs.Prelude.{List, [], cond, ℕ, ◌∷◌}
 use Rattle.room_types.specs.KeyedRows.{drop_row, put_row}
-use Rattle.room_types.specs.Keys.{assignment_key, call_key, callsign_cmp, division_key, incident_key, loan_key}
-use Rattle.room_types.specs.Keys.{numbered_cmp, offer_key, owns_assignment, owns_call, owns_division, owns_incident}
-use Rattle.room_types.specs.Keys.{owns_loan, owns_offer, owns_point, owns_report, owns_turn, owns_vehicle, pair_cmp}
+use Rattle.room_types.specs.Keys.{assignment_key, call_key, callsign_cmp, division_key}
+use Rattle.room_types.specs.Keys.{incident_key, loan_key, numbered_cmp, offer_key, owns_assignment}
+use Rattle.room_types.specs.Keys.{owns_call, owns_division, owns_incident, owns_loan, owns_offer}
+use Rattle.room_types.specs.Keys.{owns_point, owns_report, owns_turn, owns_vehicle, pair_cmp}
 use Rattle.room_types.specs.Keys.{point_key, report_key, turn_key, vehicle_key}
 use Rattle.room_types.specs.declared.changes.Change.{Change}
-use Rattle.room_types.specs.declared.changes.Change.TheVariants.{DropAssignment, DropLoan, DropOffer, PutAssignment}
-use Rattle.room_types.specs.declared.changes.Change.TheVariants.{PutCall, PutDivision, PutIncident, PutLoan, PutOffer}
-use Rattle.room_types.specs.declared.changes.Change.TheVariants.{PutPoint, PutReport, PutTurn, PutVehicle, Settle}
+use Rattle.room_types.specs.declared.changes.Change.TheVariants.{DropAssignment, DropLoan}
+use Rattle.room_types.specs.declared.changes.Change.TheVariants.{DropOffer, PutAssignment, PutCall}
+use Rattle.room_types.specs.declared.changes.Change.TheVariants.{PutDivision, PutIncident, PutLoan}
+use Rattle.room_types.specs.declared.changes.Change.TheVariants.{PutOffer, PutPoint, PutReport}
+use Rattle.room_types.specs.declared.changes.Change.TheVariants.{PutTurn, PutVehicle, Settle}
 use Rattle.room_model.specs.Room.{Room}
 
 -- the row is put where division d owns it, and else its key is dropped

@@ -4,8 +4,9 @@ use Rattle.std.specs.Prelude.{List, Some, refl, true, ℕ, ℤ, ◌==◌, ◌≡
 use Rattle.room_place.specs.Choice.{Among}
 use Rattle.room_types.proofs.KeyedLaws.{row_filter}
 use Rattle.room_types.specs.KeyedRows.{keep}
-use Rattle.room_types.specs.Keys.{assignment_key, callsign_cmp, loan_key, offer_key, owns_assignment, owns_loan}
-use Rattle.room_types.specs.Keys.{owns_offer, owns_point, owns_vehicle, pair_cmp, point_key, vehicle_key}
+use Rattle.room_types.specs.Keys.{assignment_key, callsign_cmp, loan_key, offer_key}
+use Rattle.room_types.specs.Keys.{owns_assignment, owns_loan, owns_offer, owns_point, owns_vehicle}
+use Rattle.room_types.specs.Keys.{pair_cmp, point_key, vehicle_key}
 use Rattle.room_types.specs.KeyLemmas.{callsigns_total, exact_pair, pairs_total}
 use Rattle.room_types.specs.declared.asks.Ask.{Ask}
 use Rattle.room_types.specs.declared.codes.Kind.{Kind}
@@ -15,16 +16,19 @@ use Rattle.room_types.specs.declared.tables.Report.{Report}
 use Rattle.room_types.specs.declared.tables.Turn.{Turn}
 use Rattle.room_types.specs.declared.tables.Vehicle.{Vehicle}
 use Rattle.room_types.specs.Texts.{Callsign}
-use Rattle.room_model.proofs.Tests.{filter_filter, is_equal, keep_keep, keep_row, left_true, or_left, or_right}
+use Rattle.room_model.proofs.Tests.{filter_filter, is_equal, keep_keep, keep_row, left_true}
+use Rattle.room_model.proofs.Tests.{or_left, or_right}
 use Rattle.room_model.specs.Proposals.{eligible}
-use Rattle.room_model.specs.Queries.{active_incidents, all_held, assignment_of, borrowed, calls_of, held, holders}
-use Rattle.room_model.specs.Queries.{incident_of, incidents_opened, is_attended, lent, loans_of, offered_by, offered_to}
-use Rattle.room_model.specs.Queries.{offers_of, open_turn, point_of, points_of, served, turns_of}
+use Rattle.room_model.specs.Queries.{active_incidents, all_held, assignment_of, borrowed, calls_of}
+use Rattle.room_model.specs.Queries.{held, holders, incident_of, incidents_opened, is_attended}
+use Rattle.room_model.specs.Queries.{lent, loans_of, offered_by, offered_to, offers_of, open_turn}
+use Rattle.room_model.specs.Queries.{point_of, points_of, served, turns_of}
 use Rattle.room_model.specs.Queue.{clear, entries}
 use Rattle.room_model.specs.Room.{IsInOrder, Room}
 use Rattle.room_model.specs.Shares.{own}
-use Rattle.room_model.specs.WorkingRows.{names_incident, reads_active, reads_assignments, reads_calls, reads_loan}
-use Rattle.room_model.specs.WorkingRows.{reads_offer, reads_point, reads_vehicle}
+use Rattle.room_model.specs.WorkingRows.{names_incident, reads_active, reads_assignments}
+use Rattle.room_model.specs.WorkingRows.{reads_calls, reads_loan, reads_offer, reads_point}
+use Rattle.room_model.specs.WorkingRows.{reads_vehicle}
 use Rattle.room_types.specs.declared.asks.Ask.TheVariants as ask
 
 -- the vehicles that division d holds, and what stands beside them

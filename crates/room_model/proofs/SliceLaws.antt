@@ -1,19 +1,21 @@
 -- A well-formed room's rows are a slice's.
-use Rattle.std.proofs.Common.{Bool, List, None, Option, Some, [], ap, cond, false, refl, subst, sym, true, ℕ, ◌∙◌, ◌∷◌}
-use Rattle.std.proofs.Common.{◌≡◌, ◌≤◌}
+use Rattle.std.proofs.Common.{Bool, List, None, Option, Some, [], ap, cond, false, refl, subst, sym}
+use Rattle.std.proofs.Common.{true, ℕ, ◌∙◌, ◌∷◌, ◌≡◌, ◌≤◌}
 use Rattle.std.specs.List.{list_all}
 use Rattle.std.specs.Prelude.{IfSome, filter, is_none, nat_le, ◌&&◌, ◌==◌, ◌||◌}
 use Rattle.room_types.proofs.EachRow.{row_key}
 use Rattle.room_types.proofs.KeyedLaws.{row_filter}
 use Rattle.room_types.specs.KeyedRows.{keep, row_at}
-use Rattle.room_types.specs.Keys.{assignment_key, callsign_cmp, incident_key, numbered_cmp, owns_assignment, owns_call}
-use Rattle.room_types.specs.Keys.{owns_division, owns_incident, owns_loan, owns_offer, owns_point, owns_report}
-use Rattle.room_types.specs.Keys.{owns_turn, owns_vehicle, pair_cmp, turn_key, vehicle_key}
-use Rattle.room_types.specs.KeyLemmas.{callsigns_total, exact_callsigns, exact_numbered, numbered_total, pairs_total}
+use Rattle.room_types.specs.Keys.{assignment_key, callsign_cmp, incident_key, numbered_cmp}
+use Rattle.room_types.specs.Keys.{owns_assignment, owns_call, owns_division, owns_incident}
+use Rattle.room_types.specs.Keys.{owns_loan, owns_offer, owns_point, owns_report, owns_turn}
+use Rattle.room_types.specs.Keys.{owns_vehicle, pair_cmp, turn_key, vehicle_key}
+use Rattle.room_types.specs.KeyLemmas.{callsigns_total, exact_callsigns, exact_numbered}
+use Rattle.room_types.specs.KeyLemmas.{numbered_total, pairs_total}
 use Rattle.room_types.specs.SentVehicles.{IsSent, PartsAgree}
 use Rattle.room_types.specs.Codes.{is_active, is_busy}
-use Rattle.room_types.specs.Slices.{AssignmentAgrees, IsActive, IsInTurn, IsShare, TurnAgrees, VehicleAgrees}
-use Rattle.room_types.specs.Slices.{assignment_at, open_turn, turn_at, vehicle_at}
+use Rattle.room_types.specs.Slices.{AssignmentAgrees, IsActive, IsInTurn, IsShare, TurnAgrees}
+use Rattle.room_types.specs.Slices.{VehicleAgrees, assignment_at, open_turn, turn_at, vehicle_at}
 use Rattle.room_types.specs.Texts.{Callsign}
 use Rattle.room_types.specs.declared.asks.Ask.{Ask}
 use Rattle.room_types.specs.declared.slices.DivisionRows.{DivisionRows}
@@ -32,10 +34,9 @@ use Rattle.room_model.specs.Room.{Room}
 use Rattle.room_model.specs.Shares.{own}
 use Rattle.room_model.specs.RoomSlices.{room_of}
 use Rattle.room_model.specs.RoomAgreements.{IsWellFormed}
-use Rattle.room_model.specs.WorkingRows.{names_turn, reads_assignments, reads_calls, reads_division, reads_incident}
-use Rattle.room_model.specs.WorkingRows.{reads_loan, reads_number, reads_offer, reads_point, reads_report}
-use Rattle.room_model.specs.WorkingRows.{reads_vehicle}
-use Rattle.room_model.specs.WorkingRows.{working}
+use Rattle.room_model.specs.WorkingRows.{names_turn, reads_assignments, reads_calls, reads_division}
+use Rattle.room_model.specs.WorkingRows.{reads_incident, reads_loan, reads_number, reads_offer}
+use Rattle.room_model.specs.WorkingRows.{reads_point, reads_report, reads_vehicle, working}
 use Rattle.room_model.specs.RoomAgreements as room
 
 abbrev pub is_open : Turn → Bool

@@ -1,6 +1,6 @@
 -- What the machine asks of a slice's rows is found at their keys.
-use Rattle.std.proofs.Common.{Bool, List, None, Option, Some, [], ap, cond, false, inl, inr, le-leb, refl, subst, sym}
-use Rattle.std.proofs.Common.{true, ℕ, ◌∙◌, ◌∷◌, ◌≡◌, ◌≤◌}
+use Rattle.std.proofs.Common.{Bool, List, None, Option, Some, [], ap, cond, false, inl, inr, le-leb}
+use Rattle.std.proofs.Common.{refl, subst, sym, true, ℕ, ◌∙◌, ◌∷◌, ◌≡◌, ◌≤◌}
 use Rattle.std.proofs.lemmas.Cmp.{tied_itself}
 use Rattle.std.specs.List.{list_all}
 use Rattle.std.specs.Ordering.{is_eq}
@@ -12,10 +12,12 @@ use Rattle.room_types.proofs.EachRow.{at_each_key, row_key}
 use Rattle.room_types.proofs.SentLaws.{itself}
 use Rattle.room_types.proofs.ShareLaws.{share_agrees}
 use Rattle.room_types.specs.KeyedRows.{IsKeyed, keep, row_at}
-use Rattle.room_types.specs.Keys.{assignment_key, callsign_cmp, numbered_cmp, owns_assignment, owns_turn, owns_vehicle}
-use Rattle.room_types.specs.Keys.{same_callsign, turn_key, vehicle_key}
-use Rattle.room_types.specs.KeyLemmas.{callsigns_total, exact_callsigns, exact_numbered, numbered_total}
-use Rattle.room_types.specs.Slices.{IsInTurn, IsShare, TurnAgrees, assignment_at, is_share, turn_at, vehicle_at}
+use Rattle.room_types.specs.Keys.{assignment_key, callsign_cmp, numbered_cmp, owns_assignment}
+use Rattle.room_types.specs.Keys.{owns_turn, owns_vehicle, same_callsign, turn_key, vehicle_key}
+use Rattle.room_types.specs.KeyLemmas.{callsigns_total, exact_callsigns, exact_numbered}
+use Rattle.room_types.specs.KeyLemmas.{numbered_total}
+use Rattle.room_types.specs.Slices.{IsInTurn, IsShare, TurnAgrees, assignment_at, is_share, turn_at}
+use Rattle.room_types.specs.Slices.{vehicle_at}
 use Rattle.room_types.specs.Slices as slice
 use Rattle.room_types.specs.Texts.{Callsign}
 use Rattle.room_types.specs.declared.slices.DivisionRows.{DivisionRows}
@@ -23,7 +25,8 @@ use Rattle.room_types.specs.declared.tables.Turn.{Turn}
 use Rattle.room_types.specs.declared.tables.Vehicle.{Vehicle}
 use Rattle.room_model.proofs.SliceLaws.{is_open}
 use Rattle.room_model.proofs.Tests.{both_true, is_equal, left_true, none_of, right_true, row_among}
-use Rattle.room_model.specs.Queries.{all_held, assignment_of, held, loans_of, offers_of, open_turn, points_of}
+use Rattle.room_model.specs.Queries.{all_held, assignment_of, held, loans_of, offers_of, open_turn}
+use Rattle.room_model.specs.Queries.{points_of}
 use Rattle.room_model.specs.RoomSlices.{room_of}
 
 -- ---- rows that all pass

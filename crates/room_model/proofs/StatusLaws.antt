@@ -6,7 +6,8 @@ use Rattle.room_place.specs.Choice.{Among}
 use Rattle.room_types.specs.Codes.{is_busy}
 use Rattle.room_types.specs.KeyedRows.{row_at}
 use Rattle.room_types.specs.Keys.{assignment_key, callsign_cmp, numbered_cmp, turn_key, vehicle_key}
-use Rattle.room_types.specs.KeyLemmas.{callsigns_total, exact_callsigns, exact_numbered, numbered_total}
+use Rattle.room_types.specs.KeyLemmas.{callsigns_total, exact_callsigns, exact_numbered}
+use Rattle.room_types.specs.KeyLemmas.{numbered_total}
 use Rattle.room_types.specs.Texts.{Callsign}
 use Rattle.room_types.specs.declared.tables.Assignment.{Assignment}
 use Rattle.room_types.specs.declared.tables.Turn.{Turn}
@@ -14,9 +15,10 @@ use Rattle.room_types.specs.declared.tables.Vehicle.{Vehicle}
 use Rattle.room_model.proofs.OpenTurns.{row_there}
 use Rattle.room_model.proofs.Tests.{row_among, row_key}
 use Rattle.room_model.specs.Room.{IsInOrder, Room}
-use Rattle.room_model.specs.RoomAgreements.{AssignmentAgrees, AssignmentStands, AssignmentsAgree, AssignmentsStand}
-use Rattle.room_model.specs.RoomAgreements.{HasAssignment, HasOpenTurn, OpenAgrees, StatusShowsAssignments}
-use Rattle.room_model.specs.RoomAgreements.{StatusShowsTurns, TurnAgrees, TurnStands, TurnsAgree, TurnsStand}
+use Rattle.room_model.specs.RoomAgreements.{AssignmentAgrees, AssignmentStands, AssignmentsAgree}
+use Rattle.room_model.specs.RoomAgreements.{AssignmentsStand, HasAssignment, HasOpenTurn}
+use Rattle.room_model.specs.RoomAgreements.{OpenAgrees, StatusShowsAssignments, StatusShowsTurns}
+use Rattle.room_model.specs.RoomAgreements.{TurnAgrees, TurnStands, TurnsAgree, TurnsStand}
 
 never_both : (b : Bool) → b ≡ true → b ≡ false → ⊥
 never_both b e f = cc

@@ -2,7 +2,8 @@
 use Rattle.std.proofs.Common.{ap, arith, inl, inr, subst, sym, ◌∙◌}
 use Rattle.std.proofs.lemmas.Cmp.{nat_cmp_total, tied_itself}
 use Rattle.std.specs.Ordering.{is_eq, nat_cmp}
-use Rattle.std.specs.Prelude.{Bool, IfSome, None, Option, Some, cond, false, is_some, max, refl, true, ℕ, ◌≡◌, ◌≤◌, ◌⊎◌}
+use Rattle.std.specs.Prelude.{Bool, IfSome, None, Option, Some, cond, false, is_some, max, refl}
+use Rattle.std.specs.Prelude.{true, ℕ, ◌≡◌, ◌≤◌, ◌⊎◌}
 use Rattle.room_place.specs.Plans.{has_division}
 use Rattle.room_types.specs.KeyedRows.{row_at}
 use Rattle.room_types.specs.Keys.{incident_key, pair_cmp}
@@ -18,7 +19,8 @@ use Rattle.room_types.specs.Codes.{is_busy, is_mobilised, is_offered}
 use Rattle.room_model.specs.Room.{Room}
 use Rattle.room_model.specs.Vehicles.{mobilised}
 use Rattle.room_types.specs.Slices.{IsActive}
-use Rattle.room_model.specs.RoomAgreements.{OpenAgrees, ReportAgrees, SameIncident, TurnAgrees, TurnIsActive}
+use Rattle.room_model.specs.RoomAgreements.{OpenAgrees, ReportAgrees, SameIncident, TurnAgrees}
+use Rattle.room_model.specs.RoomAgreements.{TurnIsActive}
 
 -- the open turn, as the turns of one vehicle have it
 abbrev pub IsOpenTurn : ℕ → (ℕ → Option Turn) → Option Turn → Type 0

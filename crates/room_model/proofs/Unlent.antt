@@ -1,7 +1,7 @@
 -- Where nothing is lent and nobody offers a vehicle, no loan and no offer ever comes.
 use Rattle.std.proofs.Common.{ap, eq-eqb, subst, sym, ◌∙◌}
-use Rattle.std.specs.Prelude.{Bool, Err, List, None, Ok, Option, Some, [], false, is_err, not, refl, true, ℕ, ◌==◌}
-use Rattle.std.specs.Prelude.{◌||◌, ◌∷◌, ◌≡◌}
+use Rattle.std.specs.Prelude.{Bool, Err, List, None, Ok, Option, Some, [], false, is_err, not, refl}
+use Rattle.std.specs.Prelude.{true, ℕ, ◌==◌, ◌||◌, ◌∷◌, ◌≡◌}
 use Rattle.room_types.specs.KeyedRows.{drop_row, keep, row_at}
 use Rattle.room_types.specs.Keys.{callsign_cmp, loan_key, offer_key}
 use Rattle.room_types.specs.Texts.{Callsign}
@@ -10,24 +10,27 @@ use Rattle.room_types.specs.declared.asks.Event.{Event}
 use Rattle.room_types.specs.declared.asks.Who.{Who}
 use Rattle.room_types.specs.declared.asks.Who.TheVariants.{Crew, Desk, Position}
 use Rattle.room_types.specs.declared.changes.Change.{Change}
-use Rattle.room_types.specs.declared.changes.Change.TheVariants.{DropLoan, DropOffer, PutLoan, PutOffer}
+use Rattle.room_types.specs.declared.changes.Change.TheVariants.{DropLoan, DropOffer, PutLoan}
+use Rattle.room_types.specs.declared.changes.Change.TheVariants.{PutOffer}
 use Rattle.room_types.specs.declared.refusal_statuses.Refusal.{Refusal}
 use Rattle.room_types.specs.declared.tables.Loan.{Loan}
 use Rattle.room_types.specs.declared.tables.Offer.{Offer}
 use Rattle.room_types.specs.declared.tables.Vehicle.{Vehicle}
-use Rattle.room_model.proofs.Changes.{AllOf, Allows, crew_all, desk_all, is_silent, lends, position_all}
+use Rattle.room_model.proofs.Changes.{AllOf, Allows, crew_all, desk_all, is_silent, lends}
+use Rattle.room_model.proofs.Changes.{position_all}
 use Rattle.room_model.proofs.KeptEvents.{addressed_still, event_kept}
 use Rattle.room_model.proofs.Others.{IsHeld, held_is}
 use Rattle.room_model.proofs.Tests.{or_left, or_right}
 use Rattle.room_model.specs.Crossing.{is_local}
 use Rattle.room_model.specs.Decisions.{Verdict, answer_of, changes_of, refuse_if, where_held}
 use Rattle.room_model.specs.Events.{AreAddressed, AreLocal, IsUnlent, NobodyLends, is_lend}
-use Rattle.room_model.specs.Loans.{accept, accepted, decline, declined, give_back, given_back, recall, recall_lent}
-use Rattle.room_model.specs.Loans.{withdraw, withdrawn}
+use Rattle.room_model.specs.Loans.{accept, accepted, decline, declined, give_back, given_back}
+use Rattle.room_model.specs.Loans.{recall, recall_lent, withdraw, withdrawn}
 use Rattle.room_model.specs.Queries.{borrowed, held, lent, offered_by, offered_to}
 use Rattle.room_model.specs.Room.{Room, apply, apply_one}
 use Rattle.room_model.specs.Run.{room_run}
-use Rattle.room_model.specs.Step.{crew_asks, decided, desk_asks, position_asks, room_after, who_asks}
+use Rattle.room_model.specs.Step.{crew_asks, decided, desk_asks, position_asks, room_after}
+use Rattle.room_model.specs.Step.{who_asks}
 use Rattle.room_model.specs.RoomAgreements.{IsWellFormed, LoanAgrees}
 use Rattle.room_types.specs.declared.asks.Ask.TheVariants as ask
 

@@ -1,18 +1,20 @@
 -- What the rows of one vehicle agree on, and a room that keeps it.
 use Rattle.std.proofs.Common.{ap, subst, sym, ◌∙◌}
 use Rattle.std.specs.Ordering.{is_eq, nat_cmp}
-use Rattle.std.specs.Prelude.{Bool, IfSome, List, None, Option, Some, false, is_some, refl, true, ℕ, ◌≡◌, ◌≤◌, ◌⊎◌}
+use Rattle.std.specs.Prelude.{Bool, IfSome, List, None, Option, Some, false, is_some, refl, true, ℕ}
+use Rattle.std.specs.Prelude.{◌≡◌, ◌≤◌, ◌⊎◌}
 use Rattle.room_place.specs.Plans.{has_division}
 use Rattle.room_place.specs.declared.plans.Area.{Area}
 use Rattle.room_types.specs.KeyedRows.{row_at}
-use Rattle.room_types.specs.Keys.{call_key, callsign_cmp, division_key, incident_key, numbered_cmp, pair_cmp, point_key}
-use Rattle.room_types.specs.Keys.{report_key, vehicle_key}
+use Rattle.room_types.specs.Keys.{call_key, callsign_cmp, division_key, incident_key, numbered_cmp}
+use Rattle.room_types.specs.Keys.{pair_cmp, point_key, report_key, vehicle_key}
 use Rattle.room_types.specs.KeyLemmas.{callsigns_total, exact_callsigns}
 use Rattle.room_types.specs.Texts.{Callsign}
 use Rattle.room_types.specs.declared.changes.Change.{Change}
 use Rattle.room_types.specs.declared.codes.Status.{Status}
-use Rattle.room_types.specs.declared.codes.Status.TheVariants.{AtHospital, AtScene, Available, Leaving, Mobilised}
-use Rattle.room_types.specs.declared.codes.Status.TheVariants.{OffDuty, Offered, Returning}
+use Rattle.room_types.specs.declared.codes.Status.TheVariants.{AtHospital, AtScene, Available}
+use Rattle.room_types.specs.declared.codes.Status.TheVariants.{Leaving, Mobilised, OffDuty, Offered}
+use Rattle.room_types.specs.declared.codes.Status.TheVariants.{Returning}
 use Rattle.room_types.specs.declared.tables.Assignment.{Assignment}
 use Rattle.room_types.specs.declared.tables.Incident.{Incident}
 use Rattle.room_types.specs.declared.tables.Offer.{Offer}
@@ -21,14 +23,14 @@ use Rattle.room_types.specs.declared.tables.Turn.{Turn}
 use Rattle.room_types.specs.declared.tables.Vehicle.{Vehicle}
 use Rattle.room_model.proofs.OwnChanges.{in_order_apply}
 use Rattle.room_model.proofs.Tests.{is_equal, row_key}
-use Rattle.room_model.proofs.VehicleRows.{AllConcern, VehicleRows, all_after, bare, bare_stays, changed, others_stay}
-use Rattle.room_model.proofs.VehicleRows.{rows_of}
+use Rattle.room_model.proofs.VehicleRows.{AllConcern, VehicleRows, all_after, bare, bare_stays}
+use Rattle.room_model.proofs.VehicleRows.{changed, others_stay, rows_of}
 use Rattle.room_types.specs.Codes.{is_busy, is_free, is_offered}
 use Rattle.room_model.specs.Room.{IsInOrder, Room, apply}
-use Rattle.room_model.specs.RoomAgreements.{AssignmentAgrees, CallAgrees, IsWellFormed, LastAgrees, LoanAgrees}
-use Rattle.room_model.specs.RoomAgreements.{NumberAgrees, OfferAgrees, OpenAgrees, OpenedAgrees, PostAgrees}
-use Rattle.room_model.specs.RoomAgreements.{ReportAgrees}
-use Rattle.room_model.specs.RoomAgreements.{SameIncident, TurnAgrees, TurnIsActive}
+use Rattle.room_model.specs.RoomAgreements.{AssignmentAgrees, CallAgrees, IsWellFormed, LastAgrees}
+use Rattle.room_model.specs.RoomAgreements.{LoanAgrees, NumberAgrees, OfferAgrees, OpenAgrees}
+use Rattle.room_model.specs.RoomAgreements.{OpenedAgrees, PostAgrees, ReportAgrees, SameIncident}
+use Rattle.room_model.specs.RoomAgreements.{TurnAgrees, TurnIsActive}
 
 -- the vehicle's last report is there, where it sent any
 abbrev pub IsLast : (ℕ → Option Report) → Option Vehicle → Type 0

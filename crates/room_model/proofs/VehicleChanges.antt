@@ -2,8 +2,8 @@
 use Rattle.std.proofs.Common.{ap, arith, subst, sym, ◌∙◌}
 use Rattle.std.proofs.lemmas.Cmp.{nat_cmp_total, tied_itself}
 use Rattle.std.specs.Ordering.{is_eq, nat_cmp}
-use Rattle.std.specs.Prelude.{Bool, IfSome, List, None, Option, Some, cond, false, is_some, not, refl, true, ℕ, ◌+◌}
-use Rattle.std.specs.Prelude.{◌≡◌, ◌≢◌, ◌⊎◌}
+use Rattle.std.specs.Prelude.{Bool, IfSome, List, None, Option, Some, cond, false, is_some, not}
+use Rattle.std.specs.Prelude.{refl, true, ℕ, ◌+◌, ◌≡◌, ◌≢◌, ◌⊎◌}
 use Rattle.room_place.specs.Plans.{has_division}
 use Rattle.room_place.specs.declared.plans.Area.{Area}
 use Rattle.room_types.specs.KeyedRows.{row_at}
@@ -23,8 +23,8 @@ use Rattle.room_types.specs.Codes.{is_busy, is_free, is_mobilised, is_off, is_of
 use Rattle.room_model.specs.Loans.{offered}
 use Rattle.room_model.specs.Room.{Room}
 use Rattle.room_types.specs.Slices.{IsActive}
-use Rattle.room_model.specs.RoomAgreements.{IsPost, LoanAgrees, OfferAgrees, OpenAgrees, ReportAgrees, SameIncident}
-use Rattle.room_model.specs.RoomAgreements.{TurnAgrees, TurnIsActive}
+use Rattle.room_model.specs.RoomAgreements.{IsPost, LoanAgrees, OfferAgrees, OpenAgrees}
+use Rattle.room_model.specs.RoomAgreements.{ReportAgrees, SameIncident, TurnAgrees, TurnIsActive}
 
 -- statuses by their tests
 pub is_true : (b : Bool) → not b ≡ false → b ≡ true

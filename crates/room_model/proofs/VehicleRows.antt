@@ -3,19 +3,22 @@ use Rattle.std.proofs.Common.{ap, sym, ◌∙◌}
 use Rattle.std.proofs.lemmas.Cmp.{tied_itself}
 use Rattle.std.specs.Cmp.{IsTotalOrder}
 use Rattle.std.specs.Ordering.{is_eq, nat_cmp, ordering_then}
-use Rattle.std.specs.Prelude.{Bool, List, None, Option, Some, [], cond, false, option_map, refl, ℕ, ◌++◌, ◌∷◌, ◌≡◌}
+use Rattle.std.specs.Prelude.{Bool, List, None, Option, Some, [], cond, false, option_map, refl, ℕ}
+use Rattle.std.specs.Prelude.{◌++◌, ◌∷◌, ◌≡◌}
 use Rattle.std.specs.declared.cmp.Ordering.{Ordering}
 use Rattle.std.specs.declared.cmp.Ordering.TheVariants.{Equal, Greater, Less}
 use Rattle.room_types.proofs.KeyedLaws.{row_drop_other, row_drop_same, row_put}
 use Rattle.room_types.specs.KeyedRows.{drop_row, put_row, row_at}
-use Rattle.room_types.specs.Keys.{assignment_key, callsign_cmp, loan_key, numbered_cmp, offer_key, report_key, turn_key}
-use Rattle.room_types.specs.Keys.{vehicle_key}
+use Rattle.room_types.specs.Keys.{assignment_key, callsign_cmp, loan_key, numbered_cmp, offer_key}
+use Rattle.room_types.specs.Keys.{report_key, turn_key, vehicle_key}
 use Rattle.room_types.specs.KeyLemmas.{callsigns_total, exact_callsigns, numbered_total}
 use Rattle.room_types.specs.Texts.{Callsign}
 use Rattle.room_types.specs.declared.changes.Change.{Change}
-use Rattle.room_types.specs.declared.changes.Change.TheVariants.{DropAssignment, DropLoan, DropOffer, PutAssignment}
-use Rattle.room_types.specs.declared.changes.Change.TheVariants.{PutCall, PutDivision, PutIncident, PutLoan, PutOffer}
-use Rattle.room_types.specs.declared.changes.Change.TheVariants.{PutPoint, PutReport, PutTurn, PutVehicle, Settle}
+use Rattle.room_types.specs.declared.changes.Change.TheVariants.{DropAssignment, DropLoan}
+use Rattle.room_types.specs.declared.changes.Change.TheVariants.{DropOffer, PutAssignment, PutCall}
+use Rattle.room_types.specs.declared.changes.Change.TheVariants.{PutDivision, PutIncident, PutLoan}
+use Rattle.room_types.specs.declared.changes.Change.TheVariants.{PutOffer, PutPoint, PutReport}
+use Rattle.room_types.specs.declared.changes.Change.TheVariants.{PutTurn, PutVehicle, Settle}
 use Rattle.room_types.specs.declared.codes.Status.TheVariants.{Available}
 use Rattle.room_types.specs.declared.tables.Assignment.{Assignment}
 use Rattle.room_types.specs.declared.tables.Loan.{Loan}

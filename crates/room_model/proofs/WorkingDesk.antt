@@ -3,16 +3,18 @@ use Rattle.std.proofs.Common.{ap, eq-eqb, eqb-true, subst, sym, ◌∙◌}
 use Rattle.std.proofs.lemmas.Bool.{le-leb}
 use Rattle.std.proofs.lemmas.Cmp.{tied_itself}
 use Rattle.std.specs.Ordering.{is_eq}
-use Rattle.std.specs.Prelude.{Bool, None, Option, Some, cond, false, is_none, is_some, length, refl, true, ℕ, ◌&&◌}
-use Rattle.std.specs.Prelude.{◌==◌, ◌||◌, ◌≡◌, ◌≤◌}
+use Rattle.std.specs.Prelude.{Bool, None, Option, Some, cond, false, is_none, is_some, length, refl}
+use Rattle.std.specs.Prelude.{true, ℕ, ◌&&◌, ◌==◌, ◌||◌, ◌≡◌, ◌≤◌}
 use Rattle.room_place.specs.Choice.{Among, first}
 use Rattle.room_types.proofs.KeyedLaws.{row_filter}
 use Rattle.room_types.specs.Codes.{is_active}
 use Rattle.room_types.specs.KeyedRows.{keep, row_at}
-use Rattle.room_types.specs.Keys.{assignment_key, callsign_cmp, incident_key, loan_key, numbered_cmp, offer_key}
-use Rattle.room_types.specs.Keys.{owns_assignment, owns_loan, owns_offer, owns_point, owns_vehicle, pair_cmp, point_key}
-use Rattle.room_types.specs.Keys.{report_key, same_callsign, turn_key, vehicle_key}
-use Rattle.room_types.specs.KeyLemmas.{callsigns_total, exact_callsigns, exact_pair, numbered_total, pairs_total}
+use Rattle.room_types.specs.Keys.{assignment_key, callsign_cmp, incident_key, loan_key}
+use Rattle.room_types.specs.Keys.{numbered_cmp, offer_key, owns_assignment, owns_loan, owns_offer}
+use Rattle.room_types.specs.Keys.{owns_point, owns_vehicle, pair_cmp, point_key, report_key}
+use Rattle.room_types.specs.Keys.{same_callsign, turn_key, vehicle_key}
+use Rattle.room_types.specs.KeyLemmas.{callsigns_total, exact_callsigns, exact_pair, numbered_total}
+use Rattle.room_types.specs.KeyLemmas.{pairs_total}
 use Rattle.room_types.specs.Slices.{IsActive}
 use Rattle.room_types.specs.Texts.{Callsign}
 use Rattle.room_types.specs.declared.asks.Ask.{Ask}
@@ -22,18 +24,21 @@ use Rattle.room_types.specs.declared.tables.Report.{Report}
 use Rattle.room_types.specs.declared.tables.Turn.{Turn}
 use Rattle.room_types.specs.declared.tables.Vehicle.{Vehicle}
 use Rattle.room_model.proofs.Sights.{SeesCover, SeesIncident, SeesVehicle}
-use Rattle.room_model.proofs.Tests.{among_filter, any_filter, both_true, filter_among, filter_filter, first_among}
-use Rattle.room_model.proofs.Tests.{is_equal, keep_keep, keep_keep_row, keep_row, left_true, none_of, or_left, or_right}
-use Rattle.room_model.proofs.Tests.{right_true, row_among, row_key}
+use Rattle.room_model.proofs.Tests.{among_filter, any_filter, both_true, filter_among}
+use Rattle.room_model.proofs.Tests.{filter_filter, first_among, is_equal, keep_keep, keep_keep_row}
+use Rattle.room_model.proofs.Tests.{keep_row, left_true, none_of, or_left, or_right, right_true}
+use Rattle.room_model.proofs.Tests.{row_among, row_key}
 use Rattle.room_model.specs.Proposals.{eligible}
-use Rattle.room_model.specs.Queries.{active_incidents, all_held, assignment_of, borrowed, calls_of, held, holders}
-use Rattle.room_model.specs.Queries.{incident_of, is_attended, lent, loans_of, offered_by, offered_to, offers_of}
-use Rattle.room_model.specs.Queries.{open_turn, point_of, points_of, report_of, served, turns_of}
+use Rattle.room_model.specs.Queries.{active_incidents, all_held, assignment_of, borrowed, calls_of}
+use Rattle.room_model.specs.Queries.{held, holders, incident_of, is_attended, lent, loans_of}
+use Rattle.room_model.specs.Queries.{offered_by, offered_to, offers_of, open_turn, point_of}
+use Rattle.room_model.specs.Queries.{points_of, report_of, served, turns_of}
 use Rattle.room_model.specs.RoomAgreements.{IsWellFormed, OpenAgrees, TurnAgrees, TurnIsActive}
 use Rattle.room_model.specs.Room.{Room}
-use Rattle.room_model.specs.WorkingRows.{is_last_turn, names_incident, names_opening, names_turn, reads_active}
-use Rattle.room_model.specs.WorkingRows.{reads_assignments, reads_calls, reads_incident, reads_loan, reads_number}
-use Rattle.room_model.specs.WorkingRows.{reads_offer, reads_point, reads_report, reads_vehicle, working}
+use Rattle.room_model.specs.WorkingRows.{is_last_turn, names_incident, names_opening, names_turn}
+use Rattle.room_model.specs.WorkingRows.{reads_active, reads_assignments, reads_calls}
+use Rattle.room_model.specs.WorkingRows.{reads_incident, reads_loan, reads_number, reads_offer}
+use Rattle.room_model.specs.WorkingRows.{reads_point, reads_report, reads_vehicle, working}
 use Rattle.room_types.specs.declared.asks.Ask.TheVariants as ask
 
 -- what is read of a callsign is read of a row that has it

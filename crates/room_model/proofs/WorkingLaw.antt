@@ -12,11 +12,12 @@ use Rattle.room_types.specs.Texts.{Callsign}
 use Rattle.room_model.proofs.AskLaws.{asked_same, clear_same, same_self}
 use Rattle.room_model.proofs.Sights.{SeesAsked}
 use Rattle.room_model.proofs.Tests.{both_true, filter_filter, is_equal, left_true, right_true}
-use Rattle.room_model.proofs.WorkingDesk.{active_incidents_read, all_held_read, assignment_read, borrowed_named}
-use Rattle.room_model.proofs.WorkingDesk.{calls_read, calls_shown, eligible_read, last_turn_read, loans_read}
-use Rattle.room_model.proofs.WorkingDesk.{number_named, offered_by_named, offered_to_named, offers_read, point_named}
-use Rattle.room_model.proofs.WorkingDesk.{points_read, report_named, sees_cover, sees_named, sees_shown, sees_vehicle}
-use Rattle.room_model.proofs.WorkingDesk.{turns_read}
+use Rattle.room_model.proofs.WorkingDesk.{active_incidents_read, all_held_read, assignment_read}
+use Rattle.room_model.proofs.WorkingDesk.{borrowed_named, calls_read, calls_shown, eligible_read}
+use Rattle.room_model.proofs.WorkingDesk.{last_turn_read, loans_read, number_named}
+use Rattle.room_model.proofs.WorkingDesk.{offered_by_named, offered_to_named, offers_read}
+use Rattle.room_model.proofs.WorkingDesk.{point_named, points_read, report_named, sees_cover}
+use Rattle.room_model.proofs.WorkingDesk.{sees_named, sees_shown, sees_vehicle, turns_read}
 use Rattle.room_model.proofs.WorkingQueue.{entries_read}
 use Rattle.room_model.specs.Queries.{held, incidents_opened, open_turn}
 use Rattle.room_model.specs.Queue.{clear, entries}

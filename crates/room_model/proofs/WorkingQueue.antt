@@ -1,7 +1,7 @@
 -- The queue is made by the rows that it reads.
 use Rattle.std.proofs.Common.{ap, ◌∙◌}
-use Rattle.std.specs.Prelude.{Bool, None, Option, Some, cond, false, filter, filter_map, length, nat_lt, not, refl}
-use Rattle.std.specs.Prelude.{true, ℕ, ◌&&◌, ◌++◌, ◌==◌, ◌||◌, ◌≡◌}
+use Rattle.std.specs.Prelude.{Bool, None, Option, Some, cond, false, filter, filter_map, length}
+use Rattle.std.specs.Prelude.{nat_lt, not, refl, true, ℕ, ◌&&◌, ◌++◌, ◌==◌, ◌||◌, ◌≡◌}
 use Rattle.room_types.specs.Codes.{is_active, is_mobilised, is_normal}
 use Rattle.room_types.specs.Keys.{owns_loan, owns_offer, owns_point, owns_vehicle}
 use Rattle.room_types.specs.Slices.{IsActive}
@@ -13,13 +13,14 @@ use Rattle.room_types.specs.declared.tables.Point.{Point}
 use Rattle.room_types.specs.declared.tables.Turn.{Turn}
 use Rattle.room_types.specs.declared.tables.Vehicle.{Vehicle}
 use Rattle.room_model.proofs.Sights.{SeesIncident}
-use Rattle.room_model.proofs.Tests.{among_filter, and_same, filter_map_among, filter_map_filter, guard_none}
-use Rattle.room_model.proofs.Tests.{guarded_none}
-use Rattle.room_model.proofs.WorkingDesk.{found_active, holders_read, incident_active, open_turn_read, sees_active}
+use Rattle.room_model.proofs.Tests.{among_filter, and_same, filter_map_among, filter_map_filter}
+use Rattle.room_model.proofs.Tests.{guard_none, guarded_none}
+use Rattle.room_model.proofs.WorkingDesk.{found_active, holders_read, incident_active}
+use Rattle.room_model.proofs.WorkingDesk.{open_turn_read, sees_active}
 use Rattle.room_model.specs.Moments.{age}
 use Rattle.room_model.specs.Queries.{incident_of, open_turn}
-use Rattle.room_model.specs.Queue.{entries, exception, overdue, shift_over, slow, slow_incident, slow_turn, unanswered}
-use Rattle.room_model.specs.Queue.{uncovered, unread, unread_turn, unserved}
+use Rattle.room_model.specs.Queue.{entries, exception, overdue, shift_over, slow, slow_incident}
+use Rattle.room_model.specs.Queue.{slow_turn, unanswered, uncovered, unread, unread_turn, unserved}
 use Rattle.room_model.specs.Room.{Room}
 use Rattle.room_model.specs.RoomAgreements.{IsWellFormed}
 use Rattle.room_model.specs.WorkingRows.{names_report, reads_incident, reads_report, working}

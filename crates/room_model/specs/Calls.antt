@@ -1,5 +1,6 @@
 -- Calls.
-use Rattle.std.specs.Prelude.{Bool, Err, None, Option, Some, [], false, min, nat_le, not, true, ℕ, ◌&&◌, ◌+◌, ◌==◌, ◌∷◌}
+use Rattle.std.specs.Prelude.{Bool, Err, None, Option, Some, [], false, min, nat_le, not, true, ℕ}
+use Rattle.std.specs.Prelude.{◌&&◌, ◌+◌, ◌==◌, ◌∷◌}
 use Rattle.room_place.specs.Places.{same_place}
 use Rattle.room_place.specs.Plans.{division_of}
 use Rattle.room_types.specs.declared.asks.CallForm.{CallForm}

@@ -4,14 +4,16 @@ use Rattle.room_model.specs.Calls.{call_in}
 use Rattle.room_model.specs.DayTimes.{show_times}
 use Rattle.room_model.specs.Decisions.{refuse_if}
 use Rattle.room_model.specs.Incidents.{change_needs, close, merge, show_incidents}
-use Rattle.room_model.specs.Loans.{accept, decline, give_back, lend, recall, show_loans, show_offers, withdraw}
+use Rattle.room_model.specs.Loans.{accept, decline, give_back, lend, recall, show_loans}
+use Rattle.room_model.specs.Loans.{show_offers, withdraw}
 use Rattle.room_model.specs.Points.{show_points}
 use Rattle.room_model.specs.Proposals.{candidates, propose}
-use Rattle.room_model.specs.Queries.{active_incidents, all_held, assignment_at, assignment_of, borrowed, calls_of, held}
-use Rattle.room_model.specs.Queries.{holders, incident_of, incidents_opened, is_attended, kept_call, kept_report}
-use Rattle.room_model.specs.Queries.{last_number, lent, link_target, loan_at, loans_of, offer_at, offered_by}
-use Rattle.room_model.specs.Queries.{offered_to, offers_of, open_turn, point_of, points_of, report_of, served}
-use Rattle.room_model.specs.Queries.{vehicle_at}
+use Rattle.room_model.specs.Queries.{active_incidents, all_held, assignment_at, assignment_of}
+use Rattle.room_model.specs.Queries.{borrowed, calls_of, held, holders, incident_of}
+use Rattle.room_model.specs.Queries.{incidents_opened, is_attended, kept_call, kept_report}
+use Rattle.room_model.specs.Queries.{last_number, lent, link_target, loan_at, loans_of, offer_at}
+use Rattle.room_model.specs.Queries.{offered_by, offered_to, offers_of, open_turn, point_of}
+use Rattle.room_model.specs.Queries.{points_of, report_of, served, vehicle_at}
 use Rattle.room_model.specs.Queue.{clear, entries, show_queue}
 use Rattle.room_model.specs.Reports.{report_in}
 use Rattle.room_model.specs.Vehicles.{duty, mobilise, off, show_vehicles, stand_down, standby}

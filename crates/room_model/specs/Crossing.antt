@@ -1,6 +1,6 @@
 -- What an event hands to a division.
-use Rattle.std.specs.Prelude.{Bool, List, None, Option, Some, [], cond, false, is_none, is_ok, not, option_map, true, ℕ}
-use Rattle.std.specs.Prelude.{◌&&◌, ◌==◌, ◌∷◌}
+use Rattle.std.specs.Prelude.{Bool, List, None, Option, Some, [], cond, false, is_none, is_ok, not}
+use Rattle.std.specs.Prelude.{option_map, true, ℕ, ◌&&◌, ◌==◌, ◌∷◌}
 use Rattle.room_place.specs.Plans.{division_of}
 use Rattle.room_types.specs.declared.asks.Ask.{Ask}
 use Rattle.room_types.specs.declared.asks.CallForm.{CallForm}

@@ -1,5 +1,6 @@
 -- What a decision is.
-use Rattle.std.specs.Prelude.{Bool, Err, List, None, Ok, Option, Result, Some, [], cond, is_ok, not, true, ◌≡◌, ◌⊎◌}
+use Rattle.std.specs.Prelude.{Bool, Err, List, None, Ok, Option, Result, Some, [], cond, is_ok, not}
+use Rattle.std.specs.Prelude.{true, ◌≡◌, ◌⊎◌}
 use Rattle.room_types.specs.declared.answers.Answer.{Answer}
 use Rattle.room_types.specs.declared.changes.Change.{Change}
 use Rattle.room_types.specs.declared.decisions.Decision.{Decision}

@@ -1,14 +1,14 @@
 -- Events: who sends them, which reach a room, and what holds of those of a run.
-use Rattle.std.specs.Prelude.{Bool, List, None, Option, Result, Some, [], false, is_err, not, true, ℕ, ◌||◌, ◌∷◌, ◌≡◌}
-use Rattle.std.specs.Prelude.{◌≤◌}
+use Rattle.std.specs.Prelude.{Bool, List, None, Option, Result, Some, [], false, is_err, not, true}
+use Rattle.std.specs.Prelude.{ℕ, ◌||◌, ◌∷◌, ◌≡◌, ◌≤◌}
 use Rattle.room_types.specs.Texts.{Callsign}
 use Rattle.room_types.specs.declared.answers.Answer.{Answer}
 use Rattle.room_types.specs.declared.asks.Ask.{Ask}
 use Rattle.room_types.specs.declared.asks.Event.{Event}
 use Rattle.room_types.specs.declared.asks.Who.TheVariants.{Crew, Desk, Position}
 use Rattle.room_types.specs.declared.refusal_statuses.Refusal.{Refusal}
-use Rattle.room_model.specs.Crossing.{Accepted, Arrive, Asked, CallIn, Crossing, Declined, Left, OfferIn, Recalled}
-use Rattle.room_model.specs.Crossing.{ReportIn, Withdrawn, is_local}
+use Rattle.room_model.specs.Crossing.{Accepted, Arrive, Asked, CallIn, Crossing, Declined, Left}
+use Rattle.room_model.specs.Crossing.{OfferIn, Recalled, ReportIn, Withdrawn, is_local}
 use Rattle.room_model.specs.Room.{Room}
 use Rattle.room_model.specs.Step.{IsAddressed, answer_to, room_after}
 use Rattle.room_types.specs.declared.asks.Ask.TheVariants as ask

@@ -2,8 +2,8 @@
 -- the row is refused.
 use Rattle.std.specs.Cmp.Lexicographic.{slice_cmp}
 use Rattle.std.specs.Ordering.{nat_cmp}
-use Rattle.std.specs.Prelude.{Bool, List, None, Option, Some, cond, false, is_some, option_map, true, ℕ, ◌&&◌, ◌==◌}
-use Rattle.std.specs.Prelude.{◌≡◌}
+use Rattle.std.specs.Prelude.{Bool, List, None, Option, Some, cond, false, is_some, option_map}
+use Rattle.std.specs.Prelude.{true, ℕ, ◌&&◌, ◌==◌, ◌≡◌}
 use Rattle.std.specs.declared.cmp.Ordering.{Ordering}
 use Rattle.room_place.specs.Plans.{has_division}
 use Rattle.room_types.specs.KeyedRows.{IsKeyed, put_row, row_at}

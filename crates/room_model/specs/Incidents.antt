@@ -1,6 +1,6 @@
 -- A desk's asks about incidents.
-use Rattle.std.specs.Prelude.{Bool, Err, List, None, Option, Some, [], length, map, min, nat_lt, not, ℕ, ◌-◌, ◌==◌}
-use Rattle.std.specs.Prelude.{◌||◌, ◌∷◌}
+use Rattle.std.specs.Prelude.{Bool, Err, List, None, Option, Some, [], length, map, min, nat_lt}
+use Rattle.std.specs.Prelude.{not, ℕ, ◌-◌, ◌==◌, ◌||◌, ◌∷◌}
 use Rattle.room_types.specs.declared.answers.IncidentLine.{IncidentLine}
 use Rattle.room_types.specs.declared.answers.Served.{Served}
 use Rattle.room_types.specs.declared.changes.Change.{Change}
@@ -16,7 +16,8 @@ use Rattle.room_types.specs.Codes.{is_active}
 use Rattle.room_types.specs.Needs.{larger, need_of, needs_by}
 use Rattle.room_model.specs.Decisions.{Verdict, done, refuse_if, show, where_active, where_found}
 use Rattle.room_model.specs.Moments.{earlier}
-use Rattle.room_model.specs.Queries.{active_incidents, calls_of, incident_of, is_attended, served, turns_of}
+use Rattle.room_model.specs.Queries.{active_incidents, calls_of, incident_of, is_attended, served}
+use Rattle.room_model.specs.Queries.{turns_of}
 use Rattle.room_model.specs.Room.{Room}
 use Rattle.room_types.specs.declared.answers.Answer.TheVariants as answer
 use Rattle.room_types.specs.declared.refusal_statuses.Refusal.TheVariants as refusal

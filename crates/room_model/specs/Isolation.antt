@@ -3,14 +3,15 @@ use Rattle.std.specs.Prelude.{List, None, Option, Result, Some, [], true, â„•, â
 use Rattle.room_types.specs.KeyedRows.{drop_row}
 use Rattle.room_types.specs.Keys.{callsign_cmp, vehicle_key}
 use Rattle.room_types.specs.declared.answers.Answer.{Answer}
-use Rattle.room_types.specs.declared.changes.Change.TheVariants.{DropLoan, DropOffer, PutLoan, PutOffer, PutVehicle}
+use Rattle.room_types.specs.declared.changes.Change.TheVariants.{DropLoan, DropOffer, PutLoan}
+use Rattle.room_types.specs.declared.changes.Change.TheVariants.{PutOffer, PutVehicle}
 use Rattle.room_types.specs.declared.codes.Status.TheVariants.{Available}
 use Rattle.room_types.specs.declared.refusal_statuses.Refusal.{Refusal}
 use Rattle.room_types.specs.declared.tables.Loan.{Loan}
 use Rattle.room_types.specs.declared.tables.Vehicle.{Vehicle}
 use Rattle.room_types.specs.Texts.{Callsign}
-use Rattle.room_model.specs.Crossing.{Accepted, Arrive, Asked, CallIn, Crossing, Declined, Left, OfferIn, Recalled}
-use Rattle.room_model.specs.Crossing.{ReportIn, Withdrawn}
+use Rattle.room_model.specs.Crossing.{Accepted, Arrive, Asked, CallIn, Crossing, Declined, Left}
+use Rattle.room_model.specs.Crossing.{OfferIn, Recalled, ReportIn, Withdrawn}
 use Rattle.room_model.specs.Queries.{loan_at, vehicle_at}
 use Rattle.room_model.specs.Room.{Room, apply_one}
 use Rattle.room_model.specs.Shares.{own}

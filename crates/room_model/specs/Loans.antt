@@ -1,9 +1,10 @@
 -- Offers and loans.
-use Rattle.std.specs.Prelude.{Err, List, None, Option, Some, [], false, nat_le, not, true, ℕ, ◌==◌, ◌||◌, ◌∷◌}
+use Rattle.std.specs.Prelude.{Err, List, None, Option, Some, [], false, nat_le, not, true, ℕ, ◌==◌}
+use Rattle.std.specs.Prelude.{◌||◌, ◌∷◌}
 use Rattle.room_place.specs.Plans.{has_division}
 use Rattle.room_place.specs.declared.plans.Area.{Area}
-use Rattle.room_types.specs.declared.changes.Change.TheVariants.{DropLoan, DropOffer, PutLoan, PutOffer, PutVehicle}
-use Rattle.room_types.specs.declared.changes.Change.TheVariants.{Settle}
+use Rattle.room_types.specs.declared.changes.Change.TheVariants.{DropLoan, DropOffer, PutLoan}
+use Rattle.room_types.specs.declared.changes.Change.TheVariants.{PutOffer, PutVehicle, Settle}
 use Rattle.room_types.specs.declared.codes.Status.TheVariants.{Available, Offered}
 use Rattle.room_types.specs.declared.tables.Loan.{Loan}
 use Rattle.room_types.specs.declared.tables.Offer.{Offer}
@@ -11,7 +12,8 @@ use Rattle.room_types.specs.declared.tables.Vehicle.{Vehicle}
 use Rattle.room_types.specs.Texts.{Callsign}
 use Rattle.room_types.specs.Codes.{is_busy, is_free}
 use Rattle.room_model.specs.Decisions.{Verdict, done, refuse_if, show, where_held}
-use Rattle.room_model.specs.Queries.{borrowed, held, lent, loans_of, offered_by, offered_to, offers_of}
+use Rattle.room_model.specs.Queries.{borrowed, held, lent, loans_of, offered_by, offered_to}
+use Rattle.room_model.specs.Queries.{offers_of}
 use Rattle.room_model.specs.Room.{Room}
 use Rattle.room_types.specs.declared.answers.Answer.TheVariants as answer
 use Rattle.room_types.specs.declared.refusal_statuses.Refusal.TheVariants as refusal

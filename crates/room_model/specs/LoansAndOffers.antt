@@ -23,7 +23,8 @@ use Rattle.room_model.specs.Step.{answer_to}
 use Rattle.room_model.specs.CallExamples.{after_a_call}
 use Rattle.room_model.specs.ExampleRoom.{A1, A2, A3, C1, a1_on_duty_until, example_room}
 use Rattle.room_model.specs.IncidentExamples.{a1_sent}
-use Rattle.room_model.specs.StepWords.{at, call_at, holder_of, place, post_of, press, status_of, ◌▸◌}
+use Rattle.room_model.specs.StepWords.{at, call_at, holder_of, place, post_of, press, status_of}
+use Rattle.room_model.specs.StepWords.{◌▸◌}
 use Rattle.room_model.specs.VehicleExamples.{a1_posted, a1_waits}
 
 -- desk 1 offers A1 to division 2 until 9000; desk 2 takes it, or not

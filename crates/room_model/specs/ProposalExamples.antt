@@ -11,8 +11,8 @@ use Rattle.room_types.specs.declared.refusal_statuses.Refusal.TheVariants as ref
 use Rattle.room_types.specs.declared.needs.Counts.{Counts}
 use Rattle.room_model.specs.Room.{Room}
 use Rattle.room_model.specs.Step.{answer_to}
-use Rattle.room_model.specs.ExampleRoom.{A1, A2, A3, C1, a1_on_duty, a1_on_duty_until, a2_on_duty, a3_on_duty}
-use Rattle.room_model.specs.ExampleRoom.{example_room}
+use Rattle.room_model.specs.ExampleRoom.{A1, A2, A3, C1, a1_on_duty, a1_on_duty_until, a2_on_duty}
+use Rattle.room_model.specs.ExampleRoom.{a3_on_duty, example_room}
 use Rattle.room_model.specs.StepWords.{at, call_of, needs, place, taker, ◌▸◌}
 
 -- an incident at TQ300800 with these needs

@@ -1,15 +1,17 @@
 -- What a decision asks of the room. Each speaks of one division's rows, or of one vehicle's.
 use Rattle.std.specs.List.{list_any}
 use Rattle.std.specs.Ordering.{nat_cmp}
-use Rattle.std.specs.Prelude.{Bool, List, None, Option, Some, [], false, filter, int_le, int_lt, is_none, is_some}
-use Rattle.std.specs.Prelude.{length, max, nat_le, nat_lt, not, pos, ℕ, ℤ, ◌&&◌, ◌==◌, ◌||◌, ◌∷◌}
+use Rattle.std.specs.Prelude.{Bool, List, None, Option, Some, [], false, filter, int_le, int_lt}
+use Rattle.std.specs.Prelude.{is_none, is_some, length, max, nat_le, nat_lt, not, pos, ℕ, ℤ, ◌&&◌}
+use Rattle.std.specs.Prelude.{◌==◌, ◌||◌, ◌∷◌}
 use Rattle.room_place.specs.Choice.{first, least}
 use Rattle.room_place.specs.Places.{distance}
 use Rattle.room_place.specs.declared.places.Place.{Place}
 use Rattle.room_types.specs.KeyedRows.{keep, row_at}
-use Rattle.room_types.specs.Keys.{assignment_key, call_key, callsign_cmp, division_key, incident_key, loan_key}
-use Rattle.room_types.specs.Keys.{numbered_cmp, offer_key, owns_loan, owns_offer, pair_cmp, point_key, report_key}
-use Rattle.room_types.specs.Keys.{same_callsign, vehicle_key}
+use Rattle.room_types.specs.Keys.{assignment_key, call_key, callsign_cmp, division_key}
+use Rattle.room_types.specs.Keys.{incident_key, loan_key, numbered_cmp, offer_key, owns_loan}
+use Rattle.room_types.specs.Keys.{owns_offer, pair_cmp, point_key, report_key, same_callsign}
+use Rattle.room_types.specs.Keys.{vehicle_key}
 use Rattle.room_types.specs.declared.codes.Kind.{Kind}
 use Rattle.room_types.specs.declared.tables.Assignment.{Assignment}
 use Rattle.room_types.specs.declared.tables.Call.{Call}

@@ -1,6 +1,6 @@
 -- The queue of what needs an eye.
-use Rattle.std.specs.Prelude.{Bool, Err, List, None, Option, Some, [], cond, filter_map, is_none, length, nat_le}
-use Rattle.std.specs.Prelude.{nat_lt, not, true, ℕ, ◌&&◌, ◌++◌, ◌==◌, ◌||◌, ◌∷◌}
+use Rattle.std.specs.Prelude.{Bool, Err, List, None, Option, Some, [], cond, filter_map, is_none}
+use Rattle.std.specs.Prelude.{length, nat_le, nat_lt, not, true, ℕ, ◌&&◌, ◌++◌, ◌==◌, ◌||◌, ◌∷◌}
 use Rattle.room_place.specs.Choice.{Among}
 use Rattle.room_types.specs.KeyedRows.{IsKeyed, put_row}
 use Rattle.room_types.specs.Keys.{entry_cmp, entry_key, owns_loan, owns_offer}

@@ -1,5 +1,6 @@
 -- The queue: from which moment on each of its entries stands there, and in which order.
-use Rattle.std.specs.Prelude.{Err, List, None, Ok, Some, [], false, map, suc, zero, ℕ, ◌+◌, ◌∷◌, ◌≡◌}
+use Rattle.std.specs.Prelude.{Err, List, None, Ok, Some, [], false, map, suc, zero, ℕ, ◌+◌, ◌∷◌}
+use Rattle.std.specs.Prelude.{◌≡◌}
 use Rattle.room_types.specs.Texts.{Callsign}
 use Rattle.room_types.specs.declared.answers.Answer.TheVariants as answer
 use Rattle.room_types.specs.declared.answers.QueueEntry.{QueueEntry}

@@ -7,7 +7,8 @@ use Rattle.room_types.specs.declared.asks.Event.{Event}
 use Rattle.room_types.specs.declared.asks.Who.TheVariants.{Crew, Desk}
 use Rattle.room_types.specs.declared.codes.Button.TheVariants as button
 use Rattle.room_types.specs.declared.codes.Outcome.TheVariants.{Late, Normal, Skipped, Stale, Wrong}
-use Rattle.room_types.specs.declared.codes.Status.TheVariants.{AtScene, Available, Leaving, Mobilised, OffDuty, Offered}
+use Rattle.room_types.specs.declared.codes.Status.TheVariants.{AtScene, Available, Leaving}
+use Rattle.room_types.specs.declared.codes.Status.TheVariants.{Mobilised, OffDuty, Offered}
 use Rattle.room_types.specs.declared.codes.Status.TheVariants.{Returning}
 use Rattle.room_types.specs.declared.refusal_statuses.Refusal.TheVariants as refusal
 use Rattle.room_model.specs.Queries.{assignment_at, kept_report}

@@ -1,18 +1,19 @@
 -- A crew's reports. The table of buttons comes first: what each makes of a status. Then what a
 -- report comes to, what it changes, and last whose report it is.
-use Rattle.std.specs.Prelude.{Bool, Err, List, None, Option, Some, [], cond, false, is_some, max, nat_lt, not, true, ℕ}
-use Rattle.std.specs.Prelude.{◌&&◌, ◌++◌, ◌==◌, ◌||◌, ◌∷◌}
+use Rattle.std.specs.Prelude.{Bool, Err, List, None, Option, Some, [], cond, false, is_some, max}
+use Rattle.std.specs.Prelude.{nat_lt, not, true, ℕ, ◌&&◌, ◌++◌, ◌==◌, ◌||◌, ◌∷◌}
 use Rattle.room_place.specs.Places.{same_place}
 use Rattle.room_types.specs.declared.asks.Press.{Press}
 use Rattle.room_types.specs.declared.changes.Change.{Change}
-use Rattle.room_types.specs.declared.changes.Change.TheVariants.{DropAssignment, DropLoan, PutReport, PutTurn}
-use Rattle.room_types.specs.declared.changes.Change.TheVariants.{PutVehicle}
+use Rattle.room_types.specs.declared.changes.Change.TheVariants.{DropAssignment, DropLoan}
+use Rattle.room_types.specs.declared.changes.Change.TheVariants.{PutReport, PutTurn, PutVehicle}
 use Rattle.room_types.specs.declared.codes.Button.{Button}
 use Rattle.room_types.specs.declared.codes.Outcome.{Outcome}
 use Rattle.room_types.specs.declared.codes.Outcome.TheVariants.{Late, Normal, Skipped, Stale, Wrong}
 use Rattle.room_types.specs.declared.codes.Status.{Status}
-use Rattle.room_types.specs.declared.codes.Status.TheVariants.{AtHospital, AtScene, Available, Leaving, Mobilised}
-use Rattle.room_types.specs.declared.codes.Status.TheVariants.{OffDuty, Offered, Returning}
+use Rattle.room_types.specs.declared.codes.Status.TheVariants.{AtHospital, AtScene, Available}
+use Rattle.room_types.specs.declared.codes.Status.TheVariants.{Leaving, Mobilised, OffDuty, Offered}
+use Rattle.room_types.specs.declared.codes.Status.TheVariants.{Returning}
 use Rattle.room_types.specs.declared.tables.Assignment.{Assignment}
 use Rattle.room_types.specs.declared.tables.Loan.{Loan}
 use Rattle.room_types.specs.declared.tables.Report.{Report}
@@ -23,7 +24,8 @@ use Rattle.room_types.specs.Codes.{acts, same_button}
 use Rattle.room_model.specs.Decisions.{Verdict, refuse_if, show, where_found, with_changes}
 use Rattle.room_model.specs.Loans.{lender_of}
 use Rattle.room_model.specs.Moments.{first_of}
-use Rattle.room_model.specs.Queries.{assignment_at, borrowed, held, kept_report, open_turn, vehicle_at}
+use Rattle.room_model.specs.Queries.{assignment_at, borrowed, held, kept_report, open_turn}
+use Rattle.room_model.specs.Queries.{vehicle_at}
 use Rattle.room_model.specs.Room.{Room}
 use Rattle.room_types.specs.declared.answers.Answer.TheVariants as answer
 use Rattle.room_types.specs.declared.codes.Button.TheVariants as button

@@ -1,13 +1,15 @@
 -- The agreements that every room keeps, each at one key. IsWellFormed lists them; the end of the
 -- file says once more, in the field's words, who is sent.
 use Rattle.std.specs.Ordering.{nat_cmp}
-use Rattle.std.specs.Prelude.{IfSome, List, None, Option, Some, false, is_some, true, ℕ, ◌↔◌, ◌≡◌, ◌≢◌, ◌≤◌, ◌⊎◌}
+use Rattle.std.specs.Prelude.{IfSome, List, None, Option, Some, false, is_some, true, ℕ, ◌↔◌, ◌≡◌}
+use Rattle.std.specs.Prelude.{◌≢◌, ◌≤◌, ◌⊎◌}
 use Rattle.room_place.specs.Choice.{Among}
 use Rattle.room_place.specs.Plans.{has_division}
 use Rattle.room_place.specs.declared.plans.Area.{Area}
 use Rattle.room_types.specs.KeyedRows.{row_at}
-use Rattle.room_types.specs.Keys.{assignment_key, call_key, callsign_cmp, division_key, incident_key, loan_key}
-use Rattle.room_types.specs.Keys.{numbered_cmp, offer_key, pair_cmp, point_key, report_key, turn_key, vehicle_key}
+use Rattle.room_types.specs.Keys.{assignment_key, call_key, callsign_cmp, division_key}
+use Rattle.room_types.specs.Keys.{incident_key, loan_key, numbered_cmp, offer_key, pair_cmp}
+use Rattle.room_types.specs.Keys.{point_key, report_key, turn_key, vehicle_key}
 use Rattle.room_types.specs.Slices.{IsActive}
 use Rattle.room_types.specs.declared.tables.Assignment.{Assignment}
 use Rattle.room_types.specs.declared.tables.Call.{Call}

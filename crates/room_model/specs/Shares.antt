@@ -1,8 +1,9 @@
 -- The rows that one division owns, the rows of one vehicle, and those that decide what is asked.
 use Rattle.std.specs.Prelude.{List, Some, [], filter, is_none, ℕ, ◌&&◌, ◌∷◌, ◌≡◌}
 use Rattle.room_place.specs.Plans.{division_of}
-use Rattle.room_types.specs.Keys.{owns_assignment, owns_call, owns_division, owns_incident, owns_loan, owns_offer}
-use Rattle.room_types.specs.Keys.{owns_point, owns_report, owns_turn, owns_vehicle, same_callsign}
+use Rattle.room_types.specs.Keys.{owns_assignment, owns_call, owns_division, owns_incident}
+use Rattle.room_types.specs.Keys.{owns_loan, owns_offer, owns_point, owns_report, owns_turn}
+use Rattle.room_types.specs.Keys.{owns_vehicle, same_callsign}
 use Rattle.room_types.specs.Texts.{Callsign}
 use Rattle.room_types.specs.declared.asks.Ask.{Ask}
 use Rattle.room_types.specs.declared.asks.Ask.TheVariants.{Call, Last}

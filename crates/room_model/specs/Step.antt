@@ -1,5 +1,6 @@
 -- What the room decides, and the room after it.
-use Rattle.std.specs.Prelude.{Bool, Err, Result, false, is_some, nat_le, true, ℕ, ◌&&◌, ◌==◌, ◌||◌, ◌≡◌}
+use Rattle.std.specs.Prelude.{Bool, Err, Result, false, is_some, nat_le, true, ℕ, ◌&&◌, ◌==◌, ◌||◌}
+use Rattle.std.specs.Prelude.{◌≡◌}
 use Rattle.room_place.specs.Plans.{has_division}
 use Rattle.room_types.specs.declared.answers.Answer.{Answer}
 use Rattle.room_types.specs.declared.asks.Ask.{Ask}
@@ -13,7 +14,8 @@ use Rattle.room_model.specs.Calls.{new_call, show_last_serial, take_call}
 use Rattle.room_model.specs.DayTimes.{show_times}
 use Rattle.room_model.specs.Decisions.{Verdict, answer_of, changes_of}
 use Rattle.room_model.specs.Incidents.{change_needs, close, merge, show_incident, show_incidents}
-use Rattle.room_model.specs.Loans.{accept, decline, give_back, lend, recall, show_loans, show_offers, withdraw}
+use Rattle.room_model.specs.Loans.{accept, decline, give_back, lend, recall, show_loans}
+use Rattle.room_model.specs.Loans.{show_offers, withdraw}
 use Rattle.room_model.specs.Points.{set_point, show_points}
 use Rattle.room_model.specs.Proposals.{propose}
 use Rattle.room_model.specs.Queries.{vehicle_at}

@@ -6,7 +6,8 @@ use Rattle.room_types.specs.declared.asks.Ask.TheVariants as ask
 use Rattle.room_types.specs.declared.asks.Event.{Event}
 use Rattle.room_types.specs.declared.asks.Who.TheVariants.{Crew, Desk}
 use Rattle.room_types.specs.declared.codes.Kind.TheVariants.{Ambulance, Car}
-use Rattle.room_types.specs.declared.codes.Status.TheVariants.{Available, Mobilised, OffDuty, Returning}
+use Rattle.room_types.specs.declared.codes.Status.TheVariants.{Available, Mobilised, OffDuty}
+use Rattle.room_types.specs.declared.codes.Status.TheVariants.{Returning}
 use Rattle.room_types.specs.declared.refusal_statuses.Refusal.TheVariants as refusal
 use Rattle.room_types.specs.declared.tables.Assignment.{Assignment}
 use Rattle.room_model.specs.Queries.{assignment_at, open_turn}
@@ -14,8 +15,8 @@ use Rattle.room_model.specs.Room.{Room}
 use Rattle.room_model.specs.Shares.{own}
 use Rattle.room_model.specs.Step.{answer_to}
 use Rattle.room_model.specs.CallExamples.{after_a_call}
-use Rattle.room_model.specs.ExampleRoom.{A1, A2, A3, B1, C1, a1_on_duty, a1_on_duty_until, example_room}
-use Rattle.room_model.specs.ExampleRoom.{fresh_vehicle}
+use Rattle.room_model.specs.ExampleRoom.{A1, A2, A3, B1, C1, a1_on_duty, a1_on_duty_until}
+use Rattle.room_model.specs.ExampleRoom.{example_room, fresh_vehicle}
 use Rattle.room_model.specs.IncidentExamples.{a1_sent}
 use Rattle.room_model.specs.StepWords.{at, call_of, place, post_of, status_of, taker, ◌▸◌}
 

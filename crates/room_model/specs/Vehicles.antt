@@ -1,13 +1,14 @@
 -- A desk's asks about the vehicles that it holds.
-use Rattle.std.specs.Prelude.{Bool, List, None, Option, Some, [], false, is_some, map, nat_le, not, option_map, true, ℕ}
-use Rattle.std.specs.Prelude.{◌++◌, ◌+◌, ◌∷◌}
+use Rattle.std.specs.Prelude.{Bool, List, None, Option, Some, [], false, is_some, map, nat_le, not}
+use Rattle.std.specs.Prelude.{option_map, true, ℕ, ◌++◌, ◌+◌, ◌∷◌}
 use Rattle.room_place.specs.declared.places.Place.{Place}
 use Rattle.room_types.specs.declared.answers.VehicleLine.{VehicleLine}
 use Rattle.room_types.specs.declared.changes.Change.{Change}
-use Rattle.room_types.specs.declared.changes.Change.TheVariants.{DropAssignment, PutAssignment, PutIncident, PutTurn}
-use Rattle.room_types.specs.declared.changes.Change.TheVariants.{PutVehicle}
+use Rattle.room_types.specs.declared.changes.Change.TheVariants.{DropAssignment, PutAssignment}
+use Rattle.room_types.specs.declared.changes.Change.TheVariants.{PutIncident, PutTurn, PutVehicle}
 use Rattle.room_types.specs.declared.codes.Kind.{Kind}
-use Rattle.room_types.specs.declared.codes.Status.TheVariants.{Available, Mobilised, OffDuty, Returning}
+use Rattle.room_types.specs.declared.codes.Status.TheVariants.{Available, Mobilised, OffDuty}
+use Rattle.room_types.specs.declared.codes.Status.TheVariants.{Returning}
 use Rattle.room_types.specs.declared.tables.Assignment.{Assignment}
 use Rattle.room_types.specs.declared.tables.Incident.{Incident}
 use Rattle.room_types.specs.declared.tables.Loan.{Loan}
@@ -16,9 +17,11 @@ use Rattle.room_types.specs.declared.tables.Vehicle.{Vehicle}
 use Rattle.room_types.specs.Texts.{Callsign}
 use Rattle.room_types.specs.Codes.{is_busy, is_free, is_mobilised, is_off}
 use Rattle.room_types.specs.Needs.{need_of}
-use Rattle.room_model.specs.Decisions.{Verdict, done, refuse_if, show, where_active, where_held, with_changes}
+use Rattle.room_model.specs.Decisions.{Verdict, done, refuse_if, show, where_active, where_held}
+use Rattle.room_model.specs.Decisions.{with_changes}
 use Rattle.room_model.specs.Moments.{first_of, number_limit}
-use Rattle.room_model.specs.Queries.{all_held, assignment_of, held, incident_of, lent, open_turn, point_of, served}
+use Rattle.room_model.specs.Queries.{all_held, assignment_of, held, incident_of, lent, open_turn}
+use Rattle.room_model.specs.Queries.{point_of, served}
 use Rattle.room_model.specs.Room.{Room}
 use Rattle.room_types.specs.declared.answers.Answer.TheVariants as answer
 use Rattle.room_types.specs.declared.refusal_statuses.Refusal.TheVariants as refusal

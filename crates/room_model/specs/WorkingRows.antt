@@ -2,13 +2,14 @@
 -- it.
 use Rattle.std.specs.Int.{abs_diff}
 use Rattle.std.specs.Ordering.{is_eq}
-use Rattle.std.specs.Prelude.{Bool, None, Option, Some, false, filter, int_le, int_lt, is_some, nat_le, pos, true}
-use Rattle.std.specs.Prelude.{ℕ, ◌&&◌, ◌==◌, ◌||◌}
+use Rattle.std.specs.Prelude.{Bool, None, Option, Some, false, filter, int_le, int_lt, is_some}
+use Rattle.std.specs.Prelude.{nat_le, pos, true, ℕ, ◌&&◌, ◌==◌, ◌||◌}
 use Rattle.room_place.specs.declared.places.Place.{Place}
 use Rattle.room_types.specs.Codes.{is_active, is_exception}
 use Rattle.room_types.specs.KeyedRows.{keep}
-use Rattle.room_types.specs.Keys.{numbered_cmp, owns_assignment, owns_division, owns_loan, owns_offer, owns_point}
-use Rattle.room_types.specs.Keys.{owns_report, owns_vehicle, same_callsign, turn_key}
+use Rattle.room_types.specs.Keys.{numbered_cmp, owns_assignment, owns_division, owns_loan}
+use Rattle.room_types.specs.Keys.{owns_offer, owns_point, owns_report, owns_vehicle, same_callsign}
+use Rattle.room_types.specs.Keys.{turn_key}
 use Rattle.room_types.specs.Texts.{Callsign}
 use Rattle.room_types.specs.declared.asks.Ask.{Ask}
 use Rattle.room_types.specs.declared.tables.Incident.{Incident}

@@ -9,11 +9,14 @@ ghost use Rattle.room_types.specs.declared.tables.Assignment.{Assignment};
 ghost use Rattle.room_types.specs.declared.tables.Turn.{Turn};
 ghost use Rattle.room_model.specs.Room.{IsInOrder, Room};
 ghost use Rattle.room_model.specs.Events.{AreAddressed, IsNumbered};
-ghost use Rattle.room_model.specs.FleetRows.{AreTerminals, fate_again, fate_of, fleet_at, room_enrolled, terminals_enrolled};
+ghost use Rattle.room_model.specs.FleetRows.{AreTerminals, fate_again, fate_of, fleet_at};
+ghost use Rattle.room_model.specs.FleetRows.{room_enrolled, terminals_enrolled};
 ghost use Rattle.room_model.specs.Fleets.{AreAgain, Reaching, enrolled, fates_of, since};
 ghost use Rattle.room_model.specs.Run.{room_run};
 ghost use Rattle.room_model.specs.Step.{IsAddressed, room_after};
-ghost use Rattle.room_model.specs.RoomAgreements.{AssignmentsAgree, AssignmentsStand, IsWellFormed, StatusShowsAssignments, StatusShowsTurns, TurnsAgree, TurnsStand};
+ghost use Rattle.room_model.specs.RoomAgreements.{AssignmentsAgree, AssignmentsStand, IsWellFormed};
+ghost use Rattle.room_model.specs.RoomAgreements.{StatusShowsAssignments, StatusShowsTurns};
+ghost use Rattle.room_model.specs.RoomAgreements.{TurnsAgree, TurnsStand};
 
 /// An addressed event leaves a well-formed room well-formed.
 pub fn an_event_keeps_the_agreements()

@@ -9,7 +9,8 @@ ghost use Rattle.room_types.specs.declared.refusal_statuses.Refusal.TheVariants.
 ghost use Rattle.room_model.specs.Crossing.{cross};
 ghost use Rattle.room_model.specs.Decisions.{show, where_held};
 ghost use Rattle.room_model.specs.Events.{by_desk};
-ghost use Rattle.room_model.specs.UnofferedRooms.{IsUnoffered, NobodyAsksToLend, NoneIsReserved, OffersAgree, speaks_of_offers, without_offers};
+ghost use Rattle.room_model.specs.UnofferedRooms.{IsUnoffered, NobodyAsksToLend, NoneIsReserved};
+ghost use Rattle.room_model.specs.UnofferedRooms.{OffersAgree, speaks_of_offers, without_offers};
 ghost use Rattle.room_model.specs.Queries.{held, lent};
 ghost use Rattle.room_model.specs.Queue.{entries, unanswered};
 ghost use Rattle.room_model.specs.Room.{IsInOrder, Room};

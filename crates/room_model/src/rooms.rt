@@ -1,5 +1,6 @@
 //! What a connection is served with: a room that events act on, and who its terminals are.
-ghost use Rattle.std.specs.Prelude.{◌≡◌, ◌⊎◌, ℕ, List, [], ◌∷◌, Result, Ok, IfOk, IfErr, OnOk, OnErr};
+ghost use Rattle.std.specs.Prelude.{◌≡◌, ◌⊎◌, ℕ, List, [], ◌∷◌, Result, Ok, IfOk, IfErr, OnOk};
+ghost use Rattle.std.specs.Prelude.{OnErr};
 ghost use Rattle.std.specs.Fn.{FnOnceReturnsAt};
 ghost use Rattle.room_types.specs.declared.answers.Answer.{Answer as Answered};
 ghost use Rattle.room_types.specs.declared.fleet.Terminal.{Terminal};

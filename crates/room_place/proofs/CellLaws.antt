@@ -1,9 +1,11 @@
 -- A place is no nearer than the floor of its ring.
-use Rattle.std.proofs.Common.{◌≡◌, ℕ, zero, suc, ◌+◌, ◌*◌, ◌/◌, ◌≤◌, max, inl, inr, refl, sym, arith}
+use Rattle.std.proofs.Common.{◌≡◌, ℕ, zero, suc, ◌+◌, ◌*◌, ◌/◌, ◌≤◌, max, inl, inr, refl, sym}
+use Rattle.std.proofs.Common.{arith}
 use Rattle.std.proofs.Math.Nat.{mul-le-mul, max-eq_left, max-eq_right}
 use Rattle.std.proofs.lemmas.Bool.{cases_lt}
 use Rattle.std.specs.Int.{abs_diff}
-use Rattle.room_place.specs.Places.{IsInSquares, IsRoot, cell_of, distance, ring_floor, ring_of, square_between}
+use Rattle.room_place.specs.Places.{IsInSquares, IsRoot, cell_of, distance, ring_floor, ring_of}
+use Rattle.room_place.specs.Places.{square_between}
 use Rattle.room_place.specs.declared.places.Place.{Place}
 use Rattle.room_place.proofs.PlaceLaws.{distance_is_root}
 

@@ -1,10 +1,11 @@
 -- Choosing the least again and again gives the first few.
-use Rattle.std.proofs.Common.{◌≡◌, ℕ, zero, suc, ◌+◌, ◌-◌, ◌<◌, ◌≤◌, ◌++◌, Bool, true, false, cond, List, [], ◌∷◌}
-use Rattle.std.proofs.Common.{length, Option, Some, None, ◌⊎◌, inl, inr, refl, sym, ap, ◌∙◌, subst, arith}
+use Rattle.std.proofs.Common.{◌≡◌, ℕ, zero, suc, ◌+◌, ◌-◌, ◌<◌, ◌≤◌, ◌++◌, Bool, true, false, cond}
+use Rattle.std.proofs.Common.{List, [], ◌∷◌, length, Option, Some, None, ◌⊎◌, inl, inr, refl, sym}
+use Rattle.std.proofs.Common.{ap, ◌∙◌, subst, arith}
 use Rattle.std.specs.Prelude.{filter}
 use Rattle.std.proofs.lemmas.Bool.{false≢true}
-use Rattle.room_place.specs.Choice.{least, least_from}
-use Rattle.room_place.specs.Choice.{comes_after, extend, chosen, Among, AreDistinct, AreBefore, IsStrict, AreFirst}
+use Rattle.room_place.specs.Choice.{least, least_from, comes_after, extend, chosen, Among}
+use Rattle.room_place.specs.Choice.{AreDistinct, AreBefore, IsStrict, AreFirst}
 
 module _ {X : Type 0} (lt : X → X → Bool) (order : IsStrict lt) where
   irreflexive : (b : Bool) (x : X) → lt x x ≡ b → b ≡ false

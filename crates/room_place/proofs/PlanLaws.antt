@@ -1,6 +1,7 @@
 -- The division of a place, in words.
-use Rattle.std.proofs.Common.{Bool, IsTrue, List, None, Option, Some, [], ap, arith, cond, false, get_or, inl, inr}
-use Rattle.std.proofs.Common.{length, map, nat_lt, refl, suc, subst, sym, true, zero, ℕ, ◌∙◌, ◌∷◌, ◌<◌, ◌≡◌, ◌≤◌}
+use Rattle.std.proofs.Common.{Bool, IsTrue, List, None, Option, Some, [], ap, arith, cond, false}
+use Rattle.std.proofs.Common.{get_or, inl, inr, length, map, nat_lt, refl, suc, subst, sym, true}
+use Rattle.std.proofs.Common.{zero, ℕ, ◌∙◌, ◌∷◌, ◌<◌, ◌≡◌, ◌≤◌}
 use Rattle.std.proofs.lemmas.Bool.{and_parts, false≢true, leb-true, ltb-false}
 use Rattle.std.proofs.lemmas.List.Sums.{AllPass-from_list_all}
 use Rattle.std.specs.Prelude.{is_none, not}
@@ -9,8 +10,8 @@ use Rattle.std.proofs.lemmas.Bool.Decides.{nat_tests}
 use Rattle.std.specs.List.{All, Any, filter}
 use Rattle.std.specs.Option.{IfNone, IfSome}
 use Rattle.room_place.specs.Choice.{Among, IsStrict}
-use Rattle.room_place.specs.Plans.{are_of_divisions, are_rectangles, division_of, divisions_with, has_place}
-use Rattle.room_place.specs.Plans.{has_sound_count, is_division, is_plan, is_zone}
+use Rattle.room_place.specs.Plans.{are_of_divisions, are_rectangles, division_of, divisions_with}
+use Rattle.room_place.specs.Plans.{has_place, has_sound_count, is_division, is_plan, is_zone}
 use Rattle.room_place.specs.declared.places.Place.{Place}
 use Rattle.room_place.specs.declared.plans.Area.{Area}
 use Rattle.room_place.proofs.Choices.{empty, finds}

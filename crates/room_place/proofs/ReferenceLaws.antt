@@ -1,10 +1,10 @@
 -- Reading a text gives the place that it names, or its first fault.
-use Rattle.std.proofs.Common.{Bool, List, Option, Result, Some, None, Ok, Err, [], ap, arith, cond, drop, false, get_or}
-use Rattle.std.proofs.Common.{inl, inr, length, refl, subst, sym, take, true, ◌++◌, ◌+◌, ◌-◌, ◌/◌, ◌∙◌, ◌∷◌, ◌≡◌, ◌≤◌}
-use Rattle.std.proofs.Common.{◌⊎◌, ℕ}
+use Rattle.std.proofs.Common.{Bool, List, Option, Result, Some, None, Ok, Err, [], ap, arith, cond}
+use Rattle.std.proofs.Common.{drop, false, get_or, inl, inr, length, refl, subst, sym, take, true}
+use Rattle.std.proofs.Common.{◌++◌, ◌+◌, ◌-◌, ◌/◌, ◌∙◌, ◌∷◌, ◌≡◌, ◌≤◌, ◌⊎◌, ℕ}
 use Rattle.std.proofs.Math.Seq.{drop-append_seam, take-append_seam, take-length}
-use Rattle.std.proofs.lemmas.Bool.{and_from, and_parts, cond-true, eq-eqb, eqb-true, not-false, or_cases, or_left}
-use Rattle.std.proofs.lemmas.Bool.{or_right}
+use Rattle.std.proofs.lemmas.Bool.{and_from, and_parts, cond-true, eq-eqb, eqb-true, not-false}
+use Rattle.std.proofs.lemmas.Bool.{or_cases, or_left, or_right}
 use Rattle.std.proofs.lemmas.List.{append-nil, length-append, length-drop, take-append-drop}
 use Rattle.std.proofs.lemmas.List.Elements.{filter-append}
 use Rattle.std.proofs.lemmas.List.Folds.{list_all-append}
@@ -12,14 +12,16 @@ use Rattle.std.specs.Char.{is_ascii_digit}
 use Rattle.std.specs.List.{filter}
 use Rattle.std.specs.Option.{ok_or, option_and_then}
 use Rattle.std.specs.Prelude.{IfErr, IfOk, MatchResult, is_none, not, ◌==◌, ◌&&◌, ◌||◌}
-use Rattle.room_place.specs.References.{IsFirstFault, IsReference, after_gap, are_allowed, are_digits, corner_of}
-use Rattle.room_place.specs.References.{digit_count, has_digit_fault, has_length_fault, has_square_fault, metres_of}
-use Rattle.room_place.specs.References.{parse, place_by, place_in, square_of}
+use Rattle.room_place.specs.References.{IsFirstFault, IsReference, after_gap, are_allowed}
+use Rattle.room_place.specs.References.{are_digits, corner_of, digit_count, has_digit_fault}
+use Rattle.room_place.specs.References.{has_length_fault, has_square_fault, metres_of, parse}
+use Rattle.room_place.specs.References.{place_by, place_in, square_of}
 use Rattle.room_place.specs.declared.places.Place.{Place}
 use Rattle.room_place.specs.declared.places.PlaceFault.{PlaceFault}
 use Rattle.room_place.specs.declared.places.PlaceFault.TheVariants.{Digit, Length, Spacing, Square}
-use Rattle.room_place.proofs.DigitLaws.{after_gap-digits, allowed-digits, allowed-gap, filter-digits, filter-gap}
-use Rattle.room_place.proofs.DigitLaws.{gap_of, gap_of-IsGap, gap_of-after_gap}
+use Rattle.room_place.proofs.DigitLaws.{after_gap-digits, allowed-digits, allowed-gap}
+use Rattle.room_place.proofs.DigitLaws.{filter-digits, filter-gap, gap_of, gap_of-IsGap}
+use Rattle.room_place.proofs.DigitLaws.{gap_of-after_gap}
 
 -- a text without the first three faults is read
 unfaulted : (text : List ℕ) → has_square_fault text ≡ false → has_digit_fault text ≡ false

@@ -1,7 +1,7 @@
 -- Places, the distances between them, and the cells that they lie in.
 use Rattle.std.specs.Int.{abs_diff}
-use Rattle.std.specs.Prelude.{Bool, cond, max, nat_le, suc, true, zero, ℕ, ◌&&◌, ◌*◌, ◌+◌, ◌/◌, ◌<◌, ◌==◌, ◌^◌, ◌≡◌}
-use Rattle.std.specs.Prelude.{◌≤◌}
+use Rattle.std.specs.Prelude.{Bool, cond, max, nat_le, suc, true, zero, ℕ, ◌&&◌, ◌*◌, ◌+◌, ◌/◌, ◌<◌}
+use Rattle.std.specs.Prelude.{◌==◌, ◌^◌, ◌≡◌, ◌≤◌}
 use Rattle.room_place.specs.Squares.{is_in_squares}
 use Rattle.room_place.specs.declared.grid_cells.Cell.{Cell}
 use Rattle.room_place.specs.declared.places.Place.{Place}

@@ -1,13 +1,14 @@
 -- The areas of divisions, and what makes a plan of them.
 use Rattle.std.specs.List.{list_all, list_any}
-use Rattle.std.specs.Prelude.{Bool, List, None, Option, Some, filter, if◌then◌else◌, is_none, length, map, nat_le}
-use Rattle.std.specs.Prelude.{nat_lt, not, true, ℕ, ◌&&◌, ◌==◌, ◌≡◌}
+use Rattle.std.specs.Prelude.{Bool, List, None, Option, Some, filter, if◌then◌else◌, is_none}
+use Rattle.std.specs.Prelude.{length, map, nat_le, nat_lt, not, true, ℕ, ◌&&◌, ◌==◌, ◌≡◌}
 use Rattle.room_place.specs.Choice.{least}
 use Rattle.room_place.specs.Squares.{is_in_squares}
 use Rattle.room_place.specs.declared.places.Place.{Place}
 use Rattle.room_place.specs.declared.plans.Area.{Area}
 use Rattle.room_place.specs.declared.plans.PlanFault.{PlanFault}
-use Rattle.room_place.specs.declared.plans.PlanFault.TheVariants.{Count, Memory, Number, Rectangle, Zone}
+use Rattle.room_place.specs.declared.plans.PlanFault.TheVariants.{Count, Memory, Number, Rectangle}
+use Rattle.room_place.specs.declared.plans.PlanFault.TheVariants.{Zone}
 use Rattle.room_place.specs.declared.plans.Rect.{Rect}
 
 -- a rectangle has the places on its edges too

@@ -1,9 +1,10 @@
 -- Grid references: which texts name a place, and why the others name none.
 use Rattle.std.specs.Char.{is_ascii_digit}
 use Rattle.std.specs.List.{list_all}
-use Rattle.std.specs.Prelude.{Bool, Err, List, None, Option, Result, Some, [], codes, drop, false, filter, fold}
-use Rattle.std.specs.Prelude.{if◌then◌else◌, length, not, ok_or, option_and_then, take, true, ℕ, ◌&&◌, ◌*◌, ◌++◌, ◌+◌}
-use Rattle.std.specs.Prelude.{◌-◌, ◌/◌, ◌==◌, ◌^◌, ◌||◌, ◌∷◌, ◌≡◌, ◌⊎◌, is_none}
+use Rattle.std.specs.Prelude.{Bool, Err, List, None, Option, Result, Some, [], codes, drop, false}
+use Rattle.std.specs.Prelude.{filter, fold, if◌then◌else◌, length, not, ok_or, option_and_then}
+use Rattle.std.specs.Prelude.{take, true, ℕ, ◌&&◌, ◌*◌, ◌++◌, ◌+◌, ◌-◌, ◌/◌, ◌==◌, ◌^◌, ◌||◌, ◌∷◌}
+use Rattle.std.specs.Prelude.{◌≡◌, ◌⊎◌, is_none}
 use Rattle.room_place.specs.declared.places.Place.{Place}
 use Rattle.room_place.specs.declared.places.PlaceFault.{PlaceFault}
 use Rattle.room_place.specs.declared.places.PlaceFault.TheVariants.{Digit, Length, Spacing, Square}

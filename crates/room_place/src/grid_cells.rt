@@ -1,6 +1,7 @@
 //! Cells of one square kilometre, and the rings of them round a cell.
 ghost use Rattle.std.specs.Prelude.{◌≡◌, ◌≤◌};
-ghost use Rattle.room_place.specs.Places.{cell_of as cell_at, ring_of as ring_between, ring_floor as floor_of, distance, IsInSquares};
+ghost use Rattle.room_place.specs.Places.{cell_of as cell_at, ring_of as ring_between};
+ghost use Rattle.room_place.specs.Places.{ring_floor as floor_of, distance, IsInSquares};
 ghost use Rattle.room_place.specs.declared.places.Place.{Place};
 
 use crate::places::Place;

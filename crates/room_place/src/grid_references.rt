@@ -3,7 +3,13 @@ ghost use Rattle.std.specs.Prelude.{◌≡◌, ◌≤◌, ◌<◌, ◌^◌, true
 ghost use Rattle.std.specs.List.{list_all};
 ghost use Rattle.std.specs.Char.{is_ascii_digit};
 ghost use Rattle.room_place.specs.Squares.{is_in_squares};
-ghost use Rattle.room_place.specs.References.{parse, corner_of as corner_named, place_in as place_written, after_gap as rest_after_gap, are_digits as are_only_digits, metres_of as metres_written, number_of as number_written, are_allowed as all_allowed};
+ghost use Rattle.room_place.specs.References.{parse, corner_of as corner_named};
+ghost use Rattle.room_place.specs.References.{place_in as place_written};
+ghost use Rattle.room_place.specs.References.{after_gap as rest_after_gap};
+ghost use Rattle.room_place.specs.References.{are_digits as are_only_digits};
+ghost use Rattle.room_place.specs.References.{metres_of as metres_written};
+ghost use Rattle.room_place.specs.References.{number_of as number_written};
+ghost use Rattle.room_place.specs.References.{are_allowed as all_allowed};
 
 use crate::places::{Easting, Northing, Place, PlaceFault};
 

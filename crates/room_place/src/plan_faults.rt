@@ -1,6 +1,9 @@
 //! What makes areas and a zone no plan.
 ghost use Rattle.std.specs.Prelude.{◌≡◌};
-ghost use Rattle.room_place.specs.Plans.{plan_fault, has_sound_count as is_sound_count, are_of_divisions as all_of_divisions, are_rectangles as all_rectangles, is_zone as zone_test, is_ascii as ascii_test};
+ghost use Rattle.room_place.specs.Plans.{plan_fault, has_sound_count as is_sound_count};
+ghost use Rattle.room_place.specs.Plans.{are_of_divisions as all_of_divisions};
+ghost use Rattle.room_place.specs.Plans.{are_rectangles as all_rectangles, is_zone as zone_test};
+ghost use Rattle.room_place.specs.Plans.{is_ascii as ascii_test};
 
 use crate::plans::{Area, LAST_DIVISION, LONGEST_ZONE, MOST_AREAS, PlanFault};
 

@@ -102,8 +102,10 @@ impl Rect {
 }
 
 impl Plan {
-    ghost use Rattle.std.specs.Prelude.{◌≡◌, ◌↔◌, ◌≤◌, None, IsTrue, IfOk, IfErr, IfNone, IfSome, OnOk, All, Any};
-    ghost use Rattle.room_place.specs.Plans.{Explains, plan_fault, has_place, has_division, division_of as lowest_division};
+    ghost use Rattle.std.specs.Prelude.{◌≡◌, ◌↔◌, ◌≤◌, None, IsTrue, IfOk, IfErr, IfNone, IfSome};
+    ghost use Rattle.std.specs.Prelude.{OnOk, All, Any};
+    ghost use Rattle.room_place.specs.Plans.{Explains, plan_fault, has_place, has_division};
+    ghost use Rattle.room_place.specs.Plans.{division_of as lowest_division};
 
     /// A plan of these areas and this zone, or its first fault; `Memory` only where it has no
     /// other.

@@ -1,14 +1,16 @@
 -- What is found in a slice's rows are the entries of any room that has them.
-use Rattle.std.proofs.Common.{ap, append_assoc, append-nil, drop, eqb-true, inl, inr, refl, subst, sym, ◌+◌, ◌∙◌}
+use Rattle.std.proofs.Common.{ap, append_assoc, append-nil, drop, eqb-true, inl, inr, refl, subst}
+use Rattle.std.proofs.Common.{sym, ◌+◌, ◌∙◌}
 use Rattle.std.proofs.lemmas.List.{drop_all}
-use Rattle.std.specs.Prelude.{Bool, List, None, Option, Some, [], cond, false, filter_map, length, true, ℕ, ◌++◌, ◌∷◌}
-use Rattle.std.specs.Prelude.{◌≡◌, ◌≤◌}
+use Rattle.std.specs.Prelude.{Bool, List, None, Option, Some, [], cond, false, filter_map, length}
+use Rattle.std.specs.Prelude.{true, ℕ, ◌++◌, ◌∷◌, ◌≡◌, ◌≤◌}
 use Rattle.std.specs.List.{cons_option, list_all}
 use Rattle.room_place.specs.Choice.{Among}
 use Rattle.room_place.specs.declared.plans.Area.{Area}
 use Rattle.room_types.proofs.ShareLaws.{share_agrees}
 use Rattle.room_types.specs.KeyedRows.{IsKeyed, row_at}
-use Rattle.room_types.specs.Keys.{callsign_cmp, numbered_cmp, owns_point, pair_cmp, point_key, turn_key, vehicle_key}
+use Rattle.room_types.specs.Keys.{callsign_cmp, numbered_cmp, owns_point, pair_cmp, point_key}
+use Rattle.room_types.specs.Keys.{turn_key, vehicle_key}
 use Rattle.room_types.specs.KeyLemmas.{callsigns_total, pairs_total}
 use Rattle.room_types.specs.Slices.{is_share}
 use Rattle.room_types.specs.Slices as slice

@@ -1,5 +1,6 @@
 -- An incident is unserved exactly where no turn of it counts.
-use Rattle.std.proofs.Common.{ap, length, refl, sym, ◌∙◌, ◌∷◌, ◌≡◌, ℕ, List, [], Bool, true, false, cond}
+use Rattle.std.proofs.Common.{ap, length, refl, sym, ◌∙◌, ◌∷◌, ◌≡◌, ℕ, List, [], Bool, true, false}
+use Rattle.std.proofs.Common.{cond}
 use Rattle.std.proofs.Math.Dec.{eqb-suc-zero}
 use Rattle.std.proofs.lemmas.Cmp.{nat_cmp_total}
 use Rattle.std.specs.Cmp.{unsigned_ties}

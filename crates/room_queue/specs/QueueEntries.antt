@@ -1,5 +1,6 @@
 -- The entries that are found in a slice's rows.
-use Rattle.std.specs.Prelude.{List, None, Option, Some, [], cond, filter_map, is_some, nat_lt, not, ℕ, ◌&&◌, ◌++◌, ◌==◌}
+use Rattle.std.specs.Prelude.{List, None, Option, Some, [], cond, filter_map, is_some, nat_lt, not}
+use Rattle.std.specs.Prelude.{ℕ, ◌&&◌, ◌++◌, ◌==◌}
 use Rattle.room_types.specs.Codes.{is_active, is_mobilised}
 use Rattle.room_types.specs.Slices.{open_turn}
 use Rattle.room_types.specs.declared.answers.QueueEntry.{QueueEntry}
@@ -10,7 +11,8 @@ use Rattle.room_types.specs.declared.tables.Turn.{Turn}
 use Rattle.room_types.specs.declared.tables.Vehicle.{Vehicle}
 use Rattle.room_model.specs.Moments.{age}
 use Rattle.room_model.specs.Queries.{point_of}
-use Rattle.room_model.specs.Queue.{exception, overdue, shift_over, slow_turn, unanswered, uncovered, unread_turn}
+use Rattle.room_model.specs.Queue.{exception, overdue, shift_over, slow_turn, unanswered, uncovered}
+use Rattle.room_model.specs.Queue.{unread_turn}
 use Rattle.room_model.specs.Room.{Room}
 use Rattle.room_model.specs.RoomSlices.{unplanned}
 use Rattle.room_queue.specs.ServedIncidents.{is_served}

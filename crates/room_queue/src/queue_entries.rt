@@ -2,7 +2,8 @@
 //! owns the row, though a slice has no others, so that its contract holds of any row.
 ghost use Rattle.std.specs.Prelude.{◌≡◌, ◌==◌, option_copied, if◌then◌else◌};
 ghost use Rattle.room_model.specs.Moments.{age, scene_limit};
-ghost use Rattle.room_model.specs.Queue.{exception, overdue, shift_over, slow_turn, unanswered, unread_turn};
+ghost use Rattle.room_model.specs.Queue.{exception, overdue, shift_over, slow_turn, unanswered};
+ghost use Rattle.room_model.specs.Queue.{unread_turn};
 ghost use Rattle.room_model.specs.RoomSlices.{unplanned};
 ghost use Rattle.room_queue.specs.QueueEntries.{turn_ahead, uncovered_seen, unserved_seen};
 

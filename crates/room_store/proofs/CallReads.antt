@@ -6,7 +6,8 @@ use Rattle.room_types.specs.KeyedRows.{row_at}
 use Rattle.room_types.specs.Keys.{call_key, pair_cmp}
 use Rattle.room_types.specs.declared.answers.Answer.TheVariants.{Called}
 use Rattle.room_types.specs.declared.asks.NewCall.{NewCall}
-use Rattle.room_types.specs.declared.refusal_statuses.Refusal.TheVariants.{OutsideArea, SerialReused}
+use Rattle.room_types.specs.declared.refusal_statuses.Refusal.TheVariants.{OutsideArea}
+use Rattle.room_types.specs.declared.refusal_statuses.Refusal.TheVariants.{SerialReused}
 use Rattle.room_types.specs.declared.tables.Call.{Call}
 use Rattle.room_model.specs.Calls.{same_call, take_call}
 use Rattle.room_model.specs.Decisions.{Verdict, refuse_if, show}

@@ -1,6 +1,6 @@
 -- A new room is well formed, and the terminals that it may have fit it.
-use Rattle.std.proofs.Common.{Bool, List, Some, [], ap, arith, cond, false, is_some, map, refl, subst, sym, true, zero}
-use Rattle.std.proofs.Common.{suc, ℕ, ◌&&◌, ◌+◌, ◌∙◌, ◌∷◌, ◌≡◌, ◌≤◌, ◌||◌}
+use Rattle.std.proofs.Common.{Bool, List, Some, [], ap, arith, cond, false, is_some, map, refl}
+use Rattle.std.proofs.Common.{subst, sym, true, zero, suc, ℕ, ◌&&◌, ◌+◌, ◌∙◌, ◌∷◌, ◌≡◌, ◌≤◌, ◌||◌}
 use Rattle.std.proofs.lemmas.Bool.{eqb-true}
 use Rattle.std.proofs.lemmas.Bool.Decides.{nat_tests}
 use Rattle.std.proofs.lemmas.Cmp.{nat_cmp_total, nat_list_cmp_total}
@@ -25,7 +25,8 @@ use Rattle.room_model.specs.FleetRows.{AreTerminals, terminal_at, terminal_key, 
 use Rattle.room_model.specs.RoomAgreements.{IsWellFormed}
 use Rattle.room_model.proofs.Tests.{both_true, left_true, right_true}
 use Rattle.room_store.specs.StoreCreation.{AreNewTerminals, may_use}
-use Rattle.room_store_writes.specs.NewRoom.{division_numbers, in_order, new_division, new_divisions, new_room, put_all}
+use Rattle.room_store_writes.specs.NewRoom.{division_numbers, in_order, new_division, new_divisions}
+use Rattle.room_store_writes.specs.NewRoom.{new_room, put_all}
 use Rattle.room_store_writes.proofs.CreationSteps.{divisions_more, divisions_to}
 use Rattle.room_store_cache.proofs.Filters.{turned_number}
 

@@ -1,7 +1,7 @@
 -- Fleet rows enrolled: one whose fate was found by reads and then written, one in a store, and one
 -- more after others.
-use Rattle.std.proofs.Common.{IsTrue, List, ap, arith, inl, inr, refl, subst, sym, take, ℕ, [], ◌++◌, ◌+◌, ◌∙◌, ◌∷◌}
-use Rattle.std.proofs.Common.{◌≡◌}
+use Rattle.std.proofs.Common.{IsTrue, List, ap, arith, inl, inr, refl, subst, sym, take, ℕ, []}
+use Rattle.std.proofs.Common.{◌++◌, ◌+◌, ◌∙◌, ◌∷◌, ◌≡◌}
 use Rattle.std.specs.Prelude.{◌⊎◌}
 use Rattle.std.proofs.lemmas.List.{append_assoc}
 use Rattle.sqlite.specs.Held.{state}
@@ -22,8 +22,8 @@ use Rattle.room_tables.proofs.RoomReads.{kept}
 use Rattle.room_store_writes.specs.EnrolledRows.{Enrols, StandsAfter}
 use Rattle.room_store_cache.specs.Cache.{KnowsNothing}
 use Rattle.room_model.specs.Fleets.{enrolled, fates_of}
-use Rattle.room_store.specs.FleetEnrolment.{MayBeEnrolled, StandsAfterRows, StandsInPlan, fate_in, room_after_rows}
-use Rattle.room_store.specs.FleetEnrolment.{terminals_after_rows}
+use Rattle.room_store.specs.FleetEnrolment.{MayBeEnrolled, StandsAfterRows, StandsInPlan, fate_in}
+use Rattle.room_store.specs.FleetEnrolment.{room_after_rows, terminals_after_rows}
 use Rattle.room_store.specs.StoredRoom.{IsKept, IsRoom}
 use Rattle.room_store.proofs.KnownLaws.{knows_nothing, still_known}
 use Rattle.room_store.proofs.StoreLaws.{kept_stands}

@@ -11,9 +11,8 @@ use Rattle.room_types.specs.declared.fleet.RowFate.TheVariants.{Added, Refused, 
 use Rattle.room_types.specs.declared.fleet.Terminal.{Terminal}
 use Rattle.room_model.proofs.EnrolLaws.{exact_tokens, is_added, tokens_total}
 use Rattle.room_model.proofs.KeptCalls.{row_stays}
-use Rattle.room_model.specs.FleetRows.{fate_of, new_terminal, terminal_at, terminal_key, terminals_by}
-use Rattle.room_model.specs.FleetRows.{terminals_enrolled}
-use Rattle.room_model.specs.FleetRows.{token_cmp}
+use Rattle.room_model.specs.FleetRows.{fate_of, new_terminal, terminal_at, terminal_key}
+use Rattle.room_model.specs.FleetRows.{terminals_by, terminals_enrolled, token_cmp}
 use Rattle.room_model.specs.Room.{Room}
 use Rattle.room_store_cache.specs.Cache.{IsCacheOf, KnowsNothing}
 use Rattle.room_store_cache.specs.QueueViews.{IsQueueViewOf}

@@ -12,7 +12,8 @@ use Rattle.room_model.specs.declared.digests.Head.{Head}
 use Rattle.room_model.specs.declared.digests.Miss.TheVariants as miss
 use Rattle.room_store_file.specs.DigestChanges.{Reaches}
 use Rattle.room_store_file.specs.declared.digest_changes.Undone.{Undone}
-use Rattle.room_store_file.specs.declared.digest_changes.Undone.TheVariants.{OtherDigest, Unavailable}
+use Rattle.room_store_file.specs.declared.digest_changes.Undone.TheVariants.{OtherDigest}
+use Rattle.room_store_file.specs.declared.digest_changes.Undone.TheVariants.{Unavailable}
 use Rattle.room_store.specs.StoreFaults.{miss_of}
 
 -- what is reported of changes that were undone

@@ -12,7 +12,8 @@ use Rattle.room_tables_schema.specs.declared.database_faults.Fault.{Fault}
 use Rattle.room_tables_schema.specs.declared.database_faults.Fault.TheVariants as fault
 use Rattle.room_store_writes.specs.TerminalHolders.{has_token}
 use Rattle.room_store.specs.declared.store_creation.CreateFault.{CreateFault}
-use Rattle.room_store.specs.declared.store_creation.CreateFault.TheVariants.{BadTerminal, Memory, NotEmpty, Storage}
+use Rattle.room_store.specs.declared.store_creation.CreateFault.TheVariants.{BadTerminal, Memory}
+use Rattle.room_store.specs.declared.store_creation.CreateFault.TheVariants.{NotEmpty, Storage}
 
 -- a new room has no vehicle, so it has no crew's terminal; a desk's division is in the plan
 abbrev pub may_use : List Area → Who → Bool

@@ -22,7 +22,7 @@ use crate::store_faults::refusal_of;
 use room_core::call_decisions::{decide_call, decide_last_serial};
 use room_core::crew_decisions::{decide_last, decide_order, decide_report};
 use room_core::desk_decisions::decide_desk;
-use room_core::repeated_messages::{decide_repeated_call, decide_repeated_report};
+use room_core::kept_answers::{decide_repeated_call, decide_repeated_report};
 use room_place::plans::{DivisionNumber, Plan};
 use room_store_cache::cache::Cache;
 use room_store_cache::fleets::Fleet;

@@ -1,5 +1,6 @@
 //! Rows of a fleet, enrolled: vehicles and their crews' terminals.
-ghost use Rattle.std.specs.Prelude.{◌≡◌, ◌++◌, ◌∷◌, [], List, false, IsTrue, IfOk, IfErr, OnOk, OnErr, length};
+ghost use Rattle.std.specs.Prelude.{◌≡◌, ◌++◌, ◌∷◌, [], List, false, IsTrue, IfOk, IfErr, OnOk};
+ghost use Rattle.std.specs.Prelude.{OnErr, length};
 ghost use Rattle.sqlite.specs.Held.{state};
 ghost use Rattle.sqlite.specs.State.{Survives};
 ghost use Rattle.sqlite_trees.specs.Tree.{Trees};
@@ -7,14 +8,16 @@ ghost use Rattle.room_tables_schema.specs.FileConnections.{HasRoomSchema, IsClea
 ghost use Rattle.room_tables_schema.specs.Outcomes.{ReadsOnly};
 ghost use Rattle.room_types.specs.declared.fleet.RowFate.TheVariants as row_fate;
 ghost use Rattle.room_types.specs.declared.fleet.Terminal.{Terminal as Known};
-ghost use Rattle.room_model.specs.FleetRows.{fate_by, fate_of, is_crews_terminal, is_same_vehicle, room_enrolled, terminals_enrolled};
+ghost use Rattle.room_model.specs.FleetRows.{fate_by, fate_of, is_crews_terminal, is_same_vehicle};
+ghost use Rattle.room_model.specs.FleetRows.{room_enrolled, terminals_enrolled};
 ghost use Rattle.room_model.specs.Room.{Room};
 ghost use Rattle.room_model.specs.Rooms.{IsUnavailable};
 ghost use Rattle.room_tables.specs.RoomsInTables.{Configuration, Stands};
 ghost use Rattle.room_store_writes.specs.Transactions.{IsSettled, LeavesOnErr};
 ghost use Rattle.room_store_writes.specs.EnrolledRows.{Enrols, StandsAfter};
 ghost use Rattle.room_store_cache.specs.Cache.{IsCacheOf};
-ghost use Rattle.room_store.specs.FleetEnrolment.{HasEnrolled, MayBeEnrolled, StandsInPlan, fate_in};
+ghost use Rattle.room_store.specs.FleetEnrolment.{HasEnrolled, MayBeEnrolled, StandsInPlan};
+ghost use Rattle.room_store.specs.FleetEnrolment.{fate_in};
 ghost use Rattle.room_store.specs.StoredRoom.{IsReady, IsRoom};
 ghost use Rattle.room_store_writes.specs.Configurations.{config_of};
 

@@ -4,8 +4,7 @@ ghost use Rattle.std.specs.Prelude.{◌≡◌, ◌↔◌, IsTrue, IfErr, IfOk, O
 ghost use Rattle.sqlite.specs.Held.{state};
 ghost use Rattle.sqlite.specs.State.{HasCleanDisk, Survives};
 ghost use Rattle.room_store_writes.specs.Transactions.{Leaves, StandsSettled};
-ghost use Rattle.room_store.specs.StoreCreation.{AreNewTerminals, Explains, MayBegin};
-ghost use Rattle.room_store.specs.StoreCreation.{may_use};
+ghost use Rattle.room_store.specs.StoreCreation.{AreNewTerminals, Explains, MayBegin, may_use};
 ghost use Rattle.room_store_writes.specs.NewRoom.{StandsNew};
 ghost use Rattle.room_tables_schema.specs.FileConnections.{IsClean};
 

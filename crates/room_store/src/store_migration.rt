@@ -10,7 +10,8 @@ ghost use Rattle.room_tables.specs.RoomsInTables.{StandsInFirst};
 ghost use Rattle.room_store.specs.StoredRoom.{IsKept, IsReady, IsRoom};
 ghost use Rattle.room_store_writes.specs.Configurations.{config_of};
 ghost use Rattle.room_store_writes.specs.Transactions.{Leaves};
-ghost use Rattle.room_store_file.specs.OpenedFile.{HoldsFirstRoom, IsNewRoom, IsOldRoom, MayBeMoved};
+ghost use Rattle.room_store_file.specs.OpenedFile.{HoldsFirstRoom, IsNewRoom, IsOldRoom};
+ghost use Rattle.room_store_file.specs.OpenedFile.{MayBeMoved};
 ghost use Rattle.room_store_check_tables.specs.HeldRooms.{WritesNothing};
 ghost use Rattle.room_store_file.specs.declared.opened_file.OpenFault.TheVariants.{
   NotARoom,

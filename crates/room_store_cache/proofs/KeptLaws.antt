@@ -1,8 +1,9 @@
 -- What a change does to rows kept beside a table, and to a list whose elements each follow it.
-use Rattle.std.proofs.Common.{Bool, List, [], arith, cond, false, get_or, length, map, refl, set, suc}
-use Rattle.std.proofs.Common.{subst, sym, take, true, ℕ, ◌+◌, ◌++◌, ◌<◌, ◌∙◌, ◌∷◌, ◌≡◌}
+use Rattle.std.proofs.Common.{Bool, List, [], arith, cond, false, get_or, length, map, refl, set}
+use Rattle.std.proofs.Common.{suc, subst, sym, take, true, ℕ, ◌+◌, ◌++◌, ◌<◌, ◌∙◌, ◌∷◌, ◌≡◌}
 use Rattle.std.proofs.lemmas.List.{get_or-set_other, map-append}
-use Rattle.std.proofs.lemmas.List.Elements.{All-cons, All-head, All-map, All-tail, AllWithin-more_set}
+use Rattle.std.proofs.lemmas.List.Elements.{All-cons, All-head, All-map, All-tail}
+use Rattle.std.proofs.lemmas.List.Elements.{AllWithin-more_set}
 use Rattle.std.proofs.lemmas.List.Quantifiers.{all_pairs_push}
 use Rattle.std.specs.Cmp.{IsTotalOrder}
 use Rattle.std.specs.List.{AllWithin}

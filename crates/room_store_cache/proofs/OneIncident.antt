@@ -1,6 +1,6 @@
 -- What a request reads of one incident, where it reads its turns.
-use Rattle.std.proofs.Common.{Bool, None, Option, Some, ap, cond, eqb-true, false, is_some, refl, sym, true, ℕ, ◌&&◌}
-use Rattle.std.proofs.Common.{◌∙◌, ◌≡◌, ◌||◌}
+use Rattle.std.proofs.Common.{Bool, None, Option, Some, ap, cond, eqb-true, false, is_some, refl}
+use Rattle.std.proofs.Common.{sym, true, ℕ, ◌&&◌, ◌∙◌, ◌≡◌, ◌||◌}
 use Rattle.std.proofs.lemmas.Bool.{eq-eqb}
 use Rattle.std.specs.Prelude.{filter, ◌==◌}
 use Rattle.room_types.specs.Codes.{is_active}
@@ -14,8 +14,8 @@ use Rattle.room_types.specs.KeyedRows.{IsKeyed, keep, row_at}
 use Rattle.room_model.proofs.Tests.{both_true, or_left, row_key}
 use Rattle.room_model.specs.Queries.{incident_of}
 use Rattle.room_model.specs.Room.{Room}
-use Rattle.room_model.specs.WorkingRows.{names_incident, names_opening, names_turn, reads_active, reads_incident}
-use Rattle.room_model.specs.WorkingRows.{reads_number, working}
+use Rattle.room_model.specs.WorkingRows.{names_incident, names_opening, names_turn, reads_active}
+use Rattle.room_model.specs.WorkingRows.{reads_incident, reads_number, working}
 use Rattle.room_store_cache.proofs.QueueReads.{passes}
 use Rattle.room_store_cache.proofs.Filters.{and_none, filter_and, filter_as, or_assoc}
 

@@ -1,6 +1,7 @@
 -- What a queue reads: what waits in a division, and the turns of its active incidents.
-use Rattle.std.proofs.Common.{Bool, List, None, Option, Some, [], ap, arith, cond, false, get_or, is_some, length, map}
-use Rattle.std.proofs.Common.{refl, subst, suc, sym, true, zero, ℕ, ◌&&◌, ◌<◌, ◌∙◌, ◌∷◌, ◌≡◌, ◌||◌}
+use Rattle.std.proofs.Common.{Bool, List, None, Option, Some, [], ap, arith, cond, false, get_or}
+use Rattle.std.proofs.Common.{is_some, length, map, refl, subst, suc, sym, true, zero, ℕ, ◌&&◌, ◌<◌}
+use Rattle.std.proofs.Common.{◌∙◌, ◌∷◌, ◌≡◌, ◌||◌}
 use Rattle.std.proofs.lemmas.Bool.{eq-eqb}
 use Rattle.std.specs.Ordering.{is_eq}
 use Rattle.std.specs.Prelude.{filter, ◌==◌}

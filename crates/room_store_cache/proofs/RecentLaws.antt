@@ -1,5 +1,6 @@
 -- What a change does to the incidents that are known, and what a call is given of them.
-use Rattle.std.proofs.Common.{Bool, Err, List, Ok, Result, ap, arith, cond, false, true, ℕ, ◌&&◌, ◌-◌, ◌∙◌, ◌≡◌, ◌≤◌}
+use Rattle.std.proofs.Common.{Bool, Err, List, Ok, Result, ap, arith, cond, false, true, ℕ, ◌&&◌}
+use Rattle.std.proofs.Common.{◌-◌, ◌∙◌, ◌≡◌, ◌≤◌}
 use Rattle.std.proofs.lemmas.Bool.Decides.{nat_tests}
 use Rattle.std.proofs.lemmas.Int.{ints}
 use Rattle.std.specs.Prelude.{OnErr, OnOk, filter, int_le, nat_le, pos, ◌==◌}

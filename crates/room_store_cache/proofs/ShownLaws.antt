@@ -1,6 +1,6 @@
 -- Which incidents a list has, and what it keeps of them.
-use Rattle.std.proofs.Common.{Bool, List, None, Option, Some, ap, false, is_some, refl, sym, true, ℕ, ◌&&◌, ◌∙◌, ◌≡◌}
-use Rattle.std.proofs.Common.{◌||◌}
+use Rattle.std.proofs.Common.{Bool, List, None, Option, Some, ap, false, is_some, refl, sym, true}
+use Rattle.std.proofs.Common.{ℕ, ◌&&◌, ◌∙◌, ◌≡◌, ◌||◌}
 use Rattle.std.proofs.lemmas.Bool.{eq-eqb}
 use Rattle.std.specs.Prelude.{filter, ◌==◌}
 use Rattle.room_types.proofs.KeyedLaws.{row_filter}

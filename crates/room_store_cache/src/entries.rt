@@ -1,5 +1,6 @@
 //! What is known of the room by entries, each under a key of its own.
-ghost use Rattle.std.specs.Prelude.{◌≡◌, ◌≢◌, ◌≤◌, ◌<◌, [], true, All, AllPairs, IfErr, IfNone, IfSome, OnOk, map, vec_len};
+ghost use Rattle.std.specs.Prelude.{◌≡◌, ◌≢◌, ◌≤◌, ◌<◌, [], true, All, AllPairs, IfErr, IfNone};
+ghost use Rattle.std.specs.Prelude.{IfSome, OnOk, map, vec_len};
 ghost use Rattle.room_tables_schema.specs.declared.database_faults.Fault.TheVariants.{Memory};
 ghost use Rattle.room_model.specs.Room.{IsInOrder, Room, apply_one};
 

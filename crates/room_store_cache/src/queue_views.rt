@@ -5,7 +5,8 @@ ghost use Rattle.room_model.specs.Room.{Room};
 ghost use Rattle.room_tables_schema.specs.declared.database_faults.Fault.TheVariants.{Memory};
 ghost use Rattle.room_store_cache.specs.BesideFleet.{IsBesideFleet};
 ghost use Rattle.room_store_cache.specs.EntryLemmas.{exact_number};
-ghost use Rattle.room_store_cache.specs.QueueViews.{AreQueueViewsOf, IsQueueViewOf, is_own_exception, is_waiting};
+ghost use Rattle.room_store_cache.specs.QueueViews.{AreQueueViewsOf, IsQueueViewOf};
+ghost use Rattle.room_store_cache.specs.QueueViews.{is_own_exception, is_waiting};
 
 use crate::cached_rows::{own_rows, put_if};
 use crate::entries::{Entries, Entry};

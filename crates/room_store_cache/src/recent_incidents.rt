@@ -1,7 +1,8 @@
 //! The incidents opened from a moment on, and those of them that a call may be linked to. Those
 //! within 200 m east or west and 200 m north or south are decided on: none further off is within
 //! 200 m, and those in the corners of that square are few.
-ghost use Rattle.std.specs.Prelude.{◌≡◌, ◌+◌, ◌-◌, ◌≤◌, ◌==◌, ◌&&◌, None, filter, IfErr, IfOk, IfSome, OnOk};
+ghost use Rattle.std.specs.Prelude.{◌≡◌, ◌+◌, ◌-◌, ◌≤◌, ◌==◌, ◌&&◌, None, filter, IfErr, IfOk};
+ghost use Rattle.std.specs.Prelude.{IfSome, OnOk};
 ghost use Rattle.room_tables.specs.FoundRows.{Finds};
 ghost use Rattle.room_tables_schema.specs.FileConnections.{HasRoomSchema, StandsOpen};
 ghost use Rattle.room_tables_schema.specs.declared.database_faults.Fault.TheVariants.{Memory};

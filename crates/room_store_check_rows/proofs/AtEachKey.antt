@@ -11,10 +11,11 @@ use Rattle.room_place.specs.Plans.{has_division}
 use Rattle.room_place.specs.declared.plans.Area.{Area}
 use Rattle.room_types.specs.Codes.{is_merged}
 use Rattle.room_types.specs.KeyedRows.{row_at}
-use Rattle.room_types.specs.Keys.{assignment_key, call_key, callsign_cmp, division_key, incident_key, loan_key}
-use Rattle.room_types.specs.Keys.{numbered_cmp, offer_key, pair_cmp, point_key, report_key, turn_key, vehicle_key}
-use Rattle.room_types.specs.KeyLemmas.{callsigns_total, exact_callsigns, exact_number, exact_numbered, exact_pair}
-use Rattle.room_types.specs.KeyLemmas.{numbered_total, pairs_total}
+use Rattle.room_types.specs.Keys.{assignment_key, call_key, callsign_cmp, division_key}
+use Rattle.room_types.specs.Keys.{incident_key, loan_key, numbered_cmp, offer_key, pair_cmp}
+use Rattle.room_types.specs.Keys.{point_key, report_key, turn_key, vehicle_key}
+use Rattle.room_types.specs.KeyLemmas.{callsigns_total, exact_callsigns, exact_number}
+use Rattle.room_types.specs.KeyLemmas.{exact_numbered, exact_pair, numbered_total, pairs_total}
 use Rattle.room_types.specs.Slices.{assignment_at, division_at, vehicle_at}
 use Rattle.room_types.specs.Texts.{Callsign}
 use Rattle.room_types.specs.declared.slices.DivisionRows.{DivisionRows}
@@ -24,11 +25,13 @@ use Rattle.room_types.proofs.SentLaws.{itself}
 use Rattle.room_model.specs.Room.{IsInOrder, Room}
 use Rattle.room_model.specs.RoomSlices.{room_of}
 use Rattle.room_model.specs.RoomAgreements.{CallAgrees, NumberAgrees, OpenedAgrees}
-use Rattle.room_store_check_rows.specs.RowTests.{has_row, is_opened, loan_at, offer_at, opens, rows_fit}
+use Rattle.room_store_check_rows.specs.RowTests.{has_row, is_opened, loan_at, offer_at, opens}
+use Rattle.room_store_check_rows.specs.RowTests.{rows_fit}
 use Rattle.room_store_check_rows.proofs.Agreements.{each}
 use Rattle.room_store_check_rows.proofs.PassingRows.{passed, passing}
-use Rattle.room_store_check_rows.proofs.RowLaws.{ReportFits, TurnFits, VehicleFits, call_decides, incident_decides}
-use Rattle.room_store_check_rows.proofs.RowLaws.{report_decides, three, turn_decides, vehicle_decides}
+use Rattle.room_store_check_rows.proofs.RowLaws.{ReportFits, TurnFits, VehicleFits, call_decides}
+use Rattle.room_store_check_rows.proofs.RowLaws.{incident_decides, report_decides, three}
+use Rattle.room_store_check_rows.proofs.RowLaws.{turn_decides, vehicle_decides}
 
 kept_decides : {B : Type 0} (merged b : Bool) → Decides b B
     → Decides (merged || b) (merged ≡ false → B)

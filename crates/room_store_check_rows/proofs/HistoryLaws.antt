@@ -4,8 +4,8 @@ use Rattle.std.specs.Bool.{Decides}
 use Rattle.std.specs.List.{list_all}
 use Rattle.std.specs.Option.{option_or}
 use Rattle.std.specs.Prelude.{IfSome, cond, is_none, is_some, nat_le, not, ◌&&◌, ◌||◌}
-use Rattle.std.proofs.Common.{Bool, List, None, Option, Some, [], ap, eq-eqb, false, refl, subst, sym, true, ℕ, ◌∙◌}
-use Rattle.std.proofs.Common.{◌∷◌, ◌≡◌}
+use Rattle.std.proofs.Common.{Bool, List, None, Option, Some, [], ap, eq-eqb, false, refl, subst}
+use Rattle.std.proofs.Common.{sym, true, ℕ, ◌∙◌, ◌∷◌, ◌≡◌}
 use Rattle.room_place.specs.Choice.{Among}
 use Rattle.room_place.specs.Plans.{Layout}
 use Rattle.room_place.specs.declared.plans.Area.{Area}
@@ -24,13 +24,14 @@ use Rattle.room_model.specs.Room.{IsInOrder}
 use Rattle.room_model.specs.RoomSlices.{room_of}
 use Rattle.room_model.specs.RoomAgreements.{IsWellFormed}
 use Rattle.room_store_check_rows.specs.FirstFaults.{call_disagreement, first_disagreement, first_of}
-use Rattle.room_store_check_rows.specs.FirstFaults.{incident_disagreement, opening_fault, report_disagreement}
-use Rattle.room_store_check_rows.specs.FirstFaults.{standing_disagreement, turn_disagreement, uncalled_fault}
+use Rattle.room_store_check_rows.specs.FirstFaults.{incident_disagreement, opening_fault}
+use Rattle.room_store_check_rows.specs.FirstFaults.{report_disagreement, standing_disagreement}
+use Rattle.room_store_check_rows.specs.FirstFaults.{turn_disagreement, uncalled_fault}
 use Rattle.room_store_check_rows.specs.FirstFaults.{vehicle_disagreement}
 use Rattle.room_store_check_rows.specs.RowTests.{has_last_report, has_open_turn, is_open}
 use Rattle.room_store_check_rows.specs.declared.disagreements.Disagreement.{Disagreement}
-use Rattle.room_store_check_rows.specs.HistoryChecks.{AreOpenings, histories_fit, is_last, is_last_report, kept}
-use Rattle.room_store_check_rows.specs.HistoryChecks.{kept_disagreement}
+use Rattle.room_store_check_rows.specs.HistoryChecks.{AreOpenings, histories_fit, is_last}
+use Rattle.room_store_check_rows.specs.HistoryChecks.{is_last_report, kept, kept_disagreement}
 use Rattle.room_store_check_rows.proofs.FaultLaws.{first_alike, none_detected}
 use Rattle.room_store_check_rows.proofs.OpeningLaws.{uncalled_unopened}
 use Rattle.room_store_check_rows.proofs.RowFaults.{search_detects}

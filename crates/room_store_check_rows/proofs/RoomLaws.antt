@@ -2,8 +2,8 @@
 use Rattle.std.specs.Bool.{Decides}
 use Rattle.std.specs.List.{list_all}
 use Rattle.std.specs.Prelude.{IfSome, is_none, is_some, ◌&&◌, ◌==◌, ◌||◌}
-use Rattle.std.proofs.Common.{Bool, List, None, Option, Some, [], ap, eq-eqb, false, refl, subst, sym, true, ℕ, ◌∙◌}
-use Rattle.std.proofs.Common.{◌∷◌, ◌≡◌, ◌≤◌}
+use Rattle.std.proofs.Common.{Bool, List, None, Option, Some, [], ap, eq-eqb, false, refl, subst}
+use Rattle.std.proofs.Common.{sym, true, ℕ, ◌∙◌, ◌∷◌, ◌≡◌, ◌≤◌}
 use Rattle.std.proofs.lemmas.Bool.Decides.{Decides-like, same_from_decides}
 use Rattle.std.proofs.lemmas.Bool.{and_parts, eqb-true, false_from_ne_true, false≢true, le-leb}
 use Rattle.std.proofs.lemmas.List.Folds.{Any-from_list_any}
@@ -22,14 +22,14 @@ use Rattle.room_types.specs.declared.tables.Vehicle.{Vehicle}
 use Rattle.room_types.proofs.SentLaws.{itself}
 use Rattle.room_model.specs.Room.{IsInOrder, Room}
 use Rattle.room_model.specs.RoomSlices.{room_of}
-use Rattle.room_model.specs.RoomAgreements.{AreInPlan, AssignmentAgrees, CallAgrees, IsWellFormed, LastAgrees}
-use Rattle.room_model.specs.RoomAgreements.{LoanAgrees}
-use Rattle.room_model.specs.RoomAgreements.{NumberAgrees, OfferAgrees, OpenAgrees, OpenedAgrees, PostAgrees}
-use Rattle.room_model.specs.RoomAgreements.{ReportAgrees}
+use Rattle.room_model.specs.RoomAgreements.{AreInPlan, AssignmentAgrees, CallAgrees, IsWellFormed}
+use Rattle.room_model.specs.RoomAgreements.{LastAgrees, LoanAgrees, NumberAgrees, OfferAgrees}
+use Rattle.room_model.specs.RoomAgreements.{OpenAgrees, OpenedAgrees, PostAgrees, ReportAgrees}
 use Rattle.room_model.specs.RoomAgreements.{SameIncident, TurnAgrees, TurnIsActive}
 use Rattle.room_model.proofs.Tests.{both_true, or_right}
 use Rattle.room_store_check_rows.specs.RowTests.{is_open, is_opened, report_at, rows_fit}
-use Rattle.room_store_check_rows.proofs.Agreements.{has_vehicle, holds_there, joined, lift, lower, there_if}
+use Rattle.room_store_check_rows.proofs.Agreements.{has_vehicle, holds_there, joined, lift, lower}
+use Rattle.room_store_check_rows.proofs.Agreements.{there_if}
 use Rattle.room_store_check_rows.proofs.AtEachKey.{Fits, fits_decides}
 use Rattle.room_store_check_rows.proofs.RowLaws.{ReportFits, TurnFits, VehicleFits}
 

@@ -1,13 +1,16 @@
 -- What the tests of single rows decide.
 use Rattle.std.specs.Bool.{Decides}
 use Rattle.std.specs.Prelude.{is_some, nat_le, not, ◌&&◌, ◌||◌}
-use Rattle.std.proofs.Common.{Bool, List, None, Option, Some, ap, arith, false, refl, true, ℕ, ◌≡◌, ◌≤◌}
-use Rattle.std.proofs.lemmas.Bool.Decides.{Decides-and, Decides-eqb, Decides-like, Decides-not, Decides-or}
+use Rattle.std.proofs.Common.{Bool, List, None, Option, Some, ap, arith, false, refl, true, ℕ, ◌≡◌}
+use Rattle.std.proofs.Common.{◌≤◌}
+use Rattle.std.proofs.lemmas.Bool.Decides.{Decides-and, Decides-eqb, Decides-like, Decides-not}
+use Rattle.std.proofs.lemmas.Bool.Decides.{Decides-or}
 use Rattle.std.proofs.lemmas.Bool.{false≢true, le-leb, leb-true, not-true}
 use Rattle.room_place.specs.Plans.{has_division}
 use Rattle.room_place.specs.declared.plans.Area.{Area}
 use Rattle.room_types.specs.Codes.{is_busy}
-use Rattle.room_types.specs.Slices.{IsActive, assignment_at, division_at, is_active_one, turn_at, vehicle_at}
+use Rattle.room_types.specs.Slices.{IsActive, assignment_at, division_at, is_active_one, turn_at}
+use Rattle.room_types.specs.Slices.{vehicle_at}
 use Rattle.room_types.specs.Texts.{Callsign}
 use Rattle.room_types.specs.declared.slices.DivisionRows.{DivisionRows}
 use Rattle.room_types.specs.declared.tables.Assignment.{Assignment}
@@ -22,12 +25,15 @@ use Rattle.room_types.specs.declared.tables.Vehicle.{Vehicle}
 use Rattle.room_types.proofs.SentLaws.{itself}
 use Rattle.room_model.specs.Room.{Room}
 use Rattle.room_model.specs.RoomSlices.{room_of}
-use Rattle.room_model.specs.RoomAgreements.{AssignmentAgrees, CallAgrees, IsGiven, IsOfIncident, IsPost, LastAgrees}
-use Rattle.room_model.specs.RoomAgreements.{LoanAgrees, OfferAgrees, OpenAgrees, PostAgrees, ReportAgrees, SameIncident}
-use Rattle.room_model.specs.RoomAgreements.{TurnAgrees, TurnIsActive}
-use Rattle.room_store_check_rows.specs.RowTests.{assignment_fits, call_fits, has_post, incident_fits, is_as_assigned}
-use Rattle.room_store_check_rows.specs.RowTests.{is_given, is_in_turn, is_numbered, is_of, is_open, loan_at, loan_fits}
-use Rattle.room_store_check_rows.specs.RowTests.{offer_at, offer_fits, open_fits, report_fits, turn_fits, vehicle_fits}
+use Rattle.room_model.specs.RoomAgreements.{AssignmentAgrees, CallAgrees, IsGiven, IsOfIncident}
+use Rattle.room_model.specs.RoomAgreements.{IsPost, LastAgrees, LoanAgrees, OfferAgrees, OpenAgrees}
+use Rattle.room_model.specs.RoomAgreements.{PostAgrees, ReportAgrees, SameIncident, TurnAgrees}
+use Rattle.room_model.specs.RoomAgreements.{TurnIsActive}
+use Rattle.room_store_check_rows.specs.RowTests.{assignment_fits, call_fits, has_post}
+use Rattle.room_store_check_rows.specs.RowTests.{incident_fits, is_as_assigned, is_given}
+use Rattle.room_store_check_rows.specs.RowTests.{is_in_turn, is_numbered, is_of, is_open, loan_at}
+use Rattle.room_store_check_rows.specs.RowTests.{loan_fits, offer_at, offer_fits, open_fits}
+use Rattle.room_store_check_rows.specs.RowTests.{report_fits, turn_fits, vehicle_fits}
 
 -- ---- tests of tests
 pub idle : (b : Bool) → Decides (not b) (b ≡ false)

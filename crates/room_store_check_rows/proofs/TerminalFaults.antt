@@ -6,8 +6,8 @@ use Rattle.std.specs.Option.{option_or}
 use Rattle.std.specs.Ordering.{is_eq}
 use Rattle.std.specs.declared.cmp.Ordering.TheVariants.{Equal}
 use Rattle.std.specs.Prelude.{cond, is_some, not, ◌&&◌, ◌==◌, ◌||◌}
-use Rattle.std.proofs.Common.{Bool, List, None, Option, Some, [], ap, eq-eqb, false, inl, inr, length, refl, subst, sym}
-use Rattle.std.proofs.Common.{true, ◌∙◌, ◌∷◌, ◌≡◌, ◌⊎◌}
+use Rattle.std.proofs.Common.{Bool, List, None, Option, Some, [], ap, eq-eqb, false, inl, inr}
+use Rattle.std.proofs.Common.{length, refl, subst, sym, true, ◌∙◌, ◌∷◌, ◌≡◌, ◌⊎◌}
 use Rattle.std.proofs.lemmas.Bool.{false≢true}
 use Rattle.std.proofs.lemmas.Cmp.{tied_itself}
 use Rattle.room_place.specs.Choice.{Among}
@@ -27,16 +27,17 @@ use Rattle.room_model.specs.FleetRows.{AreTerminals, is_crew, terminal_key, toke
 use Rattle.room_model.specs.Room.{Room}
 use Rattle.room_model.specs.RoomSlices.{room_of}
 use Rattle.room_model.proofs.Tests.{or_right}
-use Rattle.room_store_check_rows.specs.TerminalCrews.{crew_again, crew_of, crews_fit, crews_of, has_subject}
-use Rattle.room_store_check_rows.specs.TerminalCrews.{second_crew, subject_fault, terminals_fault, two_crews, uncrewed}
+use Rattle.room_store_check_rows.specs.TerminalCrews.{crew_again, crew_of, crews_fit, crews_of}
+use Rattle.room_store_check_rows.specs.TerminalCrews.{has_subject, second_crew, subject_fault}
+use Rattle.room_store_check_rows.specs.TerminalCrews.{terminals_fault, two_crews, uncrewed}
 use Rattle.room_store_check_rows.specs.FirstFaults.{first_of}
 use Rattle.room_store_check_rows.specs.RowTests.{has_vehicle}
 use Rattle.room_store_check_rows.specs.Misfits.{DetectsOf, HasTerminal, HasTwoCrews, IsMisfit}
 use Rattle.room_store_check_rows.specs.declared.disagreements.TerminalFault.TheVariants as wrong
 use Rattle.room_store_check_rows.specs.declared.disagreements.TerminalFault.{TerminalFault}
 use Rattle.room_store_check_rows.proofs.CrewLaws.{AreApart, crew_shown, has_crew, its_crew, who_is}
-use Rattle.room_store_check_rows.proofs.FaultLaws.{Finds, Reported, find_first, find_like, find_or, find_unless, not_so}
-use Rattle.room_store_check_rows.proofs.FaultLaws.{regrouped}
+use Rattle.room_store_check_rows.proofs.FaultLaws.{Finds, Reported, find_first, find_like, find_or}
+use Rattle.room_store_check_rows.proofs.FaultLaws.{find_unless, not_so, regrouped}
 use Rattle.room_store_check_rows.proofs.RowFaults.{absent}
 use Rattle.room_store_check_rows.proofs.TerminalLaws.{apart_decides, terminals_decide}
 

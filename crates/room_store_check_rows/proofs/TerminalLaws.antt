@@ -24,8 +24,9 @@ use Rattle.room_model.specs.FleetRows.{AreTerminals, terminal_at, terminal_key, 
 use Rattle.room_model.specs.RoomSlices.{room_of}
 use Rattle.room_store_check_rows.specs.TerminalCrews.{crews_fit, crews_of, has_subject}
 use Rattle.room_store_check_rows.proofs.Agreements.{each, holds_there}
-use Rattle.room_store_check_rows.proofs.CrewLaws.{AreApart, apart_from_distinct, apart_from_one, crew_found, crew_there}
-use Rattle.room_store_check_rows.proofs.CrewLaws.{crew_shown, distinct_from_apart, one_crew}
+use Rattle.room_store_check_rows.proofs.CrewLaws.{AreApart, apart_from_distinct, apart_from_one}
+use Rattle.room_store_check_rows.proofs.CrewLaws.{crew_found, crew_there, crew_shown}
+use Rattle.room_store_check_rows.proofs.CrewLaws.{distinct_from_apart, one_crew}
 
 module _ (plan : List Area) (s : DivisionRows) (ts : List Terminal) (crews : BTreeSet Callsign)
     (in_order : IsKeyed token_cmp terminal_key ts)

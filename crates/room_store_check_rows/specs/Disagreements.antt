@@ -1,12 +1,14 @@
 -- What each disagreement says of a room.
 use Rattle.std.specs.Ordering.{nat_cmp}
-use Rattle.std.specs.Prelude.{IfSome, List, None, Option, Some, false, is_some, true, ℕ, ◌<◌, ◌≡◌, ◌≤◌}
+use Rattle.std.specs.Prelude.{IfSome, List, None, Option, Some, false, is_some, true, ℕ, ◌<◌, ◌≡◌}
+use Rattle.std.specs.Prelude.{◌≤◌}
 use Rattle.room_place.specs.Choice.{Among}
 use Rattle.room_place.specs.Plans.{has_division}
 use Rattle.room_types.specs.Codes.{is_busy, is_merged}
 use Rattle.room_types.specs.KeyedRows.{row_at}
-use Rattle.room_types.specs.Keys.{assignment_key, call_key, callsign_cmp, division_key, incident_key, loan_key}
-use Rattle.room_types.specs.Keys.{numbered_cmp, offer_key, pair_cmp, point_key, report_key, turn_key, vehicle_key}
+use Rattle.room_types.specs.Keys.{assignment_key, call_key, callsign_cmp, division_key}
+use Rattle.room_types.specs.Keys.{incident_key, loan_key, numbered_cmp, offer_key, pair_cmp}
+use Rattle.room_types.specs.Keys.{point_key, report_key, turn_key, vehicle_key}
 use Rattle.room_types.specs.Texts.{Callsign}
 use Rattle.room_types.specs.declared.tables.Call.{Call}
 use Rattle.room_types.specs.declared.tables.Incident.{Incident}
@@ -14,10 +16,9 @@ use Rattle.room_types.specs.declared.tables.Report.{Report}
 use Rattle.room_types.specs.declared.tables.Turn.{Turn}
 use Rattle.room_types.specs.declared.tables.Vehicle.{Vehicle}
 use Rattle.room_model.specs.Room.{Room}
-use Rattle.room_model.specs.RoomAgreements.{AssignmentAgrees, IsWellFormed, LastAgrees, LoanAgrees, NumberAgrees}
-use Rattle.room_model.specs.RoomAgreements.{OfferAgrees, OpenAgrees, OpenedAgrees, PostAgrees, ReportAgrees}
-use Rattle.room_model.specs.RoomAgreements.{SameIncident}
-use Rattle.room_model.specs.RoomAgreements.{TurnIsActive}
+use Rattle.room_model.specs.RoomAgreements.{AssignmentAgrees, IsWellFormed, LastAgrees, LoanAgrees}
+use Rattle.room_model.specs.RoomAgreements.{NumberAgrees, OfferAgrees, OpenAgrees, OpenedAgrees}
+use Rattle.room_model.specs.RoomAgreements.{PostAgrees, ReportAgrees, SameIncident, TurnIsActive}
 use Rattle.room_store_check_rows.specs.declared.disagreements.CallFault.TheVariants as call
 use Rattle.room_store_check_rows.specs.declared.disagreements.CallFault.{CallFault}
 use Rattle.room_store_check_rows.specs.declared.disagreements.Disagreement.TheVariants as wrong

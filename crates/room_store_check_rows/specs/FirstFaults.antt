@@ -1,7 +1,8 @@
 -- What the search reports of each row: the first of its tests that fails.
 use Rattle.std.specs.BTreeSet.{BTreeSet, contains}
 use Rattle.std.specs.Option.{option_or}
-use Rattle.std.specs.Prelude.{Bool, List, None, Option, Some, [], cond, nat_le, not, option_map, ℕ, ◌&&◌, ◌||◌, ◌∷◌}
+use Rattle.std.specs.Prelude.{Bool, List, None, Option, Some, [], cond, nat_le, not, option_map, ℕ}
+use Rattle.std.specs.Prelude.{◌&&◌, ◌||◌, ◌∷◌}
 use Rattle.room_place.specs.Plans.{has_division}
 use Rattle.room_place.specs.declared.plans.Area.{Area}
 use Rattle.room_types.specs.Codes.{is_merged}
@@ -28,9 +29,11 @@ use Rattle.room_store_check_rows.specs.declared.disagreements.TurnFault.TheVaria
 use Rattle.room_store_check_rows.specs.declared.disagreements.TurnFault.{TurnFault}
 use Rattle.room_store_check_rows.specs.declared.disagreements.VehicleFault.TheVariants as vehicle
 use Rattle.room_store_check_rows.specs.declared.disagreements.VehicleFault.{VehicleFault}
-use Rattle.room_store_check_rows.specs.RowTests.{assignment_fits, has_last_report, has_open_turn, has_post, has_row}
-use Rattle.room_store_check_rows.specs.RowTests.{has_vehicle, is_as_assigned, is_given, is_numbered, is_opened, is_over}
-use Rattle.room_store_check_rows.specs.RowTests.{loan_at, loan_fits, offer_at, offer_fits, open_fits, opening_cmp}
+use Rattle.room_store_check_rows.specs.RowTests.{assignment_fits, has_last_report, has_open_turn}
+use Rattle.room_store_check_rows.specs.RowTests.{has_post, has_row, has_vehicle, is_as_assigned}
+use Rattle.room_store_check_rows.specs.RowTests.{is_given, is_numbered, is_opened, is_over, loan_at}
+use Rattle.room_store_check_rows.specs.RowTests.{loan_fits, offer_at, offer_fits, open_fits}
+use Rattle.room_store_check_rows.specs.RowTests.{opening_cmp}
 
 -- the fault, unless the row fits
 abbrev pub unless : {X : Type 0} → Bool → X → Option X

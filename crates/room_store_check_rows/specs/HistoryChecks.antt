@@ -3,7 +3,8 @@ use Rattle.std.specs.BTreeSet.{BTreeSet, contains}
 use Rattle.std.specs.List.{list_all, list_any}
 use Rattle.std.specs.Option.{option_or}
 use Rattle.std.specs.Ordering.{is_eq}
-use Rattle.std.specs.Prelude.{◌≡◌, ℕ, Bool, false, List, [], Option, Some, None, ◌==◌, ◌&&◌, filter, is_none}
+use Rattle.std.specs.Prelude.{◌≡◌, ℕ, Bool, false, List, [], Option, Some, None, ◌==◌, ◌&&◌, filter}
+use Rattle.std.specs.Prelude.{is_none}
 use Rattle.room_place.specs.declared.plans.Area.{Area}
 use Rattle.room_types.specs.KeyedRows.{row_at}
 use Rattle.room_types.specs.Keys.{callsign_cmp, vehicle_key}
@@ -11,8 +12,9 @@ use Rattle.room_types.specs.declared.slices.DivisionRows.{DivisionRows}
 use Rattle.room_types.specs.declared.tables.Call.{Call}
 use Rattle.room_types.specs.declared.tables.Report.{Report}
 use Rattle.room_types.specs.declared.tables.Vehicle.{Vehicle}
-use Rattle.room_store_check_rows.specs.FirstFaults.{call_disagreement, first_of, incident_disagreement}
-use Rattle.room_store_check_rows.specs.FirstFaults.{report_disagreement, standing_disagreement, uncalled_fault}
+use Rattle.room_store_check_rows.specs.FirstFaults.{call_disagreement, first_of}
+use Rattle.room_store_check_rows.specs.FirstFaults.{incident_disagreement, report_disagreement}
+use Rattle.room_store_check_rows.specs.FirstFaults.{standing_disagreement, uncalled_fault}
 use Rattle.room_store_check_rows.specs.FirstFaults.{turn_disagreement}
 use Rattle.room_store_check_rows.specs.RowTests.{opening_cmp, opening_of}
 use Rattle.room_store_check_rows.specs.declared.disagreements.Disagreement.{Disagreement}

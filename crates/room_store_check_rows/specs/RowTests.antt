@@ -1,15 +1,17 @@
 -- Whether a row agrees with the rows that it names, as tests.
 use Rattle.std.specs.List.{list_all, list_any}
 use Rattle.std.specs.Ordering.{nat_cmp, ordering_then}
-use Rattle.std.specs.Prelude.{Bool, List, None, Option, Some, false, is_none, is_some, nat_le, not, true, ℕ, ◌&&◌, ◌==◌}
-use Rattle.std.specs.Prelude.{◌||◌}
+use Rattle.std.specs.Prelude.{Bool, List, None, Option, Some, false, is_none, is_some, nat_le, not}
+use Rattle.std.specs.Prelude.{true, ℕ, ◌&&◌, ◌==◌, ◌||◌}
 use Rattle.std.specs.declared.cmp.Ordering.{Ordering}
 use Rattle.room_place.specs.Plans.{has_division, is_division}
 use Rattle.room_place.specs.declared.plans.Area.{Area}
 use Rattle.room_types.specs.Codes.{is_busy, is_free, is_merged, is_offered}
 use Rattle.room_types.specs.KeyedRows.{row_at}
-use Rattle.room_types.specs.Keys.{callsign_cmp, loan_key, numbered_cmp, offer_key, pair_cmp, point_key, report_key}
-use Rattle.room_types.specs.Slices.{assignment_at, division_at, incident_at, is_active_one, turn_at, vehicle_at}
+use Rattle.room_types.specs.Keys.{callsign_cmp, loan_key, numbered_cmp, offer_key, pair_cmp}
+use Rattle.room_types.specs.Keys.{point_key, report_key}
+use Rattle.room_types.specs.Slices.{assignment_at, division_at, incident_at, is_active_one, turn_at}
+use Rattle.room_types.specs.Slices.{vehicle_at}
 use Rattle.room_types.specs.Texts.{Callsign}
 use Rattle.room_types.specs.declared.slices.DivisionRows.{DivisionRows}
 use Rattle.room_types.specs.declared.tables.Assignment.{Assignment}

@@ -1,5 +1,6 @@
 //! Rooms whose turns, reports and calls are judged one at a time, so that they need not be held.
-ghost use Rattle.std.specs.Prelude.{◌≡◌, ◌↔◌, ◌++◌, ◌∷◌, [], ℕ, IsTrue, List, OnOk, is_none, option_copied};
+ghost use Rattle.std.specs.Prelude.{◌≡◌, ◌↔◌, ◌++◌, ◌∷◌, [], ℕ, IsTrue, List, OnOk, is_none};
+ghost use Rattle.std.specs.Prelude.{option_copied};
 ghost use Rattle.std.specs.BTreeSet.{BTreeSet, contains};
 ghost use Rattle.room_model.specs.Room.{IsInOrder};
 ghost use Rattle.room_model.specs.RoomSlices.{room_of};
@@ -7,7 +8,9 @@ ghost use Rattle.room_model.specs.RoomAgreements.{IsWellFormed};
 ghost use Rattle.room_types.specs.declared.slices.DivisionRows.{DivisionRows};
 ghost use Rattle.room_types.specs.declared.tables.Call.{Call as CallRow};
 ghost use Rattle.room_store_check_rows.specs.RowTests.{opening_cmp};
-ghost use Rattle.room_store_check_rows.specs.HistoryChecks.{AreOpenings, histories_fit, is_last, is_last_report, kept, kept_disagreement};
+ghost use Rattle.room_store_check_rows.specs.HistoryChecks.{AreOpenings, histories_fit, is_last};
+ghost use Rattle.room_store_check_rows.specs.HistoryChecks.{is_last_report, kept};
+ghost use Rattle.room_store_check_rows.specs.HistoryChecks.{kept_disagreement};
 
 use crate::disagreements::Disagreement;
 use crate::first_disagreement::{Judged, first_of};

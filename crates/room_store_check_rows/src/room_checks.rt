@@ -4,7 +4,8 @@ ghost use Rattle.room_types.specs.declared.refusal_statuses.Refusal.TheVariants.
 ghost use Rattle.room_model.specs.Room.{IsInOrder};
 ghost use Rattle.room_model.specs.RoomSlices.{room_of};
 ghost use Rattle.room_model.specs.RoomAgreements.{IsWellFormed};
-ghost use Rattle.room_store_check_rows.specs.FirstFaults.{first_disagreement, rows_disagreement, standing_disagreement};
+ghost use Rattle.room_store_check_rows.specs.FirstFaults.{first_disagreement, rows_disagreement};
+ghost use Rattle.room_store_check_rows.specs.FirstFaults.{standing_disagreement};
 ghost use Rattle.room_store_check_rows.specs.Disagreements.{Detects};
 
 use crate::disagreements::Disagreement;

@@ -8,7 +8,9 @@ ghost use Rattle.room_types.specs.Keys.{callsign_cmp};
 ghost use Rattle.room_types.specs.declared.refusal_statuses.Refusal.TheVariants.{Memory};
 ghost use Rattle.room_model.specs.FleetRows.{AreTerminals, is_crew, terminal_key, token_cmp};
 ghost use Rattle.room_model.specs.RoomSlices.{room_of};
-ghost use Rattle.room_store_check_rows.specs.TerminalCrews.{crew_again, crew_of, crews_of, second_crew, subject_fault, terminals_fault, two_crews, uncrewed};
+ghost use Rattle.room_store_check_rows.specs.TerminalCrews.{crew_again, crew_of, crews_of};
+ghost use Rattle.room_store_check_rows.specs.TerminalCrews.{second_crew, subject_fault};
+ghost use Rattle.room_store_check_rows.specs.TerminalCrews.{terminals_fault, two_crews, uncrewed};
 ghost use Rattle.room_store_check_rows.specs.FirstFaults.{first_of};
 ghost use Rattle.room_store_check_rows.specs.Misfits.{DetectsOf};
 

@@ -1,7 +1,8 @@
 //! Whether a turn and a report agree with their vehicle, and a turn with the vehicle's assignment
 //! and its incident.
 ghost use Rattle.std.specs.Prelude.{◌≡◌, option_copied};
-ghost use Rattle.room_store_check_rows.specs.FirstFaults.{open_fault, order_fault, report_fault, turn_fault};
+ghost use Rattle.room_store_check_rows.specs.FirstFaults.{open_fault, order_fault, report_fault};
+ghost use Rattle.room_store_check_rows.specs.FirstFaults.{turn_fault};
 ghost use Rattle.room_store_check_rows.specs.RowTests.{is_as_assigned, is_numbered, is_over};
 
 use crate::disagreements::{Disagreement, ReportFault, TurnFault};

@@ -2,8 +2,10 @@
 //! of its last order, its last report and its post; and whether these are of a vehicle.
 ghost use Rattle.std.specs.Prelude.{◌≡◌, option_copied};
 ghost use Rattle.room_types.specs.Codes.{is_offered};
-ghost use Rattle.room_store_check_rows.specs.FirstFaults.{assignment_fault, loan_fault, offer_fault, vehicle_fault};
-ghost use Rattle.room_store_check_rows.specs.RowTests.{has_last_report, has_open_turn, has_post, has_vehicle, is_open};
+ghost use Rattle.room_store_check_rows.specs.FirstFaults.{assignment_fault, loan_fault};
+ghost use Rattle.room_store_check_rows.specs.FirstFaults.{offer_fault, vehicle_fault};
+ghost use Rattle.room_store_check_rows.specs.RowTests.{has_last_report, has_open_turn, has_post};
+ghost use Rattle.room_store_check_rows.specs.RowTests.{has_vehicle, is_open};
 
 use crate::disagreements::{Disagreement, VehicleFault};
 use crate::first_disagreement::{Judged, unless};

@@ -1,5 +1,6 @@
 -- What was found of a file, and what a fault says of it.
-use Rattle.std.proofs.Common.{Err, List, Ok, Result, ap, inl, inr, rules, subst, sym, true≢false, ◌∙◌, ◌≡◌, ◌⊎◌}
+use Rattle.std.proofs.Common.{Err, List, Ok, Result, ap, inl, inr, rules, subst, sym, true≢false}
+use Rattle.std.proofs.Common.{◌∙◌, ◌≡◌, ◌⊎◌}
 use Rattle.std.proofs.lemmas.Result.{IfErr-weaker}
 use Rattle.std.specs.Prelude.{IfErr, IfOk, OnOk}
 use Rattle.std.specs.Result.{IsErr, IsErrAnd}
@@ -10,9 +11,12 @@ use Rattle.room_tables_schema.specs.declared.database_faults.Fault.TheVariants a
 use Rattle.room_tables.specs.Failures.{IfStorage}
 use Rattle.room_tables.specs.Rowids.{AreAllNumbered}
 use Rattle.room_tables.specs.RoomsInTables.{Configuration, Stands}
-use Rattle.room_store_check_tables.specs.HeldRooms.{HasConfiguration, HasRows, HoldsRoom, MakesNoPlan, take_fault}
+use Rattle.room_store_check_tables.specs.HeldRooms.{HasConfiguration, HasRows, HoldsRoom}
+use Rattle.room_store_check_tables.specs.HeldRooms.{MakesNoPlan, take_fault}
 use Rattle.room_store_check_tables.specs.declared.file_faults.FileFault.{FileFault}
-use Rattle.room_store_check_tables.specs.declared.file_faults.FileFault.TheVariants.{Memory, NotARoom, Storage}
+use Rattle.room_store_check_tables.specs.declared.file_faults.FileFault.TheVariants.{Memory}
+use Rattle.room_store_check_tables.specs.declared.file_faults.FileFault.TheVariants.{NotARoom}
+use Rattle.room_store_check_tables.specs.declared.file_faults.FileFault.TheVariants.{Storage}
 use Rattle.room_place.specs.Plans.{Layout}
 use Rattle.room_types.specs.declared.fleet.Terminal.{Terminal}
 use Rattle.room_types.specs.declared.slices.DivisionRows.{DivisionRows}

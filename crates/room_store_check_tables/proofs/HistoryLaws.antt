@@ -1,5 +1,6 @@
 -- One row more of those that are judged, and of those that are kept of them.
-use Rattle.std.proofs.Common.{◌≡◌, ◌++◌, Bool, true, cond, List, [], ◌∷◌, Option, Ordering, ap, subst, sym, ◌∙◌}
+use Rattle.std.proofs.Common.{◌≡◌, ◌++◌, Bool, true, cond, List, [], ◌∷◌, Option, Ordering, ap}
+use Rattle.std.proofs.Common.{subst, sym, ◌∙◌}
 use Rattle.std.specs.Cmp.{IsTotalOrder}
 use Rattle.std.specs.List.{list_all}
 use Rattle.std.specs.Prelude.{◌&&◌, filter, is_none}

@@ -1,6 +1,7 @@
 -- Rows of one table after another, read in a transaction: each is read where those before went
 -- well.
-use Rattle.std.proofs.Common.{Err, List, Ok, Result, ap, arith, inl, inr, refl, subst, sym, ◌∙◌, ◌≡◌}
+use Rattle.std.proofs.Common.{Err, List, Ok, Result, ap, arith, inl, inr, refl, subst, sym, ◌∙◌}
+use Rattle.std.proofs.Common.{◌≡◌}
 use Rattle.std.proofs.lemmas.Result.{IfErr-weaker}
 use Rattle.std.specs.Prelude.{OnOk}
 use Rattle.sqlite.specs.Effect.{Database}
@@ -15,8 +16,9 @@ use Rattle.room_tables_schema.proofs.ReadLaws.{ends_inside, fails_inside}
 use Rattle.room_tables_schema.specs.Outcomes.{ReadsInside}
 use Rattle.room_tables_schema.specs.TableTrees.{AreNumbered}
 use Rattle.room_tables_schema.specs.FileConnections.{HasRoomSchema, IsClean}
-use Rattle.room_tables_schema.specs.Schema.{assignments_table, calls_table, divisions_table, incidents_table}
-use Rattle.room_tables_schema.specs.Schema.{loans_table, offers_table, points_table, reports_table, turns_table}
+use Rattle.room_tables_schema.specs.Schema.{assignments_table, calls_table, divisions_table}
+use Rattle.room_tables_schema.specs.Schema.{incidents_table, loans_table, offers_table}
+use Rattle.room_tables_schema.specs.Schema.{points_table, reports_table, turns_table}
 use Rattle.room_tables_schema.specs.Schema.{vehicles_table}
 use Rattle.room_tables_schema.specs.declared.database_faults.Fault.{Fault}
 use Rattle.room_tables_rows.specs.AssignmentSql.{assignment_row}
@@ -36,7 +38,8 @@ use Rattle.room_tables.specs.Rowids.{AreAllNumbered, FailsAtRowids}
 use Rattle.room_tables.specs.RoomsInTables.{StandsFor}
 use Rattle.room_store_writes.proofs.CommitLaws.{ok_then}
 use Rattle.room_store_check_tables.specs.HeldRooms.{HasRows, ReadsNext}
-use Rattle.room_store_check_tables.specs.ReadCauses.{ExplainsTable, FailsAtTable, FailsInTables, rowids_fail}
+use Rattle.room_store_check_tables.specs.ReadCauses.{ExplainsTable, FailsAtTable, FailsInTables}
+use Rattle.room_store_check_tables.specs.ReadCauses.{rowids_fail}
 
 -- ---- one read: it found rows, it failed, or one before it had failed
 

@@ -1,6 +1,6 @@
 -- Rows of a file that are read and judged one at a time, outside a transaction.
-use Rattle.std.proofs.Common.{Bool, Err, IsTrue, List, Ok, Result, [], ap, arith, false, inl, inr, refl, subst, sym}
-use Rattle.std.proofs.Common.{true, ◌∙◌, ◌≡◌, ◌⊎◌}
+use Rattle.std.proofs.Common.{Bool, Err, IsTrue, List, Ok, Result, [], ap, arith, false, inl, inr}
+use Rattle.std.proofs.Common.{refl, subst, sym, true, ◌∙◌, ◌≡◌, ◌⊎◌}
 use Rattle.std.proofs.lemmas.Bool.{and_parts}
 use Rattle.std.specs.Prelude.{◌&&◌, ◌↔◌, ◌≢◌, ◌≤◌}
 use Rattle.std.specs.declared.cmp.Ordering.{Ordering}
@@ -32,9 +32,11 @@ use Rattle.room_store_writes.proofs.CommitLaws.{unchanged_survives}
 use Rattle.room_store_writes.specs.Configurations.{config_of}
 use Rattle.room_store_writes.specs.Transactions.{Leaves, IsCommitted}
 use Rattle.room_store_check_tables.proofs.Findings.{held_is, stands_with}
-use Rattle.room_store_check_tables.specs.HeldRooms.{HasConfiguration, HasRows, HoldsRoom, IsPlanOf, WritesNothing}
-use Rattle.room_store_check_tables.specs.StreamedPlan.{AreAssignments, AreBeside, AreDivisions, AreIncidents, AreLoans}
-use Rattle.room_store_check_tables.specs.StreamedPlan.{AreOffers, ArePoints, AreRows, AreVehicles, HasJudged, IsFound}
+use Rattle.room_store_check_tables.specs.HeldRooms.{HasConfiguration, HasRows, HoldsRoom, IsPlanOf}
+use Rattle.room_store_check_tables.specs.HeldRooms.{WritesNothing}
+use Rattle.room_store_check_tables.specs.StreamedPlan.{AreAssignments, AreBeside, AreDivisions}
+use Rattle.room_store_check_tables.specs.StreamedPlan.{AreIncidents, AreLoans, AreOffers, ArePoints}
+use Rattle.room_store_check_tables.specs.StreamedPlan.{AreRows, AreVehicles, HasJudged, IsFound}
 use Rattle.room_store_check_tables.specs.StreamedPlan.{IsHistory, ShowsSound}
 use Rattle.room_store_check_tables.specs.ReadCauses.{FailsInTables, FailsToTake}
 use Rattle.room_store_check_tables.specs.declared.streamed_plan.JudgedRows.{JudgedRows}

@@ -25,9 +25,10 @@ use Rattle.room_tables_rows.specs.TerminalSql.{terminal_row}
 use Rattle.room_tables_rows.specs.TurnSql.{turn_row}
 use Rattle.room_tables_rows.specs.VehicleSql.{vehicle_row}
 use Rattle.room_tables_schema.specs.Outcomes.{ReadsInside}
-use Rattle.room_tables_schema.specs.Schema.{areas_table, assignments_table, calls_table, divisions_table}
-use Rattle.room_tables_schema.specs.Schema.{incidents_table, loans_table, meta_table, offers_table, points_table}
-use Rattle.room_tables_schema.specs.Schema.{reports_table, terminals_table, turns_table, vehicles_table}
+use Rattle.room_tables_schema.specs.Schema.{areas_table, assignments_table, calls_table}
+use Rattle.room_tables_schema.specs.Schema.{divisions_table, incidents_table, loans_table}
+use Rattle.room_tables_schema.specs.Schema.{meta_table, offers_table, points_table, reports_table}
+use Rattle.room_tables_schema.specs.Schema.{terminals_table, turns_table, vehicles_table}
 use Rattle.room_tables_schema.specs.declared.database_faults.Fault.{Fault}
 use Rattle.room_tables_schema.specs.declared.database_faults.Fault.TheVariants as fault
 use Rattle.room_tables.specs.Failures.{IfStorage}
@@ -36,7 +37,8 @@ use Rattle.room_tables.specs.RoomsInTables.{Configuration, Stands, StandsFor, nu
 use Rattle.room_store_writes.specs.Configurations.{config_of}
 use Rattle.room_store_writes.specs.Transactions.{Leaves}
 use Rattle.room_store_check_tables.specs.declared.file_faults.FileFault.{FileFault}
-use Rattle.room_store_check_tables.specs.declared.file_faults.FileFault.TheVariants.{Memory, Storage}
+use Rattle.room_store_check_tables.specs.declared.file_faults.FileFault.TheVariants.{Memory}
+use Rattle.room_store_check_tables.specs.declared.file_faults.FileFault.TheVariants.{Storage}
 use Rattle.room_tables_schema.specs.FileConnections.{IsClean}
 
 -- Some well-formed room with terminals that fit it is stood for.

@@ -7,8 +7,9 @@ use Rattle.sqlite.specs.State.{State}
 use Rattle.sqlite_disk.specs.Disk.{MoreFaults}
 use Rattle.sqlite_trees.specs.declared.store.Store.{Ghosts}
 use Rattle.sqlite_value.specs.Order.{Row}
-use Rattle.room_types.specs.Keys.{assignment_key, call_key, callsign_cmp, division_key, incident_key, loan_key}
-use Rattle.room_types.specs.Keys.{numbered_cmp, offer_key, pair_cmp, point_key, report_key, turn_key, vehicle_key}
+use Rattle.room_types.specs.Keys.{assignment_key, call_key, callsign_cmp, division_key}
+use Rattle.room_types.specs.Keys.{incident_key, loan_key, numbered_cmp, offer_key, pair_cmp}
+use Rattle.room_types.specs.Keys.{point_key, report_key, turn_key, vehicle_key}
 use Rattle.room_model.specs.FleetRows.{terminal_key, token_cmp}
 use Rattle.room_tables_rows.specs.AssignmentSql.{is_assignment_row, assignment_row}
 use Rattle.room_tables_rows.specs.CallSql.{is_call_row, call_row}
@@ -36,7 +37,8 @@ use Rattle.room_tables_rows.specs.declared.terminal_sql.TheConstants.{ALL_TERMIN
 use Rattle.room_tables_rows.specs.declared.turn_sql.TheConstants.{ALL_TURNS}
 use Rattle.room_tables_rows.specs.declared.vehicle_sql.TheConstants.{ALL_VEHICLES}
 use Rattle.room_tables_schema.specs.declared.database_faults.Fault.{Fault}
-use Rattle.room_tables.specs.Failures.{AreNoPlan, AreNoRows, AreNotJustOne, ExplainsWhyAtLast, FailsAtLast, FailsToRead}
+use Rattle.room_tables.specs.Failures.{AreNoPlan, AreNoRows, AreNotJustOne, ExplainsWhyAtLast}
+use Rattle.room_tables.specs.Failures.{FailsAtLast, FailsToRead}
 use Rattle.room_tables.specs.Rowids.{FailsAtRowids}
 
 -- All rows of a table were asked for, and the query failed, not for lack of memory; or what it

@@ -5,8 +5,9 @@ use Rattle.std.specs.Prelude.{Bool, IsTrue, List, [], filter, is_none, ◌&&◌,
 use Rattle.sqlite.specs.State.{State}
 use Rattle.sqlite_trees.specs.Tree.{Trees}
 use Rattle.room_place.specs.declared.plans.Area.{Area}
-use Rattle.room_types.specs.Keys.{assignment_key, call_key, callsign_cmp, division_key, incident_key, loan_key}
-use Rattle.room_types.specs.Keys.{numbered_cmp, offer_key, pair_cmp, point_key, report_key, turn_key, vehicle_key}
+use Rattle.room_types.specs.Keys.{assignment_key, call_key, callsign_cmp, division_key}
+use Rattle.room_types.specs.Keys.{incident_key, loan_key, numbered_cmp, offer_key, pair_cmp}
+use Rattle.room_types.specs.Keys.{point_key, report_key, turn_key, vehicle_key}
 use Rattle.room_types.specs.declared.fleet.Terminal.{Terminal}
 use Rattle.room_types.specs.declared.slices.DivisionRows.{DivisionRows}
 use Rattle.room_types.specs.declared.tables.Assignment.{Assignment}
@@ -33,12 +34,14 @@ use Rattle.room_tables_rows.specs.PointSql.{point_row}
 use Rattle.room_tables_rows.specs.ReportSql.{report_row}
 use Rattle.room_tables_rows.specs.TurnSql.{turn_row}
 use Rattle.room_tables_rows.specs.VehicleSql.{vehicle_row}
-use Rattle.room_tables_schema.specs.Schema.{assignments_table, calls_table, divisions_table, incidents_table}
-use Rattle.room_tables_schema.specs.Schema.{loans_table, offers_table, points_table, reports_table, turns_table}
+use Rattle.room_tables_schema.specs.Schema.{assignments_table, calls_table, divisions_table}
+use Rattle.room_tables_schema.specs.Schema.{incidents_table, loans_table, offers_table}
+use Rattle.room_tables_schema.specs.Schema.{points_table, reports_table, turns_table}
 use Rattle.room_tables_schema.specs.Schema.{vehicles_table}
 use Rattle.room_tables.specs.Rowids.{AreAllNumbered}
 use Rattle.room_tables.specs.RowStreams.{AreAll}
-use Rattle.room_store_check_rows.specs.FirstFaults.{call_disagreement, report_disagreement, turn_disagreement}
+use Rattle.room_store_check_rows.specs.FirstFaults.{call_disagreement, report_disagreement}
+use Rattle.room_store_check_rows.specs.FirstFaults.{turn_disagreement}
 use Rattle.room_store_check_rows.specs.HistoryChecks.{AreOpenings, histories_fit, is_last, kept}
 use Rattle.room_store_check_tables.specs.declared.streamed_plan.JudgedRows.{JudgedRows}
 use Rattle.room_store_check_tables.specs.declared.streamed_plan.KeptHistory.{KeptHistory}

@@ -1,5 +1,6 @@
 //! Turns, reports and calls judged one at a time, beside the rows that are kept.
-ghost use Rattle.std.specs.Prelude.{◌≡◌, ◌++◌, ◌∷◌, [], Bool, List, IfErr, IfOk, OnOk, filter, is_none, refl};
+ghost use Rattle.std.specs.Prelude.{◌≡◌, ◌++◌, ◌∷◌, [], Bool, List, IfErr, IfOk, OnOk, filter};
+ghost use Rattle.std.specs.Prelude.{is_none, refl};
 ghost use Rattle.std.specs.List.{list_all};
 ghost use Rattle.sqlite.specs.Held.{state};
 ghost use Rattle.room_types.specs.KeyedRows.{IsKeyed};

@@ -3,7 +3,8 @@ ghost use Rattle.std.specs.Prelude.{◌≡◌, ◌↔◌, ◌⊎◌, IsTrue, IfE
 ghost use Rattle.room_model.specs.FleetRows.{AreTerminals};
 ghost use Rattle.room_model.specs.RoomSlices.{room_of};
 ghost use Rattle.room_model.specs.RoomAgreements.{IsWellFormed};
-ghost use Rattle.room_store_check_tables.specs.declared.file_faults.FileFault.TheVariants.{Memory, NotARoom};
+ghost use Rattle.room_store_check_tables.specs.declared.file_faults.FileFault.TheVariants.{Memory};
+ghost use Rattle.room_store_check_tables.specs.declared.file_faults.FileFault.TheVariants.{NotARoom};
 
 use crate::file_faults::FileFault;
 use crate::whole_file::ReadFile;

@@ -9,9 +9,13 @@ ghost use Rattle.room_model.specs.RoomSlices.{room_of};
 ghost use Rattle.room_tables.specs.Rowids.{AreAllNumbered};
 ghost use Rattle.room_tables.specs.RoomsInTables.{Stands, StandsFor};
 ghost use Rattle.room_store_writes.specs.Configurations.{config_of};
-ghost use Rattle.room_store_check_tables.specs.HeldRooms.{HasConfiguration, HasNoPlan, HasRows, MakesNoPlan, ReadsNext};
-ghost use Rattle.room_store_check_tables.specs.ReadCauses.{ExplainsTable, FailsAtRows, FailsInTables};
-ghost use Rattle.room_store_check_tables.specs.declared.file_faults.FileFault.TheVariants.{Memory, NotARoom, Storage};
+ghost use Rattle.room_store_check_tables.specs.HeldRooms.{HasConfiguration, HasNoPlan, HasRows};
+ghost use Rattle.room_store_check_tables.specs.HeldRooms.{MakesNoPlan, ReadsNext};
+ghost use Rattle.room_store_check_tables.specs.ReadCauses.{ExplainsTable, FailsAtRows};
+ghost use Rattle.room_store_check_tables.specs.ReadCauses.{FailsInTables};
+ghost use Rattle.room_store_check_tables.specs.declared.file_faults.FileFault.TheVariants.{Memory};
+ghost use Rattle.room_store_check_tables.specs.declared.file_faults.FileFault.TheVariants.{NotARoom};
+ghost use Rattle.room_store_check_tables.specs.declared.file_faults.FileFault.TheVariants.{Storage};
 
 use crate::file_faults::FileFault;
 use room_place::plans::{Area, Plan, PlanFault};

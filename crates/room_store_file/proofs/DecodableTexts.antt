@@ -1,12 +1,13 @@
 -- Bytes from which it is read what they encode, whatever bytes come after them.
-use Rattle.std.proofs.Common.{◌≡◌, ◌+◌, ◌++◌, ◌/◌, ◌%◌, ◌<◌, ◌≤◌, ℕ, zero, suc, pos, negsuc, List, [], ◌∷◌, length, inl}
-use Rattle.std.proofs.Common.{inr, refl, sym, ap, ◌∙◌, arith, append_assoc}
+use Rattle.std.proofs.Common.{◌≡◌, ◌+◌, ◌++◌, ◌/◌, ◌%◌, ◌<◌, ◌≤◌, ℕ, zero, suc, pos, negsuc, List}
+use Rattle.std.proofs.Common.{[], ◌∷◌, length, inl, inr, refl, sym, ap, ◌∙◌, arith, append_assoc}
 use Rattle.std.proofs.lemmas.Bool.{cases_lt}
 use Rattle.std.specs.List.{AllByRecursion, flat_map}
 use Rattle.std.specs.Prelude.{⊤}
 use Rattle.sqlite_value.specs.declared.value.Value.{Value}
 use Rattle.sqlite_value.specs.declared.value.Value.TheVariants.{Null, Int, Real, Text, Blob}
-use Rattle.room_store_file.specs.DigestTexts.{list_text, number_text, row_text, table_text, value_text}
+use Rattle.room_store_file.specs.DigestTexts.{list_text, number_text, row_text, table_text}
+use Rattle.room_store_file.specs.DigestTexts.{value_text}
 use Rattle.room_store_file.proofs.Numbers.{number_ends, number_goes_on}
 
 -- what is encoded, and what comes after it, are known from the bytes

@@ -24,7 +24,9 @@ use Rattle.room_store_file.specs.declared.examined_file.Wrong.TheVariants as wro
 use Rattle.room_store_file.specs.declared.room_in_tables.Tables.{Tables}
 use Rattle.room_store_file.specs.declared.room_in_tables.Tables.TheVariants.{Unindexed, Whole}
 use Rattle.room_store_check_tables.specs.declared.file_faults.FileFault.{FileFault}
-use Rattle.room_store_check_tables.specs.declared.file_faults.FileFault.TheVariants.{Memory, NotARoom, Storage}
+use Rattle.room_store_check_tables.specs.declared.file_faults.FileFault.TheVariants.{Memory}
+use Rattle.room_store_check_tables.specs.declared.file_faults.FileFault.TheVariants.{NotARoom}
+use Rattle.room_store_check_tables.specs.declared.file_faults.FileFault.TheVariants.{Storage}
 
 pub weighed : (now : Database) → HasTables now.schema → (plan : Layout) (rows : DivisionRows)
     (terminals : List Terminal)

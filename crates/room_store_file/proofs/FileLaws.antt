@@ -1,5 +1,6 @@
 -- A file whose tables were taken, or that was read, holds the room that it held.
-use Rattle.std.proofs.Common.{IsTrue, List, [], ap, arith, inl, inr, refl, subst, sym, ◌⊎◌, ◌∙◌, ◌∷◌, ◌≡◌}
+use Rattle.std.proofs.Common.{IsTrue, List, [], ap, arith, inl, inr, refl, subst, sym, ◌⊎◌, ◌∙◌}
+use Rattle.std.proofs.Common.{◌∷◌, ◌≡◌}
 use Rattle.sqlite.specs.Effect.{Database}
 use Rattle.sqlite.specs.State.{HasCleanDisk, State, Survives}
 use Rattle.sqlite_schema.specs.declared.schema.Schema.{Schema}
@@ -18,11 +19,12 @@ use Rattle.room_tables_rows.proofs.OneRoom.{one_config, one_room}
 use Rattle.room_tables.specs.RoomsInTables.{Configuration, Stands}
 use Rattle.room_store_writes.specs.Configurations.{config_of}
 use Rattle.room_store_writes.specs.Transactions.{Leaves}
-use Rattle.room_store_file.specs.OpenedFile.{Becomes, KeepsAllRows, KeepsFile, MayBeIndexed, MayBeMoved, MayBecome}
-use Rattle.room_store_file.specs.OpenedFile.{Moves, Opens, Takes, schema_of}
+use Rattle.room_store_file.specs.OpenedFile.{Becomes, KeepsAllRows, KeepsFile, MayBeIndexed}
+use Rattle.room_store_file.specs.OpenedFile.{MayBeMoved, MayBecome, Moves, Opens, Takes, schema_of}
 use Rattle.room_store_check_tables.specs.HeldRooms.{HoldsRoom, WritesNothing}
 use Rattle.room_store_file.specs.declared.room_in_tables.Tables.{Tables}
-use Rattle.room_store_file.specs.declared.room_in_tables.Tables.TheVariants.{First, FirstUnindexed, Unindexed, Whole}
+use Rattle.room_store_file.specs.declared.room_in_tables.Tables.TheVariants.{First, FirstUnindexed}
+use Rattle.room_store_file.specs.declared.room_in_tables.Tables.TheVariants.{Unindexed, Whole}
 
 module _ (old new : Trees) where
   -- tables that keep their rows stand for the same room

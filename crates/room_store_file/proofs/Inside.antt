@@ -1,5 +1,6 @@
 -- What is read and written in a transaction.
-use Rattle.std.proofs.Common.{◌≡◌, not, Bool, true, false, Err, Ok, Result, List, inl, sym, subst, ap, ◌∙◌}
+use Rattle.std.proofs.Common.{◌≡◌, not, Bool, true, false, Err, Ok, Result, List, inl, sym, subst}
+use Rattle.std.proofs.Common.{ap, ◌∙◌}
 use Rattle.sqlite.specs.Effect.{Database}
 use Rattle.sqlite.specs.Held.{Held, state}
 use Rattle.sqlite.specs.State.{IsUnchanged, State}

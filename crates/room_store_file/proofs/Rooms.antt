@@ -1,5 +1,6 @@
 -- Rooms whose texts are the same are the same.
-use Rattle.std.proofs.Common.{◌≡◌, ◌++◌, ℕ, List, [], ◌∷◌, drop, length, map, Option, Some, None, refl, sym, ap, ◌∙◌}
+use Rattle.std.proofs.Common.{◌≡◌, ◌++◌, ℕ, List, [], ◌∷◌, drop, length, map, Option, Some, None}
+use Rattle.std.proofs.Common.{refl, sym, ap, ◌∙◌}
 use Rattle.std.specs.List.{AllByRecursion}
 use Rattle.std.specs.Prelude.{slice_index_or}
 use Rattle.std.specs.declared.cmp.Ordering.{Ordering}
@@ -13,9 +14,10 @@ use Rattle.room_types.specs.declared.fleet.Terminal.{Terminal}
 use Rattle.room_types.specs.Codes.{merged_into}
 use Rattle.room_tables_schema.specs.TypedRows.{IsFaithful, number_or_null}
 use Rattle.room_tables_rows.proofs.PlanLaws.{numbered-injective}
-use Rattle.room_tables_rows.proofs.RowLaws.{area_faithful, assignment_faithful, call_faithful, division_faithful}
-use Rattle.room_tables_rows.proofs.RowLaws.{incident_faithful, loan_faithful, meta_faithful, offer_faithful}
-use Rattle.room_tables_rows.proofs.RowLaws.{point_faithful, report_faithful, terminal_faithful, turn_faithful}
+use Rattle.room_tables_rows.proofs.RowLaws.{area_faithful, assignment_faithful, call_faithful}
+use Rattle.room_tables_rows.proofs.RowLaws.{division_faithful, incident_faithful, loan_faithful}
+use Rattle.room_tables_rows.proofs.RowLaws.{meta_faithful, offer_faithful, point_faithful}
+use Rattle.room_tables_rows.proofs.RowLaws.{report_faithful, terminal_faithful, turn_faithful}
 use Rattle.room_tables_rows.proofs.RowLaws.{vehicle_faithful}
 use Rattle.room_tables_rows.specs.AreaSql.{area_row}
 use Rattle.room_tables_rows.specs.AssignmentSql.{assignment_row}

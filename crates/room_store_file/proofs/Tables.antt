@@ -1,6 +1,6 @@
 -- Whole tables read, one after another.
-use Rattle.std.proofs.Common.{◌≡◌, ◌+◌, ◌<◌, ◌⊎◌, inl, inr, ℕ, List, [], ◌∷◌, Bool, true, Ok, Result, refl, sym, subst}
-use Rattle.std.proofs.Common.{ap, ◌∙◌, arith, []}
+use Rattle.std.proofs.Common.{◌≡◌, ◌+◌, ◌<◌, ◌⊎◌, inl, inr, ℕ, List, [], ◌∷◌, Bool, true, Ok}
+use Rattle.std.proofs.Common.{Result, refl, sym, subst, ap, ◌∙◌, arith, []}
 use Rattle.std.specs.List.{flat_map}
 use Rattle.sha2.specs.declared.Sha256.{Sha256}
 use Rattle.sqlite.specs.Held.{Held, state}

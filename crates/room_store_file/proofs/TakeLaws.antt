@@ -1,7 +1,7 @@
 -- Tables that are taken: what they become holds the room that they held, and what an end of the
 -- transaction leaves.
-use Rattle.std.proofs.Common.{Err, IsTrue, List, Ok, Result, [], ap, arith, inl, inr, refl, subst, sym, ◌∙◌, ◌∷◌, ◌≡◌}
-use Rattle.std.proofs.Common.{◌⊎◌}
+use Rattle.std.proofs.Common.{Err, IsTrue, List, Ok, Result, [], ap, arith, inl, inr, refl, subst}
+use Rattle.std.proofs.Common.{sym, ◌∙◌, ◌∷◌, ◌≡◌, ◌⊎◌}
 use Rattle.std.proofs.lemmas.Bool.{eqb-false}
 use Rattle.std.specs.Prelude.{IfErr, IfOk, IsOk, OnErr, OnOk, ◌≢◌}
 use Rattle.std.specs.Result.{IsErrAnd}
@@ -29,16 +29,20 @@ use Rattle.room_tables.specs.Writes.{RaisesVersion}
 use Rattle.room_store_writes.specs.Transactions.{Leaves}
 use Rattle.room_store_file.proofs.FileLaws.{rows_kept}
 use Rattle.room_store_file.specs.OpeningCauses.{FailsAtEnd, FailsBy, FailsInside}
-use Rattle.room_store_file.specs.OpenedFile.{Becomes, HasNoPlanBy, HoldsBy, HoldsFirstRoom, IsMoved, IsRoomOf}
-use Rattle.room_store_file.specs.OpenedFile.{MayBecome, StandsBy, Takes, open_fault, schema_of}
+use Rattle.room_store_file.specs.OpenedFile.{Becomes, HasNoPlanBy, HoldsBy, HoldsFirstRoom, IsMoved}
+use Rattle.room_store_file.specs.OpenedFile.{IsRoomOf, MayBecome, StandsBy, Takes, open_fault}
+use Rattle.room_store_file.specs.OpenedFile.{schema_of}
 use Rattle.room_store_check_tables.proofs.Findings.{planless}
 use Rattle.room_store_check_tables.specs.HeldRooms.{Holds, HoldsRoom, take_fault}
 use Rattle.room_store_file.specs.declared.opened_file.OpenFault.{OpenFault}
 use Rattle.room_store_file.specs.declared.opened_file.OpenFault.TheVariants as opened
 use Rattle.room_store_check_tables.specs.declared.file_faults.FileFault.{FileFault}
-use Rattle.room_store_check_tables.specs.declared.file_faults.FileFault.TheVariants.{Memory, NotARoom, Storage}
+use Rattle.room_store_check_tables.specs.declared.file_faults.FileFault.TheVariants.{Memory}
+use Rattle.room_store_check_tables.specs.declared.file_faults.FileFault.TheVariants.{NotARoom}
+use Rattle.room_store_check_tables.specs.declared.file_faults.FileFault.TheVariants.{Storage}
 use Rattle.room_store_file.specs.declared.room_in_tables.Tables.{Tables}
-use Rattle.room_store_file.specs.declared.room_in_tables.Tables.TheVariants.{First, FirstUnindexed, Unindexed, Whole}
+use Rattle.room_store_file.specs.declared.room_in_tables.Tables.TheVariants.{First, FirstUnindexed}
+use Rattle.room_store_file.specs.declared.room_in_tables.Tables.TheVariants.{Unindexed, Whole}
 
 -- the last table was made, and then the version recorded: a room of the first version is moved
 pub is_moved : (old : Trees) (mid new : State) → AddsLast old mid.now.trees → RaisesVersion mid new

@@ -4,7 +4,8 @@ use Rattle.std.specs.Prelude.{IfErr}
 use Rattle.sqlite.specs.declared.error.Error.{Error}
 use Rattle.room_tables_schema.specs.DatabaseFaults.{fault_of}
 use Rattle.room_store_file.specs.declared.digest_changes.Undone.{Undone}
-use Rattle.room_store_file.specs.declared.digest_changes.Undone.TheVariants.{OtherDigest, Unavailable}
+use Rattle.room_store_file.specs.declared.digest_changes.Undone.TheVariants.{OtherDigest}
+use Rattle.room_store_file.specs.declared.digest_changes.Undone.TheVariants.{Unavailable}
 
 -- that there is another digest is reported where it was found
 pub another_reported : {T U : Type 0} (result : Result T Undone) (done : Result U Undone) (P : Type 0)

@@ -1,6 +1,6 @@
 -- A room's rows as bytes, from which they can be read back, and the digests of these.
-use Rattle.std.specs.Prelude.{◌+◌, ◌/◌, ◌%◌, if◌then◌else◌, nat_le, ℕ, zero, suc, pos, negsuc, List, [], ◌∷◌, ◌++◌}
-use Rattle.std.specs.Prelude.{length, map}
+use Rattle.std.specs.Prelude.{◌+◌, ◌/◌, ◌%◌, if◌then◌else◌, nat_le, ℕ, zero, suc, pos, negsuc, List}
+use Rattle.std.specs.Prelude.{[], ◌∷◌, ◌++◌, length, map}
 use Rattle.std.specs.List.{flat_map}
 use Rattle.sha2.specs.Sha256.{sha256}
 use Rattle.sqlite_value.specs.Order.{Row}

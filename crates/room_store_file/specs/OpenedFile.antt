@@ -13,8 +13,8 @@ use Rattle.room_model.specs.Room.{Room}
 use Rattle.room_tables_schema.specs.Definitions.{FailsAt}
 use Rattle.room_tables_schema.specs.DatabaseFaults.{fault_of}
 use Rattle.room_tables_schema.specs.declared.database_faults.Fault.{Fault}
-use Rattle.room_tables_schema.specs.Schema.{first_schema, first_tables, first_tables_schema, room_schema, room_tables}
-use Rattle.room_tables_schema.specs.Schema.{tables_schema}
+use Rattle.room_tables_schema.specs.Schema.{first_schema, first_tables, first_tables_schema}
+use Rattle.room_tables_schema.specs.Schema.{room_schema, room_tables, tables_schema}
 use Rattle.room_tables_rows.specs.declared.meta_sql.TheConstants.{ALL_META}
 use Rattle.room_tables_schema.specs.Versions.{BeginsAsRoom, HasFirstTables}
 use Rattle.room_tables.specs.Failures.{FailsToRead}
@@ -24,9 +24,12 @@ use Rattle.room_store_writes.specs.Transactions.{IsSettled, Leaves}
 use Rattle.room_store_file.specs.declared.opened_file.OpenFault.{OpenFault}
 use Rattle.room_store_file.specs.declared.opened_file.OpenFault.TheVariants as opened
 use Rattle.room_store_check_tables.specs.declared.file_faults.FileFault.{FileFault}
-use Rattle.room_store_check_tables.specs.declared.file_faults.FileFault.TheVariants.{Memory, NotARoom, Storage}
+use Rattle.room_store_check_tables.specs.declared.file_faults.FileFault.TheVariants.{Memory}
+use Rattle.room_store_check_tables.specs.declared.file_faults.FileFault.TheVariants.{NotARoom}
+use Rattle.room_store_check_tables.specs.declared.file_faults.FileFault.TheVariants.{Storage}
 use Rattle.room_store_file.specs.declared.room_in_tables.Tables.{Tables}
-use Rattle.room_store_file.specs.declared.room_in_tables.Tables.TheVariants.{First, FirstUnindexed, Unindexed, Whole}
+use Rattle.room_store_file.specs.declared.room_in_tables.Tables.TheVariants.{First, FirstUnindexed}
+use Rattle.room_store_file.specs.declared.room_in_tables.Tables.TheVariants.{Unindexed, Whole}
 use Rattle.room_store_check_tables.specs.HeldRooms.{HasNoPlan, Holds, take_fault}
 
 -- The file holds a room of a version, whatever its other tables are.

@@ -8,9 +8,11 @@ use Rattle.room_tables_schema.specs.Outcomes.{CommitsNothing}
 use Rattle.room_store_check_tables.specs.HeldRooms.{WritesNothing}
 use Rattle.room_store_check_tables.specs.ReadCauses.{FailsInTables, FailsToTake}
 use Rattle.room_store_check_tables.specs.declared.file_faults.FileFault.TheVariants.{Storage}
-use Rattle.room_store_file.specs.OpenedFile.{Becomes, FailsToMake, IsUncommitted, ShowsNoVersion, schema_of}
+use Rattle.room_store_file.specs.OpenedFile.{Becomes, FailsToMake, IsUncommitted, ShowsNoVersion}
+use Rattle.room_store_file.specs.OpenedFile.{schema_of}
 use Rattle.room_store_file.specs.declared.room_in_tables.Tables.{Tables}
-use Rattle.room_store_file.specs.declared.room_in_tables.Tables.TheVariants.{First, FirstUnindexed, Unindexed, Whole}
+use Rattle.room_store_file.specs.declared.room_in_tables.Tables.TheVariants.{First, FirstUnindexed}
+use Rattle.room_store_file.specs.declared.room_in_tables.Tables.TheVariants.{Unindexed, Whole}
 
 module _ {S : Type 0} (g : Ghosts S) (tables : Tables) (old new : Held S) where
   -- What the tables lack was made and not committed, and what they are then is not read.

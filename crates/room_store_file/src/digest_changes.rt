@@ -8,9 +8,11 @@ ghost use Rattle.room_tables.specs.RoomsInTables.{Configuration, Stands};
 ghost use Rattle.room_tables_schema.specs.FileConnections.{HasRoomSchema, MayWrite, IsClean};
 ghost use Rattle.room_tables_schema.specs.DatabaseFaults.{fault_of};
 ghost use Rattle.room_tables_schema.specs.Outcomes.{CommitsNothing};
-ghost use Rattle.room_store_writes.specs.Transactions.{Commits, MakesAll, LeavesOnErr, StandsSettled};
+ghost use Rattle.room_store_writes.specs.Transactions.{Commits, MakesAll, LeavesOnErr};
+ghost use Rattle.room_store_writes.specs.Transactions.{StandsSettled};
 ghost use Rattle.room_store_file.specs.DigestChanges.{Misses, Reaches};
-ghost use Rattle.room_store_file.specs.declared.digest_changes.Undone.TheVariants.{OtherDigest, Unavailable};
+ghost use Rattle.room_store_file.specs.declared.digest_changes.Undone.TheVariants.{OtherDigest};
+ghost use Rattle.room_store_file.specs.declared.digest_changes.Undone.TheVariants.{Unavailable};
 
 use crate::room_digest::digest_inside;
 use room_model::digests::Head;

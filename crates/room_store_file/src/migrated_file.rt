@@ -4,13 +4,15 @@ ghost use Rattle.sqlite.specs.Held.{state};
 ghost use Rattle.sqlite.specs.State.{Survives};
 ghost use Rattle.room_tables_schema.specs.Versions.{HasFirstTables};
 ghost use Rattle.room_store_writes.specs.Transactions.{LeavesOnErr};
-ghost use Rattle.room_store_file.specs.OpenedFile.{HoldsFirstRoom, IsNewRoom, IsOldRoom, MayBeMoved, Moves, schema_of};
+ghost use Rattle.room_store_file.specs.OpenedFile.{HoldsFirstRoom, IsNewRoom, IsOldRoom};
+ghost use Rattle.room_store_file.specs.OpenedFile.{MayBeMoved, Moves, schema_of};
 ghost use Rattle.room_store_check_tables.specs.HeldRooms.{IsPlanOf, WritesNothing};
 ghost use Rattle.room_store_file.specs.declared.opened_file.OpenFault.TheVariants.{
   NotARoom,
   OtherVersion,
 };
-ghost use Rattle.room_store_file.specs.declared.room_in_tables.Tables.TheVariants.{First, FirstUnindexed};
+ghost use Rattle.room_store_file.specs.declared.room_in_tables.Tables.TheVariants.{First};
+ghost use Rattle.room_store_file.specs.declared.room_in_tables.Tables.TheVariants.{FirstUnindexed};
 ghost use Rattle.room_tables_schema.specs.FileConnections.{IsClean};
 
 use crate::opened_file::{OpenFault, is_room_of};

@@ -1,5 +1,6 @@
 //! The plan of the room that the tables of a file stand for.
-ghost use Rattle.std.specs.Prelude.{◌≡◌, ◌≢◌, ◌⊎◌, ◌↔◌, IsTrue, IfErr, IfOk, IfNone, IfSome, OnOk, false};
+ghost use Rattle.std.specs.Prelude.{◌≡◌, ◌≢◌, ◌⊎◌, ◌↔◌, IsTrue, IfErr, IfOk, IfNone, IfSome, OnOk};
+ghost use Rattle.std.specs.Prelude.{false};
 ghost use Rattle.sqlite.specs.Held.{state};
 ghost use Rattle.sqlite.specs.State.{Survives};
 ghost use Rattle.room_tables.specs.Failures.{IfStorage};
@@ -7,14 +8,16 @@ ghost use Rattle.room_tables_schema.specs.Schema.{room_schema};
 ghost use Rattle.room_tables_schema.specs.Versions.{HasTables};
 ghost use Rattle.room_store_writes.specs.Transactions.{IsSettled, LeavesOnErr};
 ghost use Rattle.room_store_file.specs.OpeningCauses.{FailsByTables, FailsToOpen};
-ghost use Rattle.room_store_file.specs.OpenedFile.{HidesVersion, IsOldRoom, IsRoomOf, KeepsFile, MayBeIndexed, Opens, schema_of};
+ghost use Rattle.room_store_file.specs.OpenedFile.{HidesVersion, IsOldRoom, IsRoomOf, KeepsFile};
+ghost use Rattle.room_store_file.specs.OpenedFile.{MayBeIndexed, Opens, schema_of};
 ghost use Rattle.room_store_check_tables.specs.HeldRooms.{HoldsRoom, IsPlanOf, WritesNothing};
 ghost use Rattle.room_store_file.specs.declared.opened_file.OpenFault.TheVariants.{
   NotARoom,
   OtherVersion,
   Storage,
 };
-ghost use Rattle.room_store_file.specs.declared.room_in_tables.Tables.TheVariants.{Unindexed, Whole};
+ghost use Rattle.room_store_file.specs.declared.room_in_tables.Tables.TheVariants.{Unindexed};
+ghost use Rattle.room_store_file.specs.declared.room_in_tables.Tables.TheVariants.{Whole};
 ghost use Rattle.room_tables_schema.specs.FileConnections.{IsClean};
 
 use crate::room_in_tables::{Tables, take};

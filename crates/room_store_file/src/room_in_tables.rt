@@ -1,7 +1,8 @@
 //! A file's tables taken as a room. Where they lack nothing they are only looked at. Else what they
 //! lack is made, and all is read and judged, in one transaction: it is committed where they hold a
 //! well-formed room, and undone where they don't.
-ghost use Rattle.std.specs.Prelude.{◌≡◌, ◌⊎◌, Err, Ok, cond, false, IsOk, IsTrue, IfErr, IfOk, OnErr, OnOk};
+ghost use Rattle.std.specs.Prelude.{◌≡◌, ◌⊎◌, Err, Ok, cond, false, IsOk, IsTrue, IfErr, IfOk};
+ghost use Rattle.std.specs.Prelude.{OnErr, OnOk};
 ghost use Rattle.sqlite.specs.Held.{state};
 ghost use Rattle.sqlite.specs.State.{IsRolledBack, Shows, Survives};
 ghost use Rattle.room_tables_schema.specs.Outcomes.{CommitsNothing};
@@ -11,10 +12,14 @@ ghost use Rattle.room_tables_schema.specs.Schema.{first_schema, first_tables_sch
 ghost use Rattle.room_tables.specs.RoomsInTables.{Stands};
 ghost use Rattle.room_store_writes.specs.Configurations.{config_of};
 ghost use Rattle.room_store_writes.specs.Transactions.{IsCommitted, LeavesOnErr};
-ghost use Rattle.room_store_file.specs.OpeningCauses.{FailsAtEnd, FailsBy, FailsInside, FailsToReadAs};
-ghost use Rattle.room_store_file.specs.OpenedFile.{Becomes, FailsToMake, HasNoPlanBy, HoldsBy, IsMoved, IsUncommitted, MayBecome, ShowsNoVersion, StandsBy, Takes, schema_of};
+ghost use Rattle.room_store_file.specs.OpeningCauses.{FailsAtEnd, FailsBy, FailsInside};
+ghost use Rattle.room_store_file.specs.OpeningCauses.{FailsToReadAs};
+ghost use Rattle.room_store_file.specs.OpenedFile.{Becomes, FailsToMake, HasNoPlanBy, HoldsBy};
+ghost use Rattle.room_store_file.specs.OpenedFile.{IsMoved, IsUncommitted, MayBecome};
+ghost use Rattle.room_store_file.specs.OpenedFile.{ShowsNoVersion, StandsBy, Takes, schema_of};
 ghost use Rattle.room_store_check_tables.specs.HeldRooms.{IsPlanOf, WritesNothing};
-ghost use Rattle.room_store_check_tables.specs.declared.file_faults.FileFault.TheVariants.{NotARoom, Storage};
+ghost use Rattle.room_store_check_tables.specs.declared.file_faults.FileFault.TheVariants.{NotARoom};
+ghost use Rattle.room_store_check_tables.specs.declared.file_faults.FileFault.TheVariants.{Storage};
 
 use crate::opened_file::is_room_of;
 use room_place::plans::Plan;

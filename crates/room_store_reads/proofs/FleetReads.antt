@@ -6,13 +6,15 @@ use Rattle.room_types.specs.Texts.{Callsign}
 use Rattle.room_types.specs.declared.asks.Ask.{Ask}
 use Rattle.room_types.specs.declared.slices.DivisionRows.{DivisionRows}
 use Rattle.room_model.specs.Room.{Room}
-use Rattle.room_model.specs.WorkingRows.{names_turn, reads_calls, reads_incident, reads_number, reads_report}
+use Rattle.room_model.specs.WorkingRows.{names_turn, reads_calls, reads_incident, reads_number}
+use Rattle.room_model.specs.WorkingRows.{reads_report}
 use Rattle.room_store_cache.proofs.Filters.{and_none}
 use Rattle.room_store_cache.specs.BesideFleet.{IsBesideFleet}
 use Rattle.room_store_reads.proofs.ReadFilters.{filter_never}
 use Rattle.room_store_reads.proofs.Selected.{incident_is, number_is, report_is}
 use Rattle.room_store_reads.specs.Partitions.{IsOfFleet}
-use Rattle.room_store_reads.specs.RequestReads.{Selects, is_last_of, is_of_fleet, is_read, is_report, reads_turns}
+use Rattle.room_store_reads.specs.RequestReads.{Selects, is_last_of, is_of_fleet, is_read}
+use Rattle.room_store_reads.specs.RequestReads.{is_report, reads_turns}
 use Rattle.room_store_reads.specs.declared.request_reads.Incidents.{Incidents}
 use Rattle.room_store_reads.specs.declared.request_reads.Incidents.TheVariants as incidents
 use Rattle.room_store_reads.specs.declared.request_reads.Reads.{Reads}

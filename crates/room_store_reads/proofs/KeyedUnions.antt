@@ -1,5 +1,6 @@
 -- Rows in key order, put among others of the same table.
-use Rattle.std.proofs.Common.{Bool, List, Option, Some, [], ap, cond, false, refl, sym, true, ◌&&◌, ◌∙◌, ◌∷◌, ◌≡◌, ◌||◌}
+use Rattle.std.proofs.Common.{Bool, List, Option, Some, [], ap, cond, false, refl, sym, true, ◌&&◌}
+use Rattle.std.proofs.Common.{◌∙◌, ◌∷◌, ◌≡◌, ◌||◌}
 use Rattle.std.proofs.lemmas.Cmp.{tied_itself}
 use Rattle.std.specs.Cmp.{IsTotalOrder}
 use Rattle.std.specs.Ordering.{is_eq, ordering_reverse}

@@ -1,6 +1,6 @@
 -- Of the rows that are read, those that are known, and the others.
-use Rattle.std.proofs.Common.{Bool, List, None, Option, Some, ap, cond, false, is_some, map, not, refl, sym, true, ℕ}
-use Rattle.std.proofs.Common.{◌&&◌, ◌∙◌, ◌≡◌, ◌||◌}
+use Rattle.std.proofs.Common.{Bool, List, None, Option, Some, ap, cond, false, is_some, map, not}
+use Rattle.std.proofs.Common.{refl, sym, true, ℕ, ◌&&◌, ◌∙◌, ◌≡◌, ◌||◌}
 use Rattle.std.specs.Prelude.{filter, ◌==◌}
 use Rattle.room_types.specs.KeyedRows.{IsKeyed, keep, row_at}
 use Rattle.room_types.specs.Keys.{incident_key, pair_cmp}

@@ -6,7 +6,8 @@ use Rattle.room_tables_schema.proofs.Comparisons.{is_eq-then}
 use Rattle.room_types.specs.Keys.{callsign_cmp, numbered_cmp, pair_cmp, same_callsign}
 use Rattle.room_types.specs.Texts.{Callsign}
 use Rattle.room_model.proofs.Tests.{and_same}
-use Rattle.room_store_cache.proofs.Filters.{and_none, filter_and, filter_as, same_number, turned_number}
+use Rattle.room_store_cache.proofs.Filters.{and_none, filter_and, filter_as, same_number}
+use Rattle.room_store_cache.proofs.Filters.{turned_number}
 
 -- tests that agree on the rows that are owned pass the same of them
 pub filter_own : {X : Type 0} (own p q : X → Bool) (xs : List X)

@@ -1,6 +1,6 @@
 -- What a request reads of incidents, their turns and reports, as its row says it.
-use Rattle.std.proofs.Common.{Bool, List, [], ap, arith, false, is_some, not, refl, sym, true, ℕ, ◌&&◌, ◌++◌, ◌∙◌, ◌∷◌}
-use Rattle.std.proofs.Common.{◌≡◌, ◌||◌}
+use Rattle.std.proofs.Common.{Bool, List, [], ap, arith, false, is_some, not, refl, sym, true, ℕ}
+use Rattle.std.proofs.Common.{◌&&◌, ◌++◌, ◌∙◌, ◌∷◌, ◌≡◌, ◌||◌}
 use Rattle.std.proofs.lemmas.Bool.Decides.{nat_tests}
 use Rattle.std.specs.Prelude.{filter, ◌==◌}
 use Rattle.room_types.specs.KeyedRows.{keep}
@@ -13,12 +13,13 @@ use Rattle.room_types.specs.declared.tables.Incident.{Incident}
 use Rattle.room_types.specs.declared.tables.Report.{Report}
 use Rattle.room_model.specs.Queries.{incident_of}
 use Rattle.room_model.specs.Room.{Room}
-use Rattle.room_model.specs.WorkingRows.{reads_exceptions, reads_incident, reads_number, reads_report, working}
+use Rattle.room_model.specs.WorkingRows.{reads_exceptions, reads_incident, reads_number}
+use Rattle.room_model.specs.WorkingRows.{reads_report, working}
 use Rattle.room_store_cache.specs.IncidentNumbers.{contains}
 use Rattle.room_store_cache.proofs.Filters.{and_none, filter_as, or_assoc, or_none}
 use Rattle.room_store_reads.specs.Partitions.{any}
-use Rattle.room_store_reads.specs.RequestReads.{Selects, is_read, is_report, names, names_one, opens, reads_turns}
-use Rattle.room_store_reads.specs.RequestReads.{shows, shows_exceptions}
+use Rattle.room_store_reads.specs.RequestReads.{Selects, is_read, is_report, names, names_one}
+use Rattle.room_store_reads.specs.RequestReads.{opens, reads_turns, shows, shows_exceptions}
 use Rattle.room_store_reads.specs.declared.request_reads.Incidents.{Incidents}
 use Rattle.room_store_reads.specs.declared.request_reads.Incidents.TheVariants as incidents
 use Rattle.room_store_reads.specs.declared.request_reads.Reads.{Reads}

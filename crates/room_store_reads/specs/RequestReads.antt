@@ -1,7 +1,7 @@
 -- What a request reads: how much of each table, of its division's rows.
 use Rattle.std.specs.Ordering.{nat_cmp}
-use Rattle.std.specs.Prelude.{Bool, IfSome, None, Option, Some, false, int_le, int_lt, is_some, pos, true, ℕ, ◌&&◌}
-use Rattle.std.specs.Prelude.{◌==◌, ◌||◌, ◌≡◌}
+use Rattle.std.specs.Prelude.{Bool, IfSome, None, Option, Some, false, int_le, int_lt, is_some, pos}
+use Rattle.std.specs.Prelude.{true, ℕ, ◌&&◌, ◌==◌, ◌||◌, ◌≡◌}
 use Rattle.room_types.specs.KeyedRows.{keep}
 use Rattle.room_types.specs.Codes.{is_active, is_exception}
 use Rattle.room_types.specs.Keys.{callsign_cmp, pair_cmp, same_callsign}
@@ -13,9 +13,10 @@ use Rattle.room_types.specs.declared.tables.Report.{Report}
 use Rattle.room_types.specs.declared.tables.Turn.{Turn}
 use Rattle.room_model.specs.Queries.{held, incident_of}
 use Rattle.room_model.specs.Room.{Room}
-use Rattle.room_model.specs.WorkingRows.{is_last_turn, names_incident, names_opening, names_report, names_turn}
-use Rattle.room_model.specs.WorkingRows.{reads_active, reads_assignments, reads_calls, reads_division, reads_exceptions}
-use Rattle.room_model.specs.WorkingRows.{reads_loan, reads_offer, reads_point, reads_vehicle}
+use Rattle.room_model.specs.WorkingRows.{is_last_turn, names_incident, names_opening, names_report}
+use Rattle.room_model.specs.WorkingRows.{names_turn, reads_active, reads_assignments, reads_calls}
+use Rattle.room_model.specs.WorkingRows.{reads_division, reads_exceptions, reads_loan, reads_offer}
+use Rattle.room_model.specs.WorkingRows.{reads_point, reads_vehicle}
 use Rattle.room_store_reads.specs.Selections.{reaches}
 use Rattle.room_store_reads.specs.declared.request_reads.Incidents.{Incidents}
 use Rattle.room_store_reads.specs.declared.request_reads.Incidents.TheVariants as incidents

@@ -8,8 +8,12 @@ use Rattle.room_model.specs.Room.{Room}
 use Rattle.room_tables_rows.specs.RoomsInTables.{Configuration, Stands}
 use Rattle.room_store_writes.specs.TerminalChanges.{Explains, fault_in}
 use Rattle.room_store_writes.specs.declared.change_faults.ChangeFault.{ChangeFault}
-use Rattle.room_store_writes.specs.declared.change_faults.ChangeFault.TheVariants.{CrewsTerminal, Memory, NoDivision}
-use Rattle.room_store_writes.specs.declared.change_faults.ChangeFault.TheVariants.{NoTerminal, NoVehicle, Storage}
+use Rattle.room_store_writes.specs.declared.change_faults.ChangeFault.TheVariants.{CrewsTerminal}
+use Rattle.room_store_writes.specs.declared.change_faults.ChangeFault.TheVariants.{Memory}
+use Rattle.room_store_writes.specs.declared.change_faults.ChangeFault.TheVariants.{NoDivision}
+use Rattle.room_store_writes.specs.declared.change_faults.ChangeFault.TheVariants.{NoTerminal}
+use Rattle.room_store_writes.specs.declared.change_faults.ChangeFault.TheVariants.{NoVehicle}
+use Rattle.room_store_writes.specs.declared.change_faults.ChangeFault.TheVariants.{Storage}
 use Rattle.room_store_writes.specs.declared.change_faults.ChangeFault.TheVariants.{TokenTaken}
 
 pub explained : (areas : List Area) (who : Who) (token : Option Token) (from : Trees)

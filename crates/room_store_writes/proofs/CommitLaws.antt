@@ -1,6 +1,6 @@
 -- What a transaction leaves that was ended: committed where all went well, and undone where not.
-use Rattle.std.proofs.Common.{Err, List, Ok, Result, [], ap, arith, false, inl, subst, sym, true, ℕ, ◌∙◌, ◌∷◌}
-use Rattle.std.proofs.Common.{◌≡◌}
+use Rattle.std.proofs.Common.{Err, List, Ok, Result, [], ap, arith, false, inl, subst, sym, true, ℕ}
+use Rattle.std.proofs.Common.{◌∙◌, ◌∷◌, ◌≡◌}
 use Rattle.std.proofs.lemmas.Result.{on_err_weaker, on_ok_weaker}
 use Rattle.std.specs.Prelude.{IsOk, OnErr, OnOk}
 use Rattle.sqlite.specs.Effect.{Database}

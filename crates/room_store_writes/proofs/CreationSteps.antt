@@ -1,5 +1,6 @@
 -- What comes of puts one by one.
-use Rattle.std.proofs.Common.{Bool, List, [], ap, arith, cond, false, map, refl, true, zero, suc, ℕ, ◌+◌, ◌<◌, ◌∷◌, ◌≡◌}
+use Rattle.std.proofs.Common.{Bool, List, [], ap, arith, cond, false, map, refl, true, zero, suc, ℕ}
+use Rattle.std.proofs.Common.{◌+◌, ◌<◌, ◌∷◌, ◌≡◌}
 use Rattle.std.proofs.lemmas.Bool.Decides.{nat_tests}
 use Rattle.std.specs.Ordering.{nat_cmp}
 use Rattle.std.specs.Prelude.{filter}

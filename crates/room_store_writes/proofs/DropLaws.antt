@@ -1,6 +1,6 @@
 -- What the statements say that drop terminals, and what they make of a room.
-use Rattle.std.proofs.Common.{Bool, List, Ok, [], ap, false, filter, is_eq, map, not, refl, subst, sym, ℕ, ◌&&◌, ◌==◌}
-use Rattle.std.proofs.Common.{◌∙◌, ◌∷◌, ◌≡◌}
+use Rattle.std.proofs.Common.{Bool, List, Ok, [], ap, false, filter, is_eq, map, not, refl, subst}
+use Rattle.std.proofs.Common.{sym, ℕ, ◌&&◌, ◌==◌, ◌∙◌, ◌∷◌, ◌≡◌}
 use Rattle.sqlite.specs.Listing.{understood}
 use Rattle.sqlite.specs.State.{Executes, State}
 use Rattle.sqlite_schema.specs.Rules.{equal}
@@ -11,7 +11,8 @@ use Rattle.sqlite_value.specs.declared.keys.Collation.TheVariants.{Binary}
 use Rattle.sqlite_value.specs.declared.value.Value.TheVariants.{Null, Text}
 use Rattle.sqlite_value.proofs.OrderLemmas.{value_cmp-Null}
 use Rattle.sqlite.specs.Values.{or_null}
-use Rattle.room_tables_schema.proofs.Comparisons.{and_last, and_then, equal-numbers, equal-texts, equal-value_cmp}
+use Rattle.room_tables_schema.proofs.Comparisons.{and_last, and_then, equal-numbers, equal-texts}
+use Rattle.room_tables_schema.proofs.Comparisons.{equal-value_cmp}
 use Rattle.room_tables_schema.proofs.Deletions.{deleted}
 use Rattle.room_tables_schema.specs.Outcomes.{Inside}
 use Rattle.room_tables_schema.specs.Statements.{Deletes, equals}
@@ -30,7 +31,8 @@ use Rattle.room_tables_rows.specs.Tables.{DeletesChosen}
 use Rattle.room_tables_rows.specs.TerminalSql.{crew_of, number_of, role_of, terminal_row}
 use Rattle.room_tables_rows.specs.Writes.{Changes}
 use Rattle.room_store_writes.specs.TerminalHolders.{is_desk, is_position}
-use Rattle.room_store_writes.specs.declared.dropped_terminals.TheConstants.{DROP_CREWS, DROP_NUMBERED}
+use Rattle.room_store_writes.specs.declared.dropped_terminals.TheConstants.{DROP_CREWS}
+use Rattle.room_store_writes.specs.declared.dropped_terminals.TheConstants.{DROP_NUMBERED}
 
 -- the rows of those that are not chosen
 kept_rows : (test : Row → Bool) (chosen : Terminal → Bool)

@@ -13,8 +13,12 @@ use Rattle.room_tables_schema.specs.declared.database_faults.Fault.{Fault}
 use Rattle.room_tables_schema.specs.declared.database_faults.Fault.TheVariants as fault
 use Rattle.room_store_writes.specs.TerminalHolders.{has_terminal, has_token, may_have, terminals_by}
 use Rattle.room_store_writes.specs.declared.change_faults.ChangeFault.{ChangeFault}
-use Rattle.room_store_writes.specs.declared.change_faults.ChangeFault.TheVariants.{CrewsTerminal, Memory, NoDivision}
-use Rattle.room_store_writes.specs.declared.change_faults.ChangeFault.TheVariants.{NoTerminal, NoVehicle, Storage}
+use Rattle.room_store_writes.specs.declared.change_faults.ChangeFault.TheVariants.{CrewsTerminal}
+use Rattle.room_store_writes.specs.declared.change_faults.ChangeFault.TheVariants.{Memory}
+use Rattle.room_store_writes.specs.declared.change_faults.ChangeFault.TheVariants.{NoDivision}
+use Rattle.room_store_writes.specs.declared.change_faults.ChangeFault.TheVariants.{NoTerminal}
+use Rattle.room_store_writes.specs.declared.change_faults.ChangeFault.TheVariants.{NoVehicle}
+use Rattle.room_store_writes.specs.declared.change_faults.ChangeFault.TheVariants.{Storage}
 use Rattle.room_store_writes.specs.declared.change_faults.ChangeFault.TheVariants.{TokenTaken}
 
 -- how a failing machine is reported

@@ -1,7 +1,8 @@
 //! Whether the terminals of one user may be changed so.
 ghost use Rattle.std.specs.Prelude.{◌≡◌};
 ghost use Rattle.room_tables_schema.specs.DatabaseFaults.{fault_of};
-ghost use Rattle.room_store_writes.specs.TerminalChanges.{change_fault_of, fault_in, fault_to_give, fault_to_take, unknown_fault};
+ghost use Rattle.room_store_writes.specs.TerminalChanges.{change_fault_of, fault_in, fault_to_give};
+ghost use Rattle.room_store_writes.specs.TerminalChanges.{fault_to_take, unknown_fault};
 
 use crate::terminal_holders::{has_terminal, has_token, may_have};
 use room_place::plans::Plan;

@@ -13,7 +13,8 @@ ghost use Rattle.room_tables_schema.specs.Schema.{no_schema, room_schema};
 ghost use Rattle.room_tables_schema.specs.FileConnections.{MayWrite, IsClean, StandsInTransaction};
 ghost use Rattle.room_tables.specs.RoomsInTables.{Configuration, Stands};
 ghost use Rattle.room_store_writes.specs.Transactions.{IsCommitted, LeavesOnErr};
-ghost use Rattle.room_store_writes.specs.NewRoom.{Begins, BeginsWith, StandsNew, StandsWith, new_division, new_divisions, put_all};
+ghost use Rattle.room_store_writes.specs.NewRoom.{Begins, BeginsWith, StandsNew, StandsWith};
+ghost use Rattle.room_store_writes.specs.NewRoom.{new_division, new_divisions, put_all};
 
 use crate::transactions::{end, put_each};
 use room_place::plans::{Area, DivisionNumber, Plan};

@@ -7,7 +7,8 @@ ghost use Rattle.room_types.specs.Texts.{Token};
 ghost use Rattle.room_types.specs.declared.asks.Who.{Who};
 ghost use Rattle.room_types.specs.declared.fleet.Terminal.{Terminal};
 ghost use Rattle.room_store_writes.specs.TerminalChanges.{fault_in};
-ghost use Rattle.room_store_writes.specs.TerminalHolders.{same_who, terminals_by, with_token, without};
+ghost use Rattle.room_store_writes.specs.TerminalHolders.{same_who, terminals_by, with_token};
+ghost use Rattle.room_store_writes.specs.TerminalHolders.{without};
 
 /// Changed terminals fit the room as before. No two have one token, each vehicle's crew has one,
 /// each desk's division is in the plan.

@@ -8,7 +8,8 @@ ghost use Rattle.room_tables_schema.specs.Outcomes.{CommitsNothing};
 ghost use Rattle.room_model.specs.Room.{Room, apply};
 ghost use Rattle.room_tables.specs.RoomsInTables.{Configuration, Stands};
 ghost use Rattle.room_tables.specs.Writes.{Makes};
-ghost use Rattle.room_store_writes.specs.Transactions.{Commits, MakesAll, LeavesOnErr, StandsSettled};
+ghost use Rattle.room_store_writes.specs.Transactions.{Commits, MakesAll, LeavesOnErr};
+ghost use Rattle.room_store_writes.specs.Transactions.{StandsSettled};
 
 use room_tables::row_changes::apply;
 use room_tables_schema::database_faults::Fault;

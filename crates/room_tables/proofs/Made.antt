@@ -1,5 +1,6 @@
 -- The statement of a change makes it, or the two that do.
-use Rattle.std.proofs.Common.{◌≡◌, ◌≢◌, ◌==◌, arith, false, if◌then◌else◌, List, Ok, Ordering, ap, ℕ, ◌∙◌}
+use Rattle.std.proofs.Common.{◌≡◌, ◌≢◌, ◌==◌, arith, false, if◌then◌else◌, List, Ok, Ordering, ap}
+use Rattle.std.proofs.Common.{ℕ, ◌∙◌}
 use Rattle.std.proofs.lemmas.Bool.Decides.{nat_tests}
 use Rattle.sqlite_value.specs.Order.{Row}
 use Rattle.sqlite_schema.specs.declared.schema.Table.{Table}
@@ -14,11 +15,13 @@ use Rattle.room_tables_rows.specs.Tables.{InsertsRow, IsDropped, IsOverwritten, 
 use Rattle.room_tables_rows.specs.Writes.{Changes, Makes}
 use Rattle.room_tables_rows.proofs.Puts.{drop_makes, insert_makes, overwrite_makes, put_makes}
 use Rattle.room_tables_rows.proofs.DivisionsTable.{divisions_are}
-use Rattle.room_tables_rows.proofs.IncidentsTable.{incident_inserts, incidents_are, incidents_overwritten}
+use Rattle.room_tables_rows.proofs.IncidentsTable.{incident_inserts, incidents_are}
+use Rattle.room_tables_rows.proofs.IncidentsTable.{incidents_overwritten}
 use Rattle.room_tables_rows.proofs.CallsTable.{call_inserts, calls_are}
 use Rattle.room_tables_rows.proofs.VehiclesTable.{vehicles_are, vehicles_overwritten}
 use Rattle.room_tables_rows.proofs.TurnsTable.{turn_inserts, turns_are, turns_overwritten}
-use Rattle.room_tables_rows.proofs.AssignmentsTable.{assignment_inserts, assignments_are, assignments_dropped}
+use Rattle.room_tables_rows.proofs.AssignmentsTable.{assignment_inserts, assignments_are}
+use Rattle.room_tables_rows.proofs.AssignmentsTable.{assignments_dropped}
 use Rattle.room_tables_rows.proofs.PointsTable.{points_are}
 use Rattle.room_tables_rows.proofs.LoansTable.{loans_are, loans_dropped}
 use Rattle.room_tables_rows.proofs.OffersTable.{offers_are, offers_dropped}

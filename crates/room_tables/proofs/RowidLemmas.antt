@@ -1,6 +1,6 @@
 -- The rowids of all tables, and whether they rise from row to row.
-use Rattle.std.proofs.Common.{◌≡◌, ◌++◌, ℕ, ℤ, List, [], ◌∷◌, map, Option, Some, None, Less, Bool, true, false, IsTrue}
-use Rattle.std.proofs.Common.{refl, sym, subst, ◌∙◌, true≢false, arith}
+use Rattle.std.proofs.Common.{◌≡◌, ◌++◌, ℕ, ℤ, List, [], ◌∷◌, map, Option, Some, None, Less, Bool}
+use Rattle.std.proofs.Common.{true, false, IsTrue, refl, sym, subst, ◌∙◌, true≢false, arith}
 use Rattle.std.proofs.lemmas.Int.{ints}
 use Rattle.std.specs.Option.{option_partial_cmp}
 use Rattle.std.specs.Ordering.{int_cmp, partial_le}
@@ -23,7 +23,8 @@ use Rattle.room_tables_schema.specs.Statements.{table_query}
 use Rattle.sqlite.specs.Values.{or_null}
 use Rattle.room_tables_schema.specs.TableTrees.{AreNumbered, RowidsRise}
 use Rattle.room_tables_schema.specs.Schema.{room_schema, room_tables}
-use Rattle.room_tables.specs.Rowids.{SelectsRowids, SelectEach, AreAllNumbered, ShowsRise, integer_in, last_rowid}
+use Rattle.room_tables.specs.Rowids.{SelectsRowids, SelectEach, AreAllNumbered, ShowsRise}
+use Rattle.room_tables.specs.Rowids.{integer_in, last_rowid}
 use Rattle.room_tables.specs.declared.rowids.TheConstants.{ROWIDS}
 
 -- ---- from row to row

@@ -1,7 +1,7 @@
 -- A table whose rows are read one at a time.
-use Rattle.std.proofs.Common.{◌≡◌, ◌++◌, ◌-◌, ◌⊎◌, inl, inr, suc, List, [], ◌∷◌, map, length, Bool, true, false, IsTrue}
-use Rattle.std.proofs.Common.{Option, Some, None, Result, Ok, Err, IfOk, IfErr, refl, sym, ap, subst, ◌∙◌, true≢false}
-use Rattle.std.proofs.Common.{Ordering, Less, arith}
+use Rattle.std.proofs.Common.{◌≡◌, ◌++◌, ◌-◌, ◌⊎◌, inl, inr, suc, List, [], ◌∷◌, map, length, Bool}
+use Rattle.std.proofs.Common.{true, false, IsTrue, Option, Some, None, Result, Ok, Err, IfOk, IfErr}
+use Rattle.std.proofs.Common.{refl, sym, ap, subst, ◌∙◌, true≢false, Ordering, Less, arith}
 use Rattle.std.proofs.lemmas.List.{map-append, append_assoc}
 use Rattle.std.specs.Cmp.{IsTotalOrder}
 use Rattle.std.specs.List.{slice_get}

@@ -1,10 +1,11 @@
 -- What was shown and is read, or not: one of the rows is none of the table's, or is out of its
 -- place.
-use Rattle.std.proofs.Common.{◌≡◌, ◌+◌, ◌++◌, ◌<◌, ◌⊎◌, inl, inr, IsTrue, ℕ, zero, suc, List, [], ◌∷◌, map, take, drop}
-use Rattle.std.proofs.Common.{length, get_or, Bool, true, false, Some, refl, sym, ap, ◌∙◌, true≢false, Ordering, Less}
-use Rattle.std.proofs.Common.{is_lt, arith}
+use Rattle.std.proofs.Common.{◌≡◌, ◌+◌, ◌++◌, ◌<◌, ◌⊎◌, inl, inr, IsTrue, ℕ, zero, suc, List, []}
+use Rattle.std.proofs.Common.{◌∷◌, map, take, drop, length, get_or, Bool, true, false, Some, refl}
+use Rattle.std.proofs.Common.{sym, ap, ◌∙◌, true≢false, Ordering, Less, is_lt, arith}
 use Rattle.std.specs.List.{slice_get}
-use Rattle.std.proofs.lemmas.List.{drop_more, length-take-le, map-append, take_more, take-append-drop}
+use Rattle.std.proofs.lemmas.List.{drop_more, length-take-le, map-append, take_more}
+use Rattle.std.proofs.lemmas.List.{take-append-drop}
 use Rattle.sqlite_value.specs.Order.{Row}
 use Rattle.room_place.specs.declared.plans.Area.{Area}
 use Rattle.room_tables_rows.specs.AreaSql.{area_row}

@@ -18,18 +18,23 @@ use Rattle.room_tables_rows.specs.LoanSql.{loan_row}
 use Rattle.room_tables_rows.specs.OfferSql.{offer_row}
 use Rattle.room_tables_rows.specs.ReportSql.{report_row}
 use Rattle.room_tables_rows.specs.declared.division_sql.TheConstants.{PUT_DIVISION}
-use Rattle.room_tables_rows.specs.declared.incident_sql.TheConstants.{INSERT_INCIDENT, OVERWRITE_INCIDENT, PUT_INCIDENT}
+use Rattle.room_tables_rows.specs.declared.incident_sql.TheConstants.{INSERT_INCIDENT}
+use Rattle.room_tables_rows.specs.declared.incident_sql.TheConstants.{OVERWRITE_INCIDENT}
+use Rattle.room_tables_rows.specs.declared.incident_sql.TheConstants.{PUT_INCIDENT}
 use Rattle.room_tables_rows.specs.declared.call_sql.TheConstants.{INSERT_CALL, PUT_CALL}
 use Rattle.room_tables_rows.specs.declared.vehicle_sql.TheConstants.{OVERWRITE_VEHICLE, PUT_VEHICLE}
-use Rattle.room_tables_rows.specs.declared.turn_sql.TheConstants.{INSERT_TURN, OVERWRITE_TURN, PUT_TURN}
-use Rattle.room_tables_rows.specs.declared.assignment_sql.TheConstants.{DROP_ASSIGNMENT, INSERT_ASSIGNMENT}
+use Rattle.room_tables_rows.specs.declared.turn_sql.TheConstants.{INSERT_TURN, OVERWRITE_TURN}
+use Rattle.room_tables_rows.specs.declared.turn_sql.TheConstants.{PUT_TURN}
+use Rattle.room_tables_rows.specs.declared.assignment_sql.TheConstants.{DROP_ASSIGNMENT}
+use Rattle.room_tables_rows.specs.declared.assignment_sql.TheConstants.{INSERT_ASSIGNMENT}
 use Rattle.room_tables_rows.specs.declared.assignment_sql.TheConstants.{PUT_ASSIGNMENT}
 use Rattle.room_tables_rows.specs.declared.point_sql.TheConstants.{PUT_POINT}
 use Rattle.room_tables_rows.specs.declared.loan_sql.TheConstants.{DROP_LOAN, PUT_LOAN}
 use Rattle.room_tables_rows.specs.declared.offer_sql.TheConstants.{DROP_OFFER, PUT_OFFER}
 use Rattle.room_tables_rows.specs.declared.report_sql.TheConstants.{INSERT_REPORT, PUT_REPORT}
 use Rattle.room_tables.specs.declared.row_changes.WritePlan.{WritePlan}
-use Rattle.room_tables.specs.declared.row_changes.WritePlan.TheVariants.{Statement, Inserting, Overwriting, Settling}
+use Rattle.room_tables.specs.declared.row_changes.WritePlan.TheVariants.{Statement, Inserting}
+use Rattle.room_tables.specs.declared.row_changes.WritePlan.TheVariants.{Overwriting, Settling}
 
 -- A statement ran on a room's tables, in a transaction that goes on.
 pub record Ran (text : List ℕ) (params : Row) (old new : State) : Type 0 where

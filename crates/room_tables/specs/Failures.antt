@@ -1,6 +1,6 @@
 -- What a fault says. Memory may run out at any time; storage is reported for a cause.
-use Rattle.std.specs.Prelude.{IfErr, Result, ◌≡◌, ◌≤◌, ◌++◌, ◌⊎◌, ⊤, ℕ, suc, List, ◌∷◌, map, length, Bool, false, Err}
-use Rattle.std.specs.Prelude.{Ok}
+use Rattle.std.specs.Prelude.{IfErr, Result, ◌≡◌, ◌≤◌, ◌++◌, ◌⊎◌, ⊤, ℕ, suc, List, ◌∷◌, map, length}
+use Rattle.std.specs.Prelude.{Bool, false, Err, Ok}
 use Rattle.std.specs.declared.cmp.Ordering.{Ordering}
 use Rattle.sqlite_value.specs.Order.{Row}
 use Rattle.sqlite.specs.Held.{Held, state}

@@ -10,7 +10,8 @@ ghost use Rattle.room_tables_schema.specs.FileConnections.{HasRoomSchema, MayWri
 ghost use Rattle.room_tables_rows.specs.RoomsInTables.{StandsFor, numbered};
 ghost use Rattle.room_tables_rows.specs.Writes.{AppendsArea};
 ghost use Rattle.room_tables_rows.specs.declared.area_sql.TheConstants.{ALL_AREAS, PUT_AREA};
-ghost use Rattle.room_tables.specs.Failures.{AreNoPlan, ExplainsWhy, ExplainsWhyUnwritten, IfStorage};
+ghost use Rattle.room_tables.specs.Failures.{AreNoPlan, ExplainsWhy, ExplainsWhyUnwritten};
+ghost use Rattle.room_tables.specs.Failures.{IfStorage};
 ghost use Rattle.room_tables.specs.FoundRows.{Finds};
 
 use crate::statement_runs::run;

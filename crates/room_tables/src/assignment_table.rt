@@ -2,7 +2,9 @@
 
 ghost use Rattle.room_types.specs.declared.changes.Change.TheVariants as change;
 ghost use Rattle.room_tables_schema.specs.Schema.{assignments_table};
-ghost use Rattle.room_tables_rows.specs.declared.assignment_sql.TheConstants.{ALL_ASSIGNMENTS, ASSIGNMENT_AT, PUT_ASSIGNMENT};
+ghost use Rattle.room_tables_rows.specs.declared.assignment_sql.TheConstants.{ALL_ASSIGNMENTS};
+ghost use Rattle.room_tables_rows.specs.declared.assignment_sql.TheConstants.{ASSIGNMENT_AT};
+ghost use Rattle.room_tables_rows.specs.declared.assignment_sql.TheConstants.{PUT_ASSIGNMENT};
 ghost use Rattle.room_tables_rows.proofs.AssignmentsTable.{assignments_are};
 
 use crate::room_table::{Statements, Table};

@@ -2,7 +2,9 @@
 
 ghost use Rattle.room_types.specs.declared.changes.Change.TheVariants as change;
 ghost use Rattle.room_tables_schema.specs.Schema.{divisions_table};
-ghost use Rattle.room_tables_rows.specs.declared.division_sql.TheConstants.{ALL_DIVISIONS, DIVISION_AT, PUT_DIVISION};
+ghost use Rattle.room_tables_rows.specs.declared.division_sql.TheConstants.{ALL_DIVISIONS};
+ghost use Rattle.room_tables_rows.specs.declared.division_sql.TheConstants.{DIVISION_AT};
+ghost use Rattle.room_tables_rows.specs.declared.division_sql.TheConstants.{PUT_DIVISION};
 ghost use Rattle.room_tables_rows.proofs.DivisionsTable.{divisions_are};
 
 use crate::room_table::{Statements, Table};

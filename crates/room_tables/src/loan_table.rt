@@ -2,7 +2,8 @@
 
 ghost use Rattle.room_types.specs.declared.changes.Change.TheVariants as change;
 ghost use Rattle.room_tables_schema.specs.Schema.{loans_table};
-ghost use Rattle.room_tables_rows.specs.declared.loan_sql.TheConstants.{ALL_LOANS, LOAN_AT, PUT_LOAN};
+ghost use Rattle.room_tables_rows.specs.declared.loan_sql.TheConstants.{ALL_LOANS, LOAN_AT};
+ghost use Rattle.room_tables_rows.specs.declared.loan_sql.TheConstants.{PUT_LOAN};
 ghost use Rattle.room_tables_rows.proofs.LoansTable.{loans_are};
 
 use crate::room_table::{Statements, Table};

@@ -1,6 +1,7 @@
 //! The version and the zone of the room in their table.
 
-ghost use Rattle.std.specs.Prelude.{◌≡◌, ◌↔◌, false, [], ◌∷◌, string_bytes, IsTrue, IfOk, OnOk, IfErr};
+ghost use Rattle.std.specs.Prelude.{◌≡◌, ◌↔◌, false, [], ◌∷◌, string_bytes, IsTrue, IfOk, OnOk};
+ghost use Rattle.std.specs.Prelude.{IfErr};
 ghost use Rattle.sqlite.specs.Held.{state};
 ghost use Rattle.room_tables_schema.specs.Outcomes.{ReadsInside, ReadsOnly, WritesInside};
 ghost use Rattle.room_tables_rows.specs.MetaSql.{is_meta_row, meta_row, version_row};
@@ -12,7 +13,8 @@ ghost use Rattle.room_tables_rows.specs.RoomsInTables.{Stands, StandsFor, empty_
 ghost use Rattle.room_tables_rows.specs.MetaVersions.{IsOfVersion, OneShows};
 ghost use Rattle.room_tables_rows.specs.Writes.{Changes, RaisesVersion};
 ghost use Rattle.room_tables_rows.specs.declared.meta_sql.TheConstants.{ALL_META, PUT_META};
-ghost use Rattle.room_tables.specs.Failures.{AreNotJustOne, ExplainsWhy, ExplainsWhyUnwritten, IfStorage};
+ghost use Rattle.room_tables.specs.Failures.{AreNotJustOne, ExplainsWhy, ExplainsWhyUnwritten};
+ghost use Rattle.room_tables.specs.Failures.{IfStorage};
 
 use crate::statement_runs::run;
 use room_tables_rows::meta_sql::{

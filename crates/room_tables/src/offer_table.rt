@@ -2,7 +2,8 @@
 
 ghost use Rattle.room_types.specs.declared.changes.Change.TheVariants as change;
 ghost use Rattle.room_tables_schema.specs.Schema.{offers_table};
-ghost use Rattle.room_tables_rows.specs.declared.offer_sql.TheConstants.{ALL_OFFERS, OFFER_AT, PUT_OFFER};
+ghost use Rattle.room_tables_rows.specs.declared.offer_sql.TheConstants.{ALL_OFFERS, OFFER_AT};
+ghost use Rattle.room_tables_rows.specs.declared.offer_sql.TheConstants.{PUT_OFFER};
 ghost use Rattle.room_tables_rows.proofs.OffersTable.{offers_are};
 
 use crate::room_table::{Statements, Table};

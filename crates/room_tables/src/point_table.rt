@@ -2,7 +2,8 @@
 
 ghost use Rattle.room_types.specs.declared.changes.Change.TheVariants as change;
 ghost use Rattle.room_tables_schema.specs.Schema.{points_table};
-ghost use Rattle.room_tables_rows.specs.declared.point_sql.TheConstants.{ALL_POINTS, POINT_AT, PUT_POINT};
+ghost use Rattle.room_tables_rows.specs.declared.point_sql.TheConstants.{ALL_POINTS, POINT_AT};
+ghost use Rattle.room_tables_rows.specs.declared.point_sql.TheConstants.{PUT_POINT};
 ghost use Rattle.room_tables_rows.proofs.PointsTable.{points_are};
 
 use crate::room_table::{Statements, Table};

@@ -1,6 +1,7 @@
 //! Rows of a table that are read and taken one at a time, in the order of their keys.
 
-ghost use Rattle.std.specs.Prelude.{◌≡◌, ◌++◌, ◌⊎◌, [], ◌∷◌, List, None, Ok, IfErr, IfOk, IsTrue, OnOk, option_copied};
+ghost use Rattle.std.specs.Prelude.{◌≡◌, ◌++◌, ◌⊎◌, [], ◌∷◌, List, None, Ok, IfErr, IfOk, IsTrue};
+ghost use Rattle.std.specs.Prelude.{OnOk, option_copied};
 ghost use Rattle.sqlite.specs.Given.{IsPlain};
 ghost use Rattle.sqlite.specs.Held.{state};
 ghost use Rattle.sqlite.specs.Listing.{understood};

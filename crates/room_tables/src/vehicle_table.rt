@@ -2,7 +2,8 @@
 
 ghost use Rattle.room_types.specs.declared.changes.Change.TheVariants as change;
 ghost use Rattle.room_tables_schema.specs.Schema.{vehicles_table};
-ghost use Rattle.room_tables_rows.specs.declared.vehicle_sql.TheConstants.{ALL_VEHICLES, PUT_VEHICLE, VEHICLE_AT};
+ghost use Rattle.room_tables_rows.specs.declared.vehicle_sql.TheConstants.{ALL_VEHICLES};
+ghost use Rattle.room_tables_rows.specs.declared.vehicle_sql.TheConstants.{PUT_VEHICLE, VEHICLE_AT};
 ghost use Rattle.room_tables_rows.proofs.VehiclesTable.{vehicles_are};
 
 use crate::room_table::{Statements, Table};

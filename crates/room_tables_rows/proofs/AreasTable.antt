@@ -11,7 +11,8 @@ use Rattle.room_tables_schema.proofs.ColumnValues.{cast-Int, cast-Null}
 use Rattle.room_tables_schema.proofs.Comparisons.{conflict_of_one}
 use Rattle.room_tables_schema.proofs.StoredRows.{stores_rowid}
 use Rattle.room_tables_schema.specs.Schema.{areas_table, room_schema}
-use Rattle.room_tables_schema.specs.Statements.{Selects, StandsApart, Stores, Upserts, rowid_update, rowid_values}
+use Rattle.room_tables_schema.specs.Statements.{Selects, StandsApart, Stores, Upserts, rowid_update}
+use Rattle.room_tables_schema.specs.Statements.{rowid_values}
 use Rattle.room_tables_schema.specs.TypedRows.{number}
 use Rattle.sqlite.specs.Listing.{understood}
 use Rattle.sqlite_tied.specs.Compute.{everything}

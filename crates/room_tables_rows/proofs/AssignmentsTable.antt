@@ -5,15 +5,19 @@ use Rattle.room_tables_rows.proofs.RowLaws.{assignment_faithful}
 use Rattle.room_tables_rows.specs.AssignmentSql.{assignment_row}
 use Rattle.room_tables_rows.specs.KeyColumns.{text_cells}
 use Rattle.room_tables_rows.specs.RoomsInTables.{Configuration}
-use Rattle.room_tables_rows.specs.Tables.{InsertsRow, IsDropped, IsHeld, IsTable, PutsRow, SelectsChosen}
-use Rattle.room_tables_rows.specs.declared.assignment_sql.TheConstants.{ALL_ASSIGNMENTS, ASSIGNMENT_AT, DROP_ASSIGNMENT}
-use Rattle.room_tables_rows.specs.declared.assignment_sql.TheConstants.{INSERT_ASSIGNMENT, PUT_ASSIGNMENT}
+use Rattle.room_tables_rows.specs.Tables.{InsertsRow, IsDropped, IsHeld, IsTable, PutsRow}
+use Rattle.room_tables_rows.specs.Tables.{SelectsChosen}
+use Rattle.room_tables_rows.specs.declared.assignment_sql.TheConstants.{ALL_ASSIGNMENTS}
+use Rattle.room_tables_rows.specs.declared.assignment_sql.TheConstants.{ASSIGNMENT_AT}
+use Rattle.room_tables_rows.specs.declared.assignment_sql.TheConstants.{DROP_ASSIGNMENT}
+use Rattle.room_tables_rows.specs.declared.assignment_sql.TheConstants.{INSERT_ASSIGNMENT}
+use Rattle.room_tables_rows.specs.declared.assignment_sql.TheConstants.{PUT_ASSIGNMENT}
 use Rattle.room_tables_schema.proofs.ColumnValues.{cast-Int}
 use Rattle.room_tables_schema.proofs.Comparisons.{and_last, conflict_of_one, tie-texts}
 use Rattle.room_tables_schema.proofs.StoredRows.{stores_row}
 use Rattle.room_tables_schema.specs.Schema.{assignments_table, room_schema}
-use Rattle.room_tables_schema.specs.Statements.{Deletes, Inserts, Selects, StandsApart, Stores, Upserts, equals}
-use Rattle.room_tables_schema.specs.Statements.{row_update, row_values}
+use Rattle.room_tables_schema.specs.Statements.{Deletes, Inserts, Selects, StandsApart, Stores}
+use Rattle.room_tables_schema.specs.Statements.{Upserts, equals, row_update, row_values}
 use Rattle.room_types.specs.Keys.{assignment_key, callsign_cmp}
 use Rattle.room_types.specs.Texts.{Callsign}
 use Rattle.room_types.specs.declared.changes.Change.TheVariants.{DropAssignment, PutAssignment}

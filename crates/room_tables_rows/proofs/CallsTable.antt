@@ -7,15 +7,15 @@ use Rattle.room_tables_rows.specs.CallSql.{call_row}
 use Rattle.room_tables_rows.specs.KeyColumns.{pair_cells}
 use Rattle.room_tables_rows.specs.RoomsInTables.{Configuration}
 use Rattle.room_tables_rows.specs.Tables.{InsertsRow, IsHeld, IsTable, PutsRow, SelectsChosen}
-use Rattle.room_tables_rows.specs.declared.call_sql.TheConstants.{ALL_CALLS, CALLS_BY, CALLS_OF, CALL_AT, INSERT_CALL}
-use Rattle.room_tables_rows.specs.declared.call_sql.TheConstants.{PUT_CALL}
+use Rattle.room_tables_rows.specs.declared.call_sql.TheConstants.{ALL_CALLS, CALLS_BY, CALLS_OF}
+use Rattle.room_tables_rows.specs.declared.call_sql.TheConstants.{CALL_AT, INSERT_CALL, PUT_CALL}
 use Rattle.room_tables_schema.proofs.ColumnValues.{cast-Int}
-use Rattle.room_tables_schema.proofs.Comparisons.{and_last, and_then, conflict_of_two, equal-numbers, is_eq-then}
-use Rattle.room_tables_schema.proofs.Comparisons.{tie-numbers}
+use Rattle.room_tables_schema.proofs.Comparisons.{and_last, and_then, conflict_of_two}
+use Rattle.room_tables_schema.proofs.Comparisons.{equal-numbers, is_eq-then, tie-numbers}
 use Rattle.room_tables_schema.proofs.StoredRows.{stores_row}
 use Rattle.room_tables_schema.specs.Schema.{calls_table, room_schema}
-use Rattle.room_tables_schema.specs.Statements.{Inserts, Selects, StandsApart, Stores, Upserts, equals, row_update}
-use Rattle.room_tables_schema.specs.Statements.{row_values}
+use Rattle.room_tables_schema.specs.Statements.{Inserts, Selects, StandsApart, Stores, Upserts}
+use Rattle.room_tables_schema.specs.Statements.{equals, row_update, row_values}
 use Rattle.room_tables_schema.specs.TypedRows.{number}
 use Rattle.room_types.specs.Keys.{call_key, pair_cmp}
 use Rattle.room_types.specs.declared.changes.Change.TheVariants.{PutCall}

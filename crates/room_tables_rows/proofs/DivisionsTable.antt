@@ -6,13 +6,14 @@ use Rattle.room_tables_rows.specs.DivisionSql.{division_row}
 use Rattle.room_tables_rows.specs.KeyColumns.{number_cells}
 use Rattle.room_tables_rows.specs.RoomsInTables.{Configuration}
 use Rattle.room_tables_rows.specs.Tables.{IsHeld, IsTable, PutsRow, SelectsChosen}
-use Rattle.room_tables_rows.specs.declared.division_sql.TheConstants.{ALL_DIVISIONS, DIVISION_AT, PUT_DIVISION}
+use Rattle.room_tables_rows.specs.declared.division_sql.TheConstants.{ALL_DIVISIONS, DIVISION_AT}
+use Rattle.room_tables_rows.specs.declared.division_sql.TheConstants.{PUT_DIVISION}
 use Rattle.room_tables_schema.proofs.ColumnValues.{cast-Int, cast-Null}
 use Rattle.room_tables_schema.proofs.Comparisons.{and_last, conflict_of_one, tie-numbers}
 use Rattle.room_tables_schema.proofs.StoredRows.{stores_rowid}
 use Rattle.room_tables_schema.specs.Schema.{divisions_table, room_schema}
-use Rattle.room_tables_schema.specs.Statements.{Selects, StandsApart, Stores, Upserts, equals, rowid_update}
-use Rattle.room_tables_schema.specs.Statements.{rowid_values}
+use Rattle.room_tables_schema.specs.Statements.{Selects, StandsApart, Stores, Upserts, equals}
+use Rattle.room_tables_schema.specs.Statements.{rowid_update, rowid_values}
 use Rattle.room_tables_schema.specs.TypedRows.{number}
 use Rattle.room_types.specs.Keys.{division_key}
 use Rattle.room_types.specs.declared.changes.Change.TheVariants.{PutDivision}

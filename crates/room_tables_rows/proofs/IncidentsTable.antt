@@ -7,17 +7,24 @@ use Rattle.room_tables_rows.proofs.Tests.{at_least-integers, below-integers, equ
 use Rattle.room_tables_rows.specs.IncidentSql.{incident_row}
 use Rattle.room_tables_rows.specs.KeyColumns.{pair_cells}
 use Rattle.room_tables_rows.specs.RoomsInTables.{Configuration}
-use Rattle.room_tables_rows.specs.Tables.{InsertsRow, IsHeld, IsOverwritten, IsTable, PutsRow, SelectsChosen}
-use Rattle.room_tables_rows.specs.declared.incident_sql.TheConstants.{ACTIVE_INCIDENTS, ALL_INCIDENTS, INCIDENTS_OPENED}
-use Rattle.room_tables_rows.specs.declared.incident_sql.TheConstants.{INCIDENTS_SINCE, INCIDENT_AT, INSERT_INCIDENT}
-use Rattle.room_tables_rows.specs.declared.incident_sql.TheConstants.{OVERWRITE_INCIDENT, PUT_INCIDENT}
+use Rattle.room_tables_rows.specs.Tables.{InsertsRow, IsHeld, IsOverwritten, IsTable, PutsRow}
+use Rattle.room_tables_rows.specs.Tables.{SelectsChosen}
+use Rattle.room_tables_rows.specs.declared.incident_sql.TheConstants.{ACTIVE_INCIDENTS}
+use Rattle.room_tables_rows.specs.declared.incident_sql.TheConstants.{ALL_INCIDENTS}
+use Rattle.room_tables_rows.specs.declared.incident_sql.TheConstants.{INCIDENTS_OPENED}
+use Rattle.room_tables_rows.specs.declared.incident_sql.TheConstants.{INCIDENTS_SINCE, INCIDENT_AT}
+use Rattle.room_tables_rows.specs.declared.incident_sql.TheConstants.{INSERT_INCIDENT}
+use Rattle.room_tables_rows.specs.declared.incident_sql.TheConstants.{OVERWRITE_INCIDENT}
+use Rattle.room_tables_rows.specs.declared.incident_sql.TheConstants.{PUT_INCIDENT}
 use Rattle.room_tables_schema.proofs.ColumnValues.{AreKept, cast-Int, cast-number_or_null}
-use Rattle.room_tables_schema.proofs.Comparisons.{and_last, and_then, compare_by, conflict_of_two, equal-by_value}
-use Rattle.room_tables_schema.proofs.Comparisons.{equal-numbers, is_eq-then, tie-numbers, tie_of_two}
+use Rattle.room_tables_schema.proofs.Comparisons.{and_last, and_then, compare_by, conflict_of_two}
+use Rattle.room_tables_schema.proofs.Comparisons.{equal-by_value, equal-numbers, is_eq-then}
+use Rattle.room_tables_schema.proofs.Comparisons.{tie-numbers, tie_of_two}
 use Rattle.room_tables_schema.proofs.StoredRows.{covers_row, stores_row}
 use Rattle.room_tables_schema.specs.Schema.{incidents_table, room_schema}
-use Rattle.room_tables_schema.specs.Statements.{Covers, Inserts, Overwrites, Selects, StandsApart, Stores, Upserts}
-use Rattle.room_tables_schema.specs.Statements.{at_least, below, equals, equals_by_value, row_update, row_values}
+use Rattle.room_tables_schema.specs.Statements.{Covers, Inserts, Overwrites, Selects, StandsApart}
+use Rattle.room_tables_schema.specs.Statements.{Stores, Upserts, at_least, below, equals}
+use Rattle.room_tables_schema.specs.Statements.{equals_by_value, row_update, row_values}
 use Rattle.room_tables_schema.specs.TypedRows.{number}
 use Rattle.room_types.specs.Codes.{is_active, state_number}
 use Rattle.room_types.specs.Keys.{incident_key, pair_cmp}

@@ -11,16 +11,19 @@ use Rattle.room_tables_rows.specs.MetaSql.{meta_row}
 use Rattle.room_tables_rows.specs.OfferSql.{offer_row}
 use Rattle.room_tables_rows.specs.PointSql.{point_row}
 use Rattle.room_tables_rows.specs.ReportSql.{report_row}
-use Rattle.room_tables_rows.specs.RoomsInTables.{Configuration, Stands, StandsFor, empty_room, numbered}
+use Rattle.room_tables_rows.specs.RoomsInTables.{Configuration, Stands, StandsFor, empty_room}
+use Rattle.room_tables_rows.specs.RoomsInTables.{numbered}
 use Rattle.room_tables_rows.specs.TerminalSql.{terminal_row}
 use Rattle.room_tables_rows.specs.TurnSql.{turn_row}
 use Rattle.room_tables_rows.specs.VehicleSql.{vehicle_row}
 use Rattle.room_tables_schema.proofs.Standing.{holds_none, holds_still}
 use Rattle.room_tables_schema.specs.Definitions.{IsBlank}
 use Rattle.room_tables_schema.specs.Outcomes.{Only}
-use Rattle.room_tables_schema.specs.Schema.{areas_table, assignments_table, calls_table, divisions_table}
-use Rattle.room_tables_schema.specs.Schema.{incidents_table, loans_table, meta_table, offers_table, points_table}
-use Rattle.room_tables_schema.specs.Schema.{reports_table, room_schema, terminals_table, turns_table, vehicles_table}
+use Rattle.room_tables_schema.specs.Schema.{areas_table, assignments_table, calls_table}
+use Rattle.room_tables_schema.specs.Schema.{divisions_table, incidents_table, loans_table}
+use Rattle.room_tables_schema.specs.Schema.{meta_table, offers_table, points_table, reports_table}
+use Rattle.room_tables_schema.specs.Schema.{room_schema, terminals_table, turns_table}
+use Rattle.room_tables_schema.specs.Schema.{vehicles_table}
 use Rattle.room_types.specs.declared.fleet.Terminal.{Terminal}
 use Rattle.room_types.specs.declared.tables.Assignment.{Assignment}
 use Rattle.room_types.specs.declared.tables.Call.{Call}

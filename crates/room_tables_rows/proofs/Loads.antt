@@ -1,5 +1,6 @@
 -- From what a selection shows to the rows of the room that the tables stand for.
-use Rattle.std.proofs.Common.{◌≡◌, ◌++◌, ℕ, List, [], map, filter, Bool, Option, refl, sym, subst, Ordering, is_eq}
+use Rattle.std.proofs.Common.{◌≡◌, ◌++◌, ℕ, List, [], map, filter, Bool, Option, refl, sym, subst}
+use Rattle.std.proofs.Common.{Ordering, is_eq}
 use Rattle.sqlite_value.specs.Order.{Row}
 use Rattle.sqlite_sql.specs.Term.{Term}
 use Rattle.sqlite_schema.specs.declared.schema.Table.{Table}

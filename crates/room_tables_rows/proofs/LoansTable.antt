@@ -6,13 +6,14 @@ use Rattle.room_tables_rows.specs.KeyColumns.{text_cells}
 use Rattle.room_tables_rows.specs.LoanSql.{loan_row}
 use Rattle.room_tables_rows.specs.RoomsInTables.{Configuration}
 use Rattle.room_tables_rows.specs.Tables.{IsDropped, IsHeld, IsTable, PutsRow, SelectsChosen}
-use Rattle.room_tables_rows.specs.declared.loan_sql.TheConstants.{ALL_LOANS, DROP_LOAN, LOAN_AT, PUT_LOAN}
+use Rattle.room_tables_rows.specs.declared.loan_sql.TheConstants.{ALL_LOANS, DROP_LOAN, LOAN_AT}
+use Rattle.room_tables_rows.specs.declared.loan_sql.TheConstants.{PUT_LOAN}
 use Rattle.room_tables_schema.proofs.ColumnValues.{cast-Int}
 use Rattle.room_tables_schema.proofs.Comparisons.{and_last, conflict_of_one, tie-texts}
 use Rattle.room_tables_schema.proofs.StoredRows.{stores_row}
 use Rattle.room_tables_schema.specs.Schema.{loans_table, room_schema}
-use Rattle.room_tables_schema.specs.Statements.{Deletes, Selects, StandsApart, Stores, Upserts, equals, row_update}
-use Rattle.room_tables_schema.specs.Statements.{row_values}
+use Rattle.room_tables_schema.specs.Statements.{Deletes, Selects, StandsApart, Stores, Upserts}
+use Rattle.room_tables_schema.specs.Statements.{equals, row_update, row_values}
 use Rattle.room_types.specs.Keys.{callsign_cmp, loan_key}
 use Rattle.room_types.specs.Texts.{Callsign}
 use Rattle.room_types.specs.declared.changes.Change.TheVariants.{DropLoan, PutLoan}

@@ -6,13 +6,14 @@ use Rattle.room_tables_rows.specs.KeyColumns.{text_cells}
 use Rattle.room_tables_rows.specs.OfferSql.{offer_row}
 use Rattle.room_tables_rows.specs.RoomsInTables.{Configuration}
 use Rattle.room_tables_rows.specs.Tables.{IsDropped, IsHeld, IsTable, PutsRow, SelectsChosen}
-use Rattle.room_tables_rows.specs.declared.offer_sql.TheConstants.{ALL_OFFERS, DROP_OFFER, OFFER_AT, PUT_OFFER}
+use Rattle.room_tables_rows.specs.declared.offer_sql.TheConstants.{ALL_OFFERS, DROP_OFFER, OFFER_AT}
+use Rattle.room_tables_rows.specs.declared.offer_sql.TheConstants.{PUT_OFFER}
 use Rattle.room_tables_schema.proofs.ColumnValues.{cast-Int}
 use Rattle.room_tables_schema.proofs.Comparisons.{and_last, conflict_of_one, tie-texts}
 use Rattle.room_tables_schema.proofs.StoredRows.{stores_row}
 use Rattle.room_tables_schema.specs.Schema.{offers_table, room_schema}
-use Rattle.room_tables_schema.specs.Statements.{Deletes, Selects, StandsApart, Stores, Upserts, equals, row_update}
-use Rattle.room_tables_schema.specs.Statements.{row_values}
+use Rattle.room_tables_schema.specs.Statements.{Deletes, Selects, StandsApart, Stores, Upserts}
+use Rattle.room_tables_schema.specs.Statements.{equals, row_update, row_values}
 use Rattle.room_types.specs.Keys.{callsign_cmp, offer_key}
 use Rattle.room_types.specs.Texts.{Callsign}
 use Rattle.room_types.specs.declared.changes.Change.TheVariants.{DropOffer, PutOffer}

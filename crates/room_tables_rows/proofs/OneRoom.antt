@@ -3,9 +3,10 @@ use Rattle.std.proofs.Common.{◌≡◌, [], ◌∷◌}
 use Rattle.sqlite_trees.specs.Tree.{Trees}
 use Rattle.room_tables_schema.proofs.TypedTables.{stands_for_one}
 use Rattle.room_model.specs.Room.{Room}
-use Rattle.room_tables_rows.proofs.RowLaws.{meta_faithful, area_faithful, terminal_faithful, division_faithful}
-use Rattle.room_tables_rows.proofs.RowLaws.{incident_faithful, call_faithful, vehicle_faithful, turn_faithful}
-use Rattle.room_tables_rows.proofs.RowLaws.{assignment_faithful, point_faithful, loan_faithful, report_faithful}
+use Rattle.room_tables_rows.proofs.RowLaws.{meta_faithful, area_faithful, terminal_faithful}
+use Rattle.room_tables_rows.proofs.RowLaws.{division_faithful, incident_faithful, call_faithful}
+use Rattle.room_tables_rows.proofs.RowLaws.{vehicle_faithful, turn_faithful, assignment_faithful}
+use Rattle.room_tables_rows.proofs.RowLaws.{point_faithful, loan_faithful, report_faithful}
 use Rattle.room_tables_rows.proofs.RowLaws.{offer_faithful}
 use Rattle.room_tables_rows.specs.RoomsInTables.{Configuration, Stands}
 use Rattle.room_tables_rows.proofs.PlanLaws.{numbered-injective}

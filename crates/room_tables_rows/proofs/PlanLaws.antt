@@ -1,6 +1,6 @@
 -- Areas with their places in the plan.
-use Rattle.std.proofs.Common.{◌≡◌, ◌+◌, ◌++◌, ◌<◌, ℕ, suc, List, [], ◌∷◌, map, length, take, get_or, refl, sym, ap, ◌∙◌}
-use Rattle.std.proofs.Common.{arith, Less, Greater}
+use Rattle.std.proofs.Common.{◌≡◌, ◌+◌, ◌++◌, ◌<◌, ℕ, suc, List, [], ◌∷◌, map, length, take, get_or}
+use Rattle.std.proofs.Common.{refl, sym, ap, ◌∙◌, arith, Less, Greater}
 use Rattle.std.specs.Ordering.{nat_cmp}
 use Rattle.std.proofs.lemmas.Bool.Decides.{nat_tests}
 use Rattle.std.proofs.lemmas.List.{take_more, map-append}

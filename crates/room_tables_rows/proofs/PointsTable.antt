@@ -8,10 +8,12 @@ use Rattle.room_tables_rows.specs.RoomsInTables.{Configuration}
 use Rattle.room_tables_rows.specs.Tables.{IsHeld, IsTable, PutsRow, SelectsChosen}
 use Rattle.room_tables_rows.specs.declared.point_sql.TheConstants.{ALL_POINTS, POINT_AT, PUT_POINT}
 use Rattle.room_tables_schema.proofs.ColumnValues.{cast-Int}
-use Rattle.room_tables_schema.proofs.Comparisons.{and_last, and_then, conflict_of_two, is_eq-then, tie-numbers}
+use Rattle.room_tables_schema.proofs.Comparisons.{and_last, and_then, conflict_of_two, is_eq-then}
+use Rattle.room_tables_schema.proofs.Comparisons.{tie-numbers}
 use Rattle.room_tables_schema.proofs.StoredRows.{stores_row}
 use Rattle.room_tables_schema.specs.Schema.{points_table, room_schema}
-use Rattle.room_tables_schema.specs.Statements.{Selects, StandsApart, Stores, Upserts, equals, row_update, row_values}
+use Rattle.room_tables_schema.specs.Statements.{Selects, StandsApart, Stores, Upserts, equals}
+use Rattle.room_tables_schema.specs.Statements.{row_update, row_values}
 use Rattle.room_tables_schema.specs.TypedRows.{number}
 use Rattle.room_types.specs.Keys.{pair_cmp, point_key}
 use Rattle.room_types.specs.declared.changes.Change.TheVariants.{PutPoint}

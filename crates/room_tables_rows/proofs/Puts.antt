@@ -1,6 +1,7 @@
 -- From an insertion, an upsert, an update or a deletion to the configuration and the room that the tables stand for
 -- afterwards.
-use Rattle.std.proofs.Common.{◌≡◌, ◌==◌, ℕ, List, Bool, true, false, if◌then◌else◌, Ok, ◌∙◌, Ordering, is_eq}
+use Rattle.std.proofs.Common.{◌≡◌, ◌==◌, ℕ, List, Bool, true, false, if◌then◌else◌, Ok, ◌∙◌}
+use Rattle.std.proofs.Common.{Ordering, is_eq}
 use Rattle.sqlite_value.specs.Order.{Row}
 use Rattle.sqlite_schema.specs.declared.schema.Table.{Table}
 use Rattle.sqlite.specs.Effect.{Database}
@@ -9,7 +10,8 @@ use Rattle.room_types.specs.KeyedRows.{put_row, drop_row}
 use Rattle.room_types.specs.declared.changes.Change.{Change}
 use Rattle.room_tables_schema.specs.Outcomes.{Inside, Only}
 use Rattle.room_tables_schema.specs.Statements.{StandsApart}
-use Rattle.room_tables_schema.proofs.TypedTables.{insertion_puts, upsert_puts, overwrite_puts, deletion_drops}
+use Rattle.room_tables_schema.proofs.TypedTables.{insertion_puts, upsert_puts, overwrite_puts}
+use Rattle.room_tables_schema.proofs.TypedTables.{deletion_drops}
 use Rattle.room_tables_schema.proofs.Overwrites.{overwritten}
 use Rattle.room_tables_schema.proofs.Insertions.{inserted_schema}
 use Rattle.room_tables_schema.proofs.Upserts.{upserted_schema}
@@ -17,8 +19,8 @@ use Rattle.room_tables_schema.proofs.Deletions.{deleted}
 use Rattle.room_model.specs.Room.{Room, apply_one}
 use Rattle.room_tables_schema.specs.Schema.{room_schema}
 use Rattle.room_tables_rows.specs.RoomsInTables.{Configuration, Stands, StandsFor, places}
-use Rattle.room_tables_rows.specs.Tables.{DeletesChosen, InsertsRow, IsDropped, IsHeld, IsOverwritten, IsTable, PutsRow}
-use Rattle.room_tables_rows.specs.Tables.{Texts}
+use Rattle.room_tables_rows.specs.Tables.{DeletesChosen, InsertsRow, IsDropped, IsHeld}
+use Rattle.room_tables_rows.specs.Tables.{IsOverwritten, IsTable, PutsRow, Texts}
 use Rattle.room_tables_rows.specs.Writes.{Changes, Makes}
 
 module _ {X K : Type 0} {order : K → K → Ordering} {key : X → K} {row : X → Row} {table : Table}

@@ -1,7 +1,7 @@
 -- What a reader returns for numbers, for the numbers of codes, and for texts.
-use Rattle.std.proofs.Common.{◌≡◌, ◌+◌, ◌<◌, ◌&&◌, ◌||◌, ◌∙◌, not, nat_eq, ℕ, zero, suc, List, [], ◌∷◌, length, Bool}
-use Rattle.std.proofs.Common.{true, false, Option, Some, None, Result, Ok, Err, MatchResult, is_some, is_ok, IfSome}
-use Rattle.std.proofs.Common.{refl, sym, ap, arith}
+use Rattle.std.proofs.Common.{◌≡◌, ◌+◌, ◌<◌, ◌&&◌, ◌||◌, ◌∙◌, not, nat_eq, ℕ, zero, suc, List, []}
+use Rattle.std.proofs.Common.{◌∷◌, length, Bool, true, false, Option, Some, None, Result, Ok, Err}
+use Rattle.std.proofs.Common.{MatchResult, is_some, is_ok, IfSome, refl, sym, ap, arith}
 use Rattle.std.specs.Str.{IsUtf8, is_utf8}
 use Rattle.std.proofs.lemmas.Bool.{and_parts}
 use Rattle.std.proofs.lemmas.Bool.Decides.{nat_tests}
@@ -11,13 +11,14 @@ use Rattle.sqlite_value.specs.declared.value.Value.TheVariants.{Null, Int, Real,
 use Rattle.sqlite_value.specs.Order.{Row}
 use Rattle.room_tables_schema.proofs.ColumnValues.{columns_are, columns_from}
 use Rattle.room_tables_schema.specs.TypedRows.{number, number_or_null}
-use Rattle.room_types.specs.Codes.{Decodes, kind_number, status_number, button_number, outcome_number, state_columns}
-use Rattle.room_types.specs.Codes.{state_number, merged_into}
+use Rattle.room_types.specs.Codes.{Decodes, kind_number, status_number, button_number}
+use Rattle.room_types.specs.Codes.{outcome_number, state_columns, state_number, merged_into}
 use Rattle.room_types.specs.declared.codes.Kind.{Kind}
 use Rattle.room_types.specs.declared.codes.Kind.TheVariants.{Ambulance, Car, Support}
 use Rattle.room_types.specs.declared.codes.Status.{Status}
-use Rattle.room_types.specs.declared.codes.Status.TheVariants.{OffDuty, Available, Mobilised, AtScene, Leaving}
-use Rattle.room_types.specs.declared.codes.Status.TheVariants.{AtHospital, Returning, Offered}
+use Rattle.room_types.specs.declared.codes.Status.TheVariants.{OffDuty, Available, Mobilised}
+use Rattle.room_types.specs.declared.codes.Status.TheVariants.{AtScene, Leaving, AtHospital}
+use Rattle.room_types.specs.declared.codes.Status.TheVariants.{Returning, Offered}
 use Rattle.room_types.specs.declared.codes.Button.{Button}
 use Rattle.room_types.specs.declared.codes.Button.TheVariants as button
 use Rattle.room_types.specs.declared.codes.Outcome.{Outcome}
@@ -25,9 +26,9 @@ use Rattle.room_types.specs.declared.codes.Outcome.TheVariants.{Normal, Skipped,
 use Rattle.room_types.specs.declared.codes.State.{State}
 use Rattle.room_types.specs.declared.codes.State.TheVariants.{Active, Closed, Merged}
 use Rattle.room_tables_rows.specs.ColumnValues.{kind_in, status_in, button_in, outcome_in}
-use Rattle.room_tables_rows.specs.ReadableColumns.{all_stand, is_number, is_kind, is_status, is_button, is_outcome}
-use Rattle.room_tables_rows.specs.ReadableColumns.{is_or_null}
-use Rattle.room_tables_rows.specs.ReadableColumns.{is_serial, is_state, is_text}
+use Rattle.room_tables_rows.specs.ReadableColumns.{all_stand, is_number, is_kind, is_status}
+use Rattle.room_tables_rows.specs.ReadableColumns.{is_button, is_outcome, is_or_null, is_serial}
+use Rattle.room_tables_rows.specs.ReadableColumns.{is_state, is_text}
 
 taken : {C : Type 0} {c : C} → None ≡ Some c → ⊥
 taken e = cc

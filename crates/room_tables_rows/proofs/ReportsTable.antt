@@ -9,15 +9,16 @@ use Rattle.room_tables_rows.specs.KeyColumns.{numbered_cells}
 use Rattle.room_tables_rows.specs.ReportSql.{report_row}
 use Rattle.room_tables_rows.specs.RoomsInTables.{Configuration}
 use Rattle.room_tables_rows.specs.Tables.{InsertsRow, IsHeld, IsTable, PutsRow, SelectsChosen}
-use Rattle.room_tables_rows.specs.declared.report_sql.TheConstants.{ALL_REPORTS, INSERT_REPORT, PUT_REPORT, REPORT_AT}
+use Rattle.room_tables_rows.specs.declared.report_sql.TheConstants.{ALL_REPORTS, INSERT_REPORT}
+use Rattle.room_tables_rows.specs.declared.report_sql.TheConstants.{PUT_REPORT, REPORT_AT}
 use Rattle.room_tables_rows.specs.declared.report_sql.TheConstants.{UNCLEARED_REPORTS}
 use Rattle.room_tables_schema.proofs.ColumnValues.{cast-Int}
-use Rattle.room_tables_schema.proofs.Comparisons.{and_last, and_then, conflict_of_two, equal-numbers, is_eq-then}
-use Rattle.room_tables_schema.proofs.Comparisons.{tie-numbers, tie-texts}
+use Rattle.room_tables_schema.proofs.Comparisons.{and_last, and_then, conflict_of_two}
+use Rattle.room_tables_schema.proofs.Comparisons.{equal-numbers, is_eq-then, tie-numbers, tie-texts}
 use Rattle.room_tables_schema.proofs.StoredRows.{stores_row}
 use Rattle.room_tables_schema.specs.Schema.{reports_table, room_schema}
-use Rattle.room_tables_schema.specs.Statements.{Inserts, Selects, StandsApart, Stores, Upserts, equals, row_update}
-use Rattle.room_tables_schema.specs.Statements.{row_values}
+use Rattle.room_tables_schema.specs.Statements.{Inserts, Selects, StandsApart, Stores, Upserts}
+use Rattle.room_tables_schema.specs.Statements.{equals, row_update, row_values}
 use Rattle.room_tables_schema.specs.TypedRows.{number}
 use Rattle.room_types.specs.Codes.{outcome_number}
 use Rattle.room_types.specs.Keys.{callsign_cmp, numbered_cmp, report_key}

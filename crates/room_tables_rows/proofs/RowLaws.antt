@@ -8,16 +8,18 @@ use Rattle.sqlite_value.proofs.OrderLemmas.{value_cmp-Text}
 use Rattle.room_tables_schema.specs.TypedRows.{IsFaithful, number, number_or_null}
 use Rattle.room_tables_schema.proofs.Comparisons.{value_cmp-numbers, key_of_one, key_of_two}
 use Rattle.room_types.specs.Codes.{state_number, merged_into}
-use Rattle.room_types.specs.Keys.{callsign_cmp, pair_cmp, numbered_cmp, division_key, incident_key, call_key}
-use Rattle.room_types.specs.Keys.{vehicle_key, turn_key, assignment_key, point_key, loan_key, offer_key, report_key}
+use Rattle.room_types.specs.Keys.{callsign_cmp, pair_cmp, numbered_cmp, division_key, incident_key}
+use Rattle.room_types.specs.Keys.{call_key, vehicle_key, turn_key, assignment_key, point_key}
+use Rattle.room_types.specs.Keys.{loan_key, offer_key, report_key}
 use Rattle.room_types.specs.KeyLemmas.{pairs_total, numbered_total}
 use Rattle.room_types.specs.declared.asks.Who.{Who}
 use Rattle.room_types.specs.declared.asks.Who.TheVariants.{Desk, Crew, Position}
 use Rattle.room_types.specs.declared.codes.Kind.{Kind}
 use Rattle.room_types.specs.declared.codes.Kind.TheVariants.{Ambulance, Car, Support}
 use Rattle.room_types.specs.declared.codes.Status.{Status}
-use Rattle.room_types.specs.declared.codes.Status.TheVariants.{OffDuty, Available, Mobilised, AtScene, Leaving}
-use Rattle.room_types.specs.declared.codes.Status.TheVariants.{AtHospital, Returning, Offered}
+use Rattle.room_types.specs.declared.codes.Status.TheVariants.{OffDuty, Available, Mobilised}
+use Rattle.room_types.specs.declared.codes.Status.TheVariants.{AtScene, Leaving, AtHospital}
+use Rattle.room_types.specs.declared.codes.Status.TheVariants.{Returning, Offered}
 use Rattle.room_types.specs.declared.codes.Button.{Button}
 use Rattle.room_types.specs.declared.codes.Button.TheVariants as button
 use Rattle.room_types.specs.declared.codes.Outcome.{Outcome}
@@ -26,9 +28,9 @@ use Rattle.room_types.specs.declared.codes.State.{State}
 use Rattle.room_types.specs.declared.codes.State.TheVariants.{Active, Closed, Merged}
 use Rattle.room_types.specs.declared.fleet.Terminal.{Terminal}
 use Rattle.room_model.specs.FleetRows.{token_cmp, terminal_key}
-use Rattle.room_tables_rows.specs.ColumnValues.{truth, kind_code, status_code, button_code, outcome_code, number_in}
-use Rattle.room_tables_rows.specs.ColumnValues.{number_or_none, truth_in, kind_in, status_in, button_in, outcome_in}
-use Rattle.room_tables_rows.specs.ColumnValues.{state_in}
+use Rattle.room_tables_rows.specs.ColumnValues.{truth, kind_code, status_code, button_code}
+use Rattle.room_tables_rows.specs.ColumnValues.{outcome_code, number_in, number_or_none, truth_in}
+use Rattle.room_tables_rows.specs.ColumnValues.{kind_in, status_in, button_in, outcome_in, state_in}
 use Rattle.room_tables_rows.specs.MetaSql.{meta_key, meta_row, version_row, zone_in}
 use Rattle.room_tables_rows.specs.AreaSql.{area_key, area_row, area_in}
 use Rattle.room_tables_rows.specs.TerminalSql.{terminal_row, terminal_in}

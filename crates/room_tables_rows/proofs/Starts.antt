@@ -19,13 +19,16 @@ use Rattle.room_tables_schema.specs.Definitions.{IsBlank}
 use Rattle.room_tables_schema.specs.Schema.{room_schema, meta_table, areas_table}
 use Rattle.room_tables_rows.specs.declared.meta_sql.TheConstants.{PUT_META}
 use Rattle.room_tables_rows.specs.declared.area_sql.TheConstants.{ALL_AREAS, PUT_AREA}
-use Rattle.room_tables_rows.specs.RoomsInTables.{Configuration, Stands, StandsFor, numbered, empty_room}
+use Rattle.room_tables_rows.specs.RoomsInTables.{Configuration, Stands, StandsFor, numbered}
+use Rattle.room_tables_rows.specs.RoomsInTables.{empty_room}
 use Rattle.room_tables_rows.specs.Writes.{Changes, AppendsArea}
 use Rattle.room_tables_rows.proofs.Kept.{with_meta, with_areas, with_first}
 use Rattle.room_tables_rows.proofs.Puts.{put_changes}
 use Rattle.room_tables_rows.proofs.PlanLaws.{numbered-keyed, numbered-injective, put_row-numbered}
-use Rattle.room_tables_rows.proofs.MetaTable.{meta_apart, meta_held, meta_puts, put_meta_means, meta_stores}
-use Rattle.room_tables_rows.proofs.AreasTable.{all_areas_are, areas_apart, put_area_means, area_stores}
+use Rattle.room_tables_rows.proofs.MetaTable.{meta_apart, meta_held, meta_puts, put_meta_means}
+use Rattle.room_tables_rows.proofs.MetaTable.{meta_stores}
+use Rattle.room_tables_rows.proofs.AreasTable.{all_areas_are, areas_apart, put_area_means}
+use Rattle.room_tables_rows.proofs.AreasTable.{area_stores}
 
 module _ (zone : List ℕ) (old new : State) (count : ℕ) (has : old.now.schema ≡ room_schema)
     (inside : Inside old new) (ran : Executes PUT_META.now (meta_row zone) old new (Ok count)) where

@@ -10,13 +10,15 @@ use Rattle.room_tables_rows.specs.RoomsInTables.{Configuration}
 use Rattle.room_tables_rows.specs.Tables.{IsHeld, PutsRow, SelectsChosen}
 use Rattle.room_tables_rows.specs.TerminalSql.{terminal_row}
 use Rattle.room_tables_rows.specs.Writes.{Changes}
-use Rattle.room_tables_rows.specs.declared.terminal_sql.TheConstants.{ALL_TERMINALS, PUT_TERMINAL, TERMINAL_AT}
+use Rattle.room_tables_rows.specs.declared.terminal_sql.TheConstants.{ALL_TERMINALS, PUT_TERMINAL}
+use Rattle.room_tables_rows.specs.declared.terminal_sql.TheConstants.{TERMINAL_AT}
 use Rattle.room_tables_schema.proofs.ColumnValues.{cast-Int}
 use Rattle.room_tables_schema.proofs.Comparisons.{and_last, conflict_of_one, tie-texts}
 use Rattle.room_tables_schema.proofs.StoredRows.{stores_row}
 use Rattle.room_tables_schema.specs.Outcomes.{Inside}
 use Rattle.room_tables_schema.specs.Schema.{room_schema, terminals_table}
-use Rattle.room_tables_schema.specs.Statements.{Selects, StandsApart, Stores, Upserts, equals, row_update, row_values}
+use Rattle.room_tables_schema.specs.Statements.{Selects, StandsApart, Stores, Upserts, equals}
+use Rattle.room_tables_schema.specs.Statements.{row_update, row_values}
 use Rattle.room_types.specs.KeyedRows.{put_row, row_at}
 use Rattle.room_types.specs.Texts.{Token}
 use Rattle.room_types.specs.declared.fleet.Terminal.{Terminal}

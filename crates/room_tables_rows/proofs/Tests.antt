@@ -1,6 +1,6 @@
 -- What SQL's comparisons say of values of the room.
-use Rattle.std.proofs.Common.{◌≡◌, ℕ, ◌&&◌, ℤ, List, Bool, true, false, not, Option, Some, None, refl, ap, ◌∙◌, is_lt}
-use Rattle.std.proofs.Common.{arith}
+use Rattle.std.proofs.Common.{◌≡◌, ℕ, ◌&&◌, ℤ, List, Bool, true, false, not, Option, Some, None}
+use Rattle.std.proofs.Common.{refl, ap, ◌∙◌, is_lt, arith}
 use Rattle.std.specs.Prelude.{int_le, int_lt, pos}
 use Rattle.std.specs.Ordering.{int_cmp, is_ge}
 use Rattle.std.proofs.lemmas.Int.{ints}

@@ -5,17 +5,20 @@ use Rattle.room_tables_rows.proofs.Loads.{Shows, chosen_rows}
 use Rattle.room_tables_rows.proofs.RowLaws.{turn_faithful}
 use Rattle.room_tables_rows.specs.KeyColumns.{numbered_cells}
 use Rattle.room_tables_rows.specs.RoomsInTables.{Configuration}
-use Rattle.room_tables_rows.specs.Tables.{InsertsRow, IsHeld, IsOverwritten, IsTable, PutsRow, SelectsChosen}
+use Rattle.room_tables_rows.specs.Tables.{InsertsRow, IsHeld, IsOverwritten, IsTable, PutsRow}
+use Rattle.room_tables_rows.specs.Tables.{SelectsChosen}
 use Rattle.room_tables_rows.specs.TurnSql.{turn_row}
-use Rattle.room_tables_rows.specs.declared.turn_sql.TheConstants.{ALL_TURNS, INSERT_TURN, OVERWRITE_TURN, PUT_TURN}
+use Rattle.room_tables_rows.specs.declared.turn_sql.TheConstants.{ALL_TURNS, INSERT_TURN}
+use Rattle.room_tables_rows.specs.declared.turn_sql.TheConstants.{OVERWRITE_TURN, PUT_TURN}
 use Rattle.room_tables_rows.specs.declared.turn_sql.TheConstants.{TURNS_OF, TURN_AT}
 use Rattle.room_tables_schema.proofs.ColumnValues.{AreKept, cast-Int, cast-number_or_null}
-use Rattle.room_tables_schema.proofs.Comparisons.{and_last, and_then, conflict_of_two, equal-numbers, is_eq-then}
-use Rattle.room_tables_schema.proofs.Comparisons.{tie-numbers, tie-texts, tie_of_two}
+use Rattle.room_tables_schema.proofs.Comparisons.{and_last, and_then, conflict_of_two}
+use Rattle.room_tables_schema.proofs.Comparisons.{equal-numbers, is_eq-then, tie-numbers, tie-texts}
+use Rattle.room_tables_schema.proofs.Comparisons.{tie_of_two}
 use Rattle.room_tables_schema.proofs.StoredRows.{covers_row, stores_row}
 use Rattle.room_tables_schema.specs.Schema.{room_schema, turns_table}
-use Rattle.room_tables_schema.specs.Statements.{Covers, Inserts, Overwrites, Selects, StandsApart, Stores, Upserts}
-use Rattle.room_tables_schema.specs.Statements.{equals, row_update, row_values}
+use Rattle.room_tables_schema.specs.Statements.{Covers, Inserts, Overwrites, Selects, StandsApart}
+use Rattle.room_tables_schema.specs.Statements.{Stores, Upserts, equals, row_update, row_values}
 use Rattle.room_tables_schema.specs.TypedRows.{number}
 use Rattle.room_types.specs.Keys.{callsign_cmp, numbered_cmp, turn_key}
 use Rattle.room_types.specs.Texts.{Callsign}

@@ -6,14 +6,15 @@ use Rattle.room_tables_rows.specs.KeyColumns.{text_cells}
 use Rattle.room_tables_rows.specs.RoomsInTables.{Configuration}
 use Rattle.room_tables_rows.specs.Tables.{IsHeld, IsOverwritten, IsTable, PutsRow, SelectsChosen}
 use Rattle.room_tables_rows.specs.VehicleSql.{vehicle_row}
-use Rattle.room_tables_rows.specs.declared.vehicle_sql.TheConstants.{ALL_VEHICLES, OVERWRITE_VEHICLE, PUT_VEHICLE}
+use Rattle.room_tables_rows.specs.declared.vehicle_sql.TheConstants.{ALL_VEHICLES}
+use Rattle.room_tables_rows.specs.declared.vehicle_sql.TheConstants.{OVERWRITE_VEHICLE, PUT_VEHICLE}
 use Rattle.room_tables_rows.specs.declared.vehicle_sql.TheConstants.{VEHICLE_AT}
 use Rattle.room_tables_schema.proofs.ColumnValues.{AreKept, cast-Int, cast-number_or_null}
 use Rattle.room_tables_schema.proofs.Comparisons.{and_last, conflict_of_one, tie-texts, tie_of_one}
 use Rattle.room_tables_schema.proofs.StoredRows.{covers_row, stores_row}
 use Rattle.room_tables_schema.specs.Schema.{room_schema, vehicles_table}
-use Rattle.room_tables_schema.specs.Statements.{Covers, Overwrites, Selects, StandsApart, Stores, Upserts, equals}
-use Rattle.room_tables_schema.specs.Statements.{row_update, row_values}
+use Rattle.room_tables_schema.specs.Statements.{Covers, Overwrites, Selects, StandsApart, Stores}
+use Rattle.room_tables_schema.specs.Statements.{Upserts, equals, row_update, row_values}
 use Rattle.room_types.specs.Keys.{callsign_cmp, vehicle_key}
 use Rattle.room_types.specs.Texts.{Callsign}
 use Rattle.room_types.specs.declared.changes.Change.TheVariants.{PutVehicle}

@@ -5,7 +5,8 @@ use Rattle.sqlite_value.specs.Order.{Row, column}
 use Rattle.room_tables_schema.specs.TypedRows.{number}
 use Rattle.room_types.specs.declared.tables.Assignment.{Assignment}
 use Rattle.room_tables_rows.specs.ColumnValues.{number_in, text_in}
-use Rattle.room_tables_rows.specs.ReadableColumns.{is_division, is_class, is_serial, is_name, is_place}
+use Rattle.room_tables_rows.specs.ReadableColumns.{is_division, is_class, is_serial, is_name}
+use Rattle.room_tables_rows.specs.ReadableColumns.{is_place}
 
 abbrev pub assignment_row : Assignment → Row
 assignment_row x = Text x.callsign ∷ number x.division ∷ number x.incident ∷ number x.order

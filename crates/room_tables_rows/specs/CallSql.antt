@@ -5,9 +5,9 @@ use Rattle.sqlite_value.specs.Order.{Row, column}
 use Rattle.room_tables_schema.specs.TypedRows.{number}
 use Rattle.room_types.specs.declared.tables.Call.{Call}
 use Rattle.room_tables_rows.specs.ColumnValues.{truth, number_in, blob_in, truth_in}
-use Rattle.room_tables_rows.specs.ReadableColumns.{is_note, is_truth, is_division, is_position, is_class, is_serial}
-use Rattle.room_tables_rows.specs.ReadableColumns.{is_moment}
-use Rattle.room_tables_rows.specs.ReadableColumns.{is_place, is_needs}
+use Rattle.room_tables_rows.specs.ReadableColumns.{is_note, is_truth, is_division, is_position}
+use Rattle.room_tables_rows.specs.ReadableColumns.{is_class, is_serial, is_moment, is_place}
+use Rattle.room_tables_rows.specs.ReadableColumns.{is_needs}
 
 abbrev pub call_row : Call → Row
 call_row x =

@@ -5,9 +5,8 @@ use Rattle.room_tables_schema.specs.TypedRows.{number, number_or_null}
 use Rattle.room_types.specs.Codes.{state_number, merged_into}
 use Rattle.room_types.specs.declared.tables.Incident.{Incident}
 use Rattle.room_tables_rows.specs.ColumnValues.{number_in, number_or_none, state_in}
-use Rattle.room_tables_rows.specs.ReadableColumns.{is_or_null, is_division, is_class, is_serial, is_moment, is_place}
-use Rattle.room_tables_rows.specs.ReadableColumns.{is_needs}
-use Rattle.room_tables_rows.specs.ReadableColumns.{is_state}
+use Rattle.room_tables_rows.specs.ReadableColumns.{is_or_null, is_division, is_class, is_serial}
+use Rattle.room_tables_rows.specs.ReadableColumns.{is_moment, is_place, is_needs, is_state}
 
 abbrev pub incident_row : Incident → Row
 incident_row x =

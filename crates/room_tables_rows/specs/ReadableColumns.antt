@@ -1,5 +1,6 @@
 -- Which columns stand for a value of the room: a reader refuses all else.
-use Rattle.std.specs.Prelude.{ℕ, List, [], ◌∷◌, ◌+◌, pos, Bool, true, false, length, nat_le, ◌&&◌, ◌||◌}
+use Rattle.std.specs.Prelude.{ℕ, List, [], ◌∷◌, ◌+◌, pos, Bool, true, false, length, nat_le, ◌&&◌}
+use Rattle.std.specs.Prelude.{◌||◌}
 use Rattle.sqlite_value.specs.declared.value.Value.TheVariants.{Text, Blob, Null, Int}
 use Rattle.sqlite_value.specs.Order.{Row, column}
 use Rattle.room_tables_rows.specs.ColumnValues.{number_in}

@@ -4,11 +4,12 @@ use Rattle.sqlite_value.specs.declared.value.Value.TheVariants.{Text}
 use Rattle.sqlite_value.specs.Order.{Row, column}
 use Rattle.room_tables_schema.specs.TypedRows.{number}
 use Rattle.room_types.specs.declared.tables.Report.{Report}
-use Rattle.room_tables_rows.specs.ColumnValues.{truth, status_code, button_code, outcome_code, number_in, text_in}
-use Rattle.room_tables_rows.specs.ColumnValues.{truth_in, status_in, button_in, outcome_in}
-use Rattle.room_tables_rows.specs.ReadableColumns.{is_truth, is_division, is_serial, is_last, is_moment, is_name}
-use Rattle.room_tables_rows.specs.ReadableColumns.{is_status}
-use Rattle.room_tables_rows.specs.ReadableColumns.{is_button, is_outcome, is_place}
+use Rattle.room_tables_rows.specs.ColumnValues.{truth, status_code, button_code, outcome_code}
+use Rattle.room_tables_rows.specs.ColumnValues.{number_in, text_in, truth_in, status_in, button_in}
+use Rattle.room_tables_rows.specs.ColumnValues.{outcome_in}
+use Rattle.room_tables_rows.specs.ReadableColumns.{is_truth, is_division, is_serial, is_last}
+use Rattle.room_tables_rows.specs.ReadableColumns.{is_moment, is_name, is_status, is_button}
+use Rattle.room_tables_rows.specs.ReadableColumns.{is_outcome, is_place}
 
 abbrev pub report_row : Report → Row
 report_row x =

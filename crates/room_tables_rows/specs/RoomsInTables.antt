@@ -1,5 +1,6 @@
 -- Which room the tables of a file stand for.
-use Rattle.std.specs.Prelude.{◌-◌, ◌==◌, if◌then◌else◌, ℕ, zero, suc, List, [], ◌∷◌, map, length, Option, Some, None}
+use Rattle.std.specs.Prelude.{◌-◌, ◌==◌, if◌then◌else◌, ℕ, zero, suc, List, [], ◌∷◌, map, length}
+use Rattle.std.specs.Prelude.{Option, Some, None}
 use Rattle.sqlite_value.specs.Order.{Row}
 use Rattle.sqlite_trees.specs.Tree.{Trees}
 use Rattle.sqlite_schema.specs.declared.schema.Table.{Table}
@@ -7,9 +8,10 @@ use Rattle.room_tables_schema.specs.TableTrees.{Holds}
 use Rattle.room_place.specs.declared.plans.Area.{Area}
 use Rattle.room_types.specs.declared.fleet.Terminal.{Terminal}
 use Rattle.room_model.specs.Room.{Room}
-use Rattle.room_tables_schema.specs.Schema.{meta_table, areas_table, terminals_table, divisions_table, incidents_table}
-use Rattle.room_tables_schema.specs.Schema.{calls_table, vehicles_table, turns_table, assignments_table, points_table}
-use Rattle.room_tables_schema.specs.Schema.{loans_table, reports_table, offers_table}
+use Rattle.room_tables_schema.specs.Schema.{meta_table, areas_table, terminals_table}
+use Rattle.room_tables_schema.specs.Schema.{divisions_table, incidents_table, calls_table}
+use Rattle.room_tables_schema.specs.Schema.{vehicles_table, turns_table, assignments_table}
+use Rattle.room_tables_schema.specs.Schema.{points_table, loans_table, reports_table, offers_table}
 use Rattle.room_tables_rows.specs.MetaSql.{version_row}
 use Rattle.room_tables_rows.specs.AreaSql.{area_row}
 use Rattle.room_tables_rows.specs.TerminalSql.{terminal_row}

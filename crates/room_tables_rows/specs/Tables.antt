@@ -8,8 +8,8 @@ use Rattle.sqlite_sql.specs.Term.{Term}
 use Rattle.sqlite_schema.specs.declared.schema.Table.{Table}
 use Rattle.sqlite.specs.Effect.{Database}
 use Rattle.room_tables_schema.specs.Outcomes.{Only}
-use Rattle.room_tables_schema.specs.Statements.{passes, Selects, StandsApart, Deletes, Inserts, Upserts, Stores}
-use Rattle.room_tables_schema.specs.Statements.{Overwrites, Covers}
+use Rattle.room_tables_schema.specs.Statements.{passes, Selects, StandsApart, Deletes, Inserts}
+use Rattle.room_tables_schema.specs.Statements.{Upserts, Stores, Overwrites, Covers}
 use Rattle.room_tables_schema.specs.TableTrees.{cells}
 use Rattle.room_tables_schema.specs.TypedRows.{IsFaithful}
 use Rattle.room_types.specs.KeyedRows.{put_row, drop_row}

@@ -4,9 +4,10 @@ use Rattle.sqlite_value.specs.declared.value.Value.TheVariants.{Text}
 use Rattle.sqlite_value.specs.Order.{Row, column}
 use Rattle.room_tables_schema.specs.TypedRows.{number, number_or_null}
 use Rattle.room_types.specs.declared.tables.Turn.{Turn}
-use Rattle.room_tables_rows.specs.ColumnValues.{truth, kind_code, number_in, number_or_none, text_in, truth_in, kind_in}
-use Rattle.room_tables_rows.specs.ReadableColumns.{is_or_null, is_truth, is_division, is_serial, is_moment, is_name}
-use Rattle.room_tables_rows.specs.ReadableColumns.{is_kind}
+use Rattle.room_tables_rows.specs.ColumnValues.{truth, kind_code, number_in, number_or_none}
+use Rattle.room_tables_rows.specs.ColumnValues.{text_in, truth_in, kind_in}
+use Rattle.room_tables_rows.specs.ReadableColumns.{is_or_null, is_truth, is_division, is_serial}
+use Rattle.room_tables_rows.specs.ReadableColumns.{is_moment, is_name, is_kind}
 
 abbrev pub turn_row : Turn → Row
 turn_row x =

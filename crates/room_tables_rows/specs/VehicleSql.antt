@@ -4,11 +4,10 @@ use Rattle.sqlite_value.specs.declared.value.Value.TheVariants.{Text}
 use Rattle.sqlite_value.specs.Order.{Row, column}
 use Rattle.room_tables_schema.specs.TypedRows.{number, number_or_null}
 use Rattle.room_types.specs.declared.tables.Vehicle.{Vehicle}
-use Rattle.room_tables_rows.specs.ColumnValues.{kind_code, status_code, number_in, number_or_none, text_in, kind_in}
-use Rattle.room_tables_rows.specs.ColumnValues.{status_in}
-use Rattle.room_tables_rows.specs.ReadableColumns.{is_or_null, is_division, is_point, is_last, is_moment, is_name}
-use Rattle.room_tables_rows.specs.ReadableColumns.{is_kind}
-use Rattle.room_tables_rows.specs.ReadableColumns.{is_status, is_place}
+use Rattle.room_tables_rows.specs.ColumnValues.{kind_code, status_code, number_in, number_or_none}
+use Rattle.room_tables_rows.specs.ColumnValues.{text_in, kind_in, status_in}
+use Rattle.room_tables_rows.specs.ReadableColumns.{is_or_null, is_division, is_point, is_last}
+use Rattle.room_tables_rows.specs.ReadableColumns.{is_moment, is_name, is_kind, is_status, is_place}
 
 abbrev pub vehicle_row : Vehicle → Row
 vehicle_row x =

@@ -1,6 +1,7 @@
 //! Values of a row that stand in its columns side by side.
 
-ghost use Rattle.std.specs.Prelude.{◌≡◌, ◌+◌, ◌≤◌, ◌==◌, true, Bool, List, [], ◌∷◌, length, is_some, IfSome};
+ghost use Rattle.std.specs.Prelude.{◌≡◌, ◌+◌, ◌≤◌, ◌==◌, true, Bool, List, [], ◌∷◌, length};
+ghost use Rattle.std.specs.Prelude.{is_some, IfSome};
 ghost use Rattle.sqlite_value.specs.Order.{Row as Cells};
 ghost use Rattle.sqlite_value.specs.declared.value.Value.{Value};
 ghost use Rattle.room_tables_schema.proofs.ColumnValues.{columns_from};

@@ -9,8 +9,11 @@ ghost use Rattle.sqlite_value.specs.declared.value.Value.{Value};
 ghost use Rattle.sqlite_value.specs.declared.value.Value.TheVariants.{Null, Int, Text, Blob};
 ghost use Rattle.room_tables_schema.specs.TypedRows.{number};
 ghost use Rattle.room_types.specs.Texts.{is_callsign, is_token};
-ghost use Rattle.room_tables_rows.specs.ColumnValues.{truth, kind_code, status_code, button_code, outcome_code};
-ghost use Rattle.room_tables_rows.specs.ReadableColumns.{is_number, is_or_null, is_text, is_note, is_word, is_truth, is_kind, is_status, is_button, is_outcome};
+ghost use Rattle.room_tables_rows.specs.ColumnValues.{truth, kind_code, status_code, button_code};
+ghost use Rattle.room_tables_rows.specs.ColumnValues.{outcome_code};
+ghost use Rattle.room_tables_rows.specs.ReadableColumns.{is_number, is_or_null, is_text, is_note};
+ghost use Rattle.room_tables_rows.specs.ReadableColumns.{is_word, is_truth, is_kind, is_status};
+ghost use Rattle.room_tables_rows.specs.ReadableColumns.{is_button, is_outcome};
 
 use room_place::bounded_numbers::Bounded;
 use room_types::callsign::Callsign;

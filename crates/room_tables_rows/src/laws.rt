@@ -4,7 +4,9 @@
 ghost use Rattle.std.specs.Prelude.{[], ◌∷◌, ◌≡◌};
 ghost use Rattle.std.specs.Ordering.{nat_cmp};
 ghost use Rattle.room_tables_schema.specs.TypedRows.{IsFaithful};
-ghost use Rattle.room_types.specs.Keys.{callsign_cmp, pair_cmp, numbered_cmp, division_key, incident_key, call_key, vehicle_key, turn_key, assignment_key, point_key, loan_key, offer_key, report_key};
+ghost use Rattle.room_types.specs.Keys.{callsign_cmp, pair_cmp, numbered_cmp, division_key};
+ghost use Rattle.room_types.specs.Keys.{incident_key, call_key, vehicle_key, turn_key};
+ghost use Rattle.room_types.specs.Keys.{assignment_key, point_key, loan_key, offer_key, report_key};
 ghost use Rattle.room_model.specs.FleetRows.{token_cmp, terminal_key};
 ghost use Rattle.room_tables_rows.specs.MetaSql.{meta_key, meta_row};
 ghost use Rattle.room_tables_rows.specs.AreaSql.{area_key, area_row};

@@ -4,7 +4,8 @@ ghost use Rattle.std.specs.Prelude.{◌≡◌, pos, is_some, IfSome};
 ghost use Rattle.sqlite.specs.Values.{bound, or_null};
 ghost use Rattle.sqlite_value.specs.Value.{owned};
 ghost use Rattle.sqlite_value.specs.declared.value.Value.TheVariants.{Int, Text};
-ghost use Rattle.room_tables_rows.specs.TerminalSql.{is_terminal_row, terminal_row, role_of, number_of, crew_of};
+ghost use Rattle.room_tables_rows.specs.TerminalSql.{is_terminal_row, terminal_row, role_of};
+ghost use Rattle.room_tables_rows.specs.TerminalSql.{number_of, crew_of};
 ghost use Rattle.room_tables_rows.specs.ReadableColumns.{is_who};
 
 use crate::column_groups::values_of;

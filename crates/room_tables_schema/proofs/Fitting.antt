@@ -1,6 +1,6 @@
 -- Parts that fit their forms, seen from the parts that are left, and the first of some indexes.
-use Rattle.std.proofs.Common.{◌≡◌, ◌↔◌, ◌⊎◌, ℕ, List, [], ◌∷◌, map, length, subst, sym, take, ap, ◌∙◌, arith, refl, inl}
-use Rattle.std.proofs.Common.{inr}
+use Rattle.std.proofs.Common.{◌≡◌, ◌↔◌, ◌⊎◌, ℕ, List, [], ◌∷◌, map, length, subst, sym, take, ap}
+use Rattle.std.proofs.Common.{◌∙◌, arith, refl, inl, inr}
 use Rattle.std.proofs.lemmas.List.{take-map}
 use Rattle.sqlite_schema.specs.declared.schema.Index.{Index}
 use Rattle.sqlite_schema.specs.declared.schema.Schema.{Schema}

@@ -1,6 +1,6 @@
 -- Databases that grow by tables and indexes.
-use Rattle.std.proofs.Common.{◌≡◌, ◌⊎◌, ◌∙◌, sym, ap, subst, refl, inl, inr, ℕ, List, [], ◌∷◌, ◌++◌, None, Ok}
-use Rattle.std.proofs.Common.{append_assoc}
+use Rattle.std.proofs.Common.{◌≡◌, ◌⊎◌, ◌∙◌, sym, ap, subst, refl, inl, inr, ℕ, List, [], ◌∷◌, ◌++◌}
+use Rattle.std.proofs.Common.{None, Ok, append_assoc}
 use Rattle.std.specs.List.{AllByRecursion}
 use Rattle.sqlite_trees.specs.Tree.{Trees}
 use Rattle.sqlite_schema.specs.declared.schema.Table.{Table}
@@ -16,7 +16,8 @@ use Rattle.sqlite.specs.Listing.{understood}
 use Rattle.sqlite.proofs.Callers.{runs_as, statement_of}
 use Rattle.room_tables_schema.proofs.Definitions.{create_makes, index_makes}
 use Rattle.room_tables_schema.proofs.Writes.{went_on, same_value}
-use Rattle.room_tables_schema.specs.Schema.{first_tables, no_schema, offers_table, room_tables, room_schema}
+use Rattle.room_tables_schema.specs.Schema.{first_tables, no_schema, offers_table, room_tables}
+use Rattle.room_tables_schema.specs.Schema.{room_schema}
 use Rattle.room_tables_schema.specs.Definitions.{AddsLast, Defines, Drops, Lead, Grows, IsBlank}
 
 module _ {X : Type 0} (P : X → Type 0) where

@@ -1,6 +1,6 @@
 -- What an insertion of one row makes of what a table stands for.
-use Rattle.std.proofs.Common.{◌≡◌, inl, inr, ℕ, List, [], ◌∷◌, true, false, not, ◌&&◌, Option, Some, Ok, sym, ap, subst}
-use Rattle.std.proofs.Common.{◌∙◌, refl}
+use Rattle.std.proofs.Common.{◌≡◌, inl, inr, ℕ, List, [], ◌∷◌, true, false, not, ◌&&◌, Option, Some}
+use Rattle.std.proofs.Common.{Ok, sym, ap, subst, ◌∙◌, refl}
 use Rattle.std.proofs.lemmas.Bool.{and_parts, and_from, or_cases, both_ways, false_from_ne_true}
 use Rattle.sqlite_value.specs.declared.keys.Collation.TheVariants.{Binary}
 use Rattle.sqlite_value.specs.Keys.{plain}
@@ -30,7 +30,8 @@ use Rattle.sqlite.proofs.Callers.{one_step, runs_as, statement_of}
 use Rattle.room_tables_schema.specs.TableTrees.{cells, keys, Holds, AreNumbered, put_in}
 use Rattle.room_tables_schema.specs.Outcomes.{Only}
 use Rattle.room_tables_schema.specs.Statements.{StandsApart, Inserts, Stores, insertion}
-use Rattle.room_tables_schema.proofs.Comparisons.{false_from_not, int_present, equal-value_cmp, differ-value_cmp}
+use Rattle.room_tables_schema.proofs.Comparisons.{false_from_not, int_present, equal-value_cmp}
+use Rattle.room_tables_schema.proofs.Comparisons.{differ-value_cmp}
 use Rattle.room_tables_schema.proofs.Numbered.{alike, is_int_in}
 use Rattle.room_tables_schema.proofs.Overwrites.{only_puts, put_holds}
 use Rattle.room_tables_schema.proofs.Writes.{task, only_edited, inserts_row}

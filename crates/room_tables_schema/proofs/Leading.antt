@@ -9,23 +9,34 @@ use Rattle.sqlite_catalog.specs.Change.{created}
 use Rattle.sqlite.specs.Listing.{understood}
 use Rattle.room_tables_schema.specs.Statements.{Creates, Indexes}
 use Rattle.room_tables_schema.specs.Definitions.{Drops, Lead}
-use Rattle.room_tables_schema.specs.Schema.{first_schema, first_tables, first_tables_schema, no_schema, room_tables}
-use Rattle.room_tables_schema.specs.Schema.{indexes_in, tables_schema, room_schema, meta_table, areas_table}
-use Rattle.room_tables_schema.specs.Schema.{terminals_table, divisions_table, incidents_table, calls_table}
-use Rattle.room_tables_schema.specs.Schema.{vehicles_table, turns_table, assignments_table, points_table, loans_table}
-use Rattle.room_tables_schema.specs.Schema.{reports_table, offers_table, incidents_by_state, incidents_by_opening}
-use Rattle.room_tables_schema.specs.Schema.{calls_by_incident, turns_by_incident, reports_by_outcome}
-use Rattle.room_tables_schema.specs.declared.schema_tables.TheConstants.{FIRST_INDEXES, FIRST_KEY_INDEXES, INDEXES}
+use Rattle.room_tables_schema.specs.Schema.{first_schema, first_tables, first_tables_schema}
+use Rattle.room_tables_schema.specs.Schema.{no_schema, room_tables, indexes_in, tables_schema}
+use Rattle.room_tables_schema.specs.Schema.{room_schema, meta_table, areas_table, terminals_table}
+use Rattle.room_tables_schema.specs.Schema.{divisions_table, incidents_table, calls_table}
+use Rattle.room_tables_schema.specs.Schema.{vehicles_table, turns_table, assignments_table}
+use Rattle.room_tables_schema.specs.Schema.{points_table, loans_table, reports_table, offers_table}
+use Rattle.room_tables_schema.specs.Schema.{incidents_by_state, incidents_by_opening}
+use Rattle.room_tables_schema.specs.Schema.{calls_by_incident, turns_by_incident}
+use Rattle.room_tables_schema.specs.Schema.{reports_by_outcome}
+use Rattle.room_tables_schema.specs.declared.schema_tables.TheConstants.{FIRST_INDEXES}
+use Rattle.room_tables_schema.specs.declared.schema_tables.TheConstants.{FIRST_KEY_INDEXES, INDEXES}
 use Rattle.room_tables_schema.specs.declared.schema_tables.TheConstants.{KEY_INDEXES}
-use Rattle.room_tables_schema.specs.declared.schema_sql.TheConstants.{DEFINITIONS, TABLE_DEFINITIONS, MOVES, DROPS}
-use Rattle.room_tables_schema.specs.declared.schema_sql.TheConstants.{META, AREAS, TERMINALS, DIVISIONS, INCIDENTS}
-use Rattle.room_tables_schema.specs.declared.schema_sql.TheConstants.{CALLS, VEHICLES, TURNS, ASSIGNMENTS, POINTS}
-use Rattle.room_tables_schema.specs.declared.schema_sql.TheConstants.{LOANS, REPORTS, OFFERS, INCIDENTS_BY_STATE}
-use Rattle.room_tables_schema.specs.declared.schema_sql.TheConstants.{INCIDENTS_BY_OPENING, CALLS_BY_INCIDENT}
-use Rattle.room_tables_schema.specs.declared.schema_sql.TheConstants.{TURNS_BY_INCIDENT, REPORTS_BY_OUTCOME}
+use Rattle.room_tables_schema.specs.declared.schema_sql.TheConstants.{DEFINITIONS}
+use Rattle.room_tables_schema.specs.declared.schema_sql.TheConstants.{TABLE_DEFINITIONS, MOVES}
+use Rattle.room_tables_schema.specs.declared.schema_sql.TheConstants.{DROPS, META, AREAS, TERMINALS}
+use Rattle.room_tables_schema.specs.declared.schema_sql.TheConstants.{DIVISIONS, INCIDENTS, CALLS}
+use Rattle.room_tables_schema.specs.declared.schema_sql.TheConstants.{VEHICLES, TURNS, ASSIGNMENTS}
+use Rattle.room_tables_schema.specs.declared.schema_sql.TheConstants.{POINTS, LOANS, REPORTS}
+use Rattle.room_tables_schema.specs.declared.schema_sql.TheConstants.{OFFERS, INCIDENTS_BY_STATE}
+use Rattle.room_tables_schema.specs.declared.schema_sql.TheConstants.{INCIDENTS_BY_OPENING}
+use Rattle.room_tables_schema.specs.declared.schema_sql.TheConstants.{CALLS_BY_INCIDENT}
+use Rattle.room_tables_schema.specs.declared.schema_sql.TheConstants.{TURNS_BY_INCIDENT}
+use Rattle.room_tables_schema.specs.declared.schema_sql.TheConstants.{REPORTS_BY_OUTCOME}
 use Rattle.room_tables_schema.specs.declared.schema_sql.TheConstants.{DROP_INCIDENTS_BY_STATE}
-use Rattle.room_tables_schema.specs.declared.schema_sql.TheConstants.{DROP_INCIDENTS_BY_OPENING, DROP_CALLS_BY_INCIDENT}
-use Rattle.room_tables_schema.specs.declared.schema_sql.TheConstants.{DROP_TURNS_BY_INCIDENT, DROP_REPORTS_BY_OUTCOME}
+use Rattle.room_tables_schema.specs.declared.schema_sql.TheConstants.{DROP_INCIDENTS_BY_OPENING}
+use Rattle.room_tables_schema.specs.declared.schema_sql.TheConstants.{DROP_CALLS_BY_INCIDENT}
+use Rattle.room_tables_schema.specs.declared.schema_sql.TheConstants.{DROP_TURNS_BY_INCIDENT}
+use Rattle.room_tables_schema.specs.declared.schema_sql.TheConstants.{DROP_REPORTS_BY_OUTCOME}
 
 -- a table or index as its text has it, before it has a tree
 abbrev unplaced : Table → Table

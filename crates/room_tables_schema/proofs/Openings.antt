@@ -1,6 +1,6 @@
 -- From what a program reads of any tree to what the tree stands for.
-use Rattle.std.proofs.Common.{◌≡◌, ℕ, suc, List, [], ◌∷◌, map, length, true, false, sym, ap, ◌∙◌, arith, Ordering, Less}
-use Rattle.std.proofs.Common.{is_eq, is_gt, add-one, IsPermutation, IsSorted}
+use Rattle.std.proofs.Common.{◌≡◌, ℕ, suc, List, [], ◌∷◌, map, length, true, false, sym, ap, ◌∙◌}
+use Rattle.std.proofs.Common.{arith, Ordering, Less, is_eq, is_gt, add-one, IsPermutation, IsSorted}
 use Rattle.std.specs.Prelude.{◌↔◌}
 use Rattle.std.specs.List.{AllAdjacentBelow}
 use Rattle.std.specs.Cmp.{IsTotalOrder}
@@ -9,8 +9,8 @@ use Rattle.sqlite_value.specs.Order.{Row, value_cmp}
 use Rattle.sqlite_value.proofs.OrderLemmas.{then-Equal}
 use Rattle.sqlite_trees.specs.Tree.{rowid, IsAscending, IsTable}
 use Rattle.sqlite_trees.specs.View.{is_int}
-use Rattle.sqlite_trees.proofs.ListLemmas.{all-map, all_of, all_both, all_from_map, ascending_weaker, ascending-map}
-use Rattle.sqlite_trees.proofs.ListLemmas.{ascending_from_map}
+use Rattle.sqlite_trees.proofs.ListLemmas.{all-map, all_of, all_both, all_from_map}
+use Rattle.sqlite_trees.proofs.ListLemmas.{ascending_weaker, ascending-map, ascending_from_map}
 use Rattle.sqlite_sql.specs.Query.{key_cmp}
 use Rattle.sqlite_sql.proofs.QueryLemmas.{key_cmp_total}
 use Rattle.sqlite_schema.specs.declared.schema.Schema.{Schema}

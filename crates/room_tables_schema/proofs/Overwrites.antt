@@ -1,6 +1,7 @@
 -- What an update of one row makes of what a table stands for.
-use Rattle.std.proofs.Common.{◌≡◌, ◌==◌, inl, inr, ℕ, List, [], ◌∷◌, map, filter, length, Bool, true, false, not}
-use Rattle.std.proofs.Common.{if◌then◌else◌, Ok, refl, sym, ap, subst, ◌∙◌, IsPermutation, is_eq}
+use Rattle.std.proofs.Common.{◌≡◌, ◌==◌, inl, inr, ℕ, List, [], ◌∷◌, map, filter, length, Bool}
+use Rattle.std.proofs.Common.{true, false, not, if◌then◌else◌, Ok, refl, sym, ap, subst, ◌∙◌}
+use Rattle.std.proofs.Common.{IsPermutation, is_eq}
 use Rattle.std.specs.Cmp.{both_ways}
 use Rattle.std.proofs.lemmas.Bool.{and_parts}
 use Rattle.sqlite_value.specs.declared.value.Value.{Value}
@@ -30,10 +31,11 @@ use Rattle.sqlite.specs.State.{State, Executes}
 use Rattle.sqlite.proofs.Callers.{one_step, one_permutation, runs_as, statement_of}
 use Rattle.room_tables_schema.specs.TableTrees.{cells, keys, Holds, AreNumbered, put_in}
 use Rattle.room_tables_schema.specs.Outcomes.{Only}
-use Rattle.room_tables_schema.specs.Statements.{passes, plain_query, own_key, own_update, StandsApart, Overwrites}
-use Rattle.room_tables_schema.specs.Statements.{Covers}
+use Rattle.room_tables_schema.specs.Statements.{passes, plain_query, own_key, own_update}
+use Rattle.room_tables_schema.specs.Statements.{StandsApart, Overwrites, Covers}
 use Rattle.room_tables_schema.proofs.Comparisons.{false_from_not}
-use Rattle.room_tables_schema.proofs.Numbered.{alike, alike_itself, one_row, filter-alike, without_all-passing}
+use Rattle.room_tables_schema.proofs.Numbered.{alike, alike_itself, one_row, filter-alike}
+use Rattle.room_tables_schema.proofs.Numbered.{without_all-passing}
 use Rattle.room_tables_schema.proofs.Rising.{has_permuted}
 use Rattle.room_tables_schema.proofs.Standing.{holds-put_row, holds_still, one_tied}
 use Rattle.room_tables_schema.proofs.Selections.{plain_answer, overlay-none}

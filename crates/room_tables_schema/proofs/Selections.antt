@@ -1,7 +1,7 @@
 -- The rows that a selection shows.
-use Rattle.std.proofs.Common.{◌≡◌, ℕ, List, [], ◌∷◌, ◌++◌, map, flat_map, filter, length, Bool, true, false, cond, refl}
-use Rattle.std.proofs.Common.{sym, ap, subst, ◌∙◌, is_gt, IsPermutation, IsSorted, slice_get, unwrap_or, None, nat_le}
-use Rattle.std.proofs.Common.{◌^◌, ◌-◌}
+use Rattle.std.proofs.Common.{◌≡◌, ℕ, List, [], ◌∷◌, ◌++◌, map, flat_map, filter, length, Bool}
+use Rattle.std.proofs.Common.{true, false, cond, refl, sym, ap, subst, ◌∙◌, is_gt, IsPermutation}
+use Rattle.std.proofs.Common.{IsSorted, slice_get, unwrap_or, None, nat_le, ◌^◌, ◌-◌}
 use Rattle.std.specs.List.{AllByRecursion}
 use Rattle.std.proofs.lemmas.List.{length-map, map-append}
 use Rattle.std.proofs.lemmas.List.Sorted.{IsPermutation-trans, IsPermutation-sym, IsPermutation-map}
@@ -10,8 +10,8 @@ use Rattle.sqlite_value.specs.declared.keys.Collation.TheVariants.{Binary}
 use Rattle.sqlite_value.specs.Keys.{ascending}
 use Rattle.sqlite_value.specs.Order.{Row, column}
 use Rattle.sqlite_trees.specs.Tree.{Trees, IsAscending}
-use Rattle.sqlite_trees.proofs.ListLemmas.{map-map, filter-map, filter_all, all_of, all-map, all-permutation}
-use Rattle.sqlite_trees.proofs.ListLemmas.{ascending-map, IsPermutation-filter}
+use Rattle.sqlite_trees.proofs.ListLemmas.{map-map, filter-map, filter_all, all_of, all-map}
+use Rattle.sqlite_trees.proofs.ListLemmas.{all-permutation, ascending-map, IsPermutation-filter}
 use Rattle.sqlite_sql.specs.Term.{Term, col, eval, eval_all}
 use Rattle.sqlite_sql.specs.Query.{Query, Output, IsAnswer, output, output_cmp, key_cmp}
 use Rattle.sqlite_sql.specs.Program.{overlay}

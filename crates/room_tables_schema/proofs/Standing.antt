@@ -1,10 +1,10 @@
 -- What a tree stands for: only one list, and after an edit what the edit makes of that list.
-use Rattle.std.proofs.Common.{◌≡◌, ℕ, ℤ, List, [], ◌∷◌, map, filter, Bool, true, false, not, sym, ap, subst, ◌∙◌}
-use Rattle.std.proofs.Common.{Ordering, is_eq, IsPermutation}
+use Rattle.std.proofs.Common.{◌≡◌, ℕ, ℤ, List, [], ◌∷◌, map, filter, Bool, true, false, not, sym}
+use Rattle.std.proofs.Common.{ap, subst, ◌∙◌, Ordering, is_eq, IsPermutation}
 use Rattle.std.specs.Cmp.{IsTotalOrder}
 use Rattle.std.proofs.lemmas.Cmp.{tied_back}
-use Rattle.std.proofs.lemmas.List.Sorted.{IsPermutation-refl, IsPermutation-trans, IsPermutation-sym, IsPermutation-map}
-use Rattle.std.proofs.lemmas.List.Sorted.{IsPermutation-cons}
+use Rattle.std.proofs.lemmas.List.Sorted.{IsPermutation-refl, IsPermutation-trans}
+use Rattle.std.proofs.lemmas.List.Sorted.{IsPermutation-sym, IsPermutation-map, IsPermutation-cons}
 use Rattle.sqlite_value.specs.Order.{Row}
 use Rattle.sqlite_trees.specs.Tree.{rowid, put_row}
 use Rattle.sqlite_trees.specs.View.{is_int}
@@ -15,9 +15,10 @@ use Rattle.sqlite_rules.specs.Lists.{Has}
 use Rattle.sqlite_rules.specs.Edit.{id_in, without_all, is_taken}
 use Rattle.room_tables_schema.specs.TableTrees.{cells, keys, Holds, put_in, drop_from}
 use Rattle.room_tables_schema.proofs.Comparisons.{is_Equal}
-use Rattle.room_tables_schema.proofs.Rising.{unique, has_permuted, distinct_in, one_image, rises-put_in, rises-filter}
-use Rattle.room_tables_schema.proofs.Rising.{put_in_has}
-use Rattle.room_tables_schema.proofs.Numbered.{put_row_has, numbered-put_row, numbered-filter, without_all-passing}
+use Rattle.room_tables_schema.proofs.Rising.{unique, has_permuted, distinct_in, one_image}
+use Rattle.room_tables_schema.proofs.Rising.{rises-put_in, rises-filter, put_in_has}
+use Rattle.room_tables_schema.proofs.Numbered.{put_row_has, numbered-put_row, numbered-filter}
+use Rattle.room_tables_schema.proofs.Numbered.{without_all-passing}
 
 module _ (places key : List ℕ) where
   abbrev cmp : Row → Row → Ordering

@@ -1,5 +1,6 @@
 -- What the upsert of one row stores, for the two kinds of keys, and what its update writes over.
-use Rattle.std.proofs.Common.{◌≡◌, ◌+◌, ◌/◌, ℕ, ℤ, List, [], ◌∷◌, ◌++◌, length, Some, ap, ◌∙◌, is_eq}
+use Rattle.std.proofs.Common.{◌≡◌, ◌+◌, ◌/◌, ℕ, ℤ, List, [], ◌∷◌, ◌++◌, length, Some, ap, ◌∙◌}
+use Rattle.std.proofs.Common.{is_eq}
 use Rattle.sqlite_value.specs.declared.value.Value.{Value}
 use Rattle.sqlite_value.specs.declared.value.Value.TheVariants.{Null, Int}
 use Rattle.sqlite_value.specs.Order.{Row, column}
@@ -16,8 +17,8 @@ use Rattle.sqlite_rules.specs.Edit.{with_rowid}
 use Rattle.sqlite.specs.Effect.{value_rows}
 use Rattle.sqlite.specs.Rows.{shown, stamped}
 use Rattle.room_tables_schema.specs.TableTrees.{cells, keys}
-use Rattle.room_tables_schema.specs.Statements.{Stores, Covers, passes, row_values, row_update, rowid_values}
-use Rattle.room_tables_schema.specs.Statements.{rowid_update, own_key, own_update}
+use Rattle.room_tables_schema.specs.Statements.{Stores, Covers, passes, row_values, row_update}
+use Rattle.room_tables_schema.specs.Statements.{rowid_values, rowid_update, own_key, own_update}
 use Rattle.room_tables_schema.proofs.ColumnValues.{AreKept, cast_all-kept, cast-Int, cast-Null}
 
 module _ (schema : Schema) (table : Table) (places key : List ℕ) (columns : ℕ) where

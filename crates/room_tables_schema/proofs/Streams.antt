@@ -1,6 +1,6 @@
 -- Rows that a query shows one at a time, from its first on, and what takes them.
-use Rattle.std.proofs.Common.{◌≡◌, ◌⊎◌, [], inl, inr, ℕ, List, false, Result, Ok, Err, IfErr, IsErrAnd, None, sym}
-use Rattle.std.proofs.Common.{subst, arith, rules}
+use Rattle.std.proofs.Common.{◌≡◌, ◌⊎◌, [], inl, inr, ℕ, List, false, Result, Ok, Err, IfErr}
+use Rattle.std.proofs.Common.{IsErrAnd, None, sym, subst, arith, rules}
 use Rattle.std.proofs.lemmas.Result.{IfErr-weaker, on_err_weaker, on_ok_weaker}
 use Rattle.std.specs.Prelude.{OnOk}
 use Rattle.sqlite_value.specs.Order.{Row}
@@ -14,15 +14,16 @@ use Rattle.sqlite.specs.Effect.{Database, RefusesToRead}
 use Rattle.sqlite.specs.Given.{Advances, FailsToAdvance, HasBegun, HasGiven, IsPlain, IsRefused}
 use Rattle.sqlite.specs.Held.{Held, state}
 use Rattle.sqlite.specs.Listing.{IsSourceOf, reads_listing, understood}
-use Rattle.sqlite.specs.State.{CommitsShowing, FailsToQuery, FailsToShow, Fails, IsNotRun, IsStatement}
-use Rattle.sqlite.specs.State.{IsUnchanged, Shown, ShowsRows, State, Survives}
+use Rattle.sqlite.specs.State.{CommitsShowing, FailsToQuery, FailsToShow, Fails, IsNotRun}
+use Rattle.sqlite.specs.State.{IsStatement, IsUnchanged, Shown, ShowsRows, State, Survives}
 use Rattle.sqlite.proofs.Callers.{begun_plain, unchanged_then}
 use Rattle.sqlite.proofs.StateLemmas.{unchanged}
 use Rattle.sqlite.proofs.StreamLemmas.{fails_since, given_plain}
 use Rattle.room_tables_schema.specs.Outcomes.{ReadsOnly}
 use Rattle.room_tables_schema.specs.QueryStreams.{ReadsOut, TakesShown}
 use Rattle.room_tables_schema.proofs.ReadLaws.{still}
-use Rattle.room_tables_schema.proofs.Refusals.{keeps_then, query_failed, query_survives, query_unchanged}
+use Rattle.room_tables_schema.proofs.Refusals.{keeps_then, query_failed, query_survives}
+use Rattle.room_tables_schema.proofs.Refusals.{query_unchanged}
 use Rattle.room_tables_schema.specs.FileConnections.{IsClean}
 
 -- ---- what is said of the state before a call is so of an earlier one, if nothing has changed

@@ -3,15 +3,15 @@ use Rattle.std.proofs.Common.{◌==◌, ℕ, List, map, ◌∙◌, Ordering}
 use Rattle.sqlite_value.specs.Order.{Row}
 use Rattle.sqlite_schema.specs.declared.schema.Schema.{Schema}
 use Rattle.sqlite.specs.State.{State}
-use Rattle.room_tables_schema.specs.Laws.{StandsForOne, SelectionIsChosen, InsertionPuts, UpsertPuts, OverwritePuts}
-use Rattle.room_tables_schema.specs.Laws.{DeletionDrops}
+use Rattle.room_tables_schema.specs.Laws.{StandsForOne, SelectionIsChosen, InsertionPuts}
+use Rattle.room_tables_schema.specs.Laws.{UpsertPuts, OverwritePuts, DeletionDrops}
 use Rattle.room_tables_schema.proofs.Selections.{selected}
 use Rattle.room_tables_schema.proofs.Deletions.{deleted}
 use Rattle.room_tables_schema.proofs.Overwrites.{overwritten}
 use Rattle.room_tables_schema.proofs.Insertions.{inserted}
 use Rattle.room_tables_schema.proofs.Upserts.{upserted}
-use Rattle.room_tables_schema.proofs.TypedRows.{holds_one_typed, holds-put, holds-put_if, holds-drop, keyed_held}
-use Rattle.room_tables_schema.proofs.TypedRows.{read_chosen}
+use Rattle.room_tables_schema.proofs.TypedRows.{holds_one_typed, holds-put, holds-put_if}
+use Rattle.room_tables_schema.proofs.TypedRows.{holds-drop, keyed_held, read_chosen}
 
 module _ {X K : Type 0} (order : K → K → Ordering) (key : X → K) (row : X → Row) where
   pub stands_for_one : StandsForOne order key row

@@ -1,6 +1,6 @@
 -- What an upsert of one row makes of what a table stands for.
-use Rattle.std.proofs.Common.{◌≡◌, inl, inr, ℕ, List, [], ◌∷◌, ◌++◌, Bool, true, false, None, Some, Ok, refl, sym, ap}
-use Rattle.std.proofs.Common.{subst, is_eq}
+use Rattle.std.proofs.Common.{◌≡◌, inl, inr, ℕ, List, [], ◌∷◌, ◌++◌, Bool, true, false, None, Some}
+use Rattle.std.proofs.Common.{Ok, refl, sym, ap, subst, is_eq}
 use Rattle.std.proofs.lemmas.Bool.{false_from_ne_true}
 use Rattle.sqlite_value.specs.Order.{Row}
 use Rattle.sqlite_trees.specs.Tree.{Trees, rowid}
@@ -18,16 +18,19 @@ use Rattle.sqlite_rules.specs.Edit.{Edit, next_rowid, edit_of, taken_by, Applies
 use Rattle.sqlite_rules.specs.Action.{works}
 use Rattle.sqlite.specs.Effect.{Database}
 use Rattle.sqlite.specs.Listing.{understood}
-use Rattle.sqlite.specs.Rows.{Task, Written, Tries, Puts, Upserts as UpsertsRows, Meets, Clears, Updates, shown}
+use Rattle.sqlite.specs.Rows.{Task, Written, Tries, Puts, Upserts as UpsertsRows, Meets, Clears}
+use Rattle.sqlite.specs.Rows.{Updates, shown}
 use Rattle.sqlite.specs.State.{State, Executes}
 use Rattle.sqlite.proofs.Callers.{one_step, runs_as, statement_of}
 use Rattle.room_tables_schema.specs.TableTrees.{cells, keys, Holds, AreNumbered, put_in}
 use Rattle.room_tables_schema.specs.Outcomes.{Only}
-use Rattle.room_tables_schema.specs.Statements.{passes, equals, upsert, written_over, StandsApart, Upserts, Stores}
+use Rattle.room_tables_schema.specs.Statements.{passes, equals, upsert, written_over, StandsApart}
+use Rattle.room_tables_schema.specs.Statements.{Upserts, Stores}
 use Rattle.room_tables_schema.proofs.Comparisons.{passes-rowid}
 use Rattle.room_tables_schema.proofs.Numbered.{alike, is_int_in}
 use Rattle.room_tables_schema.proofs.Standing.{one_tied}
-use Rattle.room_tables_schema.proofs.Overwrites.{PutsOne, only_puts, put_holds, update_of, one_edited, puts_over}
+use Rattle.room_tables_schema.proofs.Overwrites.{PutsOne, only_puts, put_holds, update_of}
+use Rattle.room_tables_schema.proofs.Overwrites.{one_edited, puts_over}
 use Rattle.room_tables_schema.proofs.Writes.{went_on, same_value, task, only_edited, upserts_row}
 
 module _ (task : Task) (unreferenced : (olds news : List Row)

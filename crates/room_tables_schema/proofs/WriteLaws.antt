@@ -1,19 +1,22 @@
 -- Writes in a transaction, one after another.
-use Rattle.std.proofs.Common.{◌≡◌, inl, inr, ℕ, List, false, IsTrue, Err, Ok, Result, refl, subst, arith, rules, ◌∙◌}
+use Rattle.std.proofs.Common.{◌≡◌, inl, inr, ℕ, List, false, IsTrue, Err, Ok, Result, refl, subst}
+use Rattle.std.proofs.Common.{arith, rules, ◌∙◌}
 use Rattle.std.specs.Prelude.{OnOk}
 use Rattle.sqlite.specs.Held.{Held, state}
 use Rattle.std.proofs.lemmas.Bool.{cases_Bool}
 use Rattle.sqlite_value.specs.Order.{Row}
 use Rattle.sqlite_trees.specs.declared.store.Store.{Ghosts}
 use Rattle.sqlite_trees.specs.declared.error.StoreError.{StoreError}
-use Rattle.sqlite_trees.specs.declared.error.StoreError.TheVariants.{OutOfMemory, Io, Corrupt, Full, Broken, Unstorable}
+use Rattle.sqlite_trees.specs.declared.error.StoreError.TheVariants.{OutOfMemory, Io, Corrupt, Full}
+use Rattle.sqlite_trees.specs.declared.error.StoreError.TheVariants.{Broken, Unstorable}
 use Rattle.sqlite_schema.specs.declared.schema.Constraint.{Constraint}
 use Rattle.sqlite_resolve.specs.declared.compiled.Compiled.{Compiled}
 use Rattle.sqlite.specs.declared.error.ErrorCode.TheVariants as code
 use Rattle.sqlite.specs.declared.error.Error.{Error}
 use Rattle.sqlite.specs.declared.error.Error.TheVariants.{SqliteFailure}
-use Rattle.sqlite.specs.State.{State, HasCleanDisk, KeepsCommit, Survives, IsUnchanged, Fails, store_error, IsNotRun}
-use Rattle.sqlite.specs.State.{RunsCommand, shows_rows, Executes, ExecutesIn, ExecutesInside}
+use Rattle.sqlite.specs.State.{State, HasCleanDisk, KeepsCommit, Survives, IsUnchanged, Fails}
+use Rattle.sqlite.specs.State.{store_error, IsNotRun, RunsCommand, shows_rows, Executes, ExecutesIn}
+use Rattle.sqlite.specs.State.{ExecutesInside}
 use Rattle.room_tables_schema.proofs.ReadLaws.{any_err, still}
 use Rattle.room_tables_schema.proofs.Refusals.{keeps_commit, keeps_then}
 use Rattle.room_tables_schema.specs.Outcomes.{CommitsNothing, Inside, ReadsInside, WritesInside}

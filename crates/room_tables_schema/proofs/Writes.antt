@@ -1,7 +1,7 @@
 -- A write on one table, taken apart into the steps that changed the tree.
-use Rattle.std.proofs.Common.{◌≡◌, ◌≢◌, ◌⊎◌, inl, inr, ℕ, ℤ, List, [], ◌∷◌, Bool, true, false, cond, None, Option, Some}
-use Rattle.std.proofs.Common.{Ok, Err, Result, sym, ap, subst, subst₂, ◌∙◌, is_lt, length, slice_get, unwrap_or, ◌+◌}
-use Rattle.std.proofs.Common.{◌/◌}
+use Rattle.std.proofs.Common.{◌≡◌, ◌≢◌, ◌⊎◌, inl, inr, ℕ, ℤ, List, [], ◌∷◌, Bool, true, false, cond}
+use Rattle.std.proofs.Common.{None, Option, Some, Ok, Err, Result, sym, ap, subst, subst₂, ◌∙◌}
+use Rattle.std.proofs.Common.{is_lt, length, slice_get, unwrap_or, ◌+◌, ◌/◌}
 use Rattle.std.specs.List.{AllByRecursion}
 use Rattle.std.specs.Bool.{MatchBool}
 use Rattle.std.specs.Ordering.{int_cmp}
@@ -22,8 +22,9 @@ use Rattle.sqlite_rules.specs.declared.error.Rowids.TheVariants.{Chosen, Above}
 use Rattle.sqlite_rules.specs.Cast.{cast_row}
 use Rattle.sqlite_rules.specs.Edit.{Edit, edit_of, with_rowid, Applies}
 use Rattle.sqlite.specs.Does.{Tally, Does, AtPlace, OnRows, WritesRows}
-use Rattle.sqlite.specs.Rows.{Task, Written, Tries, TriesEach, InsertsOr, Updates, Inserts as InsertsRows}
-use Rattle.sqlite.specs.Rows.{Deletes as DeletesRows, Edited, Counts, count_of, nothing, joined, stamped, rowids_for}
+use Rattle.sqlite.specs.Rows.{Task, Written, Tries, TriesEach, InsertsOr, Updates}
+use Rattle.sqlite.specs.Rows.{Inserts as InsertsRows, Deletes as DeletesRows, Edited, Counts}
+use Rattle.sqlite.specs.Rows.{count_of, nothing, joined, stamped, rowids_for}
 use Rattle.sqlite.specs.Effect.{Database, IsSource, value_rows}
 use Rattle.sqlite.specs.State.{State, mode_of, Writes}
 use Rattle.room_tables_schema.specs.Outcomes.{Only}

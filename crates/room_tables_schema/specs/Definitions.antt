@@ -16,9 +16,10 @@ use Rattle.sqlite.specs.declared.error.Error.{Error}
 use Rattle.room_tables_schema.specs.Statements.{Creates, Indexes}
 use Rattle.room_tables_schema.specs.DatabaseFaults.{fault_of}
 use Rattle.room_tables_schema.specs.declared.database_faults.Fault.{Fault}
-use Rattle.room_tables_schema.specs.Schema.{first_tables, meta_table, areas_table, terminals_table, divisions_table}
-use Rattle.room_tables_schema.specs.Schema.{incidents_table, calls_table, vehicles_table, turns_table}
-use Rattle.room_tables_schema.specs.Schema.{assignments_table, points_table, loans_table, reports_table, offers_table}
+use Rattle.room_tables_schema.specs.Schema.{first_tables, meta_table, areas_table, terminals_table}
+use Rattle.room_tables_schema.specs.Schema.{divisions_table, incidents_table, calls_table}
+use Rattle.room_tables_schema.specs.Schema.{vehicles_table, turns_table, assignments_table}
+use Rattle.room_tables_schema.specs.Schema.{points_table, loans_table, reports_table, offers_table}
 
 -- the text drops the index at this place
 pub record Drops (schema : Schema) (text : List ℕ) (at : ℕ) (index : Index) : Type 0 where

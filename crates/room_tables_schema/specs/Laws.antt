@@ -1,7 +1,7 @@
 -- What the statements on one table make of what it stands for: each law from the state before a
 -- call to the state after it.
-use Rattle.std.specs.Prelude.{◌≡◌, ◌↔◌, ◌==◌, ℕ, List, [], ◌∷◌, ◌++◌, map, filter, Bool, true, if◌then◌else◌, Ok}
-use Rattle.std.specs.Prelude.{IsPermutation, IsSorted}
+use Rattle.std.specs.Prelude.{◌≡◌, ◌↔◌, ◌==◌, ℕ, List, [], ◌∷◌, ◌++◌, map, filter, Bool, true}
+use Rattle.std.specs.Prelude.{if◌then◌else◌, Ok, IsPermutation, IsSorted}
 use Rattle.std.specs.declared.cmp.Ordering.{Ordering}
 use Rattle.std.specs.Ordering.{is_eq}
 use Rattle.sqlite_value.specs.Order.{Row, column}
@@ -15,8 +15,9 @@ use Rattle.sqlite.specs.State.{State, Shown, Executes}
 use Rattle.room_types.specs.KeyedRows.{IsKeyed, put_row, drop_row}
 use Rattle.room_tables_schema.specs.TableTrees.{cells, keys, AreNumbered, RowidsRise, Holds}
 use Rattle.room_tables_schema.specs.Outcomes.{Only, MakesTable, MakesIndex}
-use Rattle.room_tables_schema.specs.Statements.{passes, Selects, StandsApart, Deletes, Inserts, Upserts, Stores}
-use Rattle.room_tables_schema.specs.Statements.{Overwrites, Covers, Creates, Indexes}
+use Rattle.room_tables_schema.specs.Statements.{passes, Selects, StandsApart, Deletes, Inserts}
+use Rattle.room_tables_schema.specs.Statements.{Upserts, Stores, Overwrites, Covers, Creates}
+use Rattle.room_tables_schema.specs.Statements.{Indexes}
 use Rattle.room_tables_schema.specs.TypedRows.{IsFaithful}
 
 -- ---- of any tree

@@ -6,13 +6,20 @@ use Rattle.sqlite_schema.specs.declared.schema.Index.{Index}
 use Rattle.sqlite_schema.specs.declared.schema.Schema.{Schema}
 use Rattle.room_tables_schema.specs.Forms.{column_of, table_keyed, index_of}
 use Rattle.room_tables_schema.specs.declared.forms.Rule.{Rule}
-use Rattle.room_tables_schema.specs.declared.schema_tables.TheConstants.{META, AREAS, TERMINALS, DIVISIONS, INCIDENTS}
-use Rattle.room_tables_schema.specs.declared.schema_tables.TheConstants.{CALLS, VEHICLES, TURNS, ASSIGNMENTS, POINTS}
-use Rattle.room_tables_schema.specs.declared.schema_tables.TheConstants.{LOANS, REPORTS, OFFERS, INCIDENTS_BY_STATE}
-use Rattle.room_tables_schema.specs.declared.schema_tables.TheConstants.{INCIDENTS_BY_OPENING, CALLS_BY_INCIDENT}
-use Rattle.room_tables_schema.specs.declared.schema_tables.TheConstants.{TURNS_BY_INCIDENT, REPORTS_BY_OUTCOME, TABLES}
-use Rattle.room_tables_schema.specs.declared.schema_tables.TheConstants.{INDEXES, KEY_INDEXES, FIRST_TABLES}
-use Rattle.room_tables_schema.specs.declared.schema_tables.TheConstants.{FIRST_INDEXES, FIRST_KEY_INDEXES}
+use Rattle.room_tables_schema.specs.declared.schema_tables.TheConstants.{META, AREAS, TERMINALS}
+use Rattle.room_tables_schema.specs.declared.schema_tables.TheConstants.{DIVISIONS, INCIDENTS}
+use Rattle.room_tables_schema.specs.declared.schema_tables.TheConstants.{CALLS, VEHICLES, TURNS}
+use Rattle.room_tables_schema.specs.declared.schema_tables.TheConstants.{ASSIGNMENTS, POINTS, LOANS}
+use Rattle.room_tables_schema.specs.declared.schema_tables.TheConstants.{REPORTS, OFFERS}
+use Rattle.room_tables_schema.specs.declared.schema_tables.TheConstants.{INCIDENTS_BY_STATE}
+use Rattle.room_tables_schema.specs.declared.schema_tables.TheConstants.{INCIDENTS_BY_OPENING}
+use Rattle.room_tables_schema.specs.declared.schema_tables.TheConstants.{CALLS_BY_INCIDENT}
+use Rattle.room_tables_schema.specs.declared.schema_tables.TheConstants.{TURNS_BY_INCIDENT}
+use Rattle.room_tables_schema.specs.declared.schema_tables.TheConstants.{REPORTS_BY_OUTCOME, TABLES}
+use Rattle.room_tables_schema.specs.declared.schema_tables.TheConstants.{INDEXES, KEY_INDEXES}
+use Rattle.room_tables_schema.specs.declared.schema_tables.TheConstants.{FIRST_TABLES}
+use Rattle.room_tables_schema.specs.declared.schema_tables.TheConstants.{FIRST_INDEXES}
+use Rattle.room_tables_schema.specs.declared.schema_tables.TheConstants.{FIRST_KEY_INDEXES}
 
 -- ---- what the constants of that file say, where a reference is known by what it points to
 

@@ -1,8 +1,8 @@
 -- What the text of a statement on one table means, under the schema that it is read by. For a
 -- schema and a text that are written out, each fact of these records is `refl`, under `unfolding
 -- understood everything` of `sqlite_tied`.
-use Rattle.std.specs.Prelude.{◌≡◌, ◌+◌, ℕ, zero, suc, ◌-◌, pos, negsuc, List, [], ◌∷◌, ◌++◌, map, length, ◌/◌, Bool}
-use Rattle.std.specs.Prelude.{false, ℤ, Some, None, Ok, slice_get}
+use Rattle.std.specs.Prelude.{◌≡◌, ◌+◌, ℕ, zero, suc, ◌-◌, pos, negsuc, List, [], ◌∷◌, ◌++◌, map}
+use Rattle.std.specs.Prelude.{length, ◌/◌, Bool, false, ℤ, Some, None, Ok, slice_get}
 use Rattle.std.specs.List.{list_all}
 use Rattle.std.specs.Ordering.{is_eq}
 use Rattle.sqlite_value.specs.declared.value.Value.{Value}
@@ -21,8 +21,9 @@ use Rattle.sqlite_schema.specs.declared.schema.Index.{Index}
 use Rattle.sqlite_schema.specs.declared.schema.Schema.{Schema}
 use Rattle.sqlite_schema.specs.declared.schema.Keys.TheVariants.{Enforced}
 use Rattle.sqlite_schema.specs.declared.command.Command.{Command}
-use Rattle.sqlite_schema.specs.declared.command.Command.TheVariants.{Select, Delete, Insert, InsertOr, Update}
-use Rattle.sqlite_schema.specs.declared.command.Command.TheVariants.{CreateTable, CreateIndex}
+use Rattle.sqlite_schema.specs.declared.command.Command.TheVariants.{Select, Delete, Insert}
+use Rattle.sqlite_schema.specs.declared.command.Command.TheVariants.{InsertOr, Update, CreateTable}
+use Rattle.sqlite_schema.specs.declared.command.Command.TheVariants.{CreateIndex}
 use Rattle.sqlite_schema.specs.declared.command.Upsert.{Upsert}
 use Rattle.sqlite_schema.specs.declared.command.Conflict.TheVariants.{Abort}
 use Rattle.sqlite_schema.specs.declared.command.Source.TheVariants.{Values}

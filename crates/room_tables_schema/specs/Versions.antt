@@ -1,7 +1,8 @@
 -- Files of this version or another.
 use Rattle.std.specs.Prelude.{◌≡◌, ◌⊎◌, [], Some, slice_get}
 use Rattle.sqlite_schema.specs.declared.schema.Schema.{Schema}
-use Rattle.room_tables_schema.specs.Schema.{first_schema, first_tables_schema, meta_table, room_schema, tables_schema}
+use Rattle.room_tables_schema.specs.Schema.{first_schema, first_tables_schema, meta_table}
+use Rattle.room_tables_schema.specs.Schema.{room_schema, tables_schema}
 
 -- The schema begins as that of a room does, whatever the version: `meta` is its first table, and it
 -- has no view.

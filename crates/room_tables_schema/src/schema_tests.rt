@@ -1,14 +1,15 @@
 //! The test of a file's schema.
 
 ghost use Rattle.std.specs.Prelude.{◌≡◌, IsTrue, ◌↔◌, ◌≤◌, [], ◌∷◌, length, map, take};
-ghost use Rattle.room_tables_schema.specs.declared.schema_tables.TheConstants.{FIRST_INDEXES, INDEXES};
+ghost use Rattle.room_tables_schema.specs.declared.schema_tables.TheConstants.{FIRST_INDEXES};
+ghost use Rattle.room_tables_schema.specs.declared.schema_tables.TheConstants.{INDEXES};
 ghost use Rattle.sqlite_value.specs.Keys.{plain};
 ghost use Rattle.room_tables_schema.specs.Schema.{first_schema, first_tables, first_tables_schema};
 ghost use Rattle.room_tables_schema.specs.Schema.{indexes_of_first, no_schema, room_indexes};
 ghost use Rattle.room_tables_schema.specs.Schema.{room_schema, room_tables, tables_schema};
 ghost use Rattle.room_tables_schema.specs.Versions.{BeginsAsRoom};
-ghost use Rattle.room_tables_schema.specs.Forms.{column_as, index_as, indexes_as};
-ghost use Rattle.room_tables_schema.specs.Forms.{table_as, tables_as};
+ghost use Rattle.room_tables_schema.specs.Forms.{column_as, index_as, indexes_as, table_as};
+ghost use Rattle.room_tables_schema.specs.Forms.{tables_as};
 ghost use Rattle.room_tables_schema.specs.BareTables.{IsBare, HasKey};
 
 use crate::forms::{ColumnForm, IndexForm, TableForm};

@@ -4,7 +4,8 @@ ghost use Rattle.std.specs.Prelude.{◌≡◌, cond, IfErr, OnOk, drop, map};
 ghost use Rattle.sqlite.specs.Held.{Held, state};
 ghost use Rattle.sqlite_catalog.specs.Change.{KeepsRows};
 ghost use Rattle.room_tables_schema.specs.Outcomes.{CommitsNothing};
-ghost use Rattle.room_tables_schema.specs.Schema.{first_schema, first_tables_schema, no_schema, room_tables, tables_schema, room_schema};
+ghost use Rattle.room_tables_schema.specs.Schema.{first_schema, first_tables_schema, no_schema};
+ghost use Rattle.room_tables_schema.specs.Schema.{room_tables, tables_schema, room_schema};
 ghost use Rattle.room_tables_schema.specs.Definitions.{AddsLast, Lead, Grows, IsBlank, FailsAt};
 ghost use Rattle.room_tables_schema.specs.FileConnections.{MayWrite, IsClean, StandsInTransaction};
 

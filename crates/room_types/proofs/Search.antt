@@ -1,8 +1,10 @@
 -- What a search for a key finds, and what an edit at that place does.
-use Rattle.std.proofs.Common.{◌≡◌, ℕ, zero, suc, ◌<◌, ◌≤◌, true, List, [], ◌∷◌, length, get_or, set, Some, None, Result}
-use Rattle.std.proofs.Common.{Bool, Ok, Err, IfOk, IfErr, drop, refl, sym, take, ap, subst, ◌∙◌, ◌-◌, arith, add-one}
+use Rattle.std.proofs.Common.{◌≡◌, ℕ, zero, suc, ◌<◌, ◌≤◌, true, List, [], ◌∷◌, length, get_or, set}
+use Rattle.std.proofs.Common.{Some, None, Result, Bool, Ok, Err, IfOk, IfErr, drop, refl, sym, take}
+use Rattle.std.proofs.Common.{ap, subst, ◌∙◌, ◌-◌, arith, add-one}
 use Rattle.std.specs.List.{insert, remove, slice_get, HoldsAt}
-use Rattle.std.specs.List.Sorted.{IsSortedBy, IsPartitionPoint, IsSearchInRange, IsBinarySearchResult}
+use Rattle.std.specs.List.Sorted.{IsSortedBy, IsPartitionPoint, IsSearchInRange}
+use Rattle.std.specs.List.Sorted.{IsBinarySearchResult}
 use Rattle.std.specs.declared.cmp.Ordering.{Ordering}
 use Rattle.std.specs.declared.cmp.Ordering.TheVariants.{Less, Equal, Greater}
 use Rattle.std.specs.Ordering.{ordering_reverse, is_lt}
@@ -10,7 +12,8 @@ use Rattle.std.specs.Cmp.{IsTotalOrder}
 use Rattle.std.proofs.lemmas.Cmp.{tied_back, alike_right}
 use Rattle.std.proofs.lemmas.Option.{get_or_from_slice_get, slice_get_within}
 use Rattle.std.proofs.lemmas.List.Sorted.{searchable_from_sorted}
-use Rattle.room_types.specs.KeyedRows.{IsBelowAll, IsKeyed, keep, listed, row_at, put_row, drop_row, IsAt, IsGapFor}
+use Rattle.room_types.specs.KeyedRows.{IsBelowAll, IsKeyed, keep, listed, row_at, put_row, drop_row}
+use Rattle.room_types.specs.KeyedRows.{IsAt, IsGapFor}
 use Rattle.room_types.proofs.KeyedLaws.{row_below, drop_below, below_from_less}
 
 module _ {R K : Type 0} (cmp : K → K → Ordering) (key : R → K) where

@@ -7,8 +7,9 @@ use Rattle.std.specs.Prelude.{not}
 use Rattle.room_types.specs.declared.tables.Assignment.{Assignment}
 use Rattle.room_types.specs.declared.tables.Turn.{Turn}
 use Rattle.room_types.specs.declared.tables.Vehicle.{Vehicle}
-use Rattle.room_types.specs.SentVehicles.{IsAssigned, IsOrdered, IsSent, OrderAgrees, PartsAgree, is_assigned}
-use Rattle.room_types.specs.SentVehicles.{is_ordered, is_sent, order_agrees, parts_agree}
+use Rattle.room_types.specs.SentVehicles.{IsAssigned, IsOrdered, IsSent, OrderAgrees, PartsAgree}
+use Rattle.room_types.specs.SentVehicles.{is_assigned, is_ordered, is_sent, order_agrees}
+use Rattle.room_types.specs.SentVehicles.{parts_agree}
 use Rattle.room_types.specs.Codes.{is_busy}
 
 -- a test is its own answer

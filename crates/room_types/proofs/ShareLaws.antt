@@ -8,10 +8,11 @@ use Rattle.std.proofs.lemmas.Bool.Decides.{Decides-and, Decides-like}
 use Rattle.room_types.specs.Codes.{is_active}
 use Rattle.room_types.specs.KeyedRows.{IsKeyed}
 use Rattle.room_types.specs.Keys.{callsign_cmp, numbered_cmp, vehicle_key, turn_key, assignment_key}
-use Rattle.room_types.specs.KeyLemmas.{callsigns_total, numbered_total, exact_callsigns, exact_numbered}
-use Rattle.room_types.specs.Slices.{AreOwned, IsShare, VehicleAgrees, AssignmentAgrees, TurnAgrees, IsInTurn, are_owned}
-use Rattle.room_types.specs.Slices.{vehicle_agrees, is_active_if_any, assignment_agrees, is_in_turn, turn_agrees}
-use Rattle.room_types.specs.Slices.{is_share}
+use Rattle.room_types.specs.KeyLemmas.{callsigns_total, numbered_total, exact_callsigns}
+use Rattle.room_types.specs.KeyLemmas.{exact_numbered}
+use Rattle.room_types.specs.Slices.{AreOwned, IsShare, VehicleAgrees, AssignmentAgrees, TurnAgrees}
+use Rattle.room_types.specs.Slices.{IsInTurn, are_owned, vehicle_agrees, is_active_if_any}
+use Rattle.room_types.specs.Slices.{assignment_agrees, is_in_turn, turn_agrees, is_share}
 use Rattle.room_types.specs.declared.slices.DivisionRows.{DivisionRows}
 use Rattle.room_types.specs.declared.tables.Assignment.{Assignment}
 use Rattle.room_types.specs.declared.tables.Incident.{Incident}

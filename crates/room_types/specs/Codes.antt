@@ -1,10 +1,12 @@
 -- The numbers and names of kinds, statuses, buttons, outcomes and states, and tests of them.
-use Rattle.std.specs.Prelude.{◌≡◌, ℕ, Bool, true, false, not, ◌&&◌, List, Option, Some, None, IfSome, codes}
+use Rattle.std.specs.Prelude.{◌≡◌, ℕ, Bool, true, false, not, ◌&&◌, List, Option, Some, None}
+use Rattle.std.specs.Prelude.{IfSome, codes}
 use Rattle.room_types.specs.declared.codes.Kind.{Kind}
 use Rattle.room_types.specs.declared.codes.Kind.TheVariants.{Ambulance, Car, Support}
 use Rattle.room_types.specs.declared.codes.Status.{Status}
-use Rattle.room_types.specs.declared.codes.Status.TheVariants.{OffDuty, Available, Mobilised, AtScene, Leaving}
-use Rattle.room_types.specs.declared.codes.Status.TheVariants.{AtHospital, Returning, Offered}
+use Rattle.room_types.specs.declared.codes.Status.TheVariants.{OffDuty, Available, Mobilised}
+use Rattle.room_types.specs.declared.codes.Status.TheVariants.{AtScene, Leaving, AtHospital}
+use Rattle.room_types.specs.declared.codes.Status.TheVariants.{Returning, Offered}
 use Rattle.room_types.specs.declared.codes.Button.{Button}
 use Rattle.room_types.specs.declared.codes.Button.TheVariants as button
 use Rattle.room_types.specs.declared.codes.Outcome.{Outcome}

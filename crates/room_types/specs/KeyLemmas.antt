@@ -4,10 +4,12 @@ use Rattle.std.specs.declared.cmp.Ordering.TheVariants.{Less, Equal}
 use Rattle.std.specs.Cmp.{IsTotalOrder}
 use Rattle.std.specs.Ordering.{nat_cmp, ordering_then, ordering_reverse}
 use Rattle.std.proofs.lemmas.Cmp.{nat_cmp_total, nat_list_cmp_total, on_total, then_total}
-use Rattle.std.proofs.lemmas.Map.Lookups.{CmpEqualImpliesEq, exact_unsigned, exact_bytes, exact_pairs}
+use Rattle.std.proofs.lemmas.Map.Lookups.{CmpEqualImpliesEq, exact_unsigned, exact_bytes}
+use Rattle.std.proofs.lemmas.Map.Lookups.{exact_pairs}
 use Rattle.room_types.specs.Texts.{Callsign}
 use Rattle.room_types.specs.declared.answers.QueueEntry.{QueueEntry}
-use Rattle.room_types.specs.Keys.{callsign_cmp, pair_cmp, numbered_cmp, option_callsign_cmp, entry_cmp}
+use Rattle.room_types.specs.Keys.{callsign_cmp, pair_cmp, numbered_cmp, option_callsign_cmp}
+use Rattle.room_types.specs.Keys.{entry_cmp}
 
 pub callsigns_total : IsTotalOrder callsign_cmp
 callsigns_total = nat_list_cmp_total

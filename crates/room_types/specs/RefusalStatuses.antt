@@ -1,17 +1,30 @@
 -- How each refusal is given: by number, by status and by name.
 use Rattle.std.specs.Prelude.{ℕ, List, codes}
 use Rattle.room_types.specs.declared.refusal_statuses.Refusal.{Refusal}
-use Rattle.room_types.specs.declared.refusal_statuses.Refusal.TheVariants.{NoSuchIncident, IncidentNotOpen}
-use Rattle.room_types.specs.declared.refusal_statuses.Refusal.TheVariants.{NoSuchVehicle, VehicleLent, WrongStatus}
-use Rattle.room_types.specs.declared.refusal_statuses.Refusal.TheVariants.{ShiftOver, NotNeeded, BelowServed}
-use Rattle.room_types.specs.declared.refusal_statuses.Refusal.TheVariants.{StillAssigned, SameIncident, NoSuchPoint}
-use Rattle.room_types.specs.declared.refusal_statuses.Refusal.TheVariants.{NotHome, NoSuchDivision, NoSuchLoan}
-use Rattle.room_types.specs.declared.refusal_statuses.Refusal.TheVariants.{NoSuchException, OutsideArea, SerialReused}
-use Rattle.room_types.specs.declared.refusal_statuses.Refusal.TheVariants.{NumberReused, NumbersUsedUp, CallsignTaken}
-use Rattle.room_types.specs.declared.refusal_statuses.Refusal.TheVariants.{TokenTaken, NoSuchOffer, BadMessage}
-use Rattle.room_types.specs.declared.refusal_statuses.Refusal.TheVariants.{HeadTooLong, BodyTooLong, Expectation}
-use Rattle.room_types.specs.declared.refusal_statuses.Refusal.TheVariants.{Coding, NoPath, WrongMethod, NoTerminal}
-use Rattle.room_types.specs.declared.refusal_statuses.Refusal.TheVariants.{WrongRole, BadBody, Memory, Storage}
+use Rattle.room_types.specs.declared.refusal_statuses.Refusal.TheVariants.{NoSuchIncident}
+use Rattle.room_types.specs.declared.refusal_statuses.Refusal.TheVariants.{IncidentNotOpen}
+use Rattle.room_types.specs.declared.refusal_statuses.Refusal.TheVariants.{NoSuchVehicle}
+use Rattle.room_types.specs.declared.refusal_statuses.Refusal.TheVariants.{VehicleLent, WrongStatus}
+use Rattle.room_types.specs.declared.refusal_statuses.Refusal.TheVariants.{ShiftOver, NotNeeded}
+use Rattle.room_types.specs.declared.refusal_statuses.Refusal.TheVariants.{BelowServed}
+use Rattle.room_types.specs.declared.refusal_statuses.Refusal.TheVariants.{StillAssigned}
+use Rattle.room_types.specs.declared.refusal_statuses.Refusal.TheVariants.{SameIncident}
+use Rattle.room_types.specs.declared.refusal_statuses.Refusal.TheVariants.{NoSuchPoint, NotHome}
+use Rattle.room_types.specs.declared.refusal_statuses.Refusal.TheVariants.{NoSuchDivision}
+use Rattle.room_types.specs.declared.refusal_statuses.Refusal.TheVariants.{NoSuchLoan}
+use Rattle.room_types.specs.declared.refusal_statuses.Refusal.TheVariants.{NoSuchException}
+use Rattle.room_types.specs.declared.refusal_statuses.Refusal.TheVariants.{OutsideArea}
+use Rattle.room_types.specs.declared.refusal_statuses.Refusal.TheVariants.{SerialReused}
+use Rattle.room_types.specs.declared.refusal_statuses.Refusal.TheVariants.{NumberReused}
+use Rattle.room_types.specs.declared.refusal_statuses.Refusal.TheVariants.{NumbersUsedUp}
+use Rattle.room_types.specs.declared.refusal_statuses.Refusal.TheVariants.{CallsignTaken}
+use Rattle.room_types.specs.declared.refusal_statuses.Refusal.TheVariants.{TokenTaken, NoSuchOffer}
+use Rattle.room_types.specs.declared.refusal_statuses.Refusal.TheVariants.{BadMessage, HeadTooLong}
+use Rattle.room_types.specs.declared.refusal_statuses.Refusal.TheVariants.{BodyTooLong, Expectation}
+use Rattle.room_types.specs.declared.refusal_statuses.Refusal.TheVariants.{Coding, NoPath}
+use Rattle.room_types.specs.declared.refusal_statuses.Refusal.TheVariants.{WrongMethod, NoTerminal}
+use Rattle.room_types.specs.declared.refusal_statuses.Refusal.TheVariants.{WrongRole, BadBody}
+use Rattle.room_types.specs.declared.refusal_statuses.Refusal.TheVariants.{Memory, Storage}
 
 pub record RefusalParts : Type 0 where
   pub number : ℕ

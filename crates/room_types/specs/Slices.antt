@@ -1,13 +1,14 @@
 -- The rows of one division, and what they agree in.
-use Rattle.std.specs.Prelude.{◌≡◌, ℕ, ◌≤◌, Bool, true, false, cond, ◌==◌, ◌&&◌, nat_le, Option, Some, None, IfSome}
-use Rattle.std.specs.Prelude.{is_some, is_none}
+use Rattle.std.specs.Prelude.{◌≡◌, ℕ, ◌≤◌, Bool, true, false, cond, ◌==◌, ◌&&◌, nat_le, Option}
+use Rattle.std.specs.Prelude.{Some, None, IfSome, is_some, is_none}
 use Rattle.std.specs.List.{list_all}
 use Rattle.std.specs.Ordering.{nat_cmp}
 use Rattle.room_types.specs.Codes.{is_active}
 use Rattle.room_types.specs.KeyedRows.{row_at, keep}
-use Rattle.room_types.specs.Keys.{callsign_cmp, pair_cmp, numbered_cmp, division_key, incident_key, vehicle_key}
-use Rattle.room_types.specs.Keys.{turn_key, assignment_key, owns_division, owns_incident, owns_call, owns_vehicle}
-use Rattle.room_types.specs.Keys.{owns_turn, owns_assignment, owns_point, owns_loan, owns_offer, owns_report}
+use Rattle.room_types.specs.Keys.{callsign_cmp, pair_cmp, numbered_cmp, division_key, incident_key}
+use Rattle.room_types.specs.Keys.{vehicle_key, turn_key, assignment_key, owns_division}
+use Rattle.room_types.specs.Keys.{owns_incident, owns_call, owns_vehicle, owns_turn}
+use Rattle.room_types.specs.Keys.{owns_assignment, owns_point, owns_loan, owns_offer, owns_report}
 use Rattle.room_types.specs.Texts.{Callsign}
 use Rattle.room_types.specs.SentVehicles.{PartsAgree, parts_agree}
 use Rattle.room_types.specs.declared.slices.DivisionRows.{DivisionRows}

@@ -1,6 +1,6 @@
 -- Short texts as contracts see them, and how a text lies in a fixed array.
-use Rattle.std.proofs.Common.{◌≡◌, ℕ, ◌-◌, ◌≤◌, Bool, List, ◌++◌, length, take, drop, replicate, arith}
-use Rattle.std.proofs.Common.{take-append-drop, length-take-le, nat_le}
+use Rattle.std.proofs.Common.{◌≡◌, ℕ, ◌-◌, ◌≤◌, Bool, List, ◌++◌, length, take, drop, replicate}
+use Rattle.std.proofs.Common.{arith, take-append-drop, length-take-le, nat_le}
 use Rattle.std.specs.List.{list_all}
 use Rattle.std.specs.Prelude.{◌&&◌, ◌||◌, if◌then◌else◌, Option, Some, None}
 use Rattle.std.specs.Cmp.Lexicographic.{slice_cmp}

@@ -1,7 +1,10 @@
 //! What a vehicle is and does, what its crew presses, what becomes of reports and incidents, and
 //! the numbers and names by which these are stored and sent.
 ghost use Rattle.std.specs.Prelude.{◌≡◌};
-ghost use Rattle.room_types.specs.Codes.{Decodes, kind_number, status_number, is_free, is_busy, is_off, is_mobilised, button_number, button_name, outcome_number, outcome_name, state_number, merged_into, state_columns, is_active};
+ghost use Rattle.room_types.specs.Codes.{Decodes, kind_number, status_number, is_free, is_busy};
+ghost use Rattle.room_types.specs.Codes.{is_off, is_mobilised, button_number, button_name};
+ghost use Rattle.room_types.specs.Codes.{outcome_number, outcome_name, state_number, merged_into};
+ghost use Rattle.room_types.specs.Codes.{state_columns, is_active};
 
 use crate::numbers::Number;
 

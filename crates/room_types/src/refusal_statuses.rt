@@ -1,6 +1,7 @@
 //! Why a request is refused, and how a refusal is given: by number, by status and by name.
 ghost use Rattle.std.specs.Prelude.{◌≡◌, Some};
-ghost use Rattle.room_types.specs.RefusalStatuses.{refusal_number, refusal_status, refusal_name, refusal_parts};
+ghost use Rattle.room_types.specs.RefusalStatuses.{refusal_number, refusal_status, refusal_name};
+ghost use Rattle.room_types.specs.RefusalStatuses.{refusal_parts};
 ghost use Rattle.room_types.specs.declared.refusal_statuses.Refusal.TheVariants.{Memory};
 
 use std::alloc::{AllocError, AllocFailed};

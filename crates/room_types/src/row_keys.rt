@@ -1,7 +1,13 @@
 //! By which key each row is kept, and which divisions own it.
 ghost use Rattle.std.specs.Prelude.{◌≡◌, true};
-ghost use Rattle.room_types.specs.Keys.{is_party, division_key, incident_key, call_key, vehicle_key, turn_key, assignment_key, point_key, loan_key, offer_key, report_key, entry_key, owns_division, owns_incident, owns_call, owns_vehicle, owns_turn, owns_assignment, owns_point, owns_loan, owns_offer, owns_report};
-ghost use Rattle.room_types.specs.KeyLemmas.{exact_callsigns, exact_pair, exact_numbered, exact_number, exact_entries};
+ghost use Rattle.room_types.specs.Keys.{is_party, division_key, incident_key, call_key};
+ghost use Rattle.room_types.specs.Keys.{vehicle_key, turn_key, assignment_key, point_key, loan_key};
+ghost use Rattle.room_types.specs.Keys.{offer_key, report_key, entry_key, owns_division};
+ghost use Rattle.room_types.specs.Keys.{owns_incident, owns_call, owns_vehicle, owns_turn};
+ghost use Rattle.room_types.specs.Keys.{owns_assignment, owns_point, owns_loan, owns_offer};
+ghost use Rattle.room_types.specs.Keys.{owns_report};
+ghost use Rattle.room_types.specs.KeyLemmas.{exact_callsigns, exact_pair, exact_numbered};
+ghost use Rattle.room_types.specs.KeyLemmas.{exact_number, exact_entries};
 
 use crate::answers::QueueEntry;
 use crate::callsign::Callsign;

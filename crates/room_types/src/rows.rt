@@ -1,10 +1,12 @@
 //! Rows by key: what a row is, a table of rows in key order, and a part of one.
-ghost use Rattle.std.specs.Prelude.{◌≡◌, ℕ, Bool, false, List, [], length, IsTrue, ◌↔◌, IfOk, IfErr, OnOk, OnErr, filter, option_copied, None, if◌then◌else◌};
+ghost use Rattle.std.specs.Prelude.{◌≡◌, ℕ, Bool, false, List, [], length, IsTrue, ◌↔◌, IfOk};
+ghost use Rattle.std.specs.Prelude.{IfErr, OnOk, OnErr, filter, option_copied, None, if◌then◌else◌};
 ghost use Rattle.std.specs.Iterator.Adapters.{IterYieldsInOrder};
 ghost use Rattle.std.specs.Slice.Iter.{iter_rest};
 ghost use Rattle.std.specs.Cow.{cow_slice_items};
 ghost use Rattle.std.specs.declared.cmp.Ordering.TheVariants.{Equal};
-ghost use Rattle.room_types.specs.KeyedRows.{IsKeyed, row_at, put_row, drop_row, keep, listed, IsAt, IsGapFor};
+ghost use Rattle.room_types.specs.KeyedRows.{IsKeyed, row_at, put_row, drop_row, keep, listed};
+ghost use Rattle.room_types.specs.KeyedRows.{IsAt, IsGapFor};
 ghost use Rattle.room_types.specs.declared.refusal_statuses.Refusal.TheVariants.{Memory};
 
 use crate::refusal_statuses::Refusal;

@@ -1,6 +1,7 @@
 //! What a vehicle's status, its assignment and its open turn agree in.
 ghost use Rattle.std.specs.Prelude.{◌≡◌, option_copied};
-ghost use Rattle.room_types.specs.SentVehicles.{is_assigned, is_ordered, is_sent, order_agrees, parts_agree};
+ghost use Rattle.room_types.specs.SentVehicles.{is_assigned, is_ordered, is_sent, order_agrees};
+ghost use Rattle.room_types.specs.SentVehicles.{parts_agree};
 
 use crate::tables::{Assignment, Turn, Vehicle};
 

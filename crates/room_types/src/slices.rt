@@ -4,8 +4,10 @@
 ghost use Rattle.std.specs.Prelude.{◌≡◌, true, option_copied};
 ghost use Rattle.std.specs.List.{list_all};
 ghost use Rattle.room_types.specs.KeyedRows.{IsKeyed};
-ghost use Rattle.room_types.specs.Keys.{callsign_cmp, numbered_cmp, vehicle_key, assignment_key, turn_key};
-ghost use Rattle.room_types.specs.Slices.{is_share, are_owned, vehicle_agrees, assignment_agrees, turn_agrees, open_turn};
+ghost use Rattle.room_types.specs.Keys.{callsign_cmp, numbered_cmp, vehicle_key, assignment_key};
+ghost use Rattle.room_types.specs.Keys.{turn_key};
+ghost use Rattle.room_types.specs.Slices.{is_share, are_owned, vehicle_agrees, assignment_agrees};
+ghost use Rattle.room_types.specs.Slices.{turn_agrees, open_turn};
 
 use crate::numbers::Number;
 use crate::rows::{Part, Row, Rows};

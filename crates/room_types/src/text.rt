@@ -1,8 +1,10 @@
 //! Short texts that lie in the value itself.
-ghost use Rattle.std.specs.Prelude.{◌≡◌, ℕ, ◌-◌, ◌≤◌, ◌++◌, Some, IsUtf8, length, drop, replicate, refl};
+ghost use Rattle.std.specs.Prelude.{◌≡◌, ℕ, ◌-◌, ◌≤◌, ◌++◌, Some, IsUtf8, length, drop, replicate};
+ghost use Rattle.std.specs.Prelude.{refl};
 ghost use Rattle.std.specs.Option.{SomeIff};
 ghost use Rattle.std.specs.Ordering.{nat_cmp, eq_by_cmp};
-ghost use Rattle.std.specs.Cmp.{partial_equiv_from_equiv, partial_order_from_total, eq_by_cmp_equiv};
+ghost use Rattle.std.specs.Cmp.{partial_equiv_from_equiv, partial_order_from_total};
+ghost use Rattle.std.specs.Cmp.{eq_by_cmp_equiv};
 ghost use Rattle.std.specs.Cmp.Lexicographic.{slice_cmp, nat_list_cmp_total};
 
 use std::cmp::Ordering;
@@ -17,7 +19,8 @@ pub struct Text<const CAP: usize> {
 }
 
 impl<const CAP: usize> Model for Text<CAP> {
-    ghost use Rattle.std.specs.Prelude.{List, ℕ, ◌≡◌, ◌-◌, ◌≤◌, ◌++◌, length, take, drop, replicate, IsUtf8};
+    ghost use Rattle.std.specs.Prelude.{List, ℕ, ◌≡◌, ◌-◌, ◌≤◌, ◌++◌, length, take, drop};
+    ghost use Rattle.std.specs.Prelude.{replicate, IsUtf8};
     ghost use Rattle.room_types.specs.Texts.{text_back, size_back};
 
     ghost Value = { List ℕ };

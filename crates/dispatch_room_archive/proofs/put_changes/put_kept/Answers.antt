@@ -1,5 +1,5 @@
-use Rattle.std.proofs.Common.{[], ap, arith, filter, get_or, length, map, not, subst, sym, ◌++◌, ◌<◌, ◌∙◌, ◌∷◌, ◌≡◌}
-use Rattle.std.proofs.Common.{◌≤◌}
+use Rattle.std.proofs.Common.{[], ap, arith, filter, get_or, length, map, not, subst, sym, ◌++◌}
+use Rattle.std.proofs.Common.{◌<◌, ◌∙◌, ◌∷◌, ◌≡◌, ◌≤◌}
 use Rattle.std.proofs.lemmas.List.{take_all}
 use Rattle.room_model.specs.RoomSlices.{room_of}
 use Rattle.dispatch_room_archive.proofs.PutLaws.{leave_one, put_kept_one}

@@ -1,8 +1,9 @@
 use Rattle.std.proofs.Common.{List, ap, filter, map, not, ◌++◌, ◌∙◌}
 use Rattle.room_types.specs.declared.changes.Change.{Change}
-use Rattle.room_types.specs.declared.changes.Change.TheVariants.{PutAssignment, PutCall, PutDivision, PutIncident}
-use Rattle.room_types.specs.declared.changes.Change.TheVariants.{PutLoan, PutOffer, PutPoint, PutReport, PutTurn}
-use Rattle.room_types.specs.declared.changes.Change.TheVariants.{PutVehicle}
+use Rattle.room_types.specs.declared.changes.Change.TheVariants.{PutAssignment, PutCall}
+use Rattle.room_types.specs.declared.changes.Change.TheVariants.{PutDivision, PutIncident, PutLoan}
+use Rattle.room_types.specs.declared.changes.Change.TheVariants.{PutOffer, PutPoint, PutReport}
+use Rattle.room_types.specs.declared.changes.Change.TheVariants.{PutTurn, PutVehicle}
 use Rattle.room_model.specs.Room.{Room}
 use Rattle.room_model.specs.RoomSlices.{room_of}
 use Rattle.dispatch_room_archive.specs.Successor.{is_over}

@@ -4,16 +4,21 @@ use Rattle.dispatch_room_changes.proofs.terminals.give_token.Goals as goal
 
 pub returns-in_err-token-clause-undone : goal.returns-in_err-token-clause-undone
 returns-in_err-token-clause-undone g c =
-    handed_on c.from_residual.result _ c.from_residual.ensures.1 (λ fault is. inl (refl, rw is c.in_err-token.ensures))
+    handed_on c.from_residual.result _ c.from_residual.ensures.1 (λ fault is. inl (refl, refl, rw is c.in_err-token.ensures.none))
 
 pub returns-in_err-reissue-clause-undone : goal.returns-in_err-reissue-clause-undone
 returns-in_err-reissue-clause-undone g c =
     handed_on c.from_residual-in_err-reissue.result _ c.from_residual-in_err-reissue.ensures.1
-    (λ fault is. rw is c.in_err-reissue.ensures.undone)
+    (λ fault is. inr (
+      Some c.in_ok-token.token,
+      (refl, c.in_ok-token.ensures.random),
+      rw is c.in_err-reissue.ensures.undone,
+    ))
 
 pub returns-in-Ok-clause-done : goal.returns-in-Ok-clause-done
 returns-in-Ok-clause-done g c = (
   c.in_ok-token.token,
+  c.in_ok-token.ensures.random,
   record {
     between = _;
     is = c.in_ok-reissue.ensures.done;
@@ -23,4 +28,9 @@ returns-in-Ok-clause-done g c = (
 )
 
 pub returns-in-Err-clause-undone : goal.returns-in-Err-clause-undone
-returns-in-Err-clause-undone g c = inr (Some c.in_ok-token.token, refl, inr (refl, (_, c.in_ok-reissue.ensures.done)))
+returns-in-Err-clause-undone g c =
+    inr (
+      Some c.in_ok-token.token,
+      (refl, c.in_ok-token.ensures.random),
+      inr (inr (refl, (_, c.in_ok-reissue.ensures.done))),
+    )

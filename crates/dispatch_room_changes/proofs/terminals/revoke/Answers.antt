@@ -1,4 +1,4 @@
-use Rattle.std.proofs.Common.{None, Some, false, sym, true, ◌≡◌, ◌∙◌}
+use Rattle.std.proofs.Common.{None, Some, inr, sym, true, ◌≡◌, ◌∙◌}
 use Rattle.std.proofs.lemmas.Result.{IfErr-weaker, IfOk-weaker}
 use Rattle.dispatch_room_changes.specs.DoneChanges.{is_a_crew}
 use Rattle.dispatch_room_changes.proofs.terminals.revoke.Goals as goal
@@ -6,7 +6,7 @@ use Rattle.dispatch_room_changes.proofs.terminals.revoke.Goals as goal
 pub returns-then-is_a_crew-clause-done : goal.returns-then-is_a_crew-clause-done
 returns-then-is_a_crew-clause-done g c =
     IfOk-weaker c.revoke_crew.result _ _
-    (λ done is. (Some is.0, sym (sym c.is_a_crew.ensures ∙ c.if-is_a_crew.true), is.1))
+    (λ done is. (Some is.0, (sym (sym c.is_a_crew.ensures ∙ c.if-is_a_crew.true), is.1), is.2))
     c.revoke_crew.ensures.done
 
 pub returns-then-is_a_crew-clause-undone : goal.returns-then-is_a_crew-clause-undone
@@ -16,10 +16,12 @@ returns-then-is_a_crew-clause-undone g c =
 
 pub returns-clause-done : goal.returns-clause-done
 returns-clause-done g c =
-    IfOk-weaker c.revoke_by.result _ _ (λ done is. (None, sym (sym c.is_a_crew.ensures ∙ c.if-is_a_crew.false), is))
+    IfOk-weaker c.revoke_by.result _ _
+    (λ done is. (None, (sym (sym c.is_a_crew.ensures ∙ c.if-is_a_crew.false), tt), is))
     c.revoke_by.ensures.done
 
 pub returns-clause-undone : goal.returns-clause-undone
 returns-clause-undone g c =
-    let none : is_a_crew c.args.who ≡ false = sym c.is_a_crew.ensures ∙ c.if-is_a_crew.false in
-    rw none c.revoke_by.ensures.undone
+    IfErr-weaker c.revoke_by.result _ _
+    (λ fault is. inr (None, (sym (sym c.is_a_crew.ensures ∙ c.if-is_a_crew.false), tt), is))
+    c.revoke_by.ensures.undone

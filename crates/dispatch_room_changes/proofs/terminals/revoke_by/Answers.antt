@@ -11,4 +11,4 @@ returns-in-Ok-clause-done g c =
     record { between = _; is = c.in_ok-reissue.ensures.done; printed = c.in-Ok.ensures.bytes; whole = refl }
 
 pub returns-in-Err-clause-undone : goal.returns-in-Err-clause-undone
-returns-in-Err-clause-undone g c = inr (c.args.change.token, refl, inr (refl, (_, c.in_ok-reissue.ensures.done)))
+returns-in-Err-clause-undone g c = inr (inr (refl, (_, c.in_ok-reissue.ensures.done)))

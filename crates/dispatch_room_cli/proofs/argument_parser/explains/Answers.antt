@@ -2,8 +2,8 @@ use Rattle.std.proofs.Common.{List, Some, ap, arith, codes, length, map, sym, â„
 use Rattle.std.specs.Prelude.{slice_get}
 use Rattle.std.specs.String.{string_bytes}
 use Rattle.std.proofs.lemmas.List.{length-map}
-use Rattle.dispatch_room_cli.proofs.ExplainLemmas.{ended, found, is_other, is_same, neither_first, neither_more}
-use Rattle.dispatch_room_cli.proofs.ExplainLemmas.{unfound, word_at}
+use Rattle.dispatch_room_cli.proofs.ExplainLemmas.{ended, found, is_other, is_same, neither_first}
+use Rattle.dispatch_room_cli.proofs.ExplainLemmas.{neither_more, unfound, word_at}
 use Rattle.dispatch_room_cli.proofs.argument_parser.explains.Goals as goal
 
 pub loop-word-init : goal.loop-word-init

@@ -1,5 +1,6 @@
 use Rattle.std.proofs.Common.{arith, codes}
-use Rattle.dispatch_room_cli.proofs.TerminalNameLemmas.{no_desk, no_position, out_of_range, stripped}
+use Rattle.dispatch_room_cli.proofs.TerminalNameLemmas.{no_desk, no_position, out_of_range}
+use Rattle.dispatch_room_cli.proofs.TerminalNameLemmas.{stripped}
 use Rattle.dispatch_room_cli.proofs.who.who_of.Goals as goal
 
 pub returns-in_err-new : goal.returns-in_err-new

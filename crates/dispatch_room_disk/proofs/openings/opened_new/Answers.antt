@@ -5,7 +5,8 @@ use Rattle.dispatch_room_disk.proofs.openings.opened_new.Goals as goal
 
 pub returns-in_err-make-clause-done : goal.returns-in_err-make-clause-done
 returns-in_err-make-clause-done g c =
-    fails (made c.args.path.now ∷ []) _ _ _ c.from_residual.result _ c.from_residual.ensures.1 c.in_err-make.ensures.done
+    fails (made c.args.path.now ∷ []) _ _ _ c.from_residual.result _ c.from_residual.ensures.1
+    c.in_err-make.ensures.done
 
 pub returns-in_err-begin-clause-done : goal.returns-in_err-begin-clause-done
 returns-in_err-begin-clause-done g c =

@@ -14,7 +14,8 @@ pub returns-in_err-held-clause-done : goal.returns-in_err-held-clause-done
 returns-in_err-held-clause-done g c = (
   false,
   then (distinguished c.args.copy.now c.args.path.now ∷ []) _ _ _ _ _ c.in_ok-distinguish.ensures.done
-      (fails (held c.args.path.now ∷ []) _ _ _ c.from_residual-in_err-held.result _ c.from_residual-in_err-held.ensures.1
+      (fails (held c.args.path.now ∷ []) _ _ _ c.from_residual-in_err-held.result _
+      c.from_residual-in_err-held.ensures.1
       c.in_err-held.ensures.done),
 )
 
@@ -25,5 +26,6 @@ returns-clause-done g c =
       put.0,
       then (distinguished c.args.copy.now c.args.path.now ∷ []) _ _ _ _ _ c.in_ok-distinguish.ensures.done
           (then (held c.args.path.now ∷ []) _ _ _ _ _ c.in_ok-held.ensures.done
-          (reported (putting c.args.copy.now c.args.path.now put.0) _ _ c.put_copy-put.result _ _ said.done said.fault put.1)),
+          (reported (putting c.args.copy.now c.args.path.now put.0) _ _ c.put_copy-put.result _ _ said.done said.fault
+          put.1)),
     )

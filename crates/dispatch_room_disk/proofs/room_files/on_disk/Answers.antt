@@ -1,9 +1,11 @@
-use Rattle.std.proofs.Common.{Err, IfErr, IfOk, IsOk, List, Ok, OnOk, Option, Result, inl, inr, subst, ℕ, ◌≡◌, ◌⊎◌}
+use Rattle.std.proofs.Common.{Err, IfErr, IfOk, IsOk, List, Ok, OnOk, Option, Result, inl, inr}
+use Rattle.std.proofs.Common.{subst, ℕ, ◌≡◌, ◌⊎◌}
 use Rattle.sqlite.specs.Files.{over_files}
 use Rattle.sqlite.specs.Held.{Held}
 use Rattle.sqlite_disk.specs.declared.Disk.{Ghosts}
 use Rattle.sqlite_store.specs.declared.store.FileStore.{FileStore}
-use Rattle.dispatch_room_disk.specs.RoomFiles.{IsCopiedOut, IsDone, IsUnclosed, IsUndone, Refusing, Saying}
+use Rattle.dispatch_room_disk.specs.RoomFiles.{IsCopiedOut, IsDone, IsUnclosed, IsUndone, Refusing}
+use Rattle.dispatch_room_disk.specs.RoomFiles.{Saying}
 use Rattle.dispatch_room_cli.specs.declared.exit_status.Failure.{Failure}
 use Rattle.dispatch_room_disk.proofs.room_files.on_disk.Goals as goal
 

@@ -1,5 +1,6 @@
 use Rattle.std.proofs.Common.{refl}
-use Rattle.dispatch_room_dry_run.proofs.ExampleLemmas.{place_of_a1, place_of_a2, place_of_a3, place_of_b1, place_of_c1}
+use Rattle.dispatch_room_dry_run.proofs.ExampleLemmas.{place_of_a1, place_of_a2, place_of_a3}
+use Rattle.dispatch_room_dry_run.proofs.ExampleLemmas.{place_of_b1, place_of_c1}
 use Rattle.dispatch_room_dry_run.proofs.example.fleet.Goals as goal
 
 pub returns : goal.returns

@@ -1,4 +1,5 @@
-use Rattle.std.proofs.Common.{◌≡◌, ◌∙◌, ap, subst, rules, ℕ, List, [], ◌∷◌, ◌++◌, codes, decimal, length}
+use Rattle.std.proofs.Common.{◌≡◌, ◌∙◌, ap, subst, rules, ℕ, List, [], ◌∷◌, ◌++◌, codes, decimal}
+use Rattle.std.proofs.Common.{length}
 use Rattle.room_http_messages.specs.Streams.{WritesAll}
 use Rattle.dispatch_room_journal.specs.AnswerFrames.{frame_line}
 use Rattle.dispatch_room_journal.specs.JournalRecords.{status_in}

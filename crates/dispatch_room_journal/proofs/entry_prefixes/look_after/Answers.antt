@@ -1,7 +1,8 @@
 use Rattle.std.proofs.Common.{◌∙◌, ap, subst, refl, ◌++◌, ◌∷◌}
 use Rattle.dispatch_room_journal.specs.declared.entry_lines.EntryLine.{EntryLine}
 use Rattle.dispatch_room_journal.specs.Entries.{IsLine, line_text}
-use Rattle.dispatch_room_journal.proofs.EntryLemmas.{whole_line, whole_message, part_of_message, foreign_message}
+use Rattle.dispatch_room_journal.proofs.EntryLemmas.{whole_line, whole_message, part_of_message}
+use Rattle.dispatch_room_journal.proofs.EntryLemmas.{foreign_message}
 use Rattle.dispatch_room_journal.proofs.entry_prefixes.look_after.Goals as goal
 
 pub returns-in_default : goal.returns-in_default

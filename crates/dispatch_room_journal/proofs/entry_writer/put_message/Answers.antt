@@ -1,7 +1,8 @@
 use Rattle.std.proofs.Common.{[], ◌∷◌, ◌++◌, length}
 use Rattle.std.proofs.lemmas.Result.{err_from_is_err_and}
 use Rattle.dispatch_room_journal.specs.declared.entry_lines.EntryLine.TheVariants.{Message}
-use Rattle.dispatch_room_journal.proofs.WritingLemmas.{WritesAll-more, WritesAll-cut, line-cut, line-more}
+use Rattle.dispatch_room_journal.proofs.WritingLemmas.{WritesAll-more, WritesAll-cut, line-cut}
+use Rattle.dispatch_room_journal.proofs.WritingLemmas.{line-more}
 use Rattle.dispatch_room_journal.proofs.entry_writer.put_message.Goals as goal
 
 pub returns-in_err-put_line : goal.returns-in_err-put_line

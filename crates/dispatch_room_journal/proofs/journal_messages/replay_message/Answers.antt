@@ -5,8 +5,8 @@ use Rattle.dispatch_room_journal.specs.Entries.{message}
 use Rattle.dispatch_room_journal.specs.declared.replay_faults.ReplayFault.TheVariants.{Unavailable}
 use Rattle.dispatch_room_journal.proofs.FaultLemmas.{unless_known, read_due}
 use Rattle.dispatch_room_journal.proofs.NextEntryLemmas.{taken, at_end, no_status_end, head_end}
-use Rattle.dispatch_room_journal.proofs.StepLemmas.{left_turn, refused_stops, unread_stops, copied, settled_played}
-use Rattle.dispatch_room_journal.proofs.StepLemmas.{settled_left, settled_fault}
+use Rattle.dispatch_room_journal.proofs.StepLemmas.{left_turn, refused_stops, unread_stops, copied}
+use Rattle.dispatch_room_journal.proofs.StepLemmas.{settled_played, settled_left, settled_fault}
 use Rattle.dispatch_room_journal.specs.Replays.{digits_of}
 use Rattle.dispatch_room_journal.specs.ReplaySteps.{IsAt}
 use Rattle.dispatch_room_journal.proofs.journal_messages.replay_message.Goals as goal

@@ -1,7 +1,8 @@
 use Rattle.std.proofs.Common.{◌≡◌, ◌∙◌, ap, sym, arith, decimal, not}
 use Rattle.std.proofs.lemmas.Bool.{false≢true}
 use Rattle.std.proofs.lemmas.Slice.Eq.{bytes_eq-Decides}
-use Rattle.dispatch_room_journal.proofs.NumberLemmas.{digits_are_text, digits_are_some, digits_are_one}
+use Rattle.dispatch_room_journal.proofs.NumberLemmas.{digits_are_text, digits_are_some}
+use Rattle.dispatch_room_journal.proofs.NumberLemmas.{digits_are_one}
 use Rattle.dispatch_room_journal.proofs.journal_numbers.number.Goals.{then-number-least-via-then-number-least}
 use Rattle.dispatch_room_journal.proofs.journal_numbers.number.Goals.{then-number-least-via-else-number-least+then-greatest-number}
 use Rattle.dispatch_room_journal.proofs.journal_numbers.number.Goals as goal

@@ -1,7 +1,8 @@
 use Rattle.std.proofs.Common.{codes, decimal, Some, None}
 use Rattle.std.proofs.lemmas.Bool.Decides.{Decides-eqb}
 use Rattle.std.proofs.lemmas.Slice.Eq.{strip_prefix_is}
-use Rattle.dispatch_room_journal.specs.declared.entry_lines.TheConstants.{LEAST_STATUS, GREATEST_STATUS}
+use Rattle.dispatch_room_journal.specs.declared.entry_lines.TheConstants.{LEAST_STATUS}
+use Rattle.dispatch_room_journal.specs.declared.entry_lines.TheConstants.{GREATEST_STATUS}
 use Rattle.dispatch_room_journal.specs.TextParts.{IsNumber}
 use Rattle.dispatch_room_journal.proofs.PartLemmas.{word_some, word_none, least_status}
 use Rattle.dispatch_room_journal.proofs.line_prefixes.begins_answer.Goals as goal

@@ -2,10 +2,12 @@ use Rattle.std.proofs.Common.{◌⊎◌, inl, inr, IsTrue, codes}
 use Rattle.std.proofs.lemmas.Bool.{false≢true}
 use Rattle.room_model.specs.declared.digests.Version.{Version}
 use Rattle.room_model.specs.declared.digests.Version.TheVariants.{First, Second}
-use Rattle.dispatch_room_journal.specs.declared.entry_lines.TheConstants.{LEAST_STATUS, GREATEST_STATUS}
+use Rattle.dispatch_room_journal.specs.declared.entry_lines.TheConstants.{LEAST_STATUS}
+use Rattle.dispatch_room_journal.specs.declared.entry_lines.TheConstants.{GREATEST_STATUS}
 use Rattle.dispatch_room_journal.specs.Entries.{IsDigest, head_words}
 use Rattle.dispatch_room_journal.specs.TextParts.{BeginsOne, After, AreNumbers, IsNumber}
-use Rattle.dispatch_room_journal.proofs.PartLemmas.{line_of_room, line_of_message, line_of_answer, line_cases}
+use Rattle.dispatch_room_journal.proofs.PartLemmas.{line_of_room, line_of_message, line_of_answer}
+use Rattle.dispatch_room_journal.proofs.PartLemmas.{line_cases}
 use Rattle.dispatch_room_journal.proofs.line_prefixes.begins_line.Goals as goal
 
 pub returns-then-begins_room : goal.returns-then-begins_room

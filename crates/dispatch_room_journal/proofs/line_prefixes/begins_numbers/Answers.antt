@@ -1,6 +1,7 @@
 use Rattle.std.proofs.Common.{sym, ◌∙◌}
 use Rattle.std.proofs.lemmas.Bool.{false≢true}
-use Rattle.dispatch_room_journal.proofs.PartLemmas.{moment_part, moment_begun, numbers_some, numbers_none}
+use Rattle.dispatch_room_journal.proofs.PartLemmas.{moment_part, moment_begun, numbers_some}
+use Rattle.dispatch_room_journal.proofs.PartLemmas.{numbers_none}
 use Rattle.dispatch_room_journal.proofs.line_prefixes.begins_numbers.Goals as goal
 
 pub returns-then-is_some : goal.returns-then-is_some

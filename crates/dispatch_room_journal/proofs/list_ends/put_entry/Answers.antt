@@ -1,6 +1,6 @@
 use Rattle.std.proofs.Common.{sym}
-use Rattle.dispatch_room_journal.proofs.PlainLemmas.{entry_comes, entry_put, failed_put, never_end, plain_put}
-use Rattle.dispatch_room_journal.proofs.PlainLemmas.{shown_entry}
+use Rattle.dispatch_room_journal.proofs.PlainLemmas.{entry_comes, entry_put, failed_put, never_end}
+use Rattle.dispatch_room_journal.proofs.PlainLemmas.{plain_put, shown_entry}
 use Rattle.dispatch_room_journal.proofs.list_ends.put_entry.Goals as goal
 
 pub returns-in-Plain-clause-put : goal.returns-in-Plain-clause-put

@@ -1,11 +1,12 @@
 use Rattle.std.proofs.Common.{refl, [], drop, inl, None}
 use Rattle.dispatch_room_journal.specs.Entries.{room, answer}
 use Rattle.dispatch_room_journal.specs.ReplayFaults.{broken, unasked, headless}
-use Rattle.dispatch_room_journal.proofs.FaultLemmas.{unless_known, not_both, read_explains, read_due}
-use Rattle.dispatch_room_journal.proofs.FaultLemmas.{unavailable_explains}
+use Rattle.dispatch_room_journal.proofs.FaultLemmas.{unless_known, not_both, read_explains}
+use Rattle.dispatch_room_journal.proofs.FaultLemmas.{read_due, unavailable_explains}
 use Rattle.dispatch_room_journal.proofs.FaultLemmas.{unavailable_due}
-use Rattle.dispatch_room_journal.proofs.NextEntryLemmas.{layout_of_room, layout_of_message, layout_of_mark, taken}
-use Rattle.dispatch_room_journal.proofs.NextEntryLemmas.{by_not_after, ends_before}
+use Rattle.dispatch_room_journal.proofs.NextEntryLemmas.{layout_of_room, layout_of_message}
+use Rattle.dispatch_room_journal.proofs.NextEntryLemmas.{layout_of_mark, taken, by_not_after}
+use Rattle.dispatch_room_journal.proofs.NextEntryLemmas.{ends_before}
 use Rattle.dispatch_room_journal.proofs.next_entry.next_entry.Goals as goal
 
 pub returns-in-Ok-true-clause-next : goal.returns-in-Ok-true-clause-next

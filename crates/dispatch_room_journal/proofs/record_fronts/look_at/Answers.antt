@@ -1,7 +1,8 @@
 use Rattle.std.proofs.Common.{sym, ap, ◌∙◌, ◌++◌, arith, length-append}
 use Rattle.dispatch_room_journal.specs.Chains.{sha256_digits}
 use Rattle.dispatch_room_journal.specs.RecordFronts.{front_of, number_in, sized_front}
-use Rattle.dispatch_room_journal.proofs.FrontLemmas.{front_short, front_sized, number_stays, stays_by}
+use Rattle.dispatch_room_journal.proofs.FrontLemmas.{front_short, front_sized, number_stays}
+use Rattle.dispatch_room_journal.proofs.FrontLemmas.{stays_by}
 use Rattle.dispatch_room_journal.proofs.record_fronts.look_at.Goals as goal
 
 pub returns-then-bytes-lt1 : goal.returns-then-bytes-lt1

@@ -2,7 +2,8 @@ use Rattle.std.proofs.Common.{◌≡◌, ℕ, ◌+◌, ◌≤◌, List, sym, ◌
 use Rattle.dispatch_room_journal.specs.declared.record_headers.TheConstants.{HEADER}
 use Rattle.dispatch_room_journal.specs.Chains.{sha256_digits, next_check}
 use Rattle.dispatch_room_journal.specs.RecordFronts.{body_in, sized_front, whole_front}
-use Rattle.dispatch_room_journal.proofs.FrontLemmas.{sized_none, sized_wrong, sized_short, sized_whole, stays_by}
+use Rattle.dispatch_room_journal.proofs.FrontLemmas.{sized_none, sized_wrong, sized_short}
+use Rattle.dispatch_room_journal.proofs.FrontLemmas.{sized_whole, stays_by}
 use Rattle.dispatch_room_journal.proofs.record_fronts.sized_front.Goals as goal
 
 pub returns-then-size-lt1 : goal.returns-then-size-lt1

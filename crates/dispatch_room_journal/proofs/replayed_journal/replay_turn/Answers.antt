@@ -1,9 +1,11 @@
 use Rattle.std.proofs.Common.{Ok, ap, refl, [], ◌∷◌, true}
-use Rattle.dispatch_room_journal.specs.declared.journal_messages.MessageOutcome.TheVariants.{Played, LeftOut, Last}
+use Rattle.dispatch_room_journal.specs.declared.journal_messages.MessageOutcome.TheVariants.{Played}
+use Rattle.dispatch_room_journal.specs.declared.journal_messages.MessageOutcome.TheVariants.{LeftOut}
+use Rattle.dispatch_room_journal.specs.declared.journal_messages.MessageOutcome.TheVariants.{Last}
 use Rattle.dispatch_room_journal.specs.ReplayedTurns.{compared, IsReplayed}
 use Rattle.dispatch_room_journal.proofs.FaultLemmas.{unless_after}
-use Rattle.dispatch_room_journal.proofs.TurnLemmas.{no_progress, passes_none, next_stops, head_turn, takes_message}
-use Rattle.dispatch_room_journal.proofs.TurnLemmas.{stops_message}
+use Rattle.dispatch_room_journal.proofs.TurnLemmas.{no_progress, passes_none, next_stops, head_turn}
+use Rattle.dispatch_room_journal.proofs.TurnLemmas.{takes_message, stops_message}
 use Rattle.dispatch_room_journal.specs.Replays.{digits_of}
 use Rattle.dispatch_room_journal.proofs.replayed_journal.replay_turn.Goals as goal
 

@@ -1,10 +1,12 @@
-use Rattle.std.proofs.Common.{Ok, ◌∙◌, refl, ap, arith, ◌+◌, ◌-◌, ◌^◌, min, [], ◌++◌, length-append, true}
+use Rattle.std.proofs.Common.{Ok, ◌∙◌, refl, ap, arith, ◌+◌, ◌-◌, ◌^◌, min, [], ◌++◌, length-append}
+use Rattle.std.proofs.Common.{true}
 use Rattle.room_http.proofs.StreamLemmas.{Keeps-prepend}
 use Rattle.dispatch_room_journal.specs.declared.replay_faults.ReplayFault.TheVariants.{Bad}
 use Rattle.dispatch_room_journal.specs.declared.replay_progress.Progress.{Progress}
 use Rattle.dispatch_room_journal.specs.ReplayedTurns.{IsReplayed}
 use Rattle.dispatch_room_journal.proofs.FaultLemmas.{unless_after, stopped_kept}
-use Rattle.dispatch_room_journal.proofs.TurnLemmas.{new_progress, passes_none, passes_more, ended, stopped, exhausted}
+use Rattle.dispatch_room_journal.proofs.TurnLemmas.{new_progress, passes_none, passes_more, ended}
+use Rattle.dispatch_room_journal.proofs.TurnLemmas.{stopped, exhausted}
 use Rattle.dispatch_room_journal.specs.Replays.{digits_of}
 use Rattle.dispatch_room_journal.proofs.replayed_journal.replay_turns.Goals as goal
 

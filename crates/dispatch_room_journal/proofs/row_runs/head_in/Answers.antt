@@ -1,6 +1,7 @@
 use Rattle.std.proofs.Common.{◌∙◌, sym}
 use Rattle.std.proofs.lemmas.Bool.{false≢true}
-use Rattle.dispatch_room_journal.proofs.EntryRecordLemmas.{foreign_head, is_head, longer_head, other_head, part_head}
+use Rattle.dispatch_room_journal.proofs.EntryRecordLemmas.{foreign_head, is_head, longer_head}
+use Rattle.dispatch_room_journal.proofs.EntryRecordLemmas.{other_head, part_head}
 use Rattle.dispatch_room_journal.proofs.row_runs.head_in.Goals as goal
 
 pub returns-then-not-ends_with : goal.returns-then-not-ends_with

@@ -2,8 +2,9 @@ use Rattle.std.proofs.Common.{◌≡◌, ◌∙◌, ap, subst, sym, ◌++◌, �
 use Rattle.dispatch_room_journal.specs.Chains.{is_row}
 use Rattle.dispatch_room_journal.specs.RecordFronts.{body_in}
 use Rattle.dispatch_room_journal.specs.RowRuns.{HeadIs, IsRow}
-use Rattle.dispatch_room_journal.proofs.RowLemmas.{behind_end, behind_short, behind_whole, behind_wrong, no_rows}
-use Rattle.dispatch_room_journal.proofs.RowLemmas.{rows_end, rows_kept, rows_more}
+use Rattle.dispatch_room_journal.proofs.RowLemmas.{behind_end, behind_short, behind_whole}
+use Rattle.dispatch_room_journal.proofs.RowLemmas.{behind_wrong, no_rows, rows_end, rows_kept}
+use Rattle.dispatch_room_journal.proofs.RowLemmas.{rows_more}
 use Rattle.dispatch_room_journal.proofs.WholeLemmas.{given_on}
 use Rattle.dispatch_room_journal.proofs.row_runs.take_run.Goals as goal
 

@@ -2,7 +2,8 @@ use Rattle.std.proofs.Common.{Ok, ap, refl, None, [], ◌∷◌, false}
 use Rattle.room_http_messages.proofs.StreamLemmas.{Appends-none}
 use Rattle.dispatch_room_journal.specs.ReplayedTurns.{compared, IsPlayed}
 use Rattle.dispatch_room_journal.proofs.FaultLemmas.{unless_after, due_with}
-use Rattle.dispatch_room_journal.proofs.TurnLemmas.{no_progress, passes_none, next_stops, head_turn, stops_message}
+use Rattle.dispatch_room_journal.proofs.TurnLemmas.{no_progress, passes_none, next_stops, head_turn}
+use Rattle.dispatch_room_journal.proofs.TurnLemmas.{stops_message}
 use Rattle.dispatch_room_journal.proofs.FrameLemmas.{each_turn}
 use Rattle.dispatch_room_journal.specs.Replays.{digits_of}
 use Rattle.dispatch_room_journal.proofs.streamed_messages.answer_turn.Goals as goal

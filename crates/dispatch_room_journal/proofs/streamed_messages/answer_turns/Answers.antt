@@ -1,5 +1,5 @@
-use Rattle.std.proofs.Common.{Ok, ◌∙◌, refl, ap, subst, sym, arith, ℕ, ◌+◌, ◌-◌, ◌^◌, min, List, [], ◌++◌, append-nil}
-use Rattle.std.proofs.Common.{length-append, None, false}
+use Rattle.std.proofs.Common.{Ok, ◌∙◌, refl, ap, subst, sym, arith, ℕ, ◌+◌, ◌-◌, ◌^◌, min, List, []}
+use Rattle.std.proofs.Common.{◌++◌, append-nil, length-append, None, false}
 use Rattle.std.specs.Io.KnownBytes.{Appends}
 use Rattle.room_http_messages.proofs.StreamLemmas.{Appends-more, Appends-none}
 use Rattle.room_http.proofs.StreamLemmas.{Keeps-prepend}
@@ -9,7 +9,8 @@ use Rattle.dispatch_room_journal.specs.declared.replay_progress.Progress.{Progre
 use Rattle.dispatch_room_journal.specs.ReplayedTurns.{IsPlayed}
 use Rattle.dispatch_room_journal.proofs.FaultLemmas.{unless_after, stopped_kept}
 use Rattle.dispatch_room_journal.proofs.FrameLemmas.{frames_more}
-use Rattle.dispatch_room_journal.proofs.TurnLemmas.{new_progress, passes_none, passes_more, ended, stopped, exhausted}
+use Rattle.dispatch_room_journal.proofs.TurnLemmas.{new_progress, passes_none, passes_more, ended}
+use Rattle.dispatch_room_journal.proofs.TurnLemmas.{stopped, exhausted}
 use Rattle.dispatch_room_journal.specs.Replays.{digits_of}
 use Rattle.dispatch_room_journal.proofs.streamed_messages.answer_turns.Goals as goal
 

@@ -2,7 +2,8 @@ use Rattle.std.proofs.Common.{◌∙◌, refl, sym, ap, drop, false}
 use Rattle.dispatch_room_journal.specs.Entries.{answer}
 use Rattle.dispatch_room_journal.specs.ReplayFaults.{broken}
 use Rattle.dispatch_room_journal.specs.JournalRecords.{status_in}
-use Rattle.dispatch_room_journal.proofs.NextEntryLemmas.{layout_of_mark, at_end, no_status_front, no_status_end}
+use Rattle.dispatch_room_journal.proofs.NextEntryLemmas.{layout_of_mark, at_end, no_status_front}
+use Rattle.dispatch_room_journal.proofs.NextEntryLemmas.{no_status_end}
 use Rattle.dispatch_room_journal.proofs.FaultLemmas.{not_both, read_explains, read_due}
 use Rattle.dispatch_room_journal.proofs.streamed_messages.follow.Goals as goal
 

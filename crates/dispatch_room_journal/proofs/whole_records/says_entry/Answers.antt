@@ -1,5 +1,6 @@
 use Rattle.std.proofs.Common.{◌∙◌, sym}
-use Rattle.dispatch_room_journal.proofs.EntryRecordLemmas.{entry_whole, not_foreign, not_part, whole_entry}
+use Rattle.dispatch_room_journal.proofs.EntryRecordLemmas.{entry_whole, not_foreign, not_part}
+use Rattle.dispatch_room_journal.proofs.EntryRecordLemmas.{whole_entry}
 use Rattle.dispatch_room_journal.proofs.whole_records.says_entry.Goals as goal
 
 pub returns-in-Whole : goal.returns-in-Whole

@@ -1,10 +1,11 @@
-use Rattle.std.proofs.Common.{◌≡◌, ◌∙◌, arith, ap, inl, inr, length, length-append, subst, sym, ◌+◌, ◌++◌, ◌∷◌, []}
+use Rattle.std.proofs.Common.{◌≡◌, ◌∙◌, arith, ap, inl, inr, length, length-append, subst, sym, ◌+◌}
+use Rattle.std.proofs.Common.{◌++◌, ◌∷◌, []}
 use Rattle.std.proofs.lemmas.Bool.{false≢true}
 use Rattle.dispatch_room_journal.specs.RecordFronts.{body_in}
 use Rattle.dispatch_room_journal.specs.WholeRecords.{SaysEntry}
 use Rattle.dispatch_room_journal.proofs.EntryRecordLemmas.{nothing_left}
-use Rattle.dispatch_room_journal.proofs.WholeLemmas.{all_spent, chain_ends, chain_kept, chain_more, given_on, no_entry}
-use Rattle.dispatch_room_journal.proofs.WholeLemmas.{wrong_next}
+use Rattle.dispatch_room_journal.proofs.WholeLemmas.{all_spent, chain_ends, chain_kept, chain_more}
+use Rattle.dispatch_room_journal.proofs.WholeLemmas.{given_on, no_entry, wrong_next}
 use Rattle.dispatch_room_journal.proofs.whole_records.whole_chain.Goals as goal
 use Rattle.dispatch_room_journal.proofs.whole_records.whole_chain.Goals.{in-Whole+else-not-says_entry}
 use Rattle.dispatch_room_journal.proofs.whole_records.whole_chain.Goals.{in-Empty+in_ok-read_more-in-Empty+else-not-branch}

@@ -1,4 +1,5 @@
-use Rattle.std.proofs.Common.{List, [], arith, inl, inr, refl, subst, sym, take, ◌+◌, ◌++◌, ◌∷◌, ◌≡◌}
+use Rattle.std.proofs.Common.{List, [], arith, inl, inr, refl, subst, sym, take, ◌+◌, ◌++◌, ◌∷◌}
+use Rattle.std.proofs.Common.{◌≡◌}
 use Rattle.std.proofs.lemmas.List.{take_more}
 use Rattle.room_types.specs.declared.fleet.Terminal.{Terminal}
 use Rattle.room_model.specs.Digests.{IsHeadOf, digits_of}

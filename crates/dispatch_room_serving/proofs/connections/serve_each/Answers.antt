@@ -1,5 +1,6 @@
 use Rattle.std.proofs.Common.{◌∙◌, ◌<◌, arith, length, refl, rules, sym, [], ◌∷◌, ◌++◌}
-use Rattle.dispatch_room_serving.proofs.ConnectionLaws.{attended_more, ends_after, kept_ending, served_none}
+use Rattle.dispatch_room_serving.proofs.ConnectionLaws.{attended_more, ends_after, kept_ending}
+use Rattle.dispatch_room_serving.proofs.ConnectionLaws.{served_none}
 use Rattle.dispatch_room_serving.proofs.connections.serve_each.Goals as goal
 
 pub loop-connection-init : goal.loop-connection-init

@@ -1,6 +1,7 @@
 use Rattle.std.proofs.Common.{refl, None, Some}
 use Rattle.dispatch_room_serving.specs.Connections.{Conversation, stage_after}
-use Rattle.dispatch_room_serving.proofs.ConnectionLaws.{attended_nothing, attended_one, attends_next}
+use Rattle.dispatch_room_serving.proofs.ConnectionLaws.{attended_nothing, attended_one}
+use Rattle.dispatch_room_serving.proofs.ConnectionLaws.{attends_next}
 use Rattle.dispatch_room_serving.proofs.connections.serve_next.Goals as goal
 
 pub returns-in_default-clause-attended : goal.returns-in_default-clause-attended

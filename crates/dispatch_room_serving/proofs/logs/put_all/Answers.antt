@@ -1,8 +1,8 @@
 use Rattle.std.proofs.Common.{arith, drop, sym, take}
 use Rattle.std.proofs.lemmas.List.{take-append-drop}
 use Rattle.std.proofs.Math.Seq.{take-add}
-use Rattle.room_http_messages.proofs.StreamLemmas.{Appends-keeps, Appends-more, Appends-zero, whole_rest}
-use Rattle.room_http_messages.proofs.StreamLemmas.{length-whole_rest}
+use Rattle.room_http_messages.proofs.StreamLemmas.{Appends-keeps, Appends-more, Appends-zero}
+use Rattle.room_http_messages.proofs.StreamLemmas.{whole_rest, length-whole_rest}
 use Rattle.dispatch_room_serving.proofs.logs.put_all.Goals as goal
 use Rattle.dispatch_room_serving.proofs.logs.put_all.Goals.{in-Ok, in-Err}
 

@@ -1,4 +1,5 @@
-use Rattle.std.proofs.Common.{◌≡◌, ◌∙◌, ap, inl, inr, refl, sym, if◌then◌else◌, ℕ, List, [], Bool, true, false}
+use Rattle.std.proofs.Common.{◌≡◌, ◌∙◌, ap, inl, inr, refl, sym, if◌then◌else◌, ℕ, List, [], Bool}
+use Rattle.std.proofs.Common.{true, false}
 use Rattle.hex.specs.Hex.{encode_lower}
 use Rattle.room_http_messages.proofs.StreamLemmas.{Appends-none}
 use Rattle.room_model.specs.declared.digests.Head.{Head}

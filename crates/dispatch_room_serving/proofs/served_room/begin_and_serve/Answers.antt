@@ -1,4 +1,5 @@
-use Rattle.std.proofs.Common.{◌≡◌, append-nil, inl, inr, refl, sym, ℕ, List, [], Bool, Option, Result, Ok, Err}
+use Rattle.std.proofs.Common.{◌≡◌, append-nil, inl, inr, refl, sym, ℕ, List, [], Bool, Option}
+use Rattle.std.proofs.Common.{Result, Ok, Err}
 use Rattle.std.specs.Prelude.{MatchResult, true}
 use Rattle.dispatch_room_cli.specs.declared.exit_status.Failure.{Failure}
 use Rattle.dispatch_room_cli.specs.declared.exit_status.Failure.TheVariants.{Journal}

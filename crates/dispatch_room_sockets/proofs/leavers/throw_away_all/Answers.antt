@@ -1,7 +1,10 @@
 -- Who stays is behind the others.
-use Rattle.std.proofs.Common.{[], ap, arith, length, option_to_list, refl, ◌+◌, ◌++◌, ◌-◌, ◌∙◌, ◌∷◌, ◌≡◌}
-use Rattle.dispatch_room_sockets.proofs.LeaverLaws.{all_seen, none_yet, one_gone, one_stays, some_left}
-use Rattle.dispatch_room_sockets.proofs.leavers.throw_away_all.Goals.{in-Some+then-stays, in-Some+else-stays}
+use Rattle.std.proofs.Common.{[], ap, arith, length, option_to_list, refl, ◌+◌, ◌++◌, ◌-◌, ◌∙◌, ◌∷◌}
+use Rattle.std.proofs.Common.{◌≡◌}
+use Rattle.dispatch_room_sockets.proofs.LeaverLaws.{all_seen, none_yet, one_gone, one_stays}
+use Rattle.dispatch_room_sockets.proofs.LeaverLaws.{some_left}
+use Rattle.dispatch_room_sockets.proofs.leavers.throw_away_all.Goals.{in-Some+then-stays}
+use Rattle.dispatch_room_sockets.proofs.leavers.throw_away_all.Goals.{in-Some+else-stays}
 use Rattle.dispatch_room_sockets.proofs.leavers.throw_away_all.Goals.{in_default}
 use Rattle.dispatch_room_sockets.proofs.leavers.throw_away_all.Goals as goal
 

@@ -1,9 +1,11 @@
-use Rattle.std.proofs.Common.{Some, None, option_to_list, ap, ◌<◌, arith, ◌∙◌, ◌∷◌, [], ◌++◌, ◌≡◌, ◌+◌, ◌-◌, length}
-use Rattle.std.proofs.Common.{rules, refl, sym, append-nil, true, false}
-use Rattle.dispatch_room_sockets.specs.declared.kept_callers.Verdict.TheVariants.{Closed, Served, Waits}
+use Rattle.std.proofs.Common.{Some, None, option_to_list, ap, ◌<◌, arith, ◌∙◌, ◌∷◌, [], ◌++◌, ◌≡◌}
+use Rattle.std.proofs.Common.{◌+◌, ◌-◌, length, rules, refl, sym, append-nil, true, false}
+use Rattle.dispatch_room_sockets.specs.declared.kept_callers.Verdict.TheVariants.{Closed, Served}
+use Rattle.dispatch_room_sockets.specs.declared.kept_callers.Verdict.TheVariants.{Waits}
 use Rattle.dispatch_room_sockets.proofs.SweepLaws.{IsSweptTo, swept_left, swept_more, swept_none}
-use Rattle.dispatch_room_sockets.proofs.lines.look_at_all.Goals.{in-Some+in-Waits, in-Some+in-Served, in-Some+in-Closed}
-use Rattle.dispatch_room_sockets.proofs.lines.look_at_all.Goals.{in_default}
+use Rattle.dispatch_room_sockets.proofs.lines.look_at_all.Goals.{in-Some+in-Waits}
+use Rattle.dispatch_room_sockets.proofs.lines.look_at_all.Goals.{in-Some+in-Served}
+use Rattle.dispatch_room_sockets.proofs.lines.look_at_all.Goals.{in-Some+in-Closed, in_default}
 use Rattle.dispatch_room_sockets.proofs.lines.look_at_all.Goals as goal
 
 pub loop-kept-init : goal.loop-kept-init

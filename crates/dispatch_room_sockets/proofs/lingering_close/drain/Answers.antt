@@ -1,4 +1,5 @@
-use Rattle.std.proofs.Common.{arith, rules, refl, inl, inr, ◌≡◌, ◌<◌, ◌∷◌, [], ◌++◌, true, false, replicate}
+use Rattle.std.proofs.Common.{arith, rules, refl, inl, inr, ◌≡◌, ◌<◌, ◌∷◌, [], ◌++◌, true, false}
+use Rattle.std.proofs.Common.{replicate}
 use Rattle.std.proofs.lemmas.List.{replicate_more}
 use Rattle.dispatch_room_sockets.specs.LingeringClose.{threw}
 use Rattle.dispatch_room_sockets.proofs.PartingLaws.{Does-more, Throws-more}

@@ -1,4 +1,5 @@
-use Rattle.std.proofs.Common.{[], ap, append-nil, arith, length, subst, sym, take, ◌+◌, ◌++◌, ◌∙◌, ◌∷◌, ◌≡◌, ◌≤◌}
+use Rattle.std.proofs.Common.{[], ap, append-nil, arith, length, subst, sym, take, ◌+◌, ◌++◌, ◌∙◌}
+use Rattle.std.proofs.Common.{◌∷◌, ◌≡◌, ◌≤◌}
 use Rattle.std.proofs.lemmas.Grind.{flat_map-append}
 use Rattle.std.proofs.lemmas.List.{take_all, take_more}
 use Rattle.std.specs.Io.KnownBytes.{Appends}

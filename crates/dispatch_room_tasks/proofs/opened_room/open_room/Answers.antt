@@ -1,4 +1,5 @@
-use Rattle.std.proofs.Common.{◌≡◌, ap, arith, false, inl, inr, refl, rules, subst, sym, true, List, ℕ}
+use Rattle.std.proofs.Common.{◌≡◌, ap, arith, false, inl, inr, refl, rules, subst, sym, true, List}
+use Rattle.std.proofs.Common.{ℕ}
 use Rattle.std.specs.Prelude.{IsSome, IsTrue}
 use Rattle.jiff.specs.Words.{read_whole}
 use Rattle.sqlite.specs.Held.{Held, state}

@@ -3,7 +3,8 @@ use Rattle.room_types.proofs.KeyedLaws.{keyed_filter}
 use Rattle.room_types.specs.KeyedRows.{IsKeyed}
 use Rattle.room_model.proofs.EnrolLaws.{tokens_total}
 use Rattle.room_model.specs.FleetRows.{terminal_key, token_cmp}
-use Rattle.dispatch_room_tasks.specs.ReplacedTerminals.{AreFree, IsFirstFault, is_listed, kept_beside}
+use Rattle.dispatch_room_tasks.specs.ReplacedTerminals.{AreFree, IsFirstFault, is_listed}
+use Rattle.dispatch_room_tasks.specs.ReplacedTerminals.{kept_beside}
 use Rattle.dispatch_room_tasks.proofs.replaced_terminals.find_others.Goals as goal
 
 pub returns-in-Ok-clause-ok : goal.returns-in-Ok-clause-ok

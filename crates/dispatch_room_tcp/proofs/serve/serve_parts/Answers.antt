@@ -1,7 +1,8 @@
 use Rattle.std.proofs.Common.{◌∙◌, ap, arith, inl, inr, refl, sym}
 use Rattle.dispatch_room_serving.proofs.CallerLemmas.{may_of, printed_once}
-use Rattle.dispatch_room_tcp.proofs.PartLemmas.{called_before, ends_badly, ends_once, first_before, first_opened}
-use Rattle.dispatch_room_tcp.proofs.PartLemmas.{first_part, later_opened, next_before, not_false, not_true, where_failed}
+use Rattle.dispatch_room_tcp.proofs.PartLemmas.{called_before, ends_badly, ends_once, first_before}
+use Rattle.dispatch_room_tcp.proofs.PartLemmas.{first_opened, first_part, later_opened, next_before}
+use Rattle.dispatch_room_tcp.proofs.PartLemmas.{not_false, not_true, where_failed}
 use Rattle.dispatch_room_disk.proofs.WorkLemmas.{handed_on}
 use Rattle.dispatch_room_tcp.proofs.serve.serve_parts.Goals as goal
 

@@ -6,7 +6,8 @@ use Rattle.room_model.specs.RoomSlices.{unplanned}
 use Rattle.room_alloc.specs.Candidates.{is_point_short}
 use Rattle.room_alloc.proofs.CandidateLaws.{drop_item, leave_out, put_passing}
 use Rattle.room_alloc.proofs.candidates.points_in_need.Goals as goal
-use Rattle.room_alloc.proofs.candidates.points_in_need.Goals.{then-is_short+in_ok-put, else-is_short}
+use Rattle.room_alloc.proofs.candidates.points_in_need.Goals.{then-is_short+in_ok-put}
+use Rattle.room_alloc.proofs.candidates.points_in_need.Goals.{else-is_short}
 
 pub loop-point-preserved : goal.loop-point-preserved
 loop-point-preserved c =

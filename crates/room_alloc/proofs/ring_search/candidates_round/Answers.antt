@@ -1,11 +1,13 @@
-use Rattle.std.proofs.Common.{ap, drop, filter, map, subst, sym, [], ◌+◌, ◌++◌, ◌∙◌, ◌∷◌, ◌≡◌, Global, Vec}
+use Rattle.std.proofs.Common.{ap, drop, filter, map, subst, sym, [], ◌+◌, ◌++◌, ◌∙◌, ◌∷◌, ◌≡◌}
+use Rattle.std.proofs.Common.{Global, Vec}
 use Rattle.room_alloc.specs.Candidates.{is_candidate}
 use Rattle.room_alloc.specs.Rings.{ArePlaced, candidate_of}
 use Rattle.room_alloc.specs.declared.nearness.Candidate.{Candidate}
 use Rattle.room_alloc.proofs.CandidateLaws.{drop_item, made_more, made_none}
 use Rattle.room_alloc.proofs.RoundLaws.{placed_more}
 use Rattle.room_alloc.proofs.ring_search.candidates_round.Goals as goal
-use Rattle.room_alloc.proofs.ring_search.candidates_round.Goals.{then-is_candidate+in_ok-push, else-is_candidate}
+use Rattle.room_alloc.proofs.ring_search.candidates_round.Goals.{then-is_candidate+in_ok-push}
+use Rattle.room_alloc.proofs.ring_search.candidates_round.Goals.{else-is_candidate}
 
 pub loop-vehicle-preserved : goal.loop-vehicle-preserved
 loop-vehicle-preserved c =

@@ -1,10 +1,12 @@
-use Rattle.std.proofs.Common.{◌∙◌, sym, ap, refl, [], inl, inr, append-nil, ◌≡◌, ◌||◌, Bool, true, false, Ok, Err}
+use Rattle.std.proofs.Common.{◌∙◌, sym, ap, refl, [], inl, inr, append-nil, ◌≡◌, ◌||◌, Bool, true}
+use Rattle.std.proofs.Common.{false, Ok, Err}
 use Rattle.room_http.specs.ReplyMessages.{fixed_bytes}
 use Rattle.room_http.specs.Arrivals.{is_head_only}
 use Rattle.room_http.specs.KeptMessages.{Acts, Unmoved}
 use Rattle.room_http.specs.declared.session.ServeEnd.TheVariants.{Closed, Unkept, WriteFault}
 use Rattle.room_http_messages.proofs.StreamLemmas.{Appends-none}
-use Rattle.room_http.proofs.KeptLemmas.{kept_all, kept_cut, kept_none, kept_part, kept_unserved_tail, nothing_done}
+use Rattle.room_http.proofs.KeptLemmas.{kept_all, kept_cut, kept_none, kept_part}
+use Rattle.room_http.proofs.KeptLemmas.{kept_unserved_tail, nothing_done}
 use Rattle.room_http.proofs.ServedLaws.{none_served, one_promised, unavailable_of}
 use Rattle.room_http.proofs.DialogueLemmas.{IsDialogue-one, WritesDialogue-none}
 use Rattle.room_http.proofs.arrival_answers.answer.Goals as goal

@@ -1,17 +1,18 @@
-use Rattle.std.proofs.Common.{◌≡◌, ◌∙◌, ◌<◌, ap, refl, arith, subst, sym, length, ◌-◌, ℕ, List, [], ◌∷◌, ◌++◌, None}
-use Rattle.std.proofs.Common.{false}
+use Rattle.std.proofs.Common.{◌≡◌, ◌∙◌, ◌<◌, ap, refl, arith, subst, sym, length, ◌-◌, ℕ, List, []}
+use Rattle.std.proofs.Common.{◌∷◌, ◌++◌, None, false}
 use Rattle.std.specs.Prelude.{⊤}
 use Rattle.std.specs.Io.KnownBytes.{prepend_known}
 use Rattle.room_http.specs.declared.session.ServeEnd.TheVariants.{Closed, Memory}
 use Rattle.room_http.specs.ConnectionReads.{kept_after}
 use Rattle.room_http.specs.Session.{Finish}
-use Rattle.room_http.proofs.KeptLemmas.{Noted-breaks, Noted-closes, Noted-ends, Noted-kept, Noted-more, Noted-none}
-use Rattle.room_http.proofs.ServeLemmas.{Going-ends, Going-none, Going-kept, Going-more, closes, ends}
-use Rattle.room_http.proofs.ServeLemmas.{ends_missing_none, stops, stops_missing_none}
+use Rattle.room_http.proofs.KeptLemmas.{Noted-breaks, Noted-closes, Noted-ends, Noted-kept}
+use Rattle.room_http.proofs.KeptLemmas.{Noted-more, Noted-none}
+use Rattle.room_http.proofs.ServeLemmas.{Going-ends, Going-none, Going-kept, Going-more, closes}
+use Rattle.room_http.proofs.ServeLemmas.{ends, ends_missing_none, stops, stops_missing_none}
 use Rattle.room_http.proofs.ServedLaws.{one_course}
-use Rattle.room_http.proofs.StreamLemmas.{CountsBy-none, Passes, Keeps-prepend, open_is_message, read_goes_on}
-use Rattle.room_http.proofs.StreamLemmas.{read_passes}
-use Rattle.room_http.proofs.StreamLemmas.{read_whole, reads_by, shown_bounded}
+use Rattle.room_http.proofs.StreamLemmas.{CountsBy-none, Passes, Keeps-prepend, open_is_message}
+use Rattle.room_http.proofs.StreamLemmas.{read_goes_on, read_passes, read_whole, reads_by}
+use Rattle.room_http.proofs.StreamLemmas.{shown_bounded}
 use Rattle.room_http.proofs.session.serve.Given.{Over}
 use Rattle.room_http.proofs.session.serve.Goals.{In-Ok-arrived}
 use Rattle.room_http.proofs.session.serve.Goals as goal

@@ -1,6 +1,7 @@
 use Rattle.std.proofs.Common.{◌∙◌, sym, refl, get_or, codes}
 use Rattle.room_http_messages.specs.ConnectionOptions.{is_close_field}
-use Rattle.room_http_messages.proofs.FieldLemmas.{close_field, closes_by_field, no_field_more, same_name, some_field}
+use Rattle.room_http_messages.proofs.FieldLemmas.{close_field, closes_by_field, no_field_more}
+use Rattle.room_http_messages.proofs.FieldLemmas.{same_name, some_field}
 use Rattle.room_http_messages.proofs.connection.is_closing.Goals as goal
 use Rattle.room_http_messages.proofs.connection.is_closing.Goals.{else-eq_ignore_ascii_case-via-then-eq_ignore_ascii_case+else-has_option}
 use Rattle.room_http_messages.proofs.connection.is_closing.Goals.{else-eq_ignore_ascii_case-via-else-eq_ignore_ascii_case}

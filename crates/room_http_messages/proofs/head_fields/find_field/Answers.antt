@@ -2,7 +2,8 @@ use Rattle.std.proofs.Common.{refl, ◌∙◌, sym, get_or}
 use Rattle.room_http_messages.specs.HeadFields.{values_of}
 use Rattle.room_http_messages.proofs.FieldLemmas.{FoundIs-more, FoundIs-less, same_name}
 use Rattle.room_http_messages.proofs.head_fields.find_field.Goals as goal
-use Rattle.room_http_messages.proofs.head_fields.find_field.Goals.{then-eq_ignore_ascii_case, else-eq_ignore_ascii_case}
+use Rattle.room_http_messages.proofs.head_fields.find_field.Goals.{then-eq_ignore_ascii_case}
+use Rattle.room_http_messages.proofs.head_fields.find_field.Goals.{else-eq_ignore_ascii_case}
 
 pub loop-header-init : goal.loop-header-init
 unfolding values_of

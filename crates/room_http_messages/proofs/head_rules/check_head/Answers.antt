@@ -1,9 +1,9 @@
 use Rattle.std.proofs.Common.{◌∙◌, sym, map, refl}
 use Rattle.std.specs.Prelude.{◌==◌}
 use Rattle.httparse.specs.Spans.{header_bytes}
-use Rattle.room_http_messages.proofs.RuleLemmas.{breaks_host, breaks_coding, breaks_length, breaks_expectation}
-use Rattle.room_http_messages.proofs.RuleLemmas.{breaks_limit}
-use Rattle.room_http_messages.proofs.RuleLemmas.{breaks_none, second_fails, first_fails, is_other, not_too_long}
+use Rattle.room_http_messages.proofs.RuleLemmas.{breaks_host, breaks_coding, breaks_length}
+use Rattle.room_http_messages.proofs.RuleLemmas.{breaks_expectation, breaks_limit, breaks_none}
+use Rattle.room_http_messages.proofs.RuleLemmas.{second_fails, first_fails, is_other, not_too_long}
 use Rattle.room_http_messages.proofs.RuleLemmas.{too_long}
 use Rattle.room_http_messages.proofs.head_rules.check_head.Goals as goal
 

@@ -1,8 +1,9 @@
 use Rattle.std.proofs.Common.{◌≡◌, arith, refl, rules}
 use Rattle.httparse.specs.Spans.{span_bytes}
 use Rattle.room_http_messages.specs.Messages.{is_head}
-use Rattle.room_http_messages.proofs.LookLemmas.{window_is, no_head_always, too_long_always, part_of_head, found_in}
-use Rattle.room_http_messages.proofs.LookLemmas.{by_rule_always, part_of_body, whole}
+use Rattle.room_http_messages.proofs.LookLemmas.{window_is, no_head_always, too_long_always}
+use Rattle.room_http_messages.proofs.LookLemmas.{part_of_head, found_in, by_rule_always}
+use Rattle.room_http_messages.proofs.LookLemmas.{part_of_body, whole}
 use Rattle.room_http_messages.proofs.message_prefixes.look_at.Goals as goal
 
 pub returns-in-Ok-Partial : goal.returns-in-Ok-Partial

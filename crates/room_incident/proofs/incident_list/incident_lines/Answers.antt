@@ -1,4 +1,5 @@
-use Rattle.std.proofs.Common.{List, [], ap, arith, false, length, map, sym, take_all, true, ◌&&◌, ◌∙◌, ◌≡◌, ◌≤◌}
+use Rattle.std.proofs.Common.{List, [], ap, arith, false, length, map, sym, take_all, true, ◌&&◌}
+use Rattle.std.proofs.Common.{◌∙◌, ◌≡◌, ◌≤◌}
 use Rattle.std.specs.Prelude.{filter, ◌==◌}
 use Rattle.room_types.specs.Codes.{is_active}
 use Rattle.room_types.specs.declared.tables.Incident.{Incident}
@@ -6,7 +7,8 @@ use Rattle.room_model.specs.Incidents.{incident_line}
 use Rattle.room_model.specs.Queries.{active_incidents, calls_of, served}
 use Rattle.room_model.specs.RoomSlices.{room_of}
 use Rattle.room_incident.proofs.TallyLaws.{left_out, none_active, shown_more}
-use Rattle.room_incident.proofs.incident_list.incident_lines.Goals.{then-eq+then-is_active+in_ok-push, else-eq}
+use Rattle.room_incident.proofs.incident_list.incident_lines.Goals.{then-eq+then-is_active+in_ok-push}
+use Rattle.room_incident.proofs.incident_list.incident_lines.Goals.{else-eq}
 use Rattle.room_incident.proofs.incident_list.incident_lines.Goals.{else-eq-via-then-eq+else-is_active}
 use Rattle.room_incident.proofs.incident_list.incident_lines.Goals.{else-eq-via-else-eq}
 use Rattle.room_incident.proofs.incident_list.incident_lines.Goals as goal

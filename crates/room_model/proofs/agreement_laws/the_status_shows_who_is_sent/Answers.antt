@@ -1,5 +1,5 @@
-use Rattle.room_model.proofs.StatusLaws.{assignments_by_status, status_shows_assignments, status_shows_turns}
-use Rattle.room_model.proofs.StatusLaws.{turns_by_status}
+use Rattle.room_model.proofs.StatusLaws.{assignments_by_status, status_shows_assignments}
+use Rattle.room_model.proofs.StatusLaws.{status_shows_turns, turns_by_status}
 use Rattle.room_model.proofs.agreement_laws.the_status_shows_who_is_sent.Goals as goal
 
 pub returns-clause-room : goal.returns-clause-room

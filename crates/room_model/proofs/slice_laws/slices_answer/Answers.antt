@@ -1,5 +1,5 @@
-use Rattle.room_model.proofs.SliceLookUps.{all_held_is, assignment_is, held_is, loans_is, offers_is, open_turn_is}
-use Rattle.room_model.proofs.SliceLookUps.{points_is}
+use Rattle.room_model.proofs.SliceLookUps.{all_held_is, assignment_is, held_is, loans_is, offers_is}
+use Rattle.room_model.proofs.SliceLookUps.{open_turn_is, points_is}
 use Rattle.room_model.proofs.slice_laws.slices_answer.Goals as goal
 
 pub returns-clause-held : goal.returns-clause-held

@@ -2,7 +2,8 @@ use Rattle.std.proofs.Common.{arith, subst, ◌∙◌}
 use Rattle.room_model.specs.Room.{apply}
 use Rattle.room_store_cache.specs.Cache.{IsCacheOf}
 use Rattle.room_store.proofs.ActLaws.{acted, acted_survives}
-use Rattle.room_store.proofs.LookLaws.{left_failed, left_later, room_read, settled_read, survives_more}
+use Rattle.room_store.proofs.LookLaws.{left_failed, left_later, room_read, settled_read}
+use Rattle.room_store.proofs.LookLaws.{survives_more}
 use Rattle.room_tables_schema.specs.FileConnections.{IsClean}
 use Rattle.room_store.proofs.acted_events.act_on.Goals as goal
 

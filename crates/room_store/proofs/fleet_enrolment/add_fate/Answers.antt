@@ -2,8 +2,8 @@ use Rattle.std.proofs.Common.{arith}
 use Rattle.sqlite.specs.Held.{state}
 use Rattle.room_tables_schema.proofs.ReadLaws.{any_err}
 use Rattle.room_store.proofs.EnrolledLaws.{row_enrolled, row_survives}
-use Rattle.room_store.proofs.LookLaws.{left_failed, left_later, left_unchanged, room_read, settled_read}
-use Rattle.room_store.proofs.LookLaws.{survives_more}
+use Rattle.room_store.proofs.LookLaws.{left_failed, left_later, left_unchanged, room_read}
+use Rattle.room_store.proofs.LookLaws.{settled_read, survives_more}
 use Rattle.room_tables_schema.specs.FileConnections.{IsClean}
 use Rattle.room_store.proofs.fleet_enrolment.add_fate.Goals as goal
 

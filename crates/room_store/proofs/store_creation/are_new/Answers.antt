@@ -1,5 +1,5 @@
-use Rattle.std.proofs.Common.{ap, arith, drop, false, length, length-drop, not, sym, true, ◌&&◌, ◌+◌, ◌-◌, ◌∙◌, ◌∷◌}
-use Rattle.std.proofs.Common.{◌≡◌, ◌≤◌}
+use Rattle.std.proofs.Common.{ap, arith, drop, false, length, length-drop, not, sym, true, ◌&&◌}
+use Rattle.std.proofs.Common.{◌+◌, ◌-◌, ◌∙◌, ◌∷◌, ◌≡◌, ◌≤◌}
 use Rattle.std.proofs.lemmas.List.{drop_more, take_all}
 use Rattle.std.specs.List.{list_all}
 use Rattle.room_types.specs.declared.fleet.Terminal.{Terminal}

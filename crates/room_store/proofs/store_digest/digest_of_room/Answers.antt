@@ -7,7 +7,8 @@ use Rattle.room_store_writes.specs.Configurations.{config_of}
 use Rattle.room_store_writes.specs.Transactions.{Leaves}
 use Rattle.room_store.proofs.KnownLaws.{knows_nothing}
 use Rattle.room_store.proofs.LookLaws.{left_then, survives_read}
-use Rattle.room_store.proofs.StoreLaws.{kept_stands, looked_left, ready_schema, room_left, settled_kept}
+use Rattle.room_store.proofs.StoreLaws.{kept_stands, looked_left, ready_schema, room_left}
+use Rattle.room_store.proofs.StoreLaws.{settled_kept}
 use Rattle.room_store.proofs.store_digest.digest_of_room.Given.{Over}
 use Rattle.room_store.proofs.store_digest.digest_of_room.Goals.{After-sound_digest}
 use Rattle.room_tables_schema.specs.FileConnections.{IsClean}

@@ -8,7 +8,8 @@ use Rattle.room_types.specs.KeyedRows.{row_at}
 use Rattle.room_store_cache.proofs.KeptLaws.{put_passing}
 use Rattle.room_store_cache.proofs.OneIncident.{incident_read, turns_read}
 use Rattle.room_store_cache.proofs.incident_views.incident_view_of.Goals as goal
-use Rattle.room_store_cache.proofs.incident_views.incident_view_of.Goals.{then-eq+in_ok-put, else-eq}
+use Rattle.room_store_cache.proofs.incident_views.incident_view_of.Goals.{then-eq+in_ok-put}
+use Rattle.room_store_cache.proofs.incident_views.incident_view_of.Goals.{else-eq}
 
 pub loop-turn-preserved : goal.loop-turn-preserved
 loop-turn-preserved c =

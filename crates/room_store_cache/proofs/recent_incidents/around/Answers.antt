@@ -5,7 +5,8 @@ use Rattle.room_types.specs.Keys.{incident_key, pair_cmp}
 use Rattle.room_types.specs.KeyLemmas.{pairs_total}
 use Rattle.room_types.proofs.KeyedLaws.{without_failing}
 use Rattle.room_store_cache.proofs.recent_incidents.around.Goals as goal
-use Rattle.room_store_cache.proofs.recent_incidents.around.Goals.{then-may_link+in_ok-put, else-may_link}
+use Rattle.room_store_cache.proofs.recent_incidents.around.Goals.{then-may_link+in_ok-put}
+use Rattle.room_store_cache.proofs.recent_incidents.around.Goals.{else-may_link}
 
 pub loop-incident-preserved : goal.loop-incident-preserved
 loop-incident-preserved c =

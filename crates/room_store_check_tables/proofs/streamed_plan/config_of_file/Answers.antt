@@ -11,7 +11,8 @@ use Rattle.room_store_check_tables.proofs.Findings.{planless}
 use Rattle.room_store_check_tables.proofs.StreamLaws.{reads_commit}
 use Rattle.room_store_check_tables.specs.HeldRooms.{HasConfiguration, HoldsRoom, WritesNothing}
 use Rattle.room_store_check_tables.specs.ReadCauses.{FailsInFile}
-use Rattle.room_store_check_tables.specs.declared.file_faults.FileFault.TheVariants.{NotARoom, Storage}
+use Rattle.room_store_check_tables.specs.declared.file_faults.FileFault.TheVariants.{NotARoom}
+use Rattle.room_store_check_tables.specs.declared.file_faults.FileFault.TheVariants.{Storage}
 use Rattle.room_tables_schema.specs.FileConnections.{IsClean}
 use Rattle.room_store_check_tables.proofs.streamed_plan.config_of_file.Goals as goal
 

@@ -5,7 +5,8 @@ use Rattle.sqlite.specs.Held.{state}
 use Rattle.sqlite.specs.State.{HasCleanDisk}
 use Rattle.room_tables_schema.proofs.ReadLaws.{and, looked}
 use Rattle.room_tables.proofs.ReadFailures.{if_storage}
-use Rattle.room_store_check_tables.proofs.Findings.{none_found, not_reported, storage_reported, stored}
+use Rattle.room_store_check_tables.proofs.Findings.{none_found, not_reported, storage_reported}
+use Rattle.room_store_check_tables.proofs.Findings.{stored}
 use Rattle.room_store_check_tables.proofs.RowLaws.{fails_at_rowids, fails_then}
 use Rattle.room_store_check_tables.proofs.StreamLaws.{inside_of, none_done, reads_nothing}
 use Rattle.room_store_check_tables.specs.StreamedPlan.{HasJudged}

@@ -9,7 +9,8 @@ use Rattle.room_store_check_tables.proofs.Findings.{none_found}
 use Rattle.room_store_check_tables.proofs.RowLaws.{fails_first, fails_then}
 use Rattle.room_store_check_tables.proofs.StreamLaws.{all_agree, inside_of}
 use Rattle.room_store_check_tables.specs.StreamedPlan.{AreCalls, AreReports}
-use Rattle.room_store_check_tables.specs.ReadCauses.{FailsInTables, calls_fail, reports_fail, turns_fail}
+use Rattle.room_store_check_tables.specs.ReadCauses.{FailsInTables, calls_fail, reports_fail}
+use Rattle.room_store_check_tables.specs.ReadCauses.{turns_fail}
 use Rattle.room_store_check_tables.proofs.streamed_plan.judge_history.Goals as goal
 
 pub returns-in_err-turns : goal.returns-in_err-turns

@@ -3,8 +3,9 @@ use Rattle.sqlite.specs.Held.{state}
 use Rattle.room_tables_schema.proofs.ReadLaws.{ends_inside, fails_inside}
 use Rattle.room_store_check_tables.proofs.RowLaws.{and_read, became, first_read}
 use Rattle.room_store_check_tables.proofs.StreamLaws.{found_beside, outside_of}
-use Rattle.room_store_check_tables.specs.ReadCauses.{assignments_fail, divisions_fail, incidents_fail, loans_fail}
-use Rattle.room_store_check_tables.specs.ReadCauses.{offers_fail, points_fail, vehicles_fail}
+use Rattle.room_store_check_tables.specs.ReadCauses.{assignments_fail, divisions_fail}
+use Rattle.room_store_check_tables.specs.ReadCauses.{incidents_fail, loans_fail, offers_fail}
+use Rattle.room_store_check_tables.specs.ReadCauses.{points_fail, vehicles_fail}
 use Rattle.room_store_check_tables.proofs.streamed_plan.rows_beside.Goals as goal
 
 pub returns-in-Ok : goal.returns-in-Ok

@@ -13,7 +13,8 @@ use Rattle.room_tables.specs.RoomsInTables.{StandsFor, numbered}
 use Rattle.room_tables.proofs.Inside.{inside_then}
 use Rattle.room_tables_schema.proofs.ReadLaws.{ends_inside, fails_inside}
 use Rattle.room_tables.proofs.ReadFailures.{if_storage}
-use Rattle.room_store_check_tables.proofs.Findings.{none_found, none_stored, not_reported, storage_reported}
+use Rattle.room_store_check_tables.proofs.Findings.{none_found, none_stored, not_reported}
+use Rattle.room_store_check_tables.proofs.Findings.{storage_reported}
 use Rattle.room_store_check_tables.proofs.RowLaws.{fails_first, fails_then}
 use Rattle.room_store_check_tables.specs.ReadCauses.{areas_fail, meta_fails, terminals_fail}
 use Rattle.room_tables_schema.specs.FileConnections.{IsClean}

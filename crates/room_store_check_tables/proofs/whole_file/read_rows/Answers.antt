@@ -2,8 +2,9 @@ use Rattle.std.proofs.Common.{refl}
 use Rattle.sqlite.specs.Held.{state}
 use Rattle.room_tables_schema.proofs.ReadLaws.{ends_inside, fails_inside}
 use Rattle.room_store_check_tables.proofs.RowLaws.{and_read, became, first_read, found_rows}
-use Rattle.room_store_check_tables.specs.ReadCauses.{assignments_fail, calls_fail, divisions_fail, incidents_fail}
-use Rattle.room_store_check_tables.specs.ReadCauses.{loans_fail, offers_fail, points_fail, reports_fail, turns_fail}
+use Rattle.room_store_check_tables.specs.ReadCauses.{assignments_fail, calls_fail, divisions_fail}
+use Rattle.room_store_check_tables.specs.ReadCauses.{incidents_fail, loans_fail, offers_fail}
+use Rattle.room_store_check_tables.specs.ReadCauses.{points_fail, reports_fail, turns_fail}
 use Rattle.room_store_check_tables.specs.ReadCauses.{vehicles_fail}
 use Rattle.room_store_check_tables.proofs.whole_file.read_rows.Goals as goal
 

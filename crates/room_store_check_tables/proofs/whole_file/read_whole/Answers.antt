@@ -6,7 +6,8 @@ use Rattle.room_tables.specs.Rowids.{AreAllNumbered}
 use Rattle.room_tables.proofs.Inside.{inside_then}
 use Rattle.room_tables_schema.proofs.ReadLaws.{ends_inside, fails_inside}
 use Rattle.room_tables.proofs.ReadFailures.{holds_on, if_storage}
-use Rattle.room_store_check_tables.proofs.Findings.{none_found, not_reported, stands_with, storage_reported}
+use Rattle.room_store_check_tables.proofs.Findings.{none_found, not_reported, stands_with}
+use Rattle.room_store_check_tables.proofs.Findings.{storage_reported}
 use Rattle.room_store_check_tables.proofs.RowLaws.{fails_at_rowids, fails_then}
 use Rattle.room_store_check_tables.specs.HeldRooms.{HasConfiguration, HasRows, MakesNoPlan}
 use Rattle.room_store_check_tables.specs.declared.file_faults.FileFault.TheVariants.{NotARoom}

@@ -2,7 +2,8 @@ use Rattle.std.proofs.Common.{subst, sym, ◌∙◌}
 use Rattle.std.proofs.lemmas.Result.{IfErr-weaker, IfOk-weaker}
 use Rattle.sqlite.specs.Held.{state}
 use Rattle.room_store_file.proofs.TakeLaws.{has_tables}
-use Rattle.room_store_file.proofs.ExaminedLaws.{no_plan_new, read_fault, stands_new, storage_reported, weighed}
+use Rattle.room_store_file.proofs.ExaminedLaws.{no_plan_new, read_fault, stands_new}
+use Rattle.room_store_file.proofs.ExaminedLaws.{storage_reported, weighed}
 use Rattle.room_store_file.specs.ExaminedFile.{Weighs}
 use Rattle.room_store_file.proofs.examined_file.read_sound.Goals as goal
 

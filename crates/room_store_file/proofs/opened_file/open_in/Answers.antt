@@ -9,7 +9,8 @@ use Rattle.room_tables_schema.specs.Versions.{HasTables}
 use Rattle.room_store_writes.proofs.CommitLaws.{on_ok, ok_then}
 use Rattle.room_store_file.proofs.FileLaws.{left_left, left_then_opens}
 use Rattle.room_store_check_tables.proofs.StreamLaws.{nothing_then}
-use Rattle.room_store_file.proofs.TakeLaws.{any_fault, both_errs, hidden, none_opened, survives_less}
+use Rattle.room_store_file.proofs.TakeLaws.{any_fault, both_errs, hidden, none_opened}
+use Rattle.room_store_file.proofs.TakeLaws.{survives_less}
 use Rattle.room_store_check_tables.proofs.Findings.{none_found, none_ok}
 use Rattle.room_store_file.specs.OpenedFile.{IsOldRoom, MayBeIndexed}
 use Rattle.room_store_check_tables.specs.HeldRooms.{HoldsRoom}

@@ -1,7 +1,8 @@
 use Rattle.std.proofs.Common.{IsTrue, inr, rules, sym, ◌∙◌, ◌≡◌}
 use Rattle.sqlite.specs.Held.{state}
 use Rattle.room_store_file.proofs.FileLaws.{may_be_indexed, takes_opens}
-use Rattle.room_store_file.proofs.TakeLaws.{has_tables, holds_new, open_reported, storage_reported, survives_less}
+use Rattle.room_store_file.proofs.TakeLaws.{has_tables, holds_new, open_reported, storage_reported}
+use Rattle.room_store_file.proofs.TakeLaws.{survives_less}
 use Rattle.room_store_file.specs.OpenedFile.{MayBeIndexed, schema_of}
 use Rattle.room_store_file.proofs.opened_file.open_tables.Goals as goal
 

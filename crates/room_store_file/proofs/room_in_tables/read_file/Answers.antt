@@ -12,7 +12,8 @@ use Rattle.room_store_file.proofs.TakeLaws.{becomes_back, ok_holds}
 use Rattle.room_store_file.specs.OpeningCauses.{FailsInside}
 use Rattle.room_store_file.specs.OpenedFile.{HasNoPlanBy, StandsBy}
 use Rattle.room_store_check_tables.specs.HeldRooms.{WritesNothing}
-use Rattle.room_store_check_tables.specs.declared.file_faults.FileFault.TheVariants.{NotARoom, Storage}
+use Rattle.room_store_check_tables.specs.declared.file_faults.FileFault.TheVariants.{NotARoom}
+use Rattle.room_store_check_tables.specs.declared.file_faults.FileFault.TheVariants.{Storage}
 use Rattle.room_tables_schema.specs.FileConnections.{IsClean}
 use Rattle.room_store_file.proofs.room_in_tables.read_file.Goals as goal
 

@@ -5,12 +5,15 @@ use Rattle.sqlite.specs.Effect.{Database}
 use Rattle.sqlite.specs.Held.{state}
 use Rattle.sqlite.specs.State.{HasCleanDisk, Survives}
 use Rattle.sqlite_rules.proofs.ViewLemmas.{on_ok_both}
-use Rattle.room_store_writes.proofs.CommitLaws.{ended_survives, ok_both, ok_then, undone_leaves, when_ok}
-use Rattle.room_store_file.proofs.TakeLaws.{both_errs, found_holds, found_ok, may_become, refused, survives_less, under}
+use Rattle.room_store_writes.proofs.CommitLaws.{ended_survives, ok_both, ok_then, undone_leaves}
+use Rattle.room_store_writes.proofs.CommitLaws.{when_ok}
+use Rattle.room_store_file.proofs.TakeLaws.{both_errs, found_holds, found_ok, may_become, refused}
+use Rattle.room_store_file.proofs.TakeLaws.{survives_less, under}
 use Rattle.room_store_file.specs.OpeningCauses.{FailsAtEnd, FailsInside}
 use Rattle.room_store_file.specs.OpenedFile.{Becomes, HoldsBy, IsUncommitted, MayBecome, Takes}
 use Rattle.room_store_check_tables.specs.HeldRooms.{IsPlanOf, WritesNothing}
-use Rattle.room_store_check_tables.specs.declared.file_faults.FileFault.TheVariants.{NotARoom, Storage}
+use Rattle.room_store_check_tables.specs.declared.file_faults.FileFault.TheVariants.{NotARoom}
+use Rattle.room_store_check_tables.specs.declared.file_faults.FileFault.TheVariants.{Storage}
 use Rattle.room_tables_schema.specs.FileConnections.{IsClean}
 use Rattle.room_store_file.proofs.room_in_tables.read_room_in.Goals as goal
 

@@ -6,11 +6,13 @@ use Rattle.sqlite.specs.State.{HasCleanDisk}
 use Rattle.room_store_writes.proofs.CommitLaws.{ok_then}
 use Rattle.room_tables_schema.proofs.ReadLaws.{any_err}
 use Rattle.room_store_check_tables.proofs.StreamLaws.{nothing_then}
-use Rattle.room_store_file.proofs.TakeLaws.{any_fault, found_holds, lacking, looked_takes, refused, survives_less}
+use Rattle.room_store_file.proofs.TakeLaws.{any_fault, found_holds, lacking, looked_takes, refused}
+use Rattle.room_store_file.proofs.TakeLaws.{survives_less}
 use Rattle.room_store_file.specs.OpenedFile.{HoldsBy, MayBecome, ShowsNoVersion, schema_of}
 use Rattle.room_store_check_tables.specs.HeldRooms.{IsPlanOf}
 use Rattle.room_store_check_tables.specs.ReadCauses.{FailsToTake}
-use Rattle.room_store_check_tables.specs.declared.file_faults.FileFault.TheVariants.{NotARoom, Storage}
+use Rattle.room_store_check_tables.specs.declared.file_faults.FileFault.TheVariants.{NotARoom}
+use Rattle.room_store_check_tables.specs.declared.file_faults.FileFault.TheVariants.{Storage}
 use Rattle.room_tables_schema.specs.FileConnections.{IsClean}
 use Rattle.room_store_file.proofs.room_in_tables.take.Goals as goal
 

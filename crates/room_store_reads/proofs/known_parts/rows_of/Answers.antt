@@ -3,7 +3,8 @@ use Rattle.room_types.proofs.KeyedLaws.{without_failing}
 use Rattle.room_store_cache.specs.ShownLists.{is_among}
 use Rattle.room_store_cache.proofs.KeptLaws.{put_passing}
 use Rattle.room_store_reads.proofs.known_parts.rows_of.Goals as goal
-use Rattle.room_store_reads.proofs.known_parts.rows_of.Goals.{then-is_among+in_ok-put, else-is_among}
+use Rattle.room_store_reads.proofs.known_parts.rows_of.Goals.{then-is_among+in_ok-put}
+use Rattle.room_store_reads.proofs.known_parts.rows_of.Goals.{else-is_among}
 
 pub loop-row-preserved : goal.loop-row-preserved
 loop-row-preserved g c =

@@ -1,7 +1,9 @@
-use Rattle.std.proofs.Common.{[], ap, arith, length, sym, take, take_all, ◌+◌, ◌++◌, ◌∙◌, ◌∷◌, ◌≡◌, ◌≤◌, ◌||◌}
+use Rattle.std.proofs.Common.{[], ap, arith, length, sym, take, take_all, ◌+◌, ◌++◌, ◌∙◌, ◌∷◌, ◌≡◌}
+use Rattle.std.proofs.Common.{◌≤◌, ◌||◌}
 use Rattle.std.proofs.lemmas.List.{take_more}
 use Rattle.sqlite.specs.Held.{state}
-use Rattle.room_tables_schema.proofs.ReadLaws.{and, begins, but, clean_before, lacks_memory, succeeds}
+use Rattle.room_tables_schema.proofs.ReadLaws.{and, begins, but, clean_before, lacks_memory}
+use Rattle.room_tables_schema.proofs.ReadLaws.{succeeds}
 use Rattle.room_store_reads.specs.Partitions.{any}
 use Rattle.room_tables.proofs.RoomReads.{kept}
 use Rattle.room_store_cache.proofs.Filters.{filter_as, or_assoc, or_none}

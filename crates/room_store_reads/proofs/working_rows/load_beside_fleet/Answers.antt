@@ -1,5 +1,6 @@
 use Rattle.std.proofs.Common.{subst, sym, ◌∙◌, ◌≡◌}
-use Rattle.room_tables_schema.proofs.ReadLaws.{and, begins, but, clean_before, fails, looked, succeeds}
+use Rattle.room_tables_schema.proofs.ReadLaws.{and, begins, but, clean_before, fails, looked}
+use Rattle.room_tables_schema.proofs.ReadLaws.{succeeds}
 use Rattle.room_store_cache.specs.BesideFleet.{IsBesideFleet}
 use Rattle.room_store_cache.specs.Cache.{AreRowsOf}
 use Rattle.room_store_cache.specs.RecentIncidents.{AreRecent}

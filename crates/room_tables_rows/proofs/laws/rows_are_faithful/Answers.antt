@@ -1,6 +1,7 @@
-use Rattle.room_tables_rows.proofs.RowLaws.{meta_faithful, area_faithful, terminal_faithful, division_faithful}
-use Rattle.room_tables_rows.proofs.RowLaws.{incident_faithful, call_faithful, vehicle_faithful, turn_faithful}
-use Rattle.room_tables_rows.proofs.RowLaws.{assignment_faithful, point_faithful, loan_faithful, report_faithful}
+use Rattle.room_tables_rows.proofs.RowLaws.{meta_faithful, area_faithful, terminal_faithful}
+use Rattle.room_tables_rows.proofs.RowLaws.{division_faithful, incident_faithful, call_faithful}
+use Rattle.room_tables_rows.proofs.RowLaws.{vehicle_faithful, turn_faithful, assignment_faithful}
+use Rattle.room_tables_rows.proofs.RowLaws.{point_faithful, loan_faithful, report_faithful}
 use Rattle.room_tables_rows.proofs.RowLaws.{offer_faithful}
 use Rattle.room_tables_rows.proofs.laws.rows_are_faithful.Goals as goal
 

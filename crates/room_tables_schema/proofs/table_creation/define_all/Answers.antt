@@ -1,4 +1,5 @@
-use Rattle.std.proofs.Common.{◌∙◌, ◌+◌, subst, arith, rules, drop, map, length, ◌<◌, Result, Ok, Err}
+use Rattle.std.proofs.Common.{◌∙◌, ◌+◌, subst, arith, rules, drop, map, length, ◌<◌, Result, Ok}
+use Rattle.std.proofs.Common.{Err}
 use Rattle.std.proofs.lemmas.List.{at_drop_more, length-map, get_or-map}
 use Rattle.std.specs.Result.{IsErrAnd, IfErr}
 use Rattle.sqlite.specs.Held.{state}

@@ -1,7 +1,8 @@
 use Rattle.std.proofs.Common.{sym, subst, map, drop}
 use Rattle.room_tables_schema.specs.Schema.{room_schema}
 use Rattle.room_tables_schema.specs.Definitions.{Lead}
-use Rattle.room_tables_schema.specs.declared.schema_sql.TheConstants.{DEFINITIONS, TABLE_DEFINITIONS}
+use Rattle.room_tables_schema.specs.declared.schema_sql.TheConstants.{DEFINITIONS}
+use Rattle.room_tables_schema.specs.declared.schema_sql.TheConstants.{TABLE_DEFINITIONS}
 use Rattle.room_tables_schema.proofs.Leading.{indexes_lead}
 use Rattle.room_tables_schema.proofs.table_creation.make_indexes.Goals as goal
 

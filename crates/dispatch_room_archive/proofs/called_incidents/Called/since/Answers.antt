@@ -1,4 +1,5 @@
-use Rattle.std.proofs.Common.{ap, arith, get_or, length, subst, sym, take, true, ◌+◌, ◌<◌, ◌≡◌, ◌≤◌, ◌∙◌}
+use Rattle.std.proofs.Common.{ap, arith, get_or, length, subst, sym, take, true, ◌+◌, ◌<◌, ◌≡◌, ◌≤◌}
+use Rattle.std.proofs.Common.{◌∙◌}
 use Rattle.std.proofs.lemmas.List.{take_all}
 use Rattle.std.specs.BTreeSet.{Updates}
 use Rattle.std.specs.Prelude.{nat_le}
@@ -6,9 +7,11 @@ use Rattle.std.specs.Slice.{IsItemAt}
 use Rattle.room_types.specs.Keys.{pair_cmp}
 use Rattle.room_model.proofs.Tests.{or_left, or_right}
 use Rattle.dispatch_room_archive.specs.CalledIncidents.{AreCalled}
-use Rattle.dispatch_room_archive.proofs.CallLaws.{at_least, both_false, end_shows, next_more, next_same}
+use Rattle.dispatch_room_archive.proofs.CallLaws.{at_least, both_false, end_shows, next_more}
+use Rattle.dispatch_room_archive.proofs.CallLaws.{next_same}
 use Rattle.dispatch_room_archive.proofs.called_incidents.Called.since.Goals as goal
-use Rattle.dispatch_room_archive.proofs.called_incidents.Called.since.Goals.{then-ge+in_ok-insert, then-ge-via-then-ge}
+use Rattle.dispatch_room_archive.proofs.called_incidents.Called.since.Goals.{then-ge+in_ok-insert}
+use Rattle.dispatch_room_archive.proofs.called_incidents.Called.since.Goals.{then-ge-via-then-ge}
 use Rattle.dispatch_room_archive.proofs.called_incidents.Called.since.Goals.{then-ge-via-else-ge+then-is_end}
 use Rattle.dispatch_room_archive.proofs.called_incidents.Called.since.Goals.{else-ge+else-is_end}
 

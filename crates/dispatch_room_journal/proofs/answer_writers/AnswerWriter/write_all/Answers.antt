@@ -1,8 +1,9 @@
 use Rattle.std.proofs.Common.{◌∙◌, take, drop, sym, arith}
 use Rattle.std.proofs.lemmas.List.{take-append-drop}
 use Rattle.std.proofs.Math.Seq.{take-add}
-use Rattle.room_http_messages.proofs.StreamLemmas.{Appends-keeps, Appends-more, Appends-zero, took_some, took_zero}
-use Rattle.room_http_messages.proofs.StreamLemmas.{whole_rest, length-whole_rest}
+use Rattle.room_http_messages.proofs.StreamLemmas.{Appends-keeps, Appends-more, Appends-zero}
+use Rattle.room_http_messages.proofs.StreamLemmas.{took_some, took_zero, whole_rest}
+use Rattle.room_http_messages.proofs.StreamLemmas.{length-whole_rest}
 use Rattle.dispatch_room_journal.proofs.answer_writers.AnswerWriter.write_all.Goals as goal
 
 pub writes-preserved : goal.writes-preserved

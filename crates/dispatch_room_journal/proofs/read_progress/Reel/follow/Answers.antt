@@ -1,10 +1,11 @@
 use Rattle.std.proofs.Common.{◌≡◌, ◌∙◌, refl, sym, ap, arith, length, ◌++◌, cond, false, true}
 use Rattle.dispatch_room_journal.specs.Chains.{is_row, sha256_digits}
 use Rattle.dispatch_room_journal.specs.RecordFronts.{body_in, stops_at}
-use Rattle.dispatch_room_journal.specs.declared.record_fronts.Front.TheVariants.{Short, Whole, Wrong}
+use Rattle.dispatch_room_journal.specs.declared.record_fronts.Front.TheVariants.{Short, Whole}
+use Rattle.dispatch_room_journal.specs.declared.record_fronts.Front.TheVariants.{Wrong}
 use Rattle.dispatch_room_journal.proofs.SaysLemmas.{says_wrong}
-use Rattle.dispatch_room_journal.proofs.ReadStepLemmas.{empty_rest, front_now, no_row, no_row_empty, one_row, passed}
-use Rattle.dispatch_room_journal.proofs.ReadStepLemmas.{short_rest, stopped, took}
+use Rattle.dispatch_room_journal.proofs.ReadStepLemmas.{empty_rest, front_now, no_row, no_row_empty}
+use Rattle.dispatch_room_journal.proofs.ReadStepLemmas.{one_row, passed, short_rest, stopped, took}
 use Rattle.dispatch_room_journal.proofs.read_progress.Reel.follow.Goals as goal
 
 pub returns-in-Empty-clause-step : goal.returns-in-Empty-clause-step

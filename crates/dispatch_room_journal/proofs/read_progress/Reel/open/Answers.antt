@@ -1,4 +1,5 @@
-use Rattle.std.proofs.Common.{◌≡◌, ◌∙◌, refl, sym, ap, arith, inr, length, length-drop, take, true, false}
+use Rattle.std.proofs.Common.{◌≡◌, ◌∙◌, refl, sym, ap, arith, inr, length, length-drop, take, true}
+use Rattle.std.proofs.Common.{false}
 use Rattle.std.specs.Str.{bytes_eq}
 use Rattle.dispatch_room_journal.specs.Chains.{opening, sha256_digits}
 use Rattle.dispatch_room_journal.proofs.SaysLemmas.{list_short, list_chain, list_plain}

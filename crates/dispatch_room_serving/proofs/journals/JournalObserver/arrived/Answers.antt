@@ -2,9 +2,12 @@ use Rattle.std.proofs.Common.{◌≡◌, ◌∙◌, ap, sym}
 use Rattle.dispatch_room_journal.specs.JournalRecords.{message_text}
 use Rattle.dispatch_room_serving.specs.KeptChanges.{is_kept}
 use Rattle.dispatch_room_serving.specs.declared.journals.Journal.{Journal}
-use Rattle.dispatch_room_serving.proofs.KeeperLemmas.{keeps_it, keeps_none, known_of, puts_it, puts_none}
+use Rattle.dispatch_room_serving.proofs.KeeperLemmas.{keeps_it, keeps_none, known_of, puts_it}
+use Rattle.dispatch_room_serving.proofs.KeeperLemmas.{puts_none}
 use Rattle.dispatch_room_serving.proofs.journals.JournalObserver.arrived.Goals as goal
-use Rattle.dispatch_room_serving.proofs.journals.JournalObserver.arrived.Goals.{in-Message, in_default-2, in_default}
+use Rattle.dispatch_room_serving.proofs.journals.JournalObserver.arrived.Goals.{in-Message}
+use Rattle.dispatch_room_serving.proofs.journals.JournalObserver.arrived.Goals.{in_default-2}
+use Rattle.dispatch_room_serving.proofs.journals.JournalObserver.arrived.Goals.{in_default}
 
 pub returns-clause-keeps : goal.returns-clause-keeps
 returns-clause-keeps g c = rw (c.noted.ensures.out, c.noted.ensures.same_result) (elim c.match-arrived.branch [

@@ -4,4 +4,4 @@ use Rattle.dispatch_room_sockets.proofs.pieces.PieceReaderSource.read.Goals as g
 
 pub returns-clause-count : goal.returns-clause-count
 returns-clause-count c =
-    rw (c.note.ensures.same ∙ c.give-given.ensures.same.2) (known_count-more _ _ c.saturating_add-self.ensures)
+    rw (c.note.ensures.same.0 ∙ c.give-given.ensures.same.2) (known_count-more _ _ c.saturating_add-self.ensures)

@@ -1,4 +1,5 @@
-use Rattle.std.proofs.Common.{◌≡◌, sym, ap, arith, ℕ, ◌<◌, List, [], ◌∷◌, drop, get_or, length, Option, None, Some, IfSome, Bor}
+use Rattle.std.proofs.Common.{◌≡◌, sym, ap, arith, ℕ, ◌<◌, List, [], ◌∷◌, drop, get_or, length}
+use Rattle.std.proofs.Common.{Option, None, Some, IfSome, Bor}
 use Rattle.std.specs.Slice.{IsItemAt}
 use Rattle.dispatch_room_sockets.proofs.waiting_callers.Waiting.first.Goals as goal
 

@@ -1,8 +1,9 @@
 use Rattle.std.proofs.Common.{◌≡◌, arith, min, sym, ◌-◌}
 use Rattle.std.specs.Duration.{as_nanos}
 use Rattle.dispatch_room_sockets.specs.Pauses.{leaver_limit}
-use Rattle.dispatch_room_sockets.proofs.PauseLaws.{last_stands, leaver_stands, no_leavers, no_waiters}
-use Rattle.dispatch_room_sockets.proofs.PauseLaws.{second_stands, unwatched_stands, watched_stands}
+use Rattle.dispatch_room_sockets.proofs.PauseLaws.{last_stands, leaver_stands, no_leavers}
+use Rattle.dispatch_room_sockets.proofs.PauseLaws.{no_waiters, second_stands, unwatched_stands}
+use Rattle.dispatch_room_sockets.proofs.PauseLaws.{watched_stands}
 use Rattle.dispatch_room_sockets.proofs.waiting_callers.Waiting.pause.Goals as goal
 
 pub loop-kept-init : goal.loop-kept-init

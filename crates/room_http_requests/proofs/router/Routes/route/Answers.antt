@@ -2,7 +2,8 @@ use Rattle.std.proofs.Common.{◌≡◌, ◌∙◌, ap, sym, refl, true, ◌||�
 use Rattle.std.specs.Prelude.{None, Some, not, option_map}
 use Rattle.room_http_requests.specs.RequestTable.{is_of_history}
 use Rattle.room_http_requests.specs.Router.{path_at}
-use Rattle.room_http_requests.proofs.RouteLemmas.{by_another, by_taken, no_history, no_parameter, no_path, no_text}
+use Rattle.room_http_requests.proofs.RouteLemmas.{by_another, by_taken, no_history, no_parameter}
+use Rattle.room_http_requests.proofs.RouteLemmas.{no_path, no_text}
 use Rattle.room_http_requests.proofs.router.Routes.route.Goals as goal
 use Rattle.room_http_requests.proofs.router.Routes.route.Goals.{else-not-history-via-then-not-history+else-is_of_history}
 use Rattle.room_http_requests.proofs.router.Routes.route.Goals.{else-not-history-via-else-not-history}

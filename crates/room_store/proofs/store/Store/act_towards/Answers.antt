@@ -1,7 +1,8 @@
 use Rattle.std.proofs.Common.{arith, inr, refl, ◌∙◌}
 use Rattle.sqlite.specs.Held.{state}
 use Rattle.room_store_writes.specs.Configurations.{config_of}
-use Rattle.room_store.proofs.StoreLaws.{event_survives, for_room, ready_schema, ready_sound, room_moved}
+use Rattle.room_store.proofs.StoreLaws.{event_survives, for_room, ready_schema, ready_sound}
+use Rattle.room_store.proofs.StoreLaws.{room_moved}
 use Rattle.room_store.proofs.LookLaws.{left_same, left_then, survives_read}
 use Rattle.room_store_writes.proofs.CommitLaws.{unchanged_survives}
 use Rattle.room_tables_schema.specs.FileConnections.{IsClean}

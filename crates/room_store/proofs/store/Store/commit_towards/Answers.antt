@@ -2,7 +2,8 @@ use Rattle.std.proofs.Common.{arith, inr, refl, subst, sym, ◌∙◌}
 use Rattle.room_model.specs.Room.{apply}
 use Rattle.room_store_cache.specs.Cache.{IsCacheOf}
 use Rattle.room_store.proofs.ActLaws.{acted, acted_survives, missed, reached}
-use Rattle.room_store.proofs.LookLaws.{left_failed, left_later, room_read, settled_read, survives_more}
+use Rattle.room_store.proofs.LookLaws.{left_failed, left_later, room_read, settled_read}
+use Rattle.room_store.proofs.LookLaws.{survives_more}
 use Rattle.room_model.specs.Digests.{IsMiss}
 use Rattle.room_store_writes.proofs.CommitLaws.{ok_then}
 use Rattle.room_store.proofs.Misses.{another_reported, miss_is, reaches_weaker}

@@ -3,8 +3,8 @@ use Rattle.std.specs.Prelude.{option_map}
 use Rattle.room_types.specs.declared.fleet.Terminal.{Terminal}
 use Rattle.room_store_writes.specs.Configurations.{config_of}
 use Rattle.room_store.proofs.KnownLaws.{knows_nothing, looked_up}
-use Rattle.room_store.proofs.LookLaws.{left_failed, left_same, left_then, left_unchanged, shows_read}
-use Rattle.room_store.proofs.LookLaws.{survives_read}
+use Rattle.room_store.proofs.LookLaws.{left_failed, left_same, left_then, left_unchanged}
+use Rattle.room_store.proofs.LookLaws.{shows_read, survives_read}
 use Rattle.room_store.proofs.StoreLaws.{ready_schema, ready_sound, room_left}
 use Rattle.room_store_writes.proofs.CommitLaws.{unchanged_survives}
 use Rattle.room_tables_schema.specs.FileConnections.{IsClean}

@@ -3,7 +3,8 @@ use Rattle.std.specs.Prelude.{◌&&◌, is_none}
 use Rattle.std.proofs.lemmas.Result.{on_ok_weaker}
 use Rattle.room_store_check_tables.proofs.HistoryLaws.{judged_more}
 use Rattle.room_store_check_tables.proofs.judged_histories.JudgingTypedRowSink.take.Goals as goal
-use Rattle.room_store_check_tables.proofs.judged_histories.JudgingTypedRowSink.take.Goals.{then-self, else-self}
+use Rattle.room_store_check_tables.proofs.judged_histories.JudgingTypedRowSink.take.Goals.{then-self}
+use Rattle.room_store_check_tables.proofs.judged_histories.JudgingTypedRowSink.take.Goals.{else-self}
 
 pub returns-clause-taken : goal.returns-clause-taken
 returns-clause-taken g c =

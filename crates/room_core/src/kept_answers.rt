@@ -1,4 +1,4 @@
-//! A call or a report that was sent before, decided on what the room has kept of it.
+//! What a call or a report gets that was sent before: its kept answer, or a refusal.
 ghost use Rattle.std.specs.Prelude.{◌≡◌, not};
 ghost use Rattle.room_types.specs.declared.answers.Answer.TheVariants.{Called};
 ghost use Rattle.room_types.specs.declared.refusal_statuses.Refusal.TheVariants.{SerialReused};
