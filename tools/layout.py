@@ -10,7 +10,7 @@ import pathlib
 import re
 import sys
 
-from written import reader
+from arguments import reader
 
 TOP = pathlib.Path(__file__).resolve().parent.parent
 WIDTH = 120

@@ -4,8 +4,8 @@ paths, bodies, answers and refusals, and from docs/HTTP.md's refusals of each pa
 tests/test_openapi.py finds out where that differs from what is committed."""
 import json
 
+from arguments import destination
 from openapi_files import operations, responses, schemas, sources
-from written import destination
 
 ABOUT = """\
 An ambulance control room. docs/HTTP.md says the same for people, with an example of each request.

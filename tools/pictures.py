@@ -4,9 +4,10 @@ of the floors is made of crates.txt first. tests/test_pictures.py finds out wher
 differs from what is written. The files lie in its folder as they lie in docs/."""
 import pathlib
 
+from arguments import destination
 from picture_files.drawing import Drawing
 from picture_files.floors import drawing
-from written import destination, write
+from written import write
 
 TOP = pathlib.Path(__file__).resolve().parent.parent
 SOURCES = TOP / 'docs' / 'pictures'

@@ -5,9 +5,9 @@ from what is committed."""
 import re
 import textwrap
 
+from arguments import destination
 from proof_files.callers import is_called
 from proof_files.contracts import TOP, crates
-from written import destination
 
 HEAD = TOP / 'tools' / 'proof_files' / 'head.md'
 MOST = 2  # functions that are named of a crate

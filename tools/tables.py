@@ -4,6 +4,7 @@ room_tables_schema, and writes what a file's schema is tested for into that crat
 statements on each table say into room_tables_rows. tests/test_generated.py finds out where that
 differs from what is committed. The files lie in its folder as they lie in crates/."""
 import kit
+from arguments import destination
 from layout import laid_out
 from table_files.forms import forms
 from table_files.homes import imports
@@ -11,7 +12,7 @@ from table_files.kept import kept
 from table_files.laws import laws
 from table_files.rows import TABLES
 from table_files.writes import writes
-from written import destination, write
+from written import write
 
 WRITTEN = '(Written by tools/tables.py.)'
 KEPT = "Where only one table changed, the tables stand for the room with that table's rows."
