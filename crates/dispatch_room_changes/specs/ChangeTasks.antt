@@ -13,7 +13,7 @@ use Rattle.dispatch_room_changes.specs.declared.kept_fleets.FleetList.{FleetList
 use Rattle.dispatch_room_journal.specs.declared.list_ends.ListEnd.{ListEnd}
 use Rattle.dispatch_room_lists.specs.RoomChanges.{Makes}
 use Rattle.dispatch_room_lists.specs.declared.room_changes.RoomChange.{RoomChange}
-use Rattle.dispatch_room_serving.specs.declared.journal_files.SystemFile.{SystemFile}
+use Rattle.dispatch_room_serving.specs.Journals.{KeptFile}
 use Rattle.dispatch_room_tasks.specs.Creation as created
 use Rattle.dispatch_room_tasks.specs.ListedTerminals.{HasListed}
 use Rattle.dispatch_room_tasks.specs.Enrolment as imported
@@ -36,14 +36,14 @@ Enrols lines = λ S g old new before after done.
     × IfOk done (imported.PrintsFates lines before after)
 
 -- a list that goes on here, and to which no write failed
-abbrev pub GoesOnAt : ListEnd → FleetList SystemFile → Type 0
+abbrev pub GoesOnAt : ListEnd → FleetList KeptFile → Type 0
 GoesOnAt end list = (list.end ≡ end) × (list.out.failed ≡ false)
 
 -- The same once the fleet lasts in a list that goes on here, and then the room's digest is kept. No
 -- contract can say what the file of a list holds.
 abbrev pub EnrolsKept : ListEnd → List FleetLine → List ℕ → Saying Done
 EnrolsKept end lines text = λ S g old new before after done.
-    (from to : FleetList SystemFile) × GoesOnAt end from
+    (from to : FleetList KeptFile) × GoesOnAt end from
     × ImportsKeptIn g (λ _. None) (λ _. None) old new from to lines text before after done
 
 -- or memory fails, or no room is opened, and nothing is printed
@@ -63,14 +63,14 @@ Changes change = λ S g old new before after done. Makes g old new change done �
 -- contract can say what the file of a list holds.
 abbrev pub ChangesKept : ListEnd → RoomChange → List ℕ → Saying (Unit {0})
 ChangesKept end change text = λ S g old new before after done.
-    ((from to : FleetList SystemFile) × GoesOnAt end from
+    ((from to : FleetList KeptFile) × GoesOnAt end from
     × MakesKeptIn g (λ _. None) (λ _. None) old new from to change text done) × (after ≡ before)
 
 -- or no room is opened for it, or none is opened again once the text was kept; and nothing is
 -- printed
 abbrev pub LosesKeptRoom : ListEnd → RoomChange → List ℕ → Refusing
 LosesKeptRoom end change text = λ S g conn before after fault.
-    ((from : FleetList SystemFile) × GoesOnAt end from
+    ((from : FleetList KeptFile) × GoesOnAt end from
     × OpensNoneKept g (λ _. None) (λ _. None) conn from change text fault) × (after ≡ before)
 
 -- or the file holds no room, for this, and nothing is printed

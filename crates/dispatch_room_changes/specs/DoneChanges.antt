@@ -23,12 +23,13 @@ use Rattle.dispatch_room_changes.specs.ChangeTasks.{Lists, LosesKeptRoom}
 use Rattle.dispatch_room_changes.specs.declared.kept_changes.ChangedFile.{ChangedFile}
 use Rattle.dispatch_room_changes.specs.TerminalFiles.{AreGiven, GivesNoFleet, GivesNoPlan}
 use Rattle.dispatch_room_changes.specs.TerminalFiles.{GivesNone}
-use Rattle.dispatch_room_journal.specs.declared.list_ends.ListEnd.TheVariants.{Chain}
+use Rattle.dispatch_room_journal.specs.declared.list_ends.ListEnd.TheVariants.{Chain, Plain}
 use Rattle.dispatch_room_journal.specs.declared.record_fronts.Link.{Link}
 use Rattle.dispatch_room_lists.specs.RoomChanges.{IsTextOf}
 use Rattle.dispatch_room_serving.specs.declared.journal_files.OpenedList.{OpenedList}
 use Rattle.dispatch_room_tasks.specs.RandomTokens.{AreEnough, first_letters}
-use Rattle.dispatch_room_tcp.specs.Hosts.{IsDoneAt, IsUndoneAt, Paths}
+use Rattle.dispatch_room_tcp.specs.Hosts.{IsDoneAt, IsUndoneAt, IsUnlisted, IsUnread}
+use Rattle.dispatch_room_tcp.specs.Hosts.{Surroundings}
 use Rattle.dispatch_room_lists.specs.declared.room_changes.RoomChange.{RoomChange}
 use Rattle.dispatch_room_lists.specs.declared.room_changes.RoomChange.TheVariants as change
 
@@ -43,68 +44,84 @@ abbrev pub reissue_of : Who → Option Token → RoomChange
 reissue_of who token = change.Token (record { who = who; token = token })
 
 -- a token is that of random bytes
-abbrev pub IsRandom : Paths → Token → Type 0
-IsRandom paths token =
-    (bytes : List ℕ) × paths.random bytes × AreEnough bytes × (token ≡ first_letters bytes)
+abbrev pub IsRandom : Surroundings → Token → Type 0
+IsRandom around token =
+    (bytes : List ℕ) × around.random bytes × AreEnough bytes × (token ≡ first_letters bytes)
+
+-- no token was given, for this: there is no memory for it, or there are no random bytes, or too few
+abbrev pub LacksToken : Surroundings → Failure → Type 0
+LacksToken around fault = (fault ≡ failure.Memory)
+    ⊎ ((fault ≡ failure.Storage) × (around.unrandom fault
+    ⊎ ((bytes : List ℕ) × around.random bytes × (¬ AreEnough bytes))))
 
 -- a token where one is to be given, and then a random one
-abbrev pub IsGiven : Paths → Bool → Option Token → Type 0
-IsGiven paths has_token token = (is_some token ≡ has_token) × IfSome token (IsRandom paths)
+abbrev pub IsGiven : Surroundings → Bool → Option Token → Type 0
+IsGiven around has_token token = (is_some token ≡ has_token) × IfSome token (IsRandom around)
 
 -- the list at a path was opened, and goes on as a chain behind this link
-abbrev pub GoesOnAsChain : Paths → List ℕ → Link → Type 0
-GoesOnAsChain paths path link =
-    (opened : OpenedList) × paths.list path opened × (opened.end ≡ Chain link)
+abbrev pub GoesOnAsChain : Surroundings → List ℕ → Link → Type 0
+GoesOnAsChain around path link =
+    (opened : OpenedList) × around.list path opened × (opened.end ≡ Chain link)
 
 -- A change was made in a room's file, by what the output held before and after. Where there is a
 -- list for it, its text was kept there before.
-abbrev pub IsMade : Paths → Option (List ℕ) → Option (List ℕ) → ChangedFile → RoomChange → Type 0
-IsMade paths before after place change =
+abbrev pub IsMade : Surroundings → Option (List ℕ) → Option (List ℕ) → ChangedFile → RoomChange
+    → Type 0
+IsMade around before after place change =
     MatchOption place.list
-    (IsDoneAt (paths.kept place.file.now) (Changes change) before after tt)
+    (IsDoneAt (around.kept place.file.now) (Changes change) before after tt)
     (λ list. (text : List ℕ) × IsTextOf change text × ((link : Link)
-    × GoesOnAsChain paths list.now link
-    × IsDoneAt (paths.kept place.file.now) (ChangesKept (Chain link) change text)
+    × GoesOnAsChain around list.now link
+    × IsDoneAt (around.kept place.file.now) (ChangesKept (Chain link) change text)
     before after tt))
 
--- the list for a change can't be opened, for memory or for itself, and nothing is printed
-abbrev pub HasNoList : Option (List ℕ) → Option (List ℕ) → Failure → Type 0
-HasNoList before after fault =
-    ((fault ≡ failure.Memory) ⊎ (fault ≡ failure.Journal)) × (after ≡ before)
+-- the list at a path was opened, and is no chain
+abbrev pub IsPlain : Surroundings → List ℕ → Type 0
+IsPlain around path = (opened : OpenedList) × around.list path opened × (opened.end ≡ Plain)
 
--- a file can't be read, or there is no memory for it, and nothing is printed
-abbrev pub HasNoText : Option (List ℕ) → Option (List ℕ) → Failure → Type 0
-HasNoText before after fault =
-    ((fault ≡ failure.Memory) ⊎ (fault ≡ failure.Input)) × (after ≡ before)
+-- no chain was opened at a path, for this: there is no list, or it is none
+abbrev pub LacksChain : Surroundings → List ℕ → Failure → Type 0
+LacksChain around path fault =
+    IsUnlisted around path fault ⊎ ((fault ≡ failure.Journal) × IsPlain around path)
+
+-- there is no list at a path to keep a change in, and nothing is printed
+abbrev pub HasNoList : Surroundings → List ℕ → Option (List ℕ) → Option (List ℕ) → Failure
+    → Type 0
+HasNoList around path before after fault = LacksChain around path fault × (after ≡ before)
+
+-- the file at a path can't be read, or there is no memory for it, and nothing is printed
+abbrev pub HasNoText : Surroundings → List ℕ → Option (List ℕ) → Option (List ℕ) → Failure
+    → Type 0
+HasNoText around path before after fault = IsUnread around path fault × (after ≡ before)
 
 -- why it was not made: this became of the room's file, or there is no list for it
-abbrev pub IsUnmade : Paths → Option (List ℕ) → Option (List ℕ) → Failure → ChangedFile
+abbrev pub IsUnmade : Surroundings → Option (List ℕ) → Option (List ℕ) → Failure → ChangedFile
     → RoomChange → Type 0
-IsUnmade paths before after fault place change =
+IsUnmade around before after fault place change =
     MatchOption place.list
-    (IsUndoneAt (paths.kept place.file.now) (Changes change) HoldsNoRoom before after fault)
-    (λ list. HasNoList before after fault
+    (IsUndoneAt (around.kept place.file.now) (Changes change) HoldsNoRoom before after fault)
+    (λ list. HasNoList around list.now before after fault
     ⊎ ((text : List ℕ) × IsTextOf change text × ((link : Link)
-    × GoesOnAsChain paths list.now link
-    × IsUndoneAt (paths.kept place.file.now) (ChangesKept (Chain link) change text)
+    × GoesOnAsChain around list.now link
+    × IsUndoneAt (around.kept place.file.now) (ChangesKept (Chain link) change text)
     (LosesKeptRoom (Chain link) change text) before after fault)))
 
--- by what there is at paths, what the output held before and holds after, and how much is done
-module _ (paths : Paths) (before after : Option (List ℕ)) (done : Done) where
+-- by what is around, what the output held before and holds after, and how much is done
+module _ (around : Surroundings) (before after : Option (List ℕ)) (done : Done) where
   -- a room was created in a file by the plan of this text
   abbrev pub IsInitOf : List ℕ → List ℕ → Type 0
   IsInitOf file text =
       (plan : PlanFile) × IsPlanText text plan
-      × IsDoneAt (paths.new file) (Creates plan) before after done
+      × IsDoneAt (around.new file) (Creates plan) before after done
 
   -- or by that of the text of a file
   abbrev pub IsInit : List ℕ → List ℕ → Type 0
-  IsInit file plan = (text : List ℕ) × paths.text plan text × IsInitOf file text
+  IsInit file plan = (text : List ℕ) × around.text plan text × IsInitOf file text
 
   -- a room got some plan, and then that was reported
   pub record IsReplanned (place : ChangedFile) (plan : PlanFile) : Type 0 where
     pub between : Option (List ℕ)
-    pub is : IsMade paths before between place (change.Plan plan)
+    pub is : IsMade around before between place (change.Plan plan)
     pub text : Appends between after (codes "replanned\n")
     pub whole : done ≡ Whole
 
@@ -114,40 +131,40 @@ module _ (paths : Paths) (before after : Option (List ℕ)) (done : Done) where
 
   -- or that of the text of a file
   abbrev pub IsReplan : ChangedFile → List ℕ → Type 0
-  IsReplan place plan = (text : List ℕ) × paths.text plan text × IsReplanOf place text
+  IsReplan place plan = (text : List ℕ) × around.text plan text × IsReplanOf place text
 
   -- the rows of the fleet of this text were enrolled
   abbrev pub IsImportOf : List ℕ → List ℕ → Type 0
   IsImportOf file text =
       (lines : List FleetLine) × IsFleetText text lines
-      × IsDoneAt (paths.kept file) (Enrols lines) before after done
+      × IsDoneAt (around.kept file) (Enrols lines) before after done
 
   -- or those of the text of a file
   abbrev pub IsImport : List ℕ → List ℕ → Type 0
-  IsImport file fleet = (text : List ℕ) × paths.text fleet text × IsImportOf file text
+  IsImport file fleet = (text : List ℕ) × around.text fleet text × IsImportOf file text
 
   -- they were kept in a list, which goes on as a chain, and enrolled
   abbrev pub IsKeptImportOf : List ℕ → List ℕ → List ℕ → Type 0
   IsKeptImportOf file list text = (lines : List FleetLine) × IsFleetText text lines
-      × ((link : Link) × GoesOnAsChain paths list link
-      × IsDoneAt (paths.kept file) (EnrolsKept (Chain link) lines text) before after done)
+      × ((link : Link) × GoesOnAsChain around list link
+      × IsDoneAt (around.kept file) (EnrolsKept (Chain link) lines text) before after done)
 
   abbrev pub IsKeptImport : List ℕ → List ℕ → List ℕ → Type 0
   IsKeptImport file fleet list =
-      (text : List ℕ) × paths.text fleet text × IsKeptImportOf file list text
+      (text : List ℕ) × around.text fleet text × IsKeptImportOf file list text
 
   -- a user was given only this token, or none, and then this was printed
   pub record IsReissued (place : ChangedFile) (who : Who) (token : Option Token) (text : List ℕ)
       : Type 0 where
     pub between : Option (List ℕ)
-    pub is : IsMade paths before between place (reissue_of who token)
+    pub is : IsMade around before between place (reissue_of who token)
     pub printed : Appends between after text
     pub whole : done ≡ Whole
 
   -- all users whom a list names were given its terminals, and then the number of these was printed
   pub record IsSet (place : ChangedFile) (listed : Vec Terminal Global) : Type 0 where
     pub between : Option (List ℕ)
-    pub is : IsMade paths before between place (change.Terminals listed)
+    pub is : IsMade around before between place (change.Terminals listed)
     pub printed : Appends between after
         (codes "set: terminals " ++ (decimal (length listed.items) ++ codes "\n"))
     pub whole : done ≡ Whole
@@ -159,27 +176,27 @@ module _ (paths : Paths) (before after : Option (List ℕ)) (done : Done) where
 
   -- or that the text of a file does
   abbrev pub IsSetting : ChangedFile → List ℕ → Type 0
-  IsSetting place csv = (text : List ℕ) × paths.text csv text × IsSettingOf place text
+  IsSetting place csv = (text : List ℕ) × around.text csv text × IsSettingOf place text
 
   -- Terminals were listed; or a user got a new random token, which was printed; or a user's
   -- terminal was revoked: there is no token any more, or, as a vehicle's crew must have one, a
   -- random one that is not printed.
   abbrev pub IsTerminals : ChangedFile → Wanted → Type 0
-  IsTerminals place wanted.List = IsDoneAt (paths.kept place.file.now) Lists before after done
+  IsTerminals place wanted.List = IsDoneAt (around.kept place.file.now) Lists before after done
   IsTerminals place (wanted.New who) =
-      (token : Token) × IsRandom paths token
+      (token : Token) × IsRandom around token
       × IsReissued place who (Some token) (token ++ codes "\n")
   IsTerminals place (wanted.Revoke who) =
-      (token : Option Token) × IsGiven paths (is_a_crew who) token
+      (token : Option Token) × IsGiven around (is_a_crew who) token
       × IsReissued place who token (codes "revoked\n")
 
--- by what there is at paths, what the output held before and holds after, and why the task fails
-module _ (paths : Paths) (before after : Option (List ℕ)) (fault : Failure) where
+-- by what is around, what the output held before and holds after, and why the task fails
+module _ (around : Surroundings) (before after : Option (List ℕ)) (fault : Failure) where
   -- a change was not made; or it was, and the output failed
   abbrev pub FailsChange : ChangedFile → RoomChange → Type 0
-  FailsChange place change = IsUnmade paths before after fault place change
+  FailsChange place change = IsUnmade around before after fault place change
       ⊎ ((fault ≡ failure.Network)
-      × ((between : Option (List ℕ)) × IsMade paths before between place change))
+      × ((between : Option (List ℕ)) × IsMade around before between place change))
 
   -- there is no memory for the text of a change, and nothing is printed; or with its text it failed
   abbrev pub FailsWithText : ChangedFile → RoomChange → Type 0
@@ -191,12 +208,12 @@ module _ (paths : Paths) (before after : Option (List ℕ)) (fault : Failure) wh
   abbrev pub FailsInitOf : List ℕ → List ℕ → Type 0
   FailsInitOf file text = (GivesNoPlan text fault × (after ≡ before))
       ⊎ ((plan : PlanFile) × IsPlanText text plan
-      × IsUndoneAt (paths.new file) (Creates plan) (CreatesNone plan) before after fault)
+      × IsUndoneAt (around.new file) (Creates plan) (CreatesNone plan) before after fault)
 
   -- the text of the file can't be read; or the command failed with it
   abbrev pub FailsInit : List ℕ → List ℕ → Type 0
-  FailsInit file plan = HasNoText before after fault
-      ⊎ ((text : List ℕ) × paths.text plan text × FailsInitOf file text)
+  FailsInit file plan = HasNoText around plan before after fault
+      ⊎ ((text : List ℕ) × around.text plan text × FailsInitOf file text)
 
   -- this became of a room's file that did not get a plan; or it got it, and the output failed
   abbrev pub FailsReplanBy : ChangedFile → PlanFile → Type 0
@@ -208,40 +225,39 @@ module _ (paths : Paths) (before after : Option (List ℕ)) (fault : Failure) wh
       ⊎ ((plan : PlanFile) × IsPlanText text plan × FailsReplanBy place plan)
 
   abbrev pub FailsReplan : ChangedFile → List ℕ → Type 0
-  FailsReplan place plan = HasNoText before after fault
-      ⊎ ((text : List ℕ) × paths.text plan text × FailsReplanOf place text)
+  FailsReplan place plan = HasNoText around plan before after fault
+      ⊎ ((text : List ℕ) × around.text plan text × FailsReplanOf place text)
 
   -- no fleet was enrolled whole: this text gives none, and nothing is printed; or this became of
   -- the file, by its rows
   abbrev pub FailsImportOf : List ℕ → List ℕ → Type 0
   FailsImportOf file text = (GivesNoFleet text fault × (after ≡ before))
       ⊎ ((lines : List FleetLine) × IsFleetText text lines
-      × IsUndoneAt (paths.kept file) (Enrols lines) EnrolsNone before after fault)
+      × IsUndoneAt (around.kept file) (Enrols lines) EnrolsNone before after fault)
 
   abbrev pub FailsImport : List ℕ → List ℕ → Type 0
-  FailsImport file fleet = HasNoText before after fault
-      ⊎ ((text : List ℕ) × paths.text fleet text × FailsImportOf file text)
+  FailsImport file fleet = HasNoText around fleet before after fault
+      ⊎ ((text : List ℕ) × around.text fleet text × FailsImportOf file text)
 
   -- the same if it was to be kept in a list first; or that list can't be opened
   abbrev pub FailsKeptImportOf : List ℕ → List ℕ → List ℕ → Type 0
   FailsKeptImportOf file list text = (GivesNoFleet text fault × (after ≡ before))
-      ⊎ HasNoList before after fault
+      ⊎ HasNoList around list before after fault
       ⊎ ((lines : List FleetLine) × IsFleetText text lines × ((link : Link)
-      × GoesOnAsChain paths list link
-      × IsUndoneAt (paths.kept file) (EnrolsKept (Chain link) lines text) EnrolsNone
+      × GoesOnAsChain around list link
+      × IsUndoneAt (around.kept file) (EnrolsKept (Chain link) lines text) EnrolsNone
       before after fault))
 
   abbrev pub FailsKeptImport : List ℕ → List ℕ → List ℕ → Type 0
-  FailsKeptImport file fleet list = HasNoText before after fault
-      ⊎ ((text : List ℕ) × paths.text fleet text × FailsKeptImportOf file list text)
+  FailsKeptImport file fleet list = HasNoText around fleet before after fault
+      ⊎ ((text : List ℕ) × around.text fleet text × FailsKeptImportOf file list text)
 
-  -- the system gives no random token where one is to be given, and nothing is printed; or with such
-  -- a token it failed, or with none where none was to be given
+  -- there is no random token where one is to be given, for the system or for memory, and nothing is
+  -- printed; or with such a token it failed, or with none where none was to be given
   abbrev pub FailsReissue : ChangedFile → Who → Bool → Type 0
   FailsReissue place who has_token =
-      ((has_token ≡ true) × (after ≡ before)
-      × ((fault ≡ failure.Memory) ⊎ (fault ≡ failure.Storage)))
-      ⊎ ((token : Option Token) × IsGiven paths has_token token
+      ((has_token ≡ true) × (after ≡ before) × LacksToken around fault)
+      ⊎ ((token : Option Token) × IsGiven around has_token token
       × FailsWithText place (reissue_of who token))
 
   -- the terminals of a list were not set
@@ -255,12 +271,12 @@ module _ (paths : Paths) (before after : Option (List ℕ)) (fault : Failure) wh
       ⊎ ((listed : Vec Terminal Global) × AreGiven text listed.items × FailsSettingBy place listed)
 
   abbrev pub FailsSetting : ChangedFile → List ℕ → Type 0
-  FailsSetting place csv = HasNoText before after fault
-      ⊎ ((text : List ℕ) × paths.text csv text × FailsSettingOf place text)
+  FailsSetting place csv = HasNoText around csv before after fault
+      ⊎ ((text : List ℕ) × around.text csv text × FailsSettingOf place text)
 
   -- terminals were not listed, or not changed
   abbrev pub FailsTerminals : ChangedFile → Wanted → Type 0
   FailsTerminals place wanted.List =
-      IsUndoneAt (paths.kept place.file.now) Lists HoldsNoRoom before after fault
+      IsUndoneAt (around.kept place.file.now) Lists HoldsNoRoom before after fault
   FailsTerminals place (wanted.New who) = FailsReissue place who true
   FailsTerminals place (wanted.Revoke who) = FailsReissue place who (is_a_crew who)

@@ -26,10 +26,10 @@ pub fn import<M: Machine, O: Write>(
     fleet: &str,
     out: &mut O,
 ) -> Result<Done, Failure>
-    ensures done { IfOk result (λ done. IsImport (M.paths machine) (O.contents out.old)
+    ensures done { IfOk result (λ done. IsImport (M.surroundings machine) (O.contents out.old)
         (O.contents out.new) done file.now fleet.now) }
-    ensures undone { IfErr result (λ fault. FailsImport (M.paths machine) (O.contents out.old)
-        (O.contents out.new) fault file.now fleet.now) }
+    ensures undone { IfErr result (λ fault. FailsImport (M.surroundings machine)
+        (O.contents out.old) (O.contents out.new) fault file.now fleet.now) }
 {
     let host = machine.host();
     let text = machine.read_text(fleet)?;
@@ -44,10 +44,10 @@ fn import_by<M: Machine, O: Write>(
     sheet: Sheet<'_>,
     out: &mut O,
 ) -> Result<Done, Failure>
-    ensures done { IfOk result (λ done. IsImportOf (M.paths machine) (O.contents out.old)
+    ensures done { IfOk result (λ done. IsImportOf (M.surroundings machine) (O.contents out.old)
         (O.contents out.new) done file.now sheet.entry.text.now) }
-    ensures undone { IfErr result (λ fault. FailsImportOf (M.paths machine) (O.contents out.old)
-        (O.contents out.new) fault file.now sheet.entry.text.now) }
+    ensures undone { IfErr result (λ fault. FailsImportOf (M.surroundings machine)
+        (O.contents out.old) (O.contents out.new) fault file.now sheet.entry.text.now) }
 {
     let lines = lines_in(sheet)?;
     let enrolment = Enrolment {

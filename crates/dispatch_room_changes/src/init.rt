@@ -26,9 +26,9 @@ pub fn init<M: Machine, O: Write>(
     plan: &str,
     out: &mut O,
 ) -> Result<Done, Failure>
-    ensures done { IfOk result (λ done. IsInit (M.paths machine) (O.contents out.old)
+    ensures done { IfOk result (λ done. IsInit (M.surroundings machine) (O.contents out.old)
         (O.contents out.new) done file.now plan.now) }
-    ensures undone { IfErr result (λ fault. FailsInit (M.paths machine) (O.contents out.old)
+    ensures undone { IfErr result (λ fault. FailsInit (M.surroundings machine) (O.contents out.old)
         (O.contents out.new) fault file.now plan.now) }
 {
     let host = machine.host();
@@ -44,10 +44,10 @@ fn init_by<M: Machine, O: Write>(
     sheet: Sheet<'_>,
     out: &mut O,
 ) -> Result<Done, Failure>
-    ensures done { IfOk result (λ done. IsInitOf (M.paths machine) (O.contents out.old)
+    ensures done { IfOk result (λ done. IsInitOf (M.surroundings machine) (O.contents out.old)
         (O.contents out.new) done file.now sheet.entry.text.now) }
-    ensures undone { IfErr result (λ fault. FailsInitOf (M.paths machine) (O.contents out.old)
-        (O.contents out.new) fault file.now sheet.entry.text.now) }
+    ensures undone { IfErr result (λ fault. FailsInitOf (M.surroundings machine)
+        (O.contents out.old) (O.contents out.new) fault file.now sheet.entry.text.now) }
 {
     let plan = plan_in(sheet)?;
     let creation = Creation { plan: &plan };

@@ -39,9 +39,9 @@ pub fn make_in_file<M: Machine, O: Write, E: Write>(
     err: &mut E,
 ) -> Result<(), Failure>
     requires text { IsTextOf change.now text.now }
-    ensures done { OnOk result (IsMade (M.paths machine) (O.contents out.old)
+    ensures done { OnOk result (IsMade (M.surroundings machine) (O.contents out.old)
         (O.contents out.new) place.entry change.now) }
-    ensures undone { IfErr result (λ fault. IsUnmade (M.paths machine) (O.contents out.old)
+    ensures undone { IfErr result (λ fault. IsUnmade (M.surroundings machine) (O.contents out.old)
         (O.contents out.new) fault place.entry change.now) }
 {
     let explainer = machine.host().explainer;
@@ -59,9 +59,9 @@ fn make_by<M: Machine, O: Write, E: Write>(
     err: &mut E,
 ) -> Result<(), Failure>
     requires text { IsTextOf change.now text.now }
-    ensures done { OnOk result (IsMade (M.paths machine) (O.contents out.old)
+    ensures done { OnOk result (IsMade (M.surroundings machine) (O.contents out.old)
         (O.contents out.new) place.entry change.now) }
-    ensures undone { IfErr result (λ fault. IsUnmade (M.paths machine) (O.contents out.old)
+    ensures undone { IfErr result (λ fault. IsUnmade (M.surroundings machine) (O.contents out.old)
         (O.contents out.new) fault place.entry change.now) }
 {
     let file = RoomFile::Kept(place.file);

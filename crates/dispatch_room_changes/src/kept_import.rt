@@ -1,10 +1,9 @@
 //! `import` with a list: a fleet is kept in the list of a room, and then enrolled.
-ghost use Rattle.std.specs.Prelude.{◌≡◌, ◌⊎◌, IfErr, IfOk};
-ghost use Rattle.dispatch_room_cli.specs.declared.exit_status.Failure.TheVariants as failure;
+ghost use Rattle.std.specs.Prelude.{◌≡◌, IfErr, IfOk};
 ghost use Rattle.dispatch_room_journal.specs.declared.list_ends.ListEnd.TheVariants.{Chain};
 ghost use Rattle.dispatch_room_journal.specs.declared.record_fronts.Link.{Link};
 ghost use Rattle.dispatch_room_changes.specs.DoneChanges.{FailsKeptImport, FailsKeptImportOf};
-ghost use Rattle.dispatch_room_changes.specs.DoneChanges.{IsKeptImport, IsKeptImportOf};
+ghost use Rattle.dispatch_room_changes.specs.DoneChanges.{IsKeptImport, IsKeptImportOf, LacksChain};
 ghost use Rattle.dispatch_room_changes.specs.ChangeTasks.{EnrolsKept, EnrolsNone};
 
 use crate::import::lines_in;
@@ -32,9 +31,9 @@ pub fn import_kept<'a, M: Machine, O: Write, E: Write>(
     out: &mut O,
     err: &mut E,
 ) -> Result<Done, Failure>
-    ensures done { IfOk result (λ done. IsKeptImport (M.paths machine) (O.contents out.old)
+    ensures done { IfOk result (λ done. IsKeptImport (M.surroundings machine) (O.contents out.old)
         (O.contents out.new) done file.now fleet.now path.now) }
-    ensures undone { IfErr result (λ fault. FailsKeptImport (M.paths machine)
+    ensures undone { IfErr result (λ fault. FailsKeptImport (M.surroundings machine)
         (O.contents out.old) (O.contents out.new) fault file.now fleet.now path.now) }
 {
     let host = machine.host();
@@ -52,9 +51,9 @@ fn import_kept_by<'a, M: Machine, O: Write, E: Write>(
     out: &mut O,
     err: &mut E,
 ) -> Result<Done, Failure>
-    ensures done { IfOk result (λ done. IsKeptImportOf (M.paths machine) (O.contents out.old)
+    ensures done { IfOk result (λ done. IsKeptImportOf (M.surroundings machine) (O.contents out.old)
         (O.contents out.new) done file.now path.now sheet.entry.text.now) }
-    ensures undone { IfErr result (λ fault. FailsKeptImportOf (M.paths machine)
+    ensures undone { IfErr result (λ fault. FailsKeptImportOf (M.surroundings machine)
         (O.contents out.old) (O.contents out.new) fault file.now path.now sheet.entry.text.now) }
 {
     let lines = lines_in(sheet)?;
@@ -79,9 +78,9 @@ pub fn opened_list<M: Machine, E: Write>(
     path: &str,
     err: &mut E,
 ) -> Result<OpenedList, Failure>
-    ensures list { IfOk result ((M.paths machine).list path.now) }
+    ensures list { IfOk result ((M.surroundings machine).list path.now) }
     ensures chain { IfOk result (λ opened. (link : Link) × (opened.end ≡ Chain link)) }
-    ensures fault { IfErr result (λ fault. (fault ≡ failure.Memory) ⊎ (fault ≡ failure.Journal)) }
+    ensures fault { IfErr result (LacksChain (M.surroundings machine) path.now) }
 {
     let opened = machine.open_journal(path, err)?;
     match opened.end {

@@ -22,10 +22,10 @@ pub fn replan<M: Machine, O: Write, E: Write>(
     out: &mut O,
     err: &mut E,
 ) -> Result<Done, Failure>
-    ensures done { IfOk result (λ done. IsReplan (M.paths machine) (O.contents out.old)
+    ensures done { IfOk result (λ done. IsReplan (M.surroundings machine) (O.contents out.old)
         (O.contents out.new) done place.entry plan.now) }
-    ensures undone { IfErr result (λ fault. FailsReplan (M.paths machine) (O.contents out.old)
-        (O.contents out.new) fault place.entry plan.now) }
+    ensures undone { IfErr result (λ fault. FailsReplan (M.surroundings machine)
+        (O.contents out.old) (O.contents out.new) fault place.entry plan.now) }
 {
     let host = machine.host();
     let text = machine.read_text(plan)?;
@@ -41,10 +41,10 @@ fn replan_as<M: Machine, O: Write, E: Write>(
     out: &mut O,
     err: &mut E,
 ) -> Result<Done, Failure>
-    ensures done { IfOk result (λ done. IsReplanOf (M.paths machine) (O.contents out.old)
+    ensures done { IfOk result (λ done. IsReplanOf (M.surroundings machine) (O.contents out.old)
         (O.contents out.new) done place.entry sheet.entry.text.now) }
-    ensures undone { IfErr result (λ fault. FailsReplanOf (M.paths machine) (O.contents out.old)
-        (O.contents out.new) fault place.entry sheet.entry.text.now) }
+    ensures undone { IfErr result (λ fault. FailsReplanOf (M.surroundings machine)
+        (O.contents out.old) (O.contents out.new) fault place.entry sheet.entry.text.now) }
 {
     let plan = plan_in(sheet)?;
     replan_by(machine, place, plan, sheet.text, out, err)
@@ -60,10 +60,10 @@ fn replan_by<M: Machine, O: Write, E: Write>(
     err: &mut E,
 ) -> Result<Done, Failure>
     requires text { IsPlanText text.now plan }
-    ensures done { IfOk result (λ done. IsReplanned (M.paths machine) (O.contents out.old)
+    ensures done { IfOk result (λ done. IsReplanned (M.surroundings machine) (O.contents out.old)
         (O.contents out.new) done place.entry plan) }
-    ensures undone { IfErr result (λ fault. FailsReplanBy (M.paths machine) (O.contents out.old)
-        (O.contents out.new) fault place.entry plan) }
+    ensures undone { IfErr result (λ fault. FailsReplanBy (M.surroundings machine)
+        (O.contents out.old) (O.contents out.new) fault place.entry plan) }
 {
     let change = RoomChange::Plan(plan);
     make_in_file(machine, place, &change, text, out, err)?;

@@ -1,15 +1,14 @@
 //! `terminals`: who has a terminal in a room, a new token, a terminal taken away, and all that a
 //! file names.
-ghost use Rattle.std.specs.Prelude.{◌≡◌, ◌⊎◌, codes, true, IfErr, IfOk, OnOk, Some};
+ghost use Rattle.std.specs.Prelude.{◌≡◌, codes, true, IfErr, IfOk, OnOk, Some};
 ghost use Rattle.room_types.specs.Texts.{Token as TokenText};
-ghost use Rattle.dispatch_room_cli.specs.declared.exit_status.Failure.TheVariants as failure;
 ghost use Rattle.dispatch_room_cli.specs.declared.tasks.Terminals.TheVariants as wanted;
 ghost use Rattle.dispatch_room_changes.specs.DoneChanges.{FailsReissue, FailsSetting};
 ghost use Rattle.dispatch_room_changes.specs.DoneChanges.{FailsSettingBy, FailsSettingOf};
 ghost use Rattle.dispatch_room_changes.specs.DoneChanges.{FailsTerminals, FailsWithText, IsMade};
 ghost use Rattle.dispatch_room_changes.specs.DoneChanges.{IsRandom, IsReissued, IsSet, IsSetting};
-ghost use Rattle.dispatch_room_changes.specs.DoneChanges.{IsSettingOf, IsTerminals, is_a_crew};
-ghost use Rattle.dispatch_room_changes.specs.DoneChanges.{reissue_of};
+ghost use Rattle.dispatch_room_changes.specs.DoneChanges.{IsSettingOf, IsTerminals, LacksToken};
+ghost use Rattle.dispatch_room_changes.specs.DoneChanges.{is_a_crew, reissue_of};
 ghost use Rattle.dispatch_room_changes.specs.ChangeTasks.{HoldsNoRoom, Lists};
 
 use crate::kept_changes::{ChangedFile, make_in_file};
@@ -40,11 +39,10 @@ pub fn terminals<M: Machine, O: Write, E: Write>(
     out: &mut O,
     err: &mut E,
 ) -> Result<Done, Failure>
-    ensures done { IfOk result (λ done.
-        IsTerminals (M.paths machine) (O.contents out.old) (O.contents out.new) done place.entry
-        wanted) }
-    ensures undone { IfErr result (λ fault. FailsTerminals (M.paths machine) (O.contents out.old)
-        (O.contents out.new) fault place.entry wanted) }
+    ensures done { IfOk result (λ done. IsTerminals (M.surroundings machine) (O.contents out.old)
+        (O.contents out.new) done place.entry wanted) }
+    ensures undone { IfErr result (λ fault. FailsTerminals (M.surroundings machine)
+        (O.contents out.old) (O.contents out.new) fault place.entry wanted) }
 {
     match wanted {
         Terminals::List => machine.in_file(RoomFile::Kept(place.file), Listing, out),
@@ -61,10 +59,10 @@ fn give_token<M: Machine, O: Write, E: Write>(
     out: &mut O,
     err: &mut E,
 ) -> Result<Done, Failure>
-    ensures done { IfOk result (λ done. IsTerminals (M.paths machine) (O.contents out.old)
+    ensures done { IfOk result (λ done. IsTerminals (M.surroundings machine) (O.contents out.old)
         (O.contents out.new) done place.entry (wanted.New who)) }
-    ensures undone { IfErr result (λ fault. FailsReissue (M.paths machine) (O.contents out.old)
-        (O.contents out.new) fault place.entry who true) }
+    ensures undone { IfErr result (λ fault. FailsReissue (M.surroundings machine)
+        (O.contents out.old) (O.contents out.new) fault place.entry who true) }
 {
     let token = new_token(machine)?;
     let change = TokenChange {
@@ -87,10 +85,10 @@ fn revoke<M: Machine, O: Write, E: Write>(
     out: &mut O,
     err: &mut E,
 ) -> Result<Done, Failure>
-    ensures done { IfOk result (λ done. IsTerminals (M.paths machine) (O.contents out.old)
+    ensures done { IfOk result (λ done. IsTerminals (M.surroundings machine) (O.contents out.old)
         (O.contents out.new) done place.entry (wanted.Revoke who)) }
-    ensures undone { IfErr result (λ fault. FailsReissue (M.paths machine) (O.contents out.old)
-        (O.contents out.new) fault place.entry who (is_a_crew who)) }
+    ensures undone { IfErr result (λ fault. FailsReissue (M.surroundings machine)
+        (O.contents out.old) (O.contents out.new) fault place.entry who (is_a_crew who)) }
 {
     if is_a_crew(&who) {
         return revoke_crew(machine, place, who, out, err);
@@ -108,11 +106,11 @@ fn revoke_crew<M: Machine, O: Write, E: Write>(
     err: &mut E,
 ) -> Result<Done, Failure>
     ensures done { IfOk result (λ done. (token : TokenText)
-        × IsRandom (M.paths machine) token
-        × IsReissued (M.paths machine) (O.contents out.old) (O.contents out.new) done place.entry
-        who (Some token) (codes "revoked\n")) }
-    ensures undone { IfErr result (λ fault. FailsReissue (M.paths machine) (O.contents out.old)
-        (O.contents out.new) fault place.entry who true) }
+        × IsRandom (M.surroundings machine) token
+        × IsReissued (M.surroundings machine) (O.contents out.old) (O.contents out.new) done
+        place.entry who (Some token) (codes "revoked\n")) }
+    ensures undone { IfErr result (λ fault. FailsReissue (M.surroundings machine)
+        (O.contents out.old) (O.contents out.new) fault place.entry who true) }
 {
     let token = new_token(machine)?;
     let change = TokenChange {
@@ -136,10 +134,11 @@ fn revoke_by<M: Machine, O: Write, E: Write>(
     out: &mut O,
     err: &mut E,
 ) -> Result<Done, Failure>
-    ensures done { IfOk result (λ done. IsReissued (M.paths machine) (O.contents out.old)
+    ensures done { IfOk result (λ done. IsReissued (M.surroundings machine) (O.contents out.old)
         (O.contents out.new) done place.entry change.who change.token (codes "revoked\n")) }
-    ensures undone { IfErr result (λ fault. FailsWithText (M.paths machine) (O.contents out.old)
-        (O.contents out.new) fault place.entry (reissue_of change.who change.token)) }
+    ensures undone { IfErr result (λ fault. FailsWithText (M.surroundings machine)
+        (O.contents out.old) (O.contents out.new) fault place.entry
+        (reissue_of change.who change.token)) }
 {
     reissue(machine, place, change, out, err)?;
     match writeln!(out, "revoked") {
@@ -156,10 +155,11 @@ fn reissue<M: Machine, O: Write, E: Write>(
     out: &mut O,
     err: &mut E,
 ) -> Result<(), Failure>
-    ensures done { OnOk result (IsMade (M.paths machine) (O.contents out.old)
+    ensures done { OnOk result (IsMade (M.surroundings machine) (O.contents out.old)
         (O.contents out.new) place.entry (reissue_of change.who change.token)) }
-    ensures undone { IfErr result (λ fault. FailsWithText (M.paths machine) (O.contents out.old)
-        (O.contents out.new) fault place.entry (reissue_of change.who change.token)) }
+    ensures undone { IfErr result (λ fault. FailsWithText (M.surroundings machine)
+        (O.contents out.old) (O.contents out.new) fault place.entry
+        (reissue_of change.who change.token)) }
 {
     let Ok(text) = token_text(machine.host().alloc, &change) else {
         return Err(Failure::Memory);
@@ -177,11 +177,10 @@ pub fn set_terminals<M: Machine, O: Write, E: Write>(
     out: &mut O,
     err: &mut E,
 ) -> Result<Done, Failure>
-    ensures done { IfOk result (λ done.
-        IsSetting (M.paths machine) (O.contents out.old) (O.contents out.new) done place.entry
-        csv.now) }
-    ensures undone { IfErr result (λ fault. FailsSetting (M.paths machine) (O.contents out.old)
-        (O.contents out.new) fault place.entry csv.now) }
+    ensures done { IfOk result (λ done. IsSetting (M.surroundings machine) (O.contents out.old)
+        (O.contents out.new) done place.entry csv.now) }
+    ensures undone { IfErr result (λ fault. FailsSetting (M.surroundings machine)
+        (O.contents out.old) (O.contents out.new) fault place.entry csv.now) }
 {
     let host = machine.host();
     let text = machine.read_text(csv)?;
@@ -197,10 +196,10 @@ fn set_by<M: Machine, O: Write, E: Write>(
     out: &mut O,
     err: &mut E,
 ) -> Result<Done, Failure>
-    ensures done { IfOk result (λ done. IsSettingOf (M.paths machine) (O.contents out.old)
+    ensures done { IfOk result (λ done. IsSettingOf (M.surroundings machine) (O.contents out.old)
         (O.contents out.new) done place.entry sheet.entry.text.now) }
-    ensures undone { IfErr result (λ fault. FailsSettingOf (M.paths machine) (O.contents out.old)
-        (O.contents out.new) fault place.entry sheet.entry.text.now) }
+    ensures undone { IfErr result (λ fault. FailsSettingOf (M.surroundings machine)
+        (O.contents out.old) (O.contents out.new) fault place.entry sheet.entry.text.now) }
 {
     let listed = terminals_in(sheet)?;
     set(machine, place, listed, out, err)
@@ -214,10 +213,10 @@ fn set<M: Machine, O: Write, E: Write>(
     out: &mut O,
     err: &mut E,
 ) -> Result<Done, Failure>
-    ensures done { IfOk result (λ done.
-        IsSet (M.paths machine) (O.contents out.old) (O.contents out.new) done place.entry listed) }
-    ensures undone { IfErr result (λ fault. FailsSettingBy (M.paths machine) (O.contents out.old)
-        (O.contents out.new) fault place.entry listed) }
+    ensures done { IfOk result (λ done. IsSet (M.surroundings machine) (O.contents out.old)
+        (O.contents out.new) done place.entry listed) }
+    ensures undone { IfErr result (λ fault. FailsSettingBy (M.surroundings machine)
+        (O.contents out.old) (O.contents out.new) fault place.entry listed) }
 {
     let Ok(text) = terminals_text(machine.host().alloc, listed.as_slice()) else {
         return Err(Failure::Memory);
@@ -233,9 +232,8 @@ fn set<M: Machine, O: Write, E: Write>(
 
 // A token of the machine's random bytes.
 fn new_token<M: Machine>(machine: M) -> Result<Token, Failure>
-    ensures random { IfOk result (IsRandom (M.paths machine)) }
-    ensures none { IfErr result (λ fault.
-        (fault ≡ failure.Memory) ⊎ (fault ≡ failure.Storage)) }
+    ensures random { IfOk result (IsRandom (M.surroundings machine)) }
+    ensures none { IfErr result (LacksToken (M.surroundings machine)) }
 {
     let mut random = [0; RANDOM];
     machine.fill_random(&mut random)?;

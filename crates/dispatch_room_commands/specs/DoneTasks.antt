@@ -7,8 +7,7 @@ use Rattle.std.specs.Option.{option_map}
 use Rattle.std.specs.Prelude.{is_some, true, ℕ, ◌≡◌, ◌⊎◌}
 use Rattle.clap.specs.Words.{kind_of}
 use Rattle.clap.specs.declared.error.Error.{Error}
-use Rattle.dispatch_room_disk.specs.DiskFaults.{IsFileFault}
-use Rattle.dispatch_room_disk.specs.ReplacingSteps.{Step, replacing}
+use Rattle.dispatch_room_disk.specs.ReplacingSteps.{IsFaultOf, Step, replacing}
 use Rattle.dispatch_room_cli.specs.AskedTasks.{IsRead}
 use Rattle.dispatch_room_cli.specs.ExitStatus.{status_after}
 use Rattle.dispatch_room_cli.specs.Tasks.{IsServedHere}
@@ -35,7 +34,7 @@ use Rattle.dispatch_room_commands.specs.RoomTasks.{ExaminesNone, FindsDay, Finds
 use Rattle.dispatch_room_commands.specs.RoomTasks.{LeavesNothing, LeavesRows, Moves, MovesNone}
 use Rattle.dispatch_room_commands.specs.RoomTasks.{OpensNone, Replays, ReplaysNone, Reports}
 use Rattle.dispatch_room_commands.specs.RoomTasks.{ReportsBoth, ReportsNone}
-use Rattle.dispatch_room_tcp.specs.Hosts.{IsDoneAt, IsUndoneAt, Paths, unknown}
+use Rattle.dispatch_room_tcp.specs.Hosts.{IsDoneAt, IsUndoneAt, IsUnread, Surroundings, unknown}
 use Rattle.dispatch_room_tcp.specs.ServedFiles.{FailsServe, IsServe}
 use Rattle.dispatch_room_journal.specs.Chains.{sha256_digits}
 use Rattle.dispatch_room_journal.specs.ListTallies.{IsVerified}
@@ -52,13 +51,15 @@ use Rattle.dispatch_room_changes.specs.DoneChanges.{IsSetting, IsTerminals}
 abbrev pub said_by : Option (List ℕ) → Option (List ℕ)
 said_by bytes = option_map (list_says sha256_digits Full) bytes
 
--- the first of these steps were done, and the next one failed
-pub record IsReplacedInPart (paths : Paths) (steps : List Step) : Type 0 where
+-- the first of these steps were done, and the next one failed with a fault that it may have
+pub record IsReplacedInPart (around : Surroundings) (steps : List Step) (fault : Failure)
+    : Type 0 where
   pub first : List Step
   pub failed : Step
   pub rest : List Step
   pub are : steps ≡ first ++ failed ∷ rest
-  pub done : paths.replaced first
+  pub done : around.replaced first
+  pub why : IsFaultOf failed fault
 
 -- by what the output held before, what it holds after, and how much is done
 module _ (before after : Option (List ℕ)) (done : Done) where
@@ -69,32 +70,32 @@ module _ (before after : Option (List ℕ)) (done : Done) where
     pub text : Appends before after (tally_text tally has_ended)
     pub whole : done ≡ Whole
 
--- by what there is at paths, what the output held before and holds after, and how much is done
-module _ (paths : Paths) (before after : Option (List ℕ)) (done : Done) where
+-- by what is around, what the output held before and holds after, and how much is done
+module _ (around : Surroundings) (before after : Option (List ℕ)) (done : Done) where
   -- the room of a file was moved without an output, and then that was reported
   pub record IsMigrate (file : List ℕ) : Type 0 where
-    pub is : IsDoneAt (paths.old file) Moves None None tt
+    pub is : IsDoneAt (around.old file) Moves None None tt
     pub text : Appends before after (codes "migrated\n")
     pub whole : done ≡ Whole
 
   -- a room's file was looked at
   abbrev pub IsCheck : List ℕ → Type 0
-  IsCheck file = IsDoneAt (paths.kept file) Examines before after done
+  IsCheck file = IsDoneAt (around.kept file) Examines before after done
 
   -- the digest of a file's room was printed
   abbrev pub IsDigest : List ℕ → Type 0
-  IsDigest file = IsDoneAt (paths.kept file) Digests before after done
+  IsDigest file = IsDoneAt (around.kept file) Digests before after done
 
   -- a copy was looked at that is a well-formed room, and was put in the place of a file, step after
   -- step
   abbrev pub IsRestore : List ℕ → List ℕ → Type 0
   IsRestore copy file =
-      IsCheck copy × ((there : Bool) × paths.replaced (replacing copy file there))
+      IsCheck copy × ((there : Bool) × around.replaced (replacing copy file there))
 
   -- a division's day was reported of a file's room without an output, and then that was written
   pub record IsTimes (file : List ℕ) (division : ℕ) (day : List ℕ) : Type 0 where
     pub report : Vec ℕ Global
-    pub is : IsDoneAt (paths.kept file) (Reports division day) None None report
+    pub is : IsDoneAt (around.kept file) (Reports division day) None None report
     pub text : Appends before after report.items
     pub whole : done ≡ Whole
 
@@ -102,15 +103,15 @@ module _ (paths : Paths) (before after : Option (List ℕ)) (done : Done) where
   -- another, and then the report was written
   pub record IsJoinedTimes (file older : List ℕ) (division : ℕ) (day : List ℕ) : Type 0 where
     pub newer : DivisionDay
-    pub finds : IsDoneAt (paths.kept file) (FindsDay division day) None None newer
+    pub finds : IsDoneAt (around.kept file) (FindsDay division day) None None newer
     pub report : Vec ℕ Global
-    pub joins : IsDoneAt (paths.kept older) (ReportsBoth newer) None None report
+    pub joins : IsDoneAt (around.kept older) (ReportsBoth newer) None None report
     pub text : Appends before after report.items
     pub whole : done ≡ Whole
 
   -- the list of a file was looked through
   abbrev pub IsVerify : List ℕ → Type 0
-  IsVerify path = (bytes : Option (List ℕ)) × paths.bytes path bytes × ((has_ended : Bool)
+  IsVerify path = (bytes : Option (List ℕ)) × around.bytes path bytes × ((has_ended : Bool)
       × IsVerifyOf before after done (said_by bytes) has_ended)
 
   -- the board of a desk that has a token was shown, of what is heard of a room at its address, in
@@ -118,33 +119,34 @@ module _ (paths : Paths) (before after : Option (List ℕ)) (done : Done) where
   abbrev pub IsBoardOf : Look → Type 0
   IsBoardOf look =
       (is_token look.token.now ≡ true)
-      × ((heard : List ℕ) × IsHeardAt paths look heard
+      × ((heard : List ℕ) × IsHeardAt around look heard
       × ((colour : Bool) × IsColour look.color colour
       × PrintsBoard heard (is_some look.incident) colour before after done))
 
-  -- a list was replayed
+  -- a list from standard input was replayed
   abbrev pub IsReplay : List ℕ → How → Type 0
-  IsReplay file how = IsDoneAt (paths.kept file) (Replays how) before after done
+  IsReplay file how =
+      IsDoneAt (around.kept file) (Replays around.input how) before after done
 
   -- what the room of a file leaves since a day was read, and then a room was made of it in another
   pub record IsRenew (file successor day : List ℕ) : Type 0 where
     pub left : Successor
-    pub read : IsDoneAt (paths.kept file) (LeavesRows day) None None left
-    pub made : IsDoneAt (paths.new successor) (Begins left) before after done
+    pub read : IsDoneAt (around.kept file) (LeavesRows day) None None left
+    pub made : IsDoneAt (around.new successor) (Begins left) before after done
 
   -- what was asked for was done
   abbrev pub IsTask : Task → Type 0
-  IsTask (Init file plan) = IsInit paths before after done file.now plan.now
-  IsTask (Import file fleet None) = IsImport paths before after done file.now fleet.now
+  IsTask (Init file plan) = IsInit around before after done file.now plan.now
+  IsTask (Import file fleet None) = IsImport around before after done file.now fleet.now
   IsTask (Import file fleet (Some list)) =
-      IsKeptImport paths before after done file.now fleet.now list.now
+      IsKeptImport around before after done file.now fleet.now list.now
   IsTask (Replan file plan list) =
-      IsReplan paths before after done (record { file = file; list = list }) plan.now
+      IsReplan around before after done (record { file = file; list = list }) plan.now
   IsTask (Migrate file) = IsMigrate file.now
   IsTask (Check file) = IsCheck file.now
   IsTask (Digest file) = IsDigest file.now
   IsTask (Restore copy file) = IsRestore copy.now file.now
-  IsTask (Serve file service) = IsServe paths before after done file.now service
+  IsTask (Serve file service) = IsServe around before after done file.now service
   IsTask (Replay file how) = IsReplay file.now how
   IsTask (Verify list) = IsVerify list.now
   IsTask (Board look) = IsBoardOf look
@@ -153,9 +155,9 @@ module _ (paths : Paths) (before after : Option (List ℕ)) (done : Done) where
   IsTask (JoinedTimes file older division day) =
       IsJoinedTimes file.now older.now division day.now
   IsTask (Terminals file wanted list) =
-      IsTerminals paths before after done (record { file = file; list = list }) wanted
+      IsTerminals around before after done (record { file = file; list = list }) wanted
   IsTask (SetTerminals file csv list) =
-      IsSetting paths before after done (record { file = file; list = list }) csv.now
+      IsSetting around before after done (record { file = file; list = list }) csv.now
 
 -- by what the output held before, what it holds after, and why the task fails
 module _ (before after : Option (List ℕ)) (fault : Failure) where
@@ -167,56 +169,56 @@ module _ (before after : Option (List ℕ)) (fault : Failure) where
       ⊎ ((fault ≡ failure.Network) × ((tally : Tally)
       × ((text : List ℕ) → list ≡ Some text → IsVerified text tally)))
 
--- by what there is at paths, what the output held before and holds after, and why the task fails
-module _ (paths : Paths) (before after : Option (List ℕ)) (fault : Failure) where
+-- by what is around, what the output held before and holds after, and why the task fails
+module _ (around : Surroundings) (before after : Option (List ℕ)) (fault : Failure) where
   -- no room was moved, and nothing is written; or one was, and the output failed
   abbrev pub FailsMigrate : List ℕ → Type 0
   FailsMigrate file =
-      ((after ≡ before) × IsUndoneAt (paths.old file) Moves MovesNone None None fault)
-      ⊎ ((fault ≡ failure.Network) × IsDoneAt (paths.old file) Moves None None tt)
+      ((after ≡ before) × IsUndoneAt (around.old file) Moves MovesNone None None fault)
+      ⊎ ((fault ≡ failure.Network) × IsDoneAt (around.old file) Moves None None tt)
 
   -- how much the room has is not reported, and this became of its file
   abbrev pub FailsCheck : List ℕ → Type 0
-  FailsCheck file = IsUndoneAt (paths.kept file) Examines ExaminesNone before after fault
+  FailsCheck file = IsUndoneAt (around.kept file) Examines ExaminesNone before after fault
 
   -- no digest was printed, and this became of the room's file
   abbrev pub FailsDigest : List ℕ → Type 0
-  FailsDigest file = IsUndoneAt (paths.kept file) Digests OpensNone before after fault
+  FailsDigest file = IsUndoneAt (around.kept file) Digests OpensNone before after fault
 
   -- The copy is no room, or can't be read, and no step is done by which it is put in place. Or it
-  -- is one, and one of these steps failed, and those before it were done.
+  -- is one, and one of these steps failed for this, and those before it were done.
   abbrev pub FailsRestore : List ℕ → List ℕ → Type 0
-  FailsRestore copy file = (FailsCheck copy × paths.replaced [])
-      ⊎ (((fault ≡ failure.File) ⊎ IsFileFault fault) × ((done : Done)
-      × IsDoneAt (paths.kept copy) Examines before after done
-      × ((there : Bool) × IsReplacedInPart paths (replacing copy file there))))
+  FailsRestore copy file = (FailsCheck copy × around.replaced [])
+      ⊎ ((done : Done) × IsDoneAt (around.kept copy) Examines before after done
+      × ((there : Bool) × IsReplacedInPart around (replacing copy file there) fault))
 
   -- no day was reported, and nothing is written; or one was, and the output failed
   abbrev pub FailsTimes : List ℕ → ℕ → List ℕ → Type 0
   FailsTimes file division day =
       ((after ≡ before)
-      × IsUndoneAt (paths.kept file) (Reports division day) OpensNone None None fault)
+      × IsUndoneAt (around.kept file) (Reports division day) OpensNone None None fault)
       ⊎ ((fault ≡ failure.Network) × ((report : Vec ℕ Global)
-      × IsDoneAt (paths.kept file) (Reports division day) None None report))
+      × IsDoneAt (around.kept file) (Reports division day) None None report))
 
   -- no day was found; or one was, and there was no report of both rooms, and nothing is written; or
   -- there was one, and the output failed
   abbrev pub FailsJoinedTimes : List ℕ → List ℕ → ℕ → List ℕ → Type 0
   FailsJoinedTimes file older division day =
-      ((after ≡ before) × IsUndoneAt (paths.kept file) (FindsDay division day)
+      ((after ≡ before) × IsUndoneAt (around.kept file) (FindsDay division day)
       (FindsNoDay division day) None None fault)
       ⊎ ((newer : DivisionDay)
-      × IsDoneAt (paths.kept file) (FindsDay division day) None None newer
+      × IsDoneAt (around.kept file) (FindsDay division day) None None newer
       × (((after ≡ before)
-      × IsUndoneAt (paths.kept older) (ReportsBoth newer) ReportsNone None None fault)
+      × IsUndoneAt (around.kept older) (ReportsBoth newer) ReportsNone None None fault)
       ⊎ ((fault ≡ failure.Network) × ((report : Vec ℕ Global)
-      × IsDoneAt (paths.kept older) (ReportsBoth newer) None None report))))
+      × IsDoneAt (around.kept older) (ReportsBoth newer) None None report))))
 
   -- no list could be opened, and nothing was printed; or this became of the list of a file
   abbrev pub FailsVerify : List ℕ → Type 0
   FailsVerify path =
-      ((after ≡ before) × ((fault ≡ failure.Memory) ⊎ (fault ≡ failure.Input)))
-      ⊎ ((bytes : Option (List ℕ)) × paths.bytes path bytes × ((read_failed : Bool)
+      ((after ≡ before) × IsUnread around path fault)
+      ⊎ ((bytes : Option (List ℕ)) × around.bytes path bytes
+      × ((read_failed : Bool) × around.read_failed path read_failed
       × FailsVerifyOf before after fault (said_by bytes) read_failed))
 
   -- no board was shown, for lack of a token, or of memory; or, of what is heard of a room at its
@@ -225,37 +227,38 @@ module _ (paths : Paths) (before after : Option (List ℕ)) (fault : Failure) wh
   FailsBoard look =
       ((fault ≡ failure.Input) × (¬ (is_token look.token.now ≡ true)) × (after ≡ before))
       ⊎ ((is_token look.token.now ≡ true) × (((fault ≡ failure.Memory) × (after ≡ before))
-      ⊎ ((heard : List ℕ) × IsHeardAt paths look heard
+      ⊎ ((heard : List ℕ) × IsHeardAt around look heard
       × ((colour : Bool) × IsColour look.color colour
       × FailsToPrint heard (is_some look.incident) colour before after fault))))
 
   -- a list was not replayed whole, and this became of the room's file
   abbrev pub FailsReplay : List ℕ → How → Type 0
   FailsReplay file how =
-      IsUndoneAt (paths.kept file) (Replays how) (ReplaysNone how) before after fault
+      IsUndoneAt (around.kept file) (Replays around.input how) (ReplaysNone around.input how)
+      before after fault
 
   -- no room was made of another one: that left nothing since a day, and nothing is written; or this
   -- became of the new file
   abbrev pub FailsRenew : List ℕ → List ℕ → List ℕ → Type 0
   FailsRenew file successor day =
-      ((after ≡ before) × IsUndoneAt (paths.kept file) (LeavesRows day) (LeavesNothing day)
+      ((after ≡ before) × IsUndoneAt (around.kept file) (LeavesRows day) (LeavesNothing day)
       None None fault)
-      ⊎ ((left : Successor) × IsDoneAt (paths.kept file) (LeavesRows day) None None left
-      × IsUndoneAt (paths.new successor) (Begins left) BeginsNone before after fault)
+      ⊎ ((left : Successor) × IsDoneAt (around.kept file) (LeavesRows day) None None left
+      × IsUndoneAt (around.new successor) (Begins left) BeginsNone before after fault)
 
   -- what was asked for was not done
   abbrev pub FailsTask : Task → Type 0
-  FailsTask (Init file plan) = FailsInit paths before after fault file.now plan.now
-  FailsTask (Import file fleet None) = FailsImport paths before after fault file.now fleet.now
+  FailsTask (Init file plan) = FailsInit around before after fault file.now plan.now
+  FailsTask (Import file fleet None) = FailsImport around before after fault file.now fleet.now
   FailsTask (Import file fleet (Some list)) =
-      FailsKeptImport paths before after fault file.now fleet.now list.now
+      FailsKeptImport around before after fault file.now fleet.now list.now
   FailsTask (Replan file plan list) =
-      FailsReplan paths before after fault (record { file = file; list = list }) plan.now
+      FailsReplan around before after fault (record { file = file; list = list }) plan.now
   FailsTask (Migrate file) = FailsMigrate file.now
   FailsTask (Check file) = FailsCheck file.now
   FailsTask (Digest file) = FailsDigest file.now
   FailsTask (Restore copy file) = FailsRestore copy.now file.now
-  FailsTask (Serve file service) = FailsServe paths before after fault file.now service
+  FailsTask (Serve file service) = FailsServe around before after fault file.now service
   FailsTask (Replay file how) = FailsReplay file.now how
   FailsTask (Verify list) = FailsVerify list.now
   FailsTask (Board look) = FailsBoard look
@@ -264,9 +267,9 @@ module _ (paths : Paths) (before after : Option (List ℕ)) (fault : Failure) wh
   FailsTask (JoinedTimes file older division day) =
       FailsJoinedTimes file.now older.now division day.now
   FailsTask (Terminals file wanted list) =
-      FailsTerminals paths before after fault (record { file = file; list = list }) wanted
+      FailsTerminals around before after fault (record { file = file; list = list }) wanted
   FailsTask (SetTerminals file csv list) =
-      FailsSetting paths before after fault (record { file = file; list = list }) csv.now
+      FailsSetting around before after fault (record { file = file; list = list }) csv.now
 
 -- what the words of a command line are read as: a task is the one that they ask for, and whatever
 -- it serves, it serves to this machine
@@ -276,13 +279,14 @@ IsAskedBy words asked = IfOk asked IsServedHere × IfOk asked (IsRead words)
 -- The exit status of what the words of a command line ask for. Of a task it is by how much was
 -- done, or by why it was not, and what the output holds is by that; of other words it is by what
 -- they are, and nothing is written but help that is asked for.
-abbrev pub IsExit : Paths → Result Task Error → Option (List ℕ) → Option (List ℕ) → ℕ → Type 0
-IsExit paths (Ok task) before after status =
+abbrev pub IsExit : Surroundings → Result Task Error → Option (List ℕ) → Option (List ℕ) → ℕ
+    → Type 0
+IsExit around (Ok task) before after status =
     (done : Result Done Failure)
-    × MatchResult done (λ it. IsTask paths before after it task)
-    (λ fault. FailsTask paths before after fault task)
+    × MatchResult done (λ it. IsTask around before after it task)
+    (λ fault. FailsTask around before after fault task)
     × (status ≡ status_after done)
-IsExit paths (Err error) before after status =
+IsExit around (Err error) before after status =
     IsWordsStatus (kind_of error) status × IsWordsOutput (kind_of error) before after
 
 -- what the words of a command line ask for was done, or not, with this exit status

@@ -5,7 +5,7 @@ use Rattle.dispatch_room_board.specs.Requests.{Sends, requests}
 use Rattle.dispatch_room_board.specs.declared.exchange.TheConstants.{MOST_HEARD}
 use Rattle.dispatch_room_board.specs.declared.requests.Asker.{Asker}
 use Rattle.dispatch_room_cli.specs.declared.tasks.Look.{Look}
-use Rattle.dispatch_room_tcp.specs.Hosts.{Paths}
+use Rattle.dispatch_room_tcp.specs.Hosts.{Surroundings}
 
 -- by the sides of a connection: what is left to be read, and whether a read failed; and what was
 -- written, and whether a write failed
@@ -27,13 +27,13 @@ module _ {R W : Type 0} (left : R → Option (List ℕ)) (read_failed : R → Bo
   IsHeard (Some sides) asker heard =
       IsAnswered sides (requests asker.token asker.incident) heard
 
--- what is heard of what is said on a connection: nothing where there is none
+-- the beginning of what is said on a connection, however short; nothing where there is none
 abbrev pub IsSaid : Option (Option (List ℕ)) → List ℕ → Type 0
 IsSaid None heard = heard ≡ []
 IsSaid (Some said) heard = (after : Option (List ℕ)) × Consumes said after heard
 
 -- what is heard of the room at the address of a look, within its seconds
-abbrev pub IsHeardAt : Paths → Look → List ℕ → Type 0
-IsHeardAt paths look heard = (said : Option (Option (List ℕ)))
-    × paths.called look.address.now (look.patience * 1_000_000_000) said
+abbrev pub IsHeardAt : Surroundings → Look → List ℕ → Type 0
+IsHeardAt around look heard = (said : Option (Option (List ℕ)))
+    × around.called look.address.now (look.patience * 1_000_000_000) said
     × IsSaid said heard

@@ -1,12 +1,15 @@
 -- What each command does in the database of a room's file, over any storage.
 use Rattle.std.specs.Global.{Global}
-use Rattle.std.specs.Prelude.{IfOk, IsOk, List, None, OnOk, Vec, ℕ, ◌≡◌, ◌⊎◌}
+use Rattle.std.specs.Prelude.{IfOk, IsOk, List, OnOk, Option, Vec, option_map, ℕ, ◌≡◌, ◌⊎◌}
 use Rattle.sqlite.specs.Held.{state}
 use Rattle.room_store_check_tables.specs.HeldRooms.{WritesNothing}
 use Rattle.dispatch_room_disk.specs.RoomFiles.{Refusing, Saying}
 use Rattle.dispatch_room_cli.specs.declared.exit_status.Done.{Done}
 use Rattle.dispatch_room_tasks.specs.OpenedRoom.{IsUnopened}
 use Rattle.dispatch_room_cli.specs.declared.tasks.Replay.{Replay as How}
+use Rattle.dispatch_room_journal.specs.Chains.{sha256_digits}
+use Rattle.dispatch_room_journal.specs.RecordFronts.{list_says}
+use Rattle.dispatch_room_journal.specs.declared.read_progress.Reach.TheVariants.{Leg}
 use Rattle.dispatch_room_lists.specs.ReplayedLists.{HasReplayed, LosesReplayed}
 use Rattle.dispatch_room_lists.specs.RoomDigests.{HasDigest}
 use Rattle.dispatch_room_archive.specs.Examination as checked
@@ -92,12 +95,19 @@ ReportsBoth newer = λ S g old new before after done.
 abbrev pub ReportsNone : Refusing
 ReportsNone = λ S g conn before after fault. JoinsNone g conn fault × (after ≡ before)
 
--- a list from standard input, whose text is not known, was replayed to the room, or its messages
+-- what a list says leg by leg, by what is known of its bytes
+abbrev pub said_by_legs : Option (List ℕ) → Option (List ℕ)
+said_by_legs bytes = option_map (list_says sha256_digits Leg) bytes
+
+-- the list of an input, of whose bytes this is known, was replayed to the room, or its messages
 -- were answered
-abbrev pub Replays : How → Saying Done
-Replays how = λ S g old new before after done. HasReplayed g old new how None before after done
+abbrev pub Replays : (Option (List ℕ) → Type 0) → How → Saying Done
+Replays input how = λ S g old new before after done. (bytes : Option (List ℕ)) × input bytes
+    × HasReplayed g old new how (said_by_legs bytes) before after done
 
 -- no room was opened, and nothing is printed; or, behind a leg of a list, none was opened again
-abbrev pub ReplaysNone : How → Refusing
-ReplaysNone how = λ S g conn before after fault. (IsUnopened g conn fault × (after ≡ before))
-    ⊎ LosesReplayed g conn how None before after fault
+abbrev pub ReplaysNone : (Option (List ℕ) → Type 0) → How → Refusing
+ReplaysNone input how = λ S g conn before after fault.
+    (IsUnopened g conn fault × (after ≡ before))
+    ⊎ ((bytes : Option (List ℕ)) × input bytes
+    × LosesReplayed g conn how (said_by_legs bytes) before after fault)

@@ -29,10 +29,10 @@ pub fn board<M: Machine, O: Write>(
     look: &Look<'_>,
     out: &mut O,
 ) -> Result<Done, Failure>
-    ensures done { IfOk result (λ done.
-        IsBoardOf (M.paths machine) (O.contents out.old) (O.contents out.new) done look.now) }
-    ensures undone { IfErr result (λ fault.
-        FailsBoard (M.paths machine) (O.contents out.old) (O.contents out.new) fault look.now) }
+    ensures done { IfOk result (λ done. IsBoardOf (M.surroundings machine) (O.contents out.old)
+        (O.contents out.new) done look.now) }
+    ensures undone { IfErr result (λ fault. FailsBoard (M.surroundings machine) (O.contents out.old)
+        (O.contents out.new) fault look.now) }
 {
     let Some(asker) = asker_of(look) else {
         return Err(Failure::Input);

@@ -16,9 +16,9 @@ use std::io::Write;
 /// is written.
 pub fn check<M: Machine, O: Write>(machine: M, file: &str, out: &mut O) -> Result<Done, Failure>
     ensures done { IfOk result (λ done.
-        IsCheck (M.paths machine) (O.contents out.old) (O.contents out.new) done file.now) }
-    ensures undone { IfErr result (λ fault.
-        FailsCheck (M.paths machine) (O.contents out.old) (O.contents out.new) fault file.now) }
+        IsCheck (M.surroundings machine) (O.contents out.old) (O.contents out.new) done file.now) }
+    ensures undone { IfErr result (λ fault. FailsCheck (M.surroundings machine) (O.contents out.old)
+        (O.contents out.new) fault file.now) }
 {
     machine.in_file(RoomFile::Kept(file), Examination, out)
 }

@@ -1,5 +1,5 @@
 //! The commands over a room's file: what they write, and the exit status.
-ghost use Rattle.std.specs.Prelude.{◌≡◌, MatchResult, Result, map, string_bytes, true};
+ghost use Rattle.std.specs.Prelude.{◌≡◌, MatchBool, MatchResult, Result, map, string_bytes, true};
 ghost use Rattle.clap.specs.Words.{kind_of};
 ghost use Rattle.clap.specs.declared.error.Error.{Error as Mistake};
 ghost use Rattle.clap.specs.declared.error.ErrorKind.TheVariants.{OutOfMemory};
@@ -7,6 +7,7 @@ ghost use Rattle.dispatch_room_commands.specs.CommandEnds.{IsHelpDone, IsWordsOu
 ghost use Rattle.dispatch_room_commands.specs.CommandEnds.{IsWordsStatus, is_mistake};
 ghost use Rattle.dispatch_room_commands.specs.DoneTasks.{FailsTask, IsAskedBy, IsExit, IsTask};
 ghost use Rattle.dispatch_room_tcp.specs.Hosts.{unknown};
+ghost use Rattle.dispatch_room_cli.specs.ExplainedFailures.{Explains};
 ghost use Rattle.dispatch_room_cli.specs.declared.tasks.Task.{Task as Asked};
 
 use crate::board::board;
@@ -46,17 +47,23 @@ pub trait Asks<'a> {
     // What they may be read as.
     ghost reads: { Self → Result Asked Mistake → Type 0 };
 
+    // That they ask that a failure be explained.
+    ghost asks_why: { Self → Type 0 };
+
     /// What they ask for: a task, or help. Else they have a mistake, or memory was refused.
     fn read(self, alloc: Global) -> Result<Task<'a>, Error>
         ensures { reads self result };
 
     /// Whether they ask that a failure be explained.
-    fn explains(&self) -> bool;
+    fn explains(&self) -> bool
+        ensures { MatchBool result (asks_why self.now) (¬ (asks_why self.now)) };
 }
 
 // A task is the one that the words ask for. Whatever is served by them, is served to this machine.
 impl<'a> Asks<'a> for &'a [String] {
     ghost reads = { λ words asked. IsAskedBy (map string_bytes words.now) asked };
+
+    ghost asks_why = { λ words. Explains (map string_bytes words.now) };
 
     fn read(self, alloc: Global) -> Result<Task<'a>, Error> {
         argument_parser::read(alloc, self)
@@ -82,12 +89,19 @@ pub fn command<'a, W: Asks<'a>, O: Write, E: Write>(
     ensures { (asked : Result Asked Mistake) × W.reads words asked
         × IsExit unknown asked (O.contents out.old) (O.contents out.new) result }
 {
-    let host = Host {
+    let host = host_of(rt, alloc, &words);
+    exit(host, words.read(alloc), out, err)
+}
+
+// What a command runs on. Failures are explained where the words ask for that.
+fn host_of<'a, 'b, W: Asks<'b>>(rt: &'a HostRuntime, alloc: Global, words: &W) -> Host<'a>
+    ensures { W.asks_why words.now → result.explainer.is_wanted ≡ true }
+{
+    Host {
         rt,
         explainer: explainer_of(rt, words.explains()),
         alloc,
-    };
-    exit(host, words.read(alloc), out, err)
+    }
 }
 
 // Failures are explained on a terminal, and where that is asked for.
@@ -104,7 +118,7 @@ fn exit<M: Machine, O: Write, E: Write>(
     out: &mut O,
     err: &mut E,
 ) -> u8
-    ensures { IsExit (M.paths machine) asked.entry (O.contents out.old) (O.contents out.new)
+    ensures { IsExit (M.surroundings machine) asked.entry (O.contents out.old) (O.contents out.new)
         result }
 {
     match asked {
@@ -139,9 +153,10 @@ fn perform<M: Machine, O: Write, E: Write>(
     err: &mut E,
 ) -> Result<Done, Failure>
     ensures { MatchResult result
-        (λ done. IsTask (M.paths machine) (O.contents out.old) (O.contents out.new) done task.now)
-        (λ fault. FailsTask (M.paths machine) (O.contents out.old) (O.contents out.new) fault
-        task.now) }
+        (λ done. IsTask (M.surroundings machine) (O.contents out.old) (O.contents out.new) done
+        task.now)
+        (λ fault. FailsTask (M.surroundings machine) (O.contents out.old) (O.contents out.new)
+        fault task.now) }
 {
     match *task {
         Task::Init { file, plan } => init(machine, file, plan, out),

@@ -15,9 +15,9 @@ use std::io::Write;
 /// Prints the digest of the room of a file, which stays as it is.
 pub fn digest<M: Machine, O: Write>(machine: M, file: &str, out: &mut O) -> Result<Done, Failure>
     ensures done { IfOk result (λ done.
-        IsDigest (M.paths machine) (O.contents out.old) (O.contents out.new) done file.now) }
-    ensures undone { IfErr result (λ fault.
-        FailsDigest (M.paths machine) (O.contents out.old) (O.contents out.new) fault file.now) }
+        IsDigest (M.surroundings machine) (O.contents out.old) (O.contents out.new) done file.now) }
+    ensures undone { IfErr result (λ fault. FailsDigest (M.surroundings machine)
+        (O.contents out.old) (O.contents out.new) fault file.now) }
 {
     machine.in_file(RoomFile::Kept(file), Digesting, out)
 }

@@ -26,10 +26,10 @@ pub fn joined_times<M: Machine, O: Write>(
     out: &mut O,
 ) -> Result<Done, Failure>
     ensures done { IfOk result (λ done.
-        IsJoinedTimes (M.paths machine) (O.contents out.old) (O.contents out.new) done
+        IsJoinedTimes (M.surroundings machine) (O.contents out.old) (O.contents out.new) done
         file.now older.now division day.now) }
     ensures undone { IfErr result (λ fault.
-        FailsJoinedTimes (M.paths machine) (O.contents out.old) (O.contents out.new) fault
+        FailsJoinedTimes (M.surroundings machine) (O.contents out.old) (O.contents out.new) fault
         file.now older.now division day.now) }
 {
     let finding = Finding { division, day };

@@ -14,10 +14,10 @@ use std::io::{self, Write};
 
 /// Moves the room of a file from the first version to this one, and reports that it did.
 pub fn migrate<M: Machine, O: Write>(machine: M, file: &str, out: &mut O) -> Result<Done, Failure>
-    ensures done { IfOk result (λ done.
-        IsMigrate (M.paths machine) (O.contents out.old) (O.contents out.new) done file.now) }
-    ensures undone { IfErr result (λ fault.
-        FailsMigrate (M.paths machine) (O.contents out.old) (O.contents out.new) fault file.now) }
+    ensures done { IfOk result (λ done. IsMigrate (M.surroundings machine) (O.contents out.old)
+        (O.contents out.new) done file.now) }
+    ensures undone { IfErr result (λ fault. FailsMigrate (M.surroundings machine)
+        (O.contents out.old) (O.contents out.new) fault file.now) }
 {
     machine.in_file(RoomFile::Old(file), Move, &mut io::sink())?;
     match writeln!(out, "migrated") {

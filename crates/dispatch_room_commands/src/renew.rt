@@ -24,10 +24,10 @@ pub fn renew<M: Machine, O: Write>(
     out: &mut O,
 ) -> Result<Done, Failure>
     ensures done { IfOk result (λ done.
-        IsRenew (M.paths machine) (O.contents out.old) (O.contents out.new) done
+        IsRenew (M.surroundings machine) (O.contents out.old) (O.contents out.new) done
         file.now successor.now since.now) }
     ensures undone { IfErr result (λ fault.
-        FailsRenew (M.paths machine) (O.contents out.old) (O.contents out.new) fault
+        FailsRenew (M.surroundings machine) (O.contents out.old) (O.contents out.new) fault
         file.now successor.now since.now) }
 {
     let leaving = Leaving { since };

@@ -9,8 +9,7 @@ use dispatch_room_disk::room_files::{RoomFile, RoomTask};
 use dispatch_room_lists::replayed_legs::Course;
 use dispatch_room_lists::replayed_lists::replay_from;
 use dispatch_room_tasks::opened_room::TaskResult;
-use dispatch_room_tcp::hosts::{Host, Machine};
-use room_http_messages::standard_wires::Wire;
+use dispatch_room_tcp::hosts::Machine;
 use sqlite::{Alter, Connection};
 use std::alloc::Global;
 use std::io::Write;
@@ -26,49 +25,35 @@ pub fn replay<M: Machine, O: Write, E: Write>(
     err: &mut E,
 ) -> Result<Done, Failure>
     ensures done { IfOk result (λ done.
-        IsReplay (M.paths machine) (O.contents out.old) (O.contents out.new) done
+        IsReplay (M.surroundings machine) (O.contents out.old) (O.contents out.new) done
         file.now replay.now) }
     ensures undone { IfErr result (λ fault.
-        FailsReplay (M.paths machine) (O.contents out.old) (O.contents out.new) fault
+        FailsReplay (M.surroundings machine) (O.contents out.old) (O.contents out.new) fault
         file.now replay.now) }
 {
-    replay_on(machine, machine.host(), file, replay, out, err)
-}
-
-// The same, with the explainer and the standard input of the machine's host.
-fn replay_on<M: Machine, O: Write, E: Write>(
-    machine: M,
-    host: Host<'_>,
-    file: &str,
-    replay: &Replay,
-    out: &mut O,
-    err: &mut E,
-) -> Result<Done, Failure>
-    ensures done { IfOk result (λ done.
-        IsReplay (M.paths machine) (O.contents out.old) (O.contents out.new) done
-        file.now replay.now) }
-    ensures undone { IfErr result (λ fault.
-        FailsReplay (M.paths machine) (O.contents out.old) (O.contents out.new) fault
-        file.now replay.now) }
-{
-    let replaying = Replaying { host, replay, err };
+    let replaying = Replaying {
+        machine: &machine,
+        replay,
+        err,
+    };
     machine.in_file(RoomFile::Kept(file), replaying, out)
 }
 
-// A list is replayed.
+// The list of standard input is replayed.
 #[derive(Drop)]
-struct Replaying<'a, E> {
-    host: Host<'a>,
+struct Replaying<'a, M, E> {
+    machine: &'a M,
     replay: &'a Replay,
     err: &'a mut E,
 }
 
-impl<'a, E: Write> RoomTask for Replaying<'a, E> {
+impl<'a, M: Machine, E: Write> RoomTask for Replaying<'a, M, E> {
     type Done = Done;
 
-    ghost says = { λ work. Replays work.replay.now };
+    ghost says = { λ work. Replays (M.surroundings work.machine.now).input work.replay.now };
 
-    ghost refuses = { λ work. ReplaysNone work.replay.now };
+    ghost refuses = { λ work.
+        ReplaysNone (M.surroundings work.machine.now).input work.replay.now };
 
     fn run<S: Alter + Drop, O: Write>(
         self,
@@ -76,12 +61,16 @@ impl<'a, E: Write> RoomTask for Replaying<'a, E> {
         conn: Connection<S>,
         out: &mut O,
     ) -> TaskResult<Done, S> {
-        let Replaying { host, replay, err } = self;
+        let Replaying {
+            machine,
+            replay,
+            err,
+        } = self;
         let course = Course {
             alloc,
-            explainer: host.explainer,
+            explainer: machine.host().explainer,
             replay,
         };
-        replay_from(&course, conn, Wire::new(host.rt.stdin()), out, err)
+        replay_from(&course, conn, machine.input(), out, err)
     }
 }

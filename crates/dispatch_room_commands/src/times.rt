@@ -22,10 +22,10 @@ pub fn times<M: Machine, O: Write>(
     out: &mut O,
 ) -> Result<Done, Failure>
     ensures done { IfOk result (λ done.
-        IsTimes (M.paths machine) (O.contents out.old) (O.contents out.new) done
+        IsTimes (M.surroundings machine) (O.contents out.old) (O.contents out.new) done
         file.now division day.now) }
     ensures undone { IfErr result (λ fault.
-        FailsTimes (M.paths machine) (O.contents out.old) (O.contents out.new) fault
+        FailsTimes (M.surroundings machine) (O.contents out.old) (O.contents out.new) fault
         file.now division day.now) }
 {
     let reporting = Report { division, day };

@@ -26,13 +26,15 @@ pub fn verify_list<M: Machine, O: Write>(
     path: &str,
     out: &mut O,
 ) -> Result<Done, Failure>
-    ensures done { IfOk result (λ done. IsVerify (M.paths machine) (O.contents out.old)
+    ensures done { IfOk result (λ done. IsVerify (M.surroundings machine) (O.contents out.old)
         (O.contents out.new) done path.now) }
-    ensures undone { IfErr result (λ fault. FailsVerify (M.paths machine) (O.contents out.old)
-        (O.contents out.new) fault path.now) }
+    ensures undone { IfErr result (λ fault. FailsVerify (M.surroundings machine)
+        (O.contents out.old) (O.contents out.new) fault path.now) }
 {
-    let list = machine.open_list(path)?;
-    verify_in(machine.host().alloc, &mut ListSource::new(list), out)
+    let mut list = ListSource::new(machine.open_list(path)?);
+    let done = verify_in(machine.host().alloc, &mut list, out);
+    machine.leave_list(path, &list);
+    done
 }
 
 // Prints what a list holds.

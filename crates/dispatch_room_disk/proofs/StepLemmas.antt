@@ -1,10 +1,11 @@
 -- Steps that were done one after another.
 use Rattle.std.proofs.Common.{◌≡◌, ◌∙◌, ap, append_assoc, List, ◌∷◌, ◌++◌, Option, None, Some}
 use Rattle.std.proofs.Common.{Result, Ok, Err, sym, OnOk, IsOk, IfErr, ℕ, [], drop, get_or, length}
-use Rattle.std.proofs.Common.{map, subst, take, ◌+◌, ◌<◌}
+use Rattle.std.proofs.Common.{map, refl, subst, take, ◌+◌, ◌<◌}
 use Rattle.std.proofs.lemmas.List.{map-append, take-append-drop, take_more}
+use Rattle.std.specs.List.{AllByRecursion}
 use Rattle.std.specs.Result.{IsErrAnd}
-use Rattle.dispatch_room_disk.specs.FileSteps.{Does, Follows, Stops}
+use Rattle.dispatch_room_disk.specs.FileSteps.{Does, Follows, FollowsFor, Stops, StopsFor}
 
 pub both : {S : Type 0} (first rest : List S) (a b c : Option (List S)) → Does first a b → Does rest b c
     → Does (first ++ rest) a c
@@ -60,14 +61,60 @@ fails_at f xs i d rest a b c r P below done is stops =
         ∙ ap (λ t. t ++ rest) (map-append f (take i xs) (get_or xs i d ∷ drop (i + 1) xs))
         ∙ append_assoc (map f (take i xs)) (f (get_or xs i d) ∷ map f (drop (i + 1) xs)) rest
 
--- what came of the steps is reported as another fault
-pub reported : {S T U E F : Type 0} (steps : List S) (a b : Option (List S)) (r : Result T E) (s : Result U F)
-    (P : E → F → Type 0) → OnOk r (IsOk s) → IfErr r (λ e. IsErrAnd s (P e)) → Follows steps a b r
-    → Follows steps a b s
-reported steps a b (Ok x) (Ok y) P good bad done = done
-reported steps a b (Ok x) (Err fault) P good bad done = absurd (cc good)
-reported steps a b (Err e) (Ok y) P good bad done = absurd bad
-reported steps a b (Err e) (Err fault) P good bad done = done
+of_each : {S : Type 0} (P : S → Type 0) (some : List S) (step : S) (more : List S)
+    → AllByRecursion P (some ++ step ∷ more) → P step
+of_each P [] step more each = each.0
+of_each P (first ∷ some) step more each = of_each P some step more each.1
+
+module _ {S T F : Type 0} (may_have : S → F → Type 0) where
+  pub then_for : (first rest : List S) (a b c : Option (List S)) (r : Result T F) → Does first a b
+      → FollowsFor may_have rest b c r → FollowsFor may_have (first ++ rest) a c r
+  then_for first rest a b c (Ok done) before more = both first rest a b c before more
+  then_for first rest a b c (Err fault) before more = record {
+    first = first ++ more.first;
+    failed = more.failed;
+    rest = more.rest;
+    are =
+        ap (λ steps. first ++ steps) more.are
+        ∙ sym (append_assoc first more.first (more.failed ∷ more.rest));
+    done = both first more.first a b c before more.done;
+    why = more.why;
+  }
+
+  -- a step failed with a fault that it may have
+  pub fails_for : (step : S) (rest : List S) (a b : Option (List S)) (r : Result T F) (P : F → Type 0)
+      → IsErrAnd r P → ((fault : F) → P fault → may_have step fault) → Stops (step ∷ []) a b
+      → FollowsFor may_have (step ∷ rest) a b r
+  fails_for step rest a b (Ok done) P is by stops = absurd is
+  fails_for step rest a b (Err fault) P is by stops =
+      record { first = []; failed = step; rest = rest; are = refl; done = none_done a stops; why = by fault is }
+    where
+      none_done : (a : Option (List S)) → Stops (step ∷ []) a b → Does [] a b
+      none_done None stops = tt
+      none_done (Some old) ([], failed, after, same, done) = done
+      none_done (Some old) (x ∷ [], failed, after, same, done) = absurd (cc same)
+      none_done (Some old) (x ∷ y ∷ more, failed, after, same, done) = absurd (cc same)
+
+  -- what came of the steps is reported with a fault that each of them may have
+  pub reported : {U E : Type 0} (step : S) (steps : List S) (a b : Option (List S)) (r : Result U E) (s : Result T F)
+      (P : E → F → Type 0) → OnOk r (IsOk s) → IfErr r (λ e. IsErrAnd s (P e))
+      → IfErr s (λ fault. AllByRecursion (λ it. may_have it fault) (step ∷ steps))
+      → Follows (step ∷ steps) a b r → FollowsFor may_have (step ∷ steps) a b s
+  reported step steps a b (Ok x) (Ok y) P good bad each done = done
+  reported step steps a b (Ok x) (Err fault) P good bad each done = absurd (cc good)
+  reported step steps a b (Err e) (Ok y) P good bad each done = absurd bad
+  reported step steps None b (Err e) (Err fault) P good bad each done =
+      record { first = []; failed = step; rest = steps; are = refl; done = tt; why = each.0 }
+  reported step steps (Some old) b (Err e) (Err fault) P good bad each (some, failed, after, is, done) = record {
+    first = some;
+    failed = failed;
+    rest = after;
+    are = is;
+    done = done;
+    why =
+        of_each (λ it. may_have it fault) some failed after
+        (subst (λ them. AllByRecursion (λ it. may_have it fault) them) is each);
+  }
 
 -- what was done is not known
 pub unknown : {S T E : Type 0} (steps : List S) (r : Result T E) → Follows steps None None r

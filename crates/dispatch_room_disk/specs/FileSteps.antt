@@ -14,6 +14,22 @@ module _ {S : Type 0} where
   Stops steps (Some old) new = (before : List S) × (failed : S) × (after : List S)
       × (steps ≡ before ++ failed ∷ after) × Does before (Some old) new
 
+  -- one of the steps failed with a fault that it may have, and those before it were done
+  pub record StopsFor {E : Type 0} (may_have : S → E → Type 0) (steps : List S)
+      (old new : Option (List S)) (fault : E) : Type 0 where
+    pub first : List S
+    pub failed : S
+    pub rest : List S
+    pub are : steps ≡ first ++ failed ∷ rest
+    pub done : Does first old new
+    pub why : may_have failed fault
+
+  -- all of the steps were done, one after another, or those before one that failed with its fault
+  abbrev pub FollowsFor : {T E : Type 0} → (S → E → Type 0) → List S → Option (List S)
+      → Option (List S) → Result T E → Type 0
+  FollowsFor may_have steps old new (Ok done) = Does steps old new
+  FollowsFor may_have steps old new (Err fault) = StopsFor may_have steps old new fault
+
   -- all of the steps were done, one after another, or those before the first that failed
   abbrev pub Follows : {T E : Type 0} → List S → Option (List S) → Option (List S)
       → Result T E → Type 0

@@ -1,5 +1,8 @@
 -- The steps by which a copy of a room is put in the place of a file.
-use Rattle.std.specs.Prelude.{ℕ, List, [], ◌∷◌, ◌++◌, Bool, map, codes, if◌then◌else◌}
+use Rattle.std.specs.Prelude.{ℕ, List, [], ◌∷◌, ◌++◌, ◌≡◌, Bool, map, codes, if◌then◌else◌}
+use Rattle.dispatch_room_cli.specs.declared.exit_status.Failure.{Failure}
+use Rattle.dispatch_room_cli.specs.declared.exit_status.Failure.TheVariants.{File}
+use Rattle.dispatch_room_disk.specs.DiskFaults.{IsFileFault}
 
 -- A step, by the path of FILE. What is removed or set aside is the file itself, if the end is
 -- empty, or else the file with this end that a database keeps beside it.
@@ -20,6 +23,11 @@ pub data Step : Type 0 where
   put : List ℕ → Step
   -- the names are on the disk
   synced : List ℕ → Step
+
+-- a copy that is FILE itself is refused, and any other step fails as files do
+abbrev pub IsFaultOf : Step → Failure → Type 0
+IsFaultOf (distinguished copy path) fault = fault ≡ File
+IsFaultOf other fault = IsFileFault fault
 
 -- what SQLite appends to the name of its file for the files that it has beside it
 abbrev pub ends : List (List ℕ)

@@ -2,6 +2,8 @@
 //! database is found there.
 ghost use Rattle.std.specs.Prelude.{◌≡◌, ◌&&◌, nat_eq};
 
+use sqlite::Leftover;
+use sqlite_disk::Disk;
 use std::fs;
 use std::io::ErrorKind;
 
@@ -16,10 +18,14 @@ pub(crate) fn lacked_log(rt: &HostRuntime, path: &str) -> Option<String> {
     }
 }
 
-/// Removes a log that was not there before, if it is empty. The caller has it locked, so nobody
-/// else writes it. If it can't be removed it stays: why the file could not be used is reported
-/// anyway.
-pub(crate) fn remove_unused(rt: &HostRuntime, lacked: Option<String>) {
+/// Removes a log that was not there before, if it is empty. The files that were opened with it are
+/// still locked, so nobody else writes it. If it can't be removed it stays: why the file could not
+/// be used is reported anyway.
+pub(crate) fn remove_unused<D: Disk>(
+    rt: &HostRuntime,
+    lacked: Option<String>,
+    _locked: &Leftover<D>,
+) {
     if let Some(log) = lacked
         && let Ok(found) = fs::symlink_metadata(rt, log.as_str())
         && is_unused(found.is_file(), found.len())

@@ -1,13 +1,14 @@
 //! A copy of a room, put in the place of a file.
-ghost use Rattle.std.specs.Prelude.{◌≡◌, ◌≢◌, ◌⊎◌, [], ◌∷◌, ◌++◌, IfErr, IsErrAnd, IsOk, List};
-ghost use Rattle.std.specs.Prelude.{None, OnOk, Option, Bool, map};
+ghost use Rattle.std.specs.Prelude.{◌≡◌, ◌≢◌, [], ◌∷◌, ◌++◌, IfErr, IsErrAnd, IsOk, List, None};
+ghost use Rattle.std.specs.Prelude.{OnOk, Option, Bool, map};
 ghost use Rattle.std.specs.IoError.{error_kind};
 ghost use Rattle.dispatch_room_cli.specs.declared.exit_status.Failure.TheVariants as failure;
 ghost use Rattle.dispatch_room_disk.specs.DiskFaults.{IsFaultBy, IsFileFault};
-ghost use Rattle.dispatch_room_disk.specs.FileSteps.{Does, Follows};
-ghost use Rattle.dispatch_room_disk.specs.ReplacingSteps.{Step, copied, distinguished, ends, held};
-ghost use Rattle.dispatch_room_disk.specs.ReplacingSteps.{looked, put, putting, removed, replacing};
-ghost use Rattle.dispatch_room_disk.specs.ReplacingSteps.{set_aside, setting_aside, synced};
+ghost use Rattle.dispatch_room_disk.specs.FileSteps.{Does, Follows, FollowsFor};
+ghost use Rattle.dispatch_room_disk.specs.ReplacingSteps.{IsFaultOf, Step, copied, distinguished};
+ghost use Rattle.dispatch_room_disk.specs.ReplacingSteps.{ends, held, looked, put, putting};
+ghost use Rattle.dispatch_room_disk.specs.ReplacingSteps.{removed, replacing, set_aside};
+ghost use Rattle.dispatch_room_disk.specs.ReplacingSteps.{setting_aside, synced};
 
 use crate::file_causes::explain_unopened;
 use crate::systems::System;
@@ -20,7 +21,8 @@ use std::fs::{self, OpenOptions};
 use std::io::{self, ErrorKind};
 use std::os::unix::fs::{MetadataExt, OpenOptionsExt};
 
-/// The calls of the system by which a copy is put in the place of a file.
+/// The calls of the system by which a copy is put in the place of a file. Those that come after the
+/// lock borrow it, so that it can't be given up before the last of them.
 pub trait Replacing {
     /// The lock of a file.
     type Held: Drop;
@@ -41,30 +43,30 @@ pub trait Replacing {
         ensures fault { IfErr result IsFileFault };
 
     /// Copies a whole file to FILE.new, which only its owner may read, and syncs it.
-    fn copy(&mut self, copy: &str, path: &str) -> io::Result<()>
+    fn copy(&mut self, lock: &Self::Held, copy: &str, path: &str) -> io::Result<()>
         ensures done { Follows (copied copy.now path.now ∷ []) (done self.old) (done self.new)
             result };
 
     /// Whether there is a file.
-    fn is_there(&mut self, path: &str) -> bool
+    fn is_there(&mut self, lock: &Self::Held, path: &str) -> bool
         ensures done { Does (looked path.now result ∷ []) (done self.old) (done self.new) };
 
     /// Removes FILE.old with this end, if it is there.
-    fn remove(&mut self, path: &str, end: &str) -> io::Result<()>
+    fn remove(&mut self, lock: &Self::Held, path: &str, end: &str) -> io::Result<()>
         ensures done { Follows (removed path.now end.now ∷ []) (done self.old) (done self.new)
             result };
 
     /// Renames FILE with this end to FILE.old with it, if it is there.
-    fn set_aside(&mut self, path: &str, end: &str) -> io::Result<()>
+    fn set_aside(&mut self, lock: &Self::Held, path: &str, end: &str) -> io::Result<()>
         ensures done { Follows (set_aside path.now end.now ∷ []) (done self.old) (done self.new)
             result };
 
     /// Renames FILE.new to FILE.
-    fn put(&mut self, path: &str) -> io::Result<()>
+    fn put(&mut self, lock: &Self::Held, path: &str) -> io::Result<()>
         ensures done { Follows (put path.now ∷ []) (done self.old) (done self.new) result };
 
     /// Syncs the file's folder, so that the new names last.
-    fn sync(&mut self, path: &str) -> io::Result<()>
+    fn sync(&mut self, lock: &Self::Held, path: &str) -> io::Result<()>
         ensures done { Follows (synced path.now ∷ []) (done self.old) (done self.new) result };
 }
 
@@ -78,13 +80,12 @@ pub fn put_in_place<R: Replacing>(
     copy: &str,
     path: &str,
 ) -> Result<(), Failure>
-    ensures done { (there : Bool) × Follows (replacing copy.now path.now there)
+    ensures { (there : Bool) × FollowsFor IsFaultOf (replacing copy.now path.now there)
         (R.done calls.old) (R.done calls.new) result }
-    ensures fault { IfErr result (λ fault. (fault ≡ failure.File) ⊎ IsFileFault fault) }
 {
     calls.distinguish(copy, path)?;
     let held = calls.hold(path)?;
-    let put = put_copy(calls, copy, path);
+    let put = put_copy(calls, &held, copy, path);
     drop(held);
     put_by(explainer, path, &put)
 }
@@ -92,6 +93,7 @@ pub fn put_in_place<R: Replacing>(
 // What is reported of the replacement. Explains why if it failed.
 fn put_by(explainer: Explainer<'_>, path: &str, put: &io::Result<()>) -> Result<(), Failure>
     ensures done { OnOk put.now (IsOk result) }
+    ensures file { IfErr result IsFileFault }
     ensures fault { IfErr put.now (λ error. IsErrAnd result (IsFaultBy (error_kind error))) }
 {
     match put {
@@ -116,49 +118,49 @@ fn fault_by(kind: ErrorKind) -> Failure
 }
 
 // Makes the new file beside the old one, moves the old one away, and gives the new one its name.
-fn put_copy<R: Replacing>(calls: &mut R, copy: &str, path: &str) -> io::Result<()>
+fn put_copy<R: Replacing>(calls: &mut R, lock: &R::Held, copy: &str, path: &str) -> io::Result<()>
     ensures { (there : Bool) × Follows (putting copy.now path.now there) (R.done calls.old)
         (R.done calls.new) result }
 {
-    calls.copy(copy, path)?;
-    set_aside(calls, path)?;
-    calls.sync(path)?;
-    calls.put(path)?;
-    calls.sync(path)
+    calls.copy(lock, copy, path)?;
+    set_aside(calls, lock, path)?;
+    calls.sync(lock, path)?;
+    calls.put(lock, path)?;
+    calls.sync(lock, path)
 }
 
 // Moves away what is there. A log may lie there without a file.
-fn set_aside<R: Replacing>(calls: &mut R, path: &str) -> io::Result<()>
+fn set_aside<R: Replacing>(calls: &mut R, lock: &R::Held, path: &str) -> io::Result<()>
     ensures { (there : Bool) × Follows (setting_aside path.now there) (R.done calls.old)
         (R.done calls.new) result }
 {
-    if !calls.is_there(path) {
-        return set_aside_ends(calls, path);
+    if !calls.is_there(lock, path) {
+        return set_aside_ends(calls, lock, path);
     }
-    remove_old(calls, path)?;
-    calls.set_aside(path, "")?;
-    set_aside_ends(calls, path)
+    remove_old(calls, lock, path)?;
+    calls.set_aside(lock, path, "")?;
+    set_aside_ends(calls, lock, path)
 }
 
-fn set_aside_ends<R: Replacing>(calls: &mut R, path: &str) -> io::Result<()>
+fn set_aside_ends<R: Replacing>(calls: &mut R, lock: &R::Held, path: &str) -> io::Result<()>
     ensures { Follows (map (set_aside path.now) ends) (R.done calls.old) (R.done calls.new)
         result }
 {
     for end in ENDS {
-        calls.set_aside(path, end)?;
+        calls.set_aside(lock, path, end)?;
     }
     Ok(())
 }
 
 // Removes what an earlier restore left of the file that was there before it, its log first.
-fn remove_old<R: Replacing>(calls: &mut R, path: &str) -> io::Result<()>
+fn remove_old<R: Replacing>(calls: &mut R, lock: &R::Held, path: &str) -> io::Result<()>
     ensures { Follows (map (removed path.now) ends ++ removed path.now [] ∷ [])
         (R.done calls.old) (R.done calls.new) result }
 {
     for end in ENDS {
-        calls.remove(path, end)?;
+        calls.remove(lock, path, end)?;
     }
-    calls.remove(path, "")
+    calls.remove(lock, path, "")
 }
 
 // No contract can say what was done with a file of the system.
@@ -180,32 +182,32 @@ impl<'a> Replacing for System<'a> {
         hold(self.rt, self.explainer, path)
     }
 
-    fn copy(&mut self, copy: &str, path: &str) -> io::Result<()> {
+    fn copy(&mut self, _lock: &Self::Held, copy: &str, path: &str) -> io::Result<()> {
         let new = format!(in self.rt.alloc(); "{path}.new")?;
         copy_whole(self.rt, copy, new.as_str())
     }
 
-    fn is_there(&mut self, path: &str) -> bool {
+    fn is_there(&mut self, _lock: &Self::Held, path: &str) -> bool {
         fs::symlink_metadata(self.rt, path).is_ok()
     }
 
-    fn remove(&mut self, path: &str, end: &str) -> io::Result<()> {
+    fn remove(&mut self, _lock: &Self::Held, path: &str, end: &str) -> io::Result<()> {
         let old = format!(in self.rt.alloc(); "{path}.old{end}")?;
         unless_missing(fs::remove_file(self.rt, old.as_str()))
     }
 
-    fn set_aside(&mut self, path: &str, end: &str) -> io::Result<()> {
+    fn set_aside(&mut self, _lock: &Self::Held, path: &str, end: &str) -> io::Result<()> {
         let from = format!(in self.rt.alloc(); "{path}{end}")?;
         let to = format!(in self.rt.alloc(); "{path}.old{end}")?;
         unless_missing(fs::rename(self.rt, from.as_str(), to.as_str()))
     }
 
-    fn put(&mut self, path: &str) -> io::Result<()> {
+    fn put(&mut self, _lock: &Self::Held, path: &str) -> io::Result<()> {
         let new = format!(in self.rt.alloc(); "{path}.new")?;
         fs::rename(self.rt, new.as_str(), path)
     }
 
-    fn sync(&mut self, path: &str) -> io::Result<()> {
+    fn sync(&mut self, _lock: &Self::Held, path: &str) -> io::Result<()> {
         sync_folder(self.rt, path)
     }
 }

@@ -1,6 +1,6 @@
 //! The file of a room: found or made, opened, worked in, and closed.
 ghost use Rattle.std.specs.Prelude.{◌≡◌, ◌⊎◌, Err, Ok, None, true, false, IfErr, IfOk, IsOk};
-ghost use Rattle.std.specs.Prelude.{IsTrue, OnOk};
+ghost use Rattle.std.specs.Prelude.{IsTrue, OnOk, nat_eq, not};
 ghost use Rattle.std.specs.IoError.{error_kind};
 ghost use Rattle.sqlite.specs.Files.{file_state};
 ghost use Rattle.sqlite.specs.State.{HasCleanDisk};
@@ -47,7 +47,7 @@ impl<'a> RoomFile<'a> {
 }
 
 /// What is done in the file of a room, over any storage. A proof about a file of the system opens
-/// all that is inside it, so only `in_file` has one, and hands the file on as one on any disk.
+/// all that is inside it, so only a few functions have one, and hand it on as one on any disk.
 pub trait RoomTask: Drop {
     /// What comes of it.
     type Done: Drop;
@@ -226,7 +226,7 @@ fn connection<D: Disk + Drop>(
     match Connection::open_files(rt.alloc(), files, options) {
         Ok(conn) => Ok(conn),
         Err((error, left)) => {
-            remove_unused(rt, lacked);
+            remove_unused(rt, lacked, &left);
             drop(left);
             Err(fault_of(explainer, path, error))
         }
@@ -258,15 +258,22 @@ fn unfound(kind: ErrorKind) -> Failure
     }
 }
 
-// Whether a database was begun in a file: the first byte of its first page is written last, and is
-// 0 until then.
+// Whether a database was begun in a file.
 fn is_begun(rt: &HostRuntime, path: &str) -> io::Result<bool> {
     if fs::metadata(rt, path)?.len() == 0 {
         return Ok(false);
     }
     let mut first = [0];
     fs::open(rt, path)?.read_exact(&mut first)?;
-    Ok(first[0] != 0)
+    Ok(begins(first[0]))
+}
+
+// Whether a database begins with a byte: that of its first page is written last, and is 0 until
+// then.
+fn begins(first: u8) -> bool
+    ensures { result ≡ not (nat_eq first 0) }
+{
+    first != 0
 }
 
 // Explains an error of the database, and returns the program's failure for it.

@@ -14,5 +14,7 @@ pub mod KeeperLemmas
 pub mod ChangeLaws
 -- what is printed as callers begin
 pub mod CallerLemmas
+-- lists that are opened
+pub mod OpeningLemmas
 -- the beginning of the line before a record
 pub mod LeftLemmas

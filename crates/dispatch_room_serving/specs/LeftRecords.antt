@@ -18,6 +18,12 @@ pub record IsRecordLine (line : List ℕ) : Type 0 where
 abbrev pub MayBeLeft : List ℕ → Type 0
 MayBeLeft line = (more : List ℕ) × IsRecordLine (line ++ more)
 
+-- what follows the whole records of a chain begins with what a stop may have left, where it is not
+-- nothing
+abbrev pub BeginsLeft : List ℕ → Type 0
+BeginsLeft text = (line rest : List ℕ) × (text ≡ line ++ rest) × MayBeLeft line
+    × (line ≡ [] → text ≡ [])
+
 -- a byte may stand at this place of such a line
 abbrev pub may_stand : ℕ → ℕ → Bool
 may_stand at byte = if nat_lt at 5 then is_ascii_digit byte else (if at == 5 then byte == 32

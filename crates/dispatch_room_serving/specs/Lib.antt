@@ -18,7 +18,7 @@ pub mod ServedRoom
 pub mod Starts
 -- the list that is kept over all starts
 pub mod Lists
--- how a list goes on that is opened
+-- how a list is opened, and goes on
 pub mod OpenedLists
 -- what a stop leaves of the line before a record
 pub mod LeftRecords

@@ -14,7 +14,7 @@ request_text None = codes "- -"
 request_text (Some (method, path)) = visible method ++ 32 ∷ visible path
 
 -- The line: a moment, as a clock of UTC shows it; who asked; the method and the path; the status;
--- and the milliseconds that it took. Nothing else is in it, so no token is.
+-- and the milliseconds that it took. Nothing else is in it, so no token but one that stands there.
 abbrev pub line_text : DateTime → Option Who → Option (List ℕ × List ℕ) → List ℕ → ℕ → List ℕ
 line_text at who request status millis =
     iso_datetime_text at ++ codes "Z " ++ asker_text who ++ 32 ∷ request_text request

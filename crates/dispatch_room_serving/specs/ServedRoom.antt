@@ -23,9 +23,15 @@ use Rattle.dispatch_room_tasks.specs.OpenedRoom.{OpensRoom}
 use Rattle.dispatch_room_serving.specs.Connections.{Serves, Service}
 use Rattle.room_tables_schema.specs.FileConnections.{IsClean}
 
--- why serving does not begin
-abbrev pub IsUnbegun : Failure → Type 0
-IsUnbegun fault = (fault ≡ Network) ⊎ (fault ≡ Journal) ⊎ (fault ≡ Memory) ⊎ (fault ≡ Storage)
+-- Why an observer was not given the digest of the room's rows: it wants it, and the rows can't be
+-- read, or it could not keep it.
+abbrev pub IsUnannounced : Bool → Failure → Type 0
+IsUnannounced wants fault = (wants ≡ true)
+    × ((fault ≡ Journal) ⊎ (fault ≡ Memory) ⊎ (fault ≡ Storage))
+
+-- why serving does not begin: that, or memory fails, or the callers can't begin
+abbrev pub IsUnbegun : Bool → Failure → Type 0
+IsUnbegun wants fault = IsUnannounced wants fault ⊎ (fault ≡ Memory) ⊎ (fault ≡ Network)
 
 module _ {S : Type 0} (g : Ghosts S) where
   -- The store was looked at, and stands for what it stood for. Where that was kept, a stop leaves
@@ -74,12 +80,12 @@ module _ {S : Type 0} (g : Ghosts S) where
     Announces old new kept keeps (Ok stated) =
         LooksOnly old new × KeepsHead old new kept keeps (Ok stated)
     Announces old new kept keeps (Err fault) =
-        IsUnbegun fault × Looks old new × KeepsHead old new kept keeps (Err fault)
+        IsUnannounced wants fault × Looks old new × KeepsHead old new kept keeps (Err fault)
 
     -- serving did not begin, and nothing was heard
     pub record IsUnheard (old new : Service S) (result : Result Done Failure) : Type 0 where
       pub fault : Failure
-      pub why : IsUnbegun fault
+      pub why : IsUnbegun wants fault
       pub result_is : result ≡ Err fault
       -- the journal is at fault only where something could not be kept
       pub failed : fault ≡ Journal → new.stage.has_failed ≡ true

@@ -1,46 +1,31 @@
 //! The file of a journal: a record that a crash cut off is removed, and entries are appended to the
 //! rest.
-ghost use Rattle.std.specs.Prelude.{◌≡◌, ◌↔◌, ◌⊎◌, ◌≤◌, ◌+◌, ℕ, List, false, if◌then◌else◌, length};
-ghost use Rattle.std.specs.Prelude.{min, nat_lt};
-ghost use Rattle.std.specs.Io.KnownBytes.{WriteAppends};
+ghost use Rattle.std.specs.Prelude.{◌≡◌, ◌⊎◌, ◌≤◌, ℕ, List, Bool, false, if◌then◌else◌, is_ok};
+ghost use Rattle.std.specs.Prelude.{is_some, length, nat_lt, refl, IfErr, IfOk, IsErrAnd, IsTrue};
+ghost use Rattle.std.specs.Prelude.{MatchResult, None, Ok, OnOk, Option, Some};
+ghost use Rattle.std.specs.Io.KnownBytes.{Appends, WriteAppends};
 ghost use Rattle.std.specs.Option.{option_map};
-ghost use Rattle.dispatch_room_journal.specs.Chains.{sha256_digits};
+ghost use Rattle.dispatch_room_cli.specs.declared.exit_status.Failure.TheVariants as failure;
+ghost use Rattle.dispatch_room_journal.specs.Chains.{opening, sha256_digits};
 ghost use Rattle.dispatch_room_journal.specs.PlainTexts.{StandsKnown, plain_of};
 ghost use Rattle.dispatch_room_journal.specs.RowRuns.{PutsEnd, PutsEntry};
-ghost use Rattle.dispatch_room_journal.specs.RecordRuns.{first_link};
 ghost use Rattle.dispatch_room_journal.specs.declared.list_ends.ListEnd.{ListEnd};
-ghost use Rattle.dispatch_room_journal.specs.declared.record_headers.TheConstants.{HEADER};
-ghost use Rattle.dispatch_room_journal.specs.declared.list_ends.ListEnd.TheVariants.{Chain};
-ghost use Rattle.dispatch_room_journal.specs.declared.whole_records.ListForm.TheVariants as Form;
-ghost use Rattle.std.specs.Prelude.{Bool, Option, Some, None, IfErr, IfOk, IsTrue, MatchResult};
-ghost use Rattle.std.specs.Prelude.{is_ok, is_some, refl};
-ghost use Rattle.dispatch_room_cli.specs.declared.exit_status.Failure.TheVariants as failure;
-ghost use Rattle.dispatch_room_journal.specs.WholeEntries.{EndsWhole};
-ghost use Rattle.dispatch_room_serving.specs.Journals.{IsUnread};
-ghost use Rattle.dispatch_room_serving.specs.LeftRecords.{MayBeLeft, may_stand};
-ghost use Rattle.dispatch_room_serving.specs.OpenedLists.{IsWholeOf, goes_on_at};
+ghost use Rattle.dispatch_room_serving.specs.OpenedLists.{IsListFault};
 ghost use Rattle.dispatch_room_serving.specs.declared.journal_files.WrittenFile.{WrittenFile};
 
 use crate::journals::Keeper;
+use crate::opened_lists::{ListFile, end_of};
 use dispatch_room_cli::exit_status::Failure;
 use dispatch_room_cli::failure_causes::Explainer;
-use dispatch_room_journal::entry_reader::EntryFault;
-use dispatch_room_journal::journal_inbox::JournalInbox;
 use dispatch_room_journal::list_ends::{ListEnd, put_end, put_entry};
-use dispatch_room_journal::record_fronts::{FIRST_LINK, OPENING};
-use dispatch_room_journal::record_headers::HEADER;
-use dispatch_room_journal::record_inbox::RecordInbox;
 use dispatch_room_journal::record_writer::put_opening;
-use dispatch_room_journal::whole_entries::whole_bytes;
-use dispatch_room_journal::whole_records::{ListForm, WholeChain, look_through};
 use room_http::observers::Unkept;
 use room_http_messages::sinks::{Sink, WriteFailed};
-use room_http_messages::sources::Source;
 use room_http_messages::standard_wires::Wire;
 use std::alloc::Global;
 use std::fs;
 use std::fs::{File, OpenOptions, TryLockError};
-use std::io::{Error, ErrorKind, Read, Seek, SeekFrom, Write};
+use std::io::{Error, ErrorKind, Seek, SeekFrom, Write};
 use std::marker::Model;
 use std::os::fd::AsRawFd;
 use std::os::unix::fs::OpenOptionsExt;
@@ -66,178 +51,82 @@ pub fn open_journal<E: Write>(
     ensures { IfErr result (λ fault. (fault ≡ failure.Memory) ⊎ (fault ≡ failure.Journal)) }
 {
     let file = opened(rt, explainer, path)?;
-    if let Err(error) = settle(rt, path, &file) {
-        return Err(fault_of(explainer, path, &error));
-    }
-    let list = whole_list(alloc, explainer, path, &file)?;
-    match cut(&file, list.whole) {
-        Ok(false) => {}
-        Ok(true) => {
-            let _ = writeln!(err, "journal: a record that was cut off is taken away");
-        }
-        Err(error) => return Err(fault_of(explainer, path, &error)),
-    }
-    let end = match goes_on_at(list) {
-        Some(end) => end,
-        None => begin_chain(explainer, path, &file)?,
+    let mut found = FoundList {
+        rt,
+        explainer,
+        path,
+        file: &file,
     };
+    let end = end_of(alloc, explainer, path, &mut found, err)?;
     Ok(OpenedList { file, end })
 }
 
-// How a list goes on, of which so many bytes are whole: `None` if it is to begin anew.
-fn goes_on_at(list: WholeList) -> Option<ListEnd>
-    ensures { result ≡ goes_on_at list }
-{
-    if list.whole == 0 { None } else { list.end }
+// The file of a list that was found or made at a path.
+#[derive(Clone, Copy)]
+struct FoundList<'a> {
+    rt: &'a HostRuntime,
+    explainer: Explainer<'a>,
+    path: &'a str,
+    file: &'a File,
+}
+
+// No contract can say what was done with a file of the system.
+impl<'a> ListFile for FoundList<'a> {
+    type Reader = Wire<&'a File>;
+
+    ghost tried = { λ _. None };
+
+    ghost text = { λ _. None };
+
+    fn settle(&mut self) -> Result<(), Failure> {
+        self.explained(settle(self.rt, self.path, self.file))
+    }
+
+    fn read_from(&self, at: u64) -> Result<Wire<&'a File>, Failure> {
+        let mut file = self.file;
+        self.explained(file.seek(SeekFrom::Start(at)))?;
+        Ok(Wire::new(file))
+    }
+
+    fn cut(&mut self, whole: u64) -> Result<bool, Failure> {
+        self.explained(cut(self.file, whole))
+    }
+
+    fn begin(&mut self) -> Result<(), Failure> {
+        let file = SystemFile::new(self.file, self.explainer, self.path);
+        begin_chain(&mut WrittenFile::new(file))
+    }
+}
+
+impl<'a> FoundList<'a> {
+    // What a call of the system did. Explains why it failed.
+    fn explained<T>(&self, done: Result<T, Error>) -> Result<T, Failure>
+        ensures { MatchResult done (λ it. result ≡ Ok it) (λ _. IsErrAnd result IsListFault) }
+    {
+        match done {
+            Ok(done) => Ok(done),
+            Err(error) => Err(fault_of(self.explainer, self.path, &error)),
+        }
+    }
 }
 
 // Writes the line with which a chain begins, and makes it last.
-fn begin_chain(explainer: Explainer<'_>, path: &str, file: &File) -> Result<ListEnd, Failure>
-    ensures new { IfOk result (λ end. end ≡ Chain first_link) }
-    ensures fault { IfErr result (λ fault. (fault ≡ failure.Memory) ⊎ (fault ≡ failure.Journal)) }
+fn begin_chain<F: Lasting>(out: &mut WrittenFile<F>) -> Result<(), Failure>
+    requires sound { out.old.failed ≡ false }
+    ensures begun { OnOk result
+        (Appends (F.contents out.old.file) (F.contents out.new.file) opening) }
+    ensures lasts { OnOk result (F.lasting out.new.file ≡ F.contents out.new.file) }
+    ensures fault { IfErr result (λ fault. fault ≡ failure.Journal) }
 {
-    let mut out = WrittenFile::new(SystemFile::new(file, explainer, path));
-    if put_opening(&mut out).is_err() {
+    if put_opening(out).is_err() || !out.file.make_last() {
         return Err(Failure::Journal);
     }
-    match file.sync_all() {
-        Ok(()) => Ok(ListEnd::Chain(FIRST_LINK)),
-        Err(error) => Err(fault_of(explainer, path, &error)),
-    }
-}
-
-// How many bytes of a file are whole records, and how its list goes on: `None` if none is begun.
-#[derive(Clone, Copy)]
-struct WholeList {
-    whole: u64,
-    end: Option<ListEnd>,
-}
-
-// Finds how much of a file is whole records. Explains why if that can't be known.
-fn whole_list(
-    alloc: Global,
-    explainer: Explainer<'_>,
-    path: &str,
-    file: &File,
-) -> Result<WholeList, Failure>
-    ensures { IfErr result (λ fault. (fault ≡ failure.Memory) ⊎ (fault ≡ failure.Journal)) }
-{
-    let mut inbox = RecordInbox::new();
-    match look_through(&mut inbox, &mut Wire::new(file)) {
-        Ok(form) => whole_of_form(alloc, explainer, path, file, &form),
-        Err(EntryFault::Read) => {
-            explainer.explain(format_args!("{path} can't be read"));
-            Err(Failure::Journal)
-        }
-        Err(_) => {
-            explainer.explain(format_args!(
-                "{path} is no journal: `dispatch_room verify {path}` says at which record"
-            ));
-            Err(Failure::Journal)
-        }
-    }
-}
-
-// How much of a list of this form is whole.
-fn whole_of_form(
-    alloc: Global,
-    explainer: Explainer<'_>,
-    path: &str,
-    file: &File,
-    form: &ListForm,
-) -> Result<WholeList, Failure>
-    ensures whole { IfOk result (IsWholeOf form.now) }
-    ensures fault { IfErr result (λ fault. (fault ≡ failure.Memory) ⊎ (fault ≡ failure.Journal)) }
-{
-    match form {
-        ListForm::New => Ok(WholeList {
-            whole: 0,
-            end: None,
-        }),
-        ListForm::Chain(chain) => whole_chain(explainer, path, file, chain),
-        ListForm::Plain => {
-            let mut begin = file;
-            if let Err(error) = begin.seek(SeekFrom::Start(0)) {
-                return Err(fault_of(explainer, path, &error));
-            }
-            let whole = whole_in(alloc, explainer, path, &mut Wire::new(file))?;
-            Ok(WholeList {
-                whole,
-                end: Some(ListEnd::Plain),
-            })
-        }
-    }
-}
-
-// How much of a chain is whole records, if what follows them may be left of one.
-fn whole_chain(
-    explainer: Explainer<'_>,
-    path: &str,
-    file: &File,
-    chain: &WholeChain,
-) -> Result<WholeList, Failure>
-    ensures whole { IfOk result (IsWholeOf (Form.Chain chain.now)) }
-    ensures fault { IfErr result (λ fault. (fault ≡ failure.Memory) ⊎ (fault ≡ failure.Journal)) }
-{
-    let whole = whole_of(chain);
-    match may_be_cut(file, whole) {
-        Ok(true) => Ok(WholeList {
-            whole,
-            end: Some(ListEnd::Chain(chain.link)),
-        }),
-        Ok(false) => {
-            explain_unread(explainer, path, EntryFault::Foreign, whole);
-            Err(Failure::Journal)
-        }
-        Err(error) => Err(fault_of(explainer, path, &error)),
-    }
-}
-
-// How many bytes of a list the first line of a chain and its whole records are.
-fn whole_of(chain: &WholeChain) -> u64
-    ensures { result ≡ min (chain.now.bytes + 7) u64.MAX }
-{
-    chain.bytes.saturating_add(OPENING.len() as u64)
-}
-
-// Whether what follows so many bytes of a chain may be what a stop left of a record.
-fn may_be_cut(file: &File, whole: u64) -> Result<bool, Error> {
-    let mut reader = file;
-    reader.seek(SeekFrom::Start(whole))?;
-    let mut line = [0; HEADER];
-    let count = reader.read(&mut line)?;
-    Ok(may_be_left(&line[..count.min(HEADER)]))
-}
-
-// Whether these bytes may be what a stop left of the line before a record.
-fn may_be_left(line: &[u8]) -> bool
-    requires { length line.now ≤ HEADER }
-    ensures { IsTrue result ↔ MayBeLeft line.now }
-{
-    for at in 0..line.len() {
-        if !may_stand(at, line[at]) {
-            return false;
-        }
-    }
-    true
-}
-
-// Whether a byte may stand at a place of the line before a record: the digits of a size, a space,
-// the digits of a check, and a line end.
-fn may_stand(at: usize, byte: u8) -> bool
-    ensures { result ≡ may_stand at byte }
-{
-    match at {
-        0..=4 => byte.is_ascii_digit(),
-        5 => byte == b' ',
-        70 => byte == b'\n',
-        _ => byte.is_ascii_digit() || (b'a'..=b'f').contains(&byte),
-    }
+    Ok(())
 }
 
 // Opens the file of a journal, and locks it against other writers.
 fn opened(rt: &HostRuntime, explainer: Explainer<'_>, path: &str) -> Result<File, Failure>
-    ensures { IfErr result (λ fault. (fault ≡ failure.Memory) ⊎ (fault ≡ failure.Journal)) }
+    ensures { IfErr result IsListFault }
 {
     match OpenOptions::new()
         .read(true)
@@ -279,40 +168,6 @@ fn folder_of(rt: &HostRuntime, path: &str) -> Result<File, Error> {
     File::open(rt, folder.as_str())
 }
 
-// How many bytes of what a reader gives are whole records. Explains why if that can't be known.
-fn whole_in<R: Source>(
-    alloc: Global,
-    explainer: Explainer<'_>,
-    path: &str,
-    reader: &mut R,
-) -> Result<u64, Failure>
-    requires sound { R.has_failed reader.old ≡ false }
-    ensures fault { IfErr result (λ fault. (fault ≡ failure.Memory) ⊎ (fault ≡ failure.Journal)) }
-    ensures whole { (text : List ℕ) → R.left reader.old ≡ Some text
-        → MatchResult result (EndsWhole text) (IsUnread (R.has_failed reader.new) text) }
-{
-    let Ok(mut inbox) = JournalInbox::new(alloc) else {
-        return Err(Failure::Memory);
-    };
-    match whole_bytes(&mut inbox, reader) {
-        Ok(bytes) => Ok(bytes),
-        Err(fault) => {
-            explain_unread(explainer, path, fault, inbox.taken());
-            Err(Failure::Journal)
-        }
-    }
-}
-
-// Explains why a file was not read as a journal behind so many bytes of whole records.
-fn explain_unread(explainer: Explainer<'_>, path: &str, fault: EntryFault, whole: u64) {
-    match fault {
-        EntryFault::Read => explainer.explain(format_args!("{path} can't be read")),
-        EntryFault::Foreign | EntryFault::Cut => explainer.explain(format_args!(
-            "{path} is no journal: no record begins at byte {whole}"
-        )),
-    }
-}
-
 // Cuts off what follows so many bytes of a file, and returns whether anything did.
 fn cut(file: &File, whole: u64) -> Result<bool, Error> {
     match cut_to(file.metadata()?.len(), whole) {
@@ -335,7 +190,7 @@ fn cut_to(bytes: u64, whole: u64) -> Option<u64>
 
 // Explains an error of the file, and returns the program's failure for it.
 fn fault_of(explainer: Explainer<'_>, path: &str, error: &Error) -> Failure
-    ensures { (result ≡ failure.Memory) ⊎ (result ≡ failure.Journal) }
+    ensures { IsListFault result }
 {
     explainer.explain(format_args!("{path}: {error}"));
     if error.kind() == ErrorKind::OutOfMemory {
@@ -353,54 +208,52 @@ pub trait Lasting: Write {
     // Whether what it holds is known, of each of these or of none.
     ghost is_known: { Bool };
 
+    /// Makes all that was written last.
+    fn sync(&mut self) -> Result<(), Error>
+        ensures held { Self.contents self.new ≡ Self.contents self.old }
+        ensures lasts { OnOk result (lasting self.new ≡ Self.contents self.new) };
+
     /// Makes all that was written last, and returns whether it could.
     fn make_last(&mut self) -> bool
         ensures held { Self.contents self.new ≡ Self.contents self.old }
-        ensures lasts { IsTrue result → lasting self.new ≡ Self.contents self.new };
+        ensures lasts { IsTrue result → lasting self.new ≡ Self.contents self.new }
+    {
+        self.sync().is_ok()
+    }
 
     ghost known: { (file : Self) → is_some (Self.contents file) ≡ is_known };
 }
 
+// No contract can say what a file holds, nor what of it lasts.
+impl<'a> Lasting for &'a File {
+    ghost lasting = { λ _. None };
+
+    ghost is_known = { false };
+
+    fn sync(&mut self) -> Result<(), Error> {
+        self.sync_data()
+    }
+
+    ghost known = { λ _. refl };
+}
+
 /// A file of the system. It explains why if it can't be written.
 #[derive(Drop)]
-pub struct SystemFile<'a> {
-    file: &'a File,
+pub struct SystemFile<'a, F> {
+    file: F,
     explainer: Explainer<'a>,
     path: &'a str,
 }
 
-impl<'a> SystemFile<'a> {
+impl<'a, F> SystemFile<'a, F> {
     /// A file that was opened at a path.
-    pub fn new(file: &'a File, explainer: Explainer<'a>, path: &'a str) -> SystemFile<'a> {
+    pub fn new(file: F, explainer: Explainer<'a>, path: &'a str) -> SystemFile<'a, F>
+        ensures { result.file ≡ file }
+    {
         SystemFile {
             file,
             explainer,
             path,
-        }
-    }
-
-    // Writes some of the first bytes to a file, and explains why if it can't.
-    fn write_to<F: Write>(&self, file: &mut F, buf: &[u8]) -> Result<usize, Error>
-        ensures bound { IfOk result (λ count. count ≤ length buf.now) }
-        ensures bytes { WriteAppends (F.contents file.old) (F.contents file.new) result buf.now }
-    {
-        let written = file.write(buf);
-        if let Err(error) = &written {
-            self.explain(error);
-        }
-        written
-    }
-
-    // Whether what a file holds lasts after a sync. Explains why if it doesn't.
-    fn lasts(&self, synced: Result<(), Error>) -> bool
-        ensures { result ≡ is_ok synced }
-    {
-        match synced {
-            Ok(()) => true,
-            Err(error) => {
-                self.explain(&error);
-                false
-            }
         }
     }
 
@@ -410,28 +263,36 @@ impl<'a> SystemFile<'a> {
     }
 }
 
-// No contract can say what a file holds, nor what of it lasts.
-impl<'a> Write for SystemFile<'a> {
+impl<'a, F: Lasting> Write for SystemFile<'a, F> {
+    ghost contents = { λ system. F.contents system.file };
+
     fn write(&mut self, buf: &[u8]) -> Result<usize, Error> {
-        let mut file = self.file;
-        self.write_to(&mut file, buf)
+        let written = self.file.write(buf);
+        if let Err(error) = &written {
+            self.explain(error);
+        }
+        written
     }
 
     fn flush(&mut self) -> Result<(), Error> {
-        Ok(())
+        self.file.flush()
     }
 }
 
-impl<'a> Lasting for SystemFile<'a> {
-    ghost lasting = { λ _. None };
+impl<'a, F: Lasting> Lasting for SystemFile<'a, F> {
+    ghost lasting = { λ system. F.lasting system.file };
 
-    ghost is_known = { false };
+    ghost is_known = { F.is_known };
 
-    fn make_last(&mut self) -> bool {
-        self.lasts(self.file.sync_data())
+    fn sync(&mut self) -> Result<(), Error> {
+        let synced = self.file.sync();
+        if let Err(error) = &synced {
+            self.explain(error);
+        }
+        synced
     }
 
-    ghost known = { λ _. refl };
+    ghost known = { λ system. F.known system.file };
 }
 
 /// A file that is written to, and whether a write failed.

@@ -12,4 +12,5 @@ pub mod list_places;
 pub mod log_lines;
 pub mod log_observers;
 pub mod logs;
+pub mod opened_lists;
 pub mod served_room;

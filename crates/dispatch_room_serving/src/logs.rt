@@ -22,8 +22,8 @@ const MOST_TRIES: u32 = u32::MAX;
 
 /// A log, with a line for each message that is answered: the moment of its answer, who asked, its
 /// method and path, the status, and the milliseconds from the whole message to the written answer,
-/// as `2026-03-29T08:15:00Z desk 1 GET /queue 200 3 ms`. It never has a token. What is wrong with a
-/// body that is refused is explained after its line.
+/// as `2026-03-29T08:15:00Z desk 1 GET /queue 200 3 ms`. It has no token but one that stands in the
+/// method or the path. What is wrong with a body that is refused is explained after its line.
 #[derive(Drop)]
 pub struct Log<'a, E, T> {
     alloc: Global,

@@ -1,6 +1,6 @@
 -- What a look at the bytes ahead says.
-use Rattle.std.proofs.Common.{◌≡◌, ◌∙◌, ◌<◌, ◌++◌, ap, append-nil, append_assoc, length}
-use Rattle.std.proofs.Common.{subst, sym, ℕ, List, []}
+use Rattle.std.proofs.Common.{◌≡◌, ◌∙◌, ◌<◌, ◌++◌, ap, append-nil, append_assoc, length, subst, sym}
+use Rattle.std.proofs.Common.{ℕ, List, []}
 use Rattle.dispatch_room_sockets.specs.Lookaheads.{StaysInFront}
 use Rattle.room_http_messages.specs.Layouts.{LookIs}
 use Rattle.room_http_messages.specs.Messages.{IsPart}

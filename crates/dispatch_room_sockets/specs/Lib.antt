@@ -15,6 +15,8 @@ pub mod CallerHistories
 pub mod Turns
 -- who is given at a door, and what becomes of them
 pub mod PieceTurns
+-- whose moves are reported
+pub mod Moves
 -- those who are parted from
 pub mod Departures
 -- how long it is waited for someone to move

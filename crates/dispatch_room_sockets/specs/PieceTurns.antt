@@ -40,7 +40,7 @@ pub record TakesBack (keep : Duration) (it : Kept Client) (is_paused : Bool)
     pub dropped : answered ≡ None → (lines ≡ line) × (more ≡ leavers)
     pub waits : is_paused ≡ true → more ≡ leavers
     pub again : is_paused ≡ true → IfSome answered (λ _. length line + length ready < 1024
-        → WaitsAgain keep it.number (fresh it.caller) line lines)
+        → (now : Duration) × WaitsAgain keep now it.number (fresh it.caller) line lines)
     pub parted : is_paused ≡ false → lines ≡ line
     pub departs : is_paused ≡ false → IfSome answered (λ until.
         Departs (fresh it.caller) until leavers more)

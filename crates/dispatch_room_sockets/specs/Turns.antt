@@ -23,8 +23,9 @@ pub record IsInTurn {C : Type 0} (line lines ready readied : List (Kept C))
 
 -- One who was served stands behind those who wait, as one who has said nothing, and may be silent
 -- so long from now on.
-abbrev pub WaitsAgain : {C : Type 0} → Duration → ℕ → C → List (Kept C) → List (Kept C) → Type 0
-WaitsAgain keep n caller line lines = (now until : Duration)
+abbrev pub WaitsAgain : {C : Type 0} → Duration → Duration → ℕ → C → List (Kept C) → List (Kept C)
+    → Type 0
+WaitsAgain keep now n caller line lines = (until : Duration)
     × (as_nanos until ≡ min (as_nanos now + as_nanos keep) max_nanos)
     × (lines
     ≡ line ++ record { number = n; caller = caller; has_begun = false; until = until } ∷ [])

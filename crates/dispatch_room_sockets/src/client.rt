@@ -15,8 +15,8 @@ type Reader<'a> = SocketReader<'a, TcpStream, HostRuntime>;
 type Writer<'a> = SocketWriter<'a, TcpStream, HostRuntime>;
 
 /// The two sides of a connection to an address; none, with an explanation, where it is not made
-/// within `patience`. All reads and writes together end within the same time, which a reader and a
-/// writer grant elsewhere to each message and answer.
+/// within `patience`. All writes, and all reads with the room of a whole inbox, end together within
+/// the same time, which a reader and a writer grant elsewhere to each message and answer.
 pub fn call<'a>(
     rt: &'a HostRuntime,
     explainer: Explainer<'_>,

@@ -1,6 +1,9 @@
 //! The door of a room: its sockets, and the system's set of those that move.
-ghost use Rattle.std.specs.Prelude.{◌≡◌, false, true};
+ghost use Rattle.std.specs.Prelude.{◌≡◌, ◌-◌, ◌||◌, ◌↔◌, ◌≤ℤ◌, [], IfSome, IsTrue, false, min, pos};
+ghost use Rattle.std.specs.Prelude.{if◌then◌else◌, true};
 ghost use Rattle.dispatch_room_sockets.specs.Lookaheads.{StandsAhead, StaysInFront, heard_of};
+ghost use Rattle.dispatch_room_sockets.specs.Lookaheads.{may_grow};
+ghost use Rattle.dispatch_room_sockets.specs.Moves.{has_moved};
 
 use crate::entrances::Entrance;
 use crate::kept_callers::{Heard, is_over};
@@ -58,7 +61,9 @@ pub struct Client {
 
 impl Client {
     // A connection that was not looked at yet.
-    fn new(alloc: Global, stream: Rc<TcpStream>, slot: usize) -> Client {
+    fn new(alloc: Global, stream: Rc<TcpStream>, slot: usize) -> Client
+        ensures { (result.unserved ≡ []) × (result.is_fresh ≡ true) × (result.is_watched ≡ false) }
+    {
         Client {
             stream,
             unserved: UnservedBytes::new(alloc),
@@ -96,7 +101,17 @@ fn first_spare() -> RawFd {
     if getrlimit(RLIMIT_NOFILE, &mut limit) != 0 {
         return RawFd::MAX;
     }
-    RawFd::try_from(limit.rlim_cur.saturating_sub(SPARE)).unwrap_or(RawFd::MAX)
+    spare_from(limit.rlim_cur)
+}
+
+// The first of them, where there are so many descriptors.
+fn spare_from(limit: u64) -> RawFd
+    ensures { result ≡ pos (min (limit - 8) 2_147_483_647) }
+{
+    match RawFd::try_from(limit.saturating_sub(SPARE)) {
+        Ok(first) => first,
+        Err(_) => RawFd::MAX,
+    }
 }
 
 /// A door at which those who call are accepted.
@@ -170,7 +185,9 @@ impl<'a> Door<'a> {
     }
 
     // Whether the last wait reported that something moved in this slot.
-    fn has_moved(&self, slot: usize) -> bool {
+    fn has_moved(&self, slot: usize) -> bool
+        ensures { result ≡ has_moved self.now.moved.items self.now.wait slot }
+    {
         match self.moved.get(slot) {
             Some(wait) => *wait == self.wait,
             None => true,
@@ -179,8 +196,9 @@ impl<'a> Door<'a> {
 
     // Lets the moves of one be reported. Where that can't be, it is looked at whoever has moved.
     fn watch(&self, client: &mut Client)
-        ensures { (client.new.unserved ≡ client.old.unserved)
+        ensures same { (client.new.unserved ≡ client.old.unserved)
             × (client.new.ahead ≡ client.old.ahead) }
+        ensures again { client.new.is_watched ≡ false → client.new.is_fresh ≡ true }
     {
         if client.is_watched {
             return;
@@ -197,7 +215,9 @@ impl<'a> Door<'a> {
     // Looks at what stands ahead of one now. Who may still speak is looked at again, whoever has
     // moved, until its moves are reported.
     fn look_anew(&mut self, client: &mut Client)
-        ensures { StandsAhead client.new.unserved client.new.ahead }
+        ensures seen { StandsAhead client.new.unserved client.new.ahead }
+        ensures again { may_grow client.new.ahead ≡ true → client.new.is_watched ≡ false
+            → client.new.is_fresh ≡ true }
     {
         client.ahead = client.look_ahead(self.room.as_mut_slice());
         client.is_fresh = false;
@@ -238,13 +258,13 @@ impl<'a> Door<'a> {
         }
     }
 
-    // Whether this descriptor is one of those that are left to the room itself. The system is asked
-    // only where it gave none as high before.
-    fn is_spare(&mut self, fd: RawFd) -> bool {
-        if fd <= self.known {
-            return false;
-        }
-        let is_spare = fd >= first_spare();
+    // Whether this descriptor is one of those that are left to the room itself, the first of which
+    // is known. Where it is none, that is noted.
+    fn is_spare(&mut self, fd: RawFd, first: RawFd) -> bool
+        ensures spare { IsTrue result ↔ (first ≤ℤ fd) }
+        ensures known { self.new.known ≡ (if result then self.old.known else fd) }
+    {
+        let is_spare = fd >= first;
         if !is_spare {
             self.known = fd;
         }
@@ -252,10 +272,15 @@ impl<'a> Door<'a> {
     }
 
     // One who was accepted: none where its stream can't be had.
-    fn admitted(&mut self, stream: TcpStream) -> Option<Client> {
+    fn admitted(&mut self, stream: TcpStream) -> Option<Client>
+        ensures fresh { IfSome result (λ client. (client.unserved ≡ [])
+            × (client.is_fresh ≡ true)) }
+    {
         // To ask whether more call costs less than an accept that finds none.
         self.is_called = is_readable(self.listener.as_raw_fd());
-        self.is_full = self.is_spare(stream.as_raw_fd());
+        // The system is asked only where it gave none as high before.
+        let fd = stream.as_raw_fd();
+        self.is_full = fd > self.known && self.is_spare(fd, first_spare());
         stream.set_nonblocking(true).ok()?;
         let stream = Rc::new(self.alloc, stream).ok()?;
         let slot = self.slot;
@@ -285,7 +310,7 @@ impl<'a> Door<'a> {
 impl<'a> Entrance for Door<'a> {
     type Caller = Client;
 
-    ghost use Rattle.std.specs.Prelude.{None};
+    ghost use Rattle.std.specs.Prelude.{None, ⊤};
 
     ghost came = { λ _. None };
 
@@ -293,7 +318,13 @@ impl<'a> Entrance for Door<'a> {
 
     ghost is_watched = { λ _ client. client.is_watched };
 
-    fn accept(&mut self) -> Option<Client> {
+    ghost is_done = { λ _. ⊤ };
+
+    // Beside what each entrance ensures: the next look includes who was accepted.
+    fn accept(&mut self) -> Option<Client>
+        ensures fresh { IfSome result (λ client. (client.unserved ≡ [])
+            × (client.is_fresh ≡ true)) }
+    {
         if !self.is_called || self.is_deaf() {
             return None;
         }
@@ -313,7 +344,8 @@ impl<'a> Entrance for Door<'a> {
     // Beside what each entrance ensures: what was heard is what stands ahead.
     fn look(&mut self, client: &mut Client) -> Heard
         ensures said { result ≡ heard_of client.new.ahead }
-        ensures seen { client.old.is_fresh ≡ true
+        ensures seen { (client.old.is_fresh
+            || has_moved self.old.moved.items self.old.wait client.old.slot) ≡ true
             → StandsAhead client.new.unserved client.new.ahead }
     {
         if !client.is_fresh && !self.has_moved(client.slot) {

@@ -1,5 +1,5 @@
 //! Where those who call come in, and where they are looked at.
-ghost use Rattle.std.specs.Prelude.{◌≡◌, Bool, List, [], ◌∷◌, Option, option_to_list};
+ghost use Rattle.std.specs.Prelude.{◌≡◌, Bool, List, [], ◌∷◌, None, Option, option_to_list};
 ghost use Rattle.room_http_messages.specs.Streams.{Grows};
 ghost use Rattle.dispatch_room_sockets.specs.declared.kept_callers.Heard.{Heard as Found};
 
@@ -21,8 +21,12 @@ pub trait Entrance: Drop {
     // Whether `wait` finds when one moves.
     ghost is_watched: { Self → Self.Caller → Bool };
 
+    // Nobody can be accepted for now, as far as that is known.
+    ghost is_done: { Self → Type 0 };
+
     /// The next who calls, where one does.
     fn accept(&mut self) -> Option<Self::Caller>
+        ensures none { result ≡ None → is_done self.new }
         ensures came { Grows (came self.old) (came self.new) (option_to_list result) }
         ensures heard { heard self.new ≡ heard self.old };
 

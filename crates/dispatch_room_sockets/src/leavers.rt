@@ -3,7 +3,8 @@
 ghost use Rattle.std.specs.Prelude.{◌≤◌, ◌<◌, All, true};
 ghost use Rattle.std.specs.Duration.{as_nanos};
 ghost use Rattle.std.specs.VecDeque.{deque_len, deque_capacity};
-ghost use Rattle.std.specs.Prelude.{◌≡◌};
+ghost use Rattle.std.specs.Prelude.{◌≡◌, None, false, filter, if◌then◌else◌};
+ghost use Rattle.dispatch_room_sockets.specs.Departures.{is_due, is_resting};
 ghost use Rattle.dispatch_room_sockets.specs.Pauses.{looked_at_by};
 
 use crate::entrances::Entrance;
@@ -28,7 +29,9 @@ pub struct Leaver<C> {
 impl<C> Leaver<C> {
     // Whether it is looked at now, which is noted.
     fn is_due(&mut self, now: Duration) -> bool
-        ensures same { self.new.until ≡ self.old.until }
+        ensures due { result ≡ is_due self.old.rests now }
+        ensures rests { self.new.rests ≡ (if result then None else self.old.rests) }
+        ensures same { (self.new.until ≡ self.old.until) × (self.new.caller ≡ self.old.caller) }
     {
         match self.rests {
             Some(rests) if !is_over(now, rests) => false,
@@ -54,6 +57,7 @@ impl<C> Leaver<C> {
 }
 
 /// Throws away what each of them still says. Who has said all, or whose time is over, is dropped.
+/// Who rests stays as it is, in their order.
 pub(crate) fn throw_away_all<E: Entrance>(
     entrance: &mut E,
     leavers: &mut VecDeque<Leaver<E::Caller>>,
@@ -61,6 +65,8 @@ pub(crate) fn throw_away_all<E: Entrance>(
 )
     requires room { deque_len leavers.old ≤ deque_capacity leavers.old }
     ensures in_time { All (λ l. as_nanos now < as_nanos l.until) leavers.new.items }
+    ensures rest { filter (is_resting now) leavers.new.items
+        ≡ filter (is_resting now) leavers.old.items }
     ensures came { E.came entrance.new ≡ E.came entrance.old }
     ensures heard { E.heard entrance.new ≡ E.heard entrance.old }
     ensures bound { deque_len leavers.new ≤ deque_len leavers.old }
@@ -78,6 +84,8 @@ pub(crate) fn throw_away_all<E: Entrance>(
 // Throws away what one of them still says, where it is due, and returns whether it stays.
 fn stays<E: Entrance>(entrance: &mut E, leaver: &mut Leaver<E::Caller>, now: Duration) -> bool
     ensures in_time { result ≡ true → as_nanos now < as_nanos leaver.new.until }
+    ensures rests { is_resting now leaver.old ≡ true → (result ≡ true) × (leaver.new ≡ leaver.old) }
+    ensures due { is_resting now leaver.old ≡ false → is_resting now leaver.new ≡ false }
     ensures came { E.came entrance.new ≡ E.came entrance.old }
     ensures heard { E.heard entrance.new ≡ E.heard entrance.old }
 {

@@ -1,5 +1,5 @@
 //! The line of those who are kept: who calls is admitted to it, and all in it are looked at.
-ghost use Rattle.std.specs.Prelude.{◌≡◌, ◌+◌, ◌≤◌};
+ghost use Rattle.std.specs.Prelude.{◌≡◌, ◌⊎◌, ◌+◌, ◌≤◌};
 ghost use Rattle.std.specs.VecDeque.{deque_len, deque_capacity};
 ghost use Rattle.dispatch_room_sockets.specs.Sweeps.{IsAdmitted, IsLookedAt, IsSwept};
 
@@ -8,7 +8,8 @@ use crate::kept_callers::{Kept, Verdict};
 use std::collections::VecDeque;
 use std::time::Duration;
 
-/// Admits those who call, so many at most. Each may be silent until a moment.
+/// Admits those who call, so many at most, and fewer only where nobody else can be accepted or no
+/// number is left. Each may be silent until a moment.
 pub(crate) fn admit<E: Entrance>(
     entrance: &mut E,
     line: &mut VecDeque<Kept<E::Caller>>,
@@ -19,6 +20,8 @@ pub(crate) fn admit<E: Entrance>(
     requires room { deque_len line.old + most ≤ deque_capacity line.old }
     ensures admitted { IsAdmitted until line.old.items line.new.items next.old next.new
         (E.came entrance.old) (E.came entrance.new) }
+    ensures all { (deque_len line.new ≡ deque_len line.old + most) ⊎ E.is_done entrance.new
+        ⊎ (next.new ≡ u64.MAX) }
     ensures heard { E.heard entrance.new ≡ E.heard entrance.old }
     ensures bound { deque_len line.new ≤ deque_len line.old + most }
     ensures capacity { deque_capacity line.new ≡ deque_capacity line.old }

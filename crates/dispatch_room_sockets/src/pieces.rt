@@ -35,7 +35,8 @@ const TURN: u64 = 50;
 const MOST_READS: u32 = 50_000;
 
 /// A piece of a stream, which is read from: it ends where the next request isn't whole, or where
-/// its turn is over. None of the bytes of a request is given before that is whole.
+/// its turn is over. None of the bytes of a request is given before that is whole, its time is over
+/// or it can't be whole any more.
 #[derive(Drop)]
 pub struct PieceReader<'a> {
     rt: &'a HostRuntime,
@@ -271,7 +272,9 @@ impl<'a> PieceReader<'a> {
     }
 
     // Whether the peer may still be written to, and may say more.
-    fn is_open(&self) -> bool {
+    fn is_open(&self) -> bool
+        ensures { result ≡ not (self.now.failed || self.now.ended) }
+    {
         !self.failed && !self.ended
     }
 }
@@ -285,7 +288,8 @@ impl<'a> Source for PieceReader<'a> {
 
     ghost has_ended = { λ r. r.ended };
 
-    // Beside what each source ensures: where the piece pauses, and how much is given at most.
+    // Beside what each source ensures: where the piece pauses, how much is given at most, and that
+    // no byte that was read ahead is lost or given twice.
     fn read(&mut self, buf: &mut [u8]) -> Result<usize, ReadFailed>
         ensures bound { IfOk result (λ n. n ≤ length buf.new) }
         ensures bytes { ReadConsumes None None result buf.new }
@@ -383,9 +387,11 @@ pub fn take_back<'a>(
         ..
     } = reader;
     kept.caller.refresh();
+    // Where the clock can't be read, it is silent again from the clock's beginning.
+    let now = waiting.entrance().now();
     if is_paused {
-        waiting.take_back(kept);
+        waiting.take_back(kept, now.unwrap_or(Duration::ZERO));
     } else if is_open && writer.shut() {
-        waiting.part(kept, until);
+        waiting.part(kept, until, now);
     }
 }

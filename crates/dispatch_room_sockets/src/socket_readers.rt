@@ -1,7 +1,8 @@
 //! A socket that is read from.
 ghost use Rattle.std.specs.Duration.{as_nanos, max_nanos};
 ghost use Rattle.std.specs.Prelude.{◌≡◌, ◌≤◌, ◌<◌, ◌-◌, ◌+◌, IfOk, IfSome, false, not, is_err, min};
-ghost use Rattle.std.specs.Prelude.{if◌then◌else◌, length, ◌==◌, ◌||◌};
+ghost use Rattle.std.specs.Prelude.{if◌then◌else◌, length, ◌==◌, ◌||◌, ◌≢◌, None, Some, IsSome};
+ghost use Rattle.std.specs.Prelude.{IsSomeAnd};
 ghost use Rattle.std.specs.Io.KnownBytes.{ReadConsumes};
 ghost use Rattle.room_http_messages.specs.Streams.{found_end, known_count, CountsBy};
 ghost use Rattle.room_http_messages.specs.declared.limits.TheConstants.{INBOX_ROOM};
@@ -59,22 +60,26 @@ impl<'a, T: Read + OpenStream, C: Clock> SocketReader<'a, T, C> {
     }
 }
 
-// Until when a read may wait that has so much room: none where the turn is over, or where the clock
-// can't be read. Within a message that is as long as the read before might, and between messages
-// within the turn.
-fn moment<C: Clock>(pace: &mut Pace, clock: &C, room: usize) -> Option<Duration>
+// Until when a read may wait that is made now and has so much room, as the pace gives it: none
+// where the turn is over, or where the clock can't be read.
+fn moment(pace: &mut Pace, now: Option<Duration>, room: usize) -> Option<Duration>
     ensures here { IfSome result (λ _. pace.new.here ≡ INBOX_ROOM - room) }
-    ensures goes_on { room < INBOX_ROOM → INBOX_ROOM - room ≡ pace.old.here
-        → IfSome result (λ until. until ≡ pace.old.until) }
-    ensures begins { room < INBOX_ROOM → IfSome result (λ until. until ≡ pace.new.until) }
-    ensures between { INBOX_ROOM ≤ room
-        → IfSome result (λ until. as_nanos until ≤ as_nanos pace.old.ends) }
+    ensures unknown { now ≡ None → result ≡ None }
+    ensures goes_on { IsSome now → room < INBOX_ROOM → INBOX_ROOM - room ≡ pace.old.here
+        → (result ≡ Some pace.old.until) × (pace.new.until ≡ pace.old.until) }
+    ensures over { IfSome now (λ now. as_nanos pace.old.ends ≤ as_nanos now
+        → (room < INBOX_ROOM → INBOX_ROOM - room ≢ pace.old.here) → result ≡ None) }
+    ensures between { IfSome now (λ now. as_nanos now < as_nanos pace.old.ends
+        → INBOX_ROOM ≤ room → IsSomeAnd result (λ until. as_nanos until
+        ≡ min (min (as_nanos now + as_nanos pace.old.waits.idle) max_nanos)
+        (as_nanos pace.old.ends))) }
+    ensures begins { IfSome now (λ now. as_nanos now < as_nanos pace.old.ends
+        → room < INBOX_ROOM → INBOX_ROOM - room ≢ pace.old.here
+        → IsSomeAnd result (λ until. (until ≡ pace.new.until) × (as_nanos until
+        ≡ min (as_nanos now + as_nanos pace.old.waits.patience) max_nanos))) }
     ensures kept { (pace.new.waits ≡ pace.old.waits) × (pace.new.ends ≡ pace.old.ends) }
 {
-    match clock.monotonic() {
-        Ok(now) => pace.next(room, now),
-        Err(_) => None,
-    }
+    pace.next(room, now?)
 }
 
 // Until when it is waited for a piece of what still comes: as long as a connection may idle from
@@ -108,7 +113,8 @@ impl<'a, T: Read + OpenStream, C: Clock> Source for SocketReader<'a, T, C> {
             self.new.pace.here ≡ (if here == 0 then 0 else min (here + n) usize.MAX)) }
     {
         self.reads = self.reads.saturating_add(1);
-        let Some(moment) = moment(&mut self.pace, self.clock, buf.len()) else {
+        let now = self.clock.monotonic().ok();
+        let Some(moment) = moment(&mut self.pace, now, buf.len()) else {
             self.failed = true;
             return Err(ReadFailed);
         };

@@ -1,6 +1,7 @@
 //! A socket that is written to.
 ghost use Rattle.std.specs.Prelude.{◌≡◌, ◌≤◌, ◌+◌, min, IfOk, IfSome, IsSome, None, OnOk, Some};
-ghost use Rattle.std.specs.Prelude.{if◌then◌else◌, length, nat_lt, true, false, ◌||◌};
+ghost use Rattle.std.specs.Prelude.{if◌then◌else◌, length, nat_lt, true, false, ◌||◌, IsSomeAnd};
+ghost use Rattle.std.specs.Prelude.{MatchOption};
 ghost use Rattle.std.specs.Duration.{as_nanos, max_nanos};
 ghost use Rattle.std.specs.Io.KnownBytes.{WriteAppends};
 ghost use Rattle.room_http_messages.specs.Streams.{took_none};
@@ -56,12 +57,14 @@ impl<'a, T: Write + OpenStream, C: Clock> SocketWriter<'a, T, C> {
         }
     }
 
-    // Until when a write may wait, which is noted: as long as the one before it, where that left a
-    // part of its answer. None where the clock can't be read.
-    fn begin(&mut self) -> Option<Duration>
+    // Until when a write may wait that begins now, which is noted: as long as the one before it,
+    // where that left a part of its answer, and else the answer's patience. None where the clock
+    // can't be read.
+    fn begin(&mut self, now: Option<Duration>) -> Option<Duration>
         ensures goes_on { self.old.within ≡ true → result ≡ self.old.until }
-        ensures begins { self.old.within ≡ false
-            → IfSome result (λ moment. as_nanos moment ≤ as_nanos self.old.last) }
+        ensures begins { self.old.within ≡ false → MatchOption now (result ≡ None) (λ now.
+            IsSomeAnd result (λ moment. as_nanos moment ≡ min (min (as_nanos now
+            + as_nanos self.old.patience) max_nanos) (as_nanos self.old.last))) }
         ensures noted { IfSome result (λ moment. self.new.until ≡ Some moment) }
         ensures kept { (self.new.stream ≡ self.old.stream) × (self.new.failed ≡ self.old.failed)
             × (self.new.within ≡ self.old.within) × (self.new.patience ≡ self.old.patience)
@@ -70,8 +73,7 @@ impl<'a, T: Write + OpenStream, C: Clock> SocketWriter<'a, T, C> {
         if self.within {
             return self.until;
         }
-        let now = self.clock.monotonic().ok()?;
-        self.until = Some(answer_until(now, self.patience, self.last));
+        self.until = Some(answer_until(now?, self.patience, self.last));
         self.until
     }
 
@@ -133,7 +135,7 @@ impl<'a, T: Write + OpenStream, C: Clock> Sink for SocketWriter<'a, T, C> {
         ensures goes_on { self.old.within ≡ true → OnOk result (self.new.until ≡ self.old.until) }
         ensures noted { OnOk result (IsSome self.new.until) }
     {
-        let Some(moment) = self.begin() else {
+        let Some(moment) = self.begin(self.clock.monotonic().ok()) else {
             self.failed = true;
             return Err(WriteFailed);
         };

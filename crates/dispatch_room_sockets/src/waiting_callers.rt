@@ -1,7 +1,7 @@
 //! Those who wait: each is kept until a request of theirs is whole, and is then given in that
-//! order, so that nobody waits for a silent caller. Each round asks the system's set without
-//! waiting, also where someone is ready: else new callers would not be heard beside those who ask
-//! without a pause.
+//! order, so that nobody waits for a silent caller. Nobody is looked at while someone is ready. Then
+//! all are, first without waiting where one isn't watched: who comes back isn't, so new callers are
+//! heard beside those who ask without a pause.
 ghost use Rattle.std.specs.Prelude.{◌≡◌, ◌+◌, ◌≤◌, IfOk};
 ghost use Rattle.std.specs.VecDeque.{deque_len, deque_capacity};
 
@@ -50,10 +50,11 @@ impl<E: Entrance> Waiting<E> {
     ghost use Rattle.dispatch_room_sockets.specs.CallerHistories.{AreInTime, ComesBack, GivesNext};
     ghost use Rattle.dispatch_room_sockets.specs.Rounds.{HasRounds, IsRound, before_giving, queues};
     ghost use Rattle.dispatch_room_sockets.specs.Turns.{IsInTurn, WaitsAgain};
-    ghost use Rattle.dispatch_room_sockets.specs.Departures.{Departs};
+    ghost use Rattle.dispatch_room_sockets.specs.Departures.{Departs, IsParting, is_resting};
     ghost use Rattle.dispatch_room_sockets.specs.Pauses.{IsLeast, limits};
-    ghost use Rattle.std.specs.Prelude.{[], ◌∷◌, ◌≢◌, ◌<◌, ◌==◌, IfSome, IsSome, drop};
-    ghost use Rattle.std.specs.Prelude.{length, not};
+    ghost use Rattle.std.specs.Prelude.{[], ◌∷◌, ◌≢◌, ◌<◌, ◌==◌, IfSome, IsSome, drop, All, None};
+    ghost use Rattle.std.specs.Prelude.{filter, length, not};
+    ghost use Rattle.std.specs.List.{list_all};
     ghost use Rattle.std.specs.Duration.{as_nanos};
 
     /// Nobody waits yet where they come in. Each may be silent so long, and a request may take so
@@ -112,12 +113,13 @@ impl<E: Entrance> Waiting<E> {
     pub(crate) fn first(&self) -> Option<&Kept<E::Caller>>
         ensures first { IfSome result (λ kept. self.now.ready.items
             ≡ kept.now ∷ drop 1 self.now.ready.items) }
+        ensures nobody { result ≡ None → self.now.ready.items ≡ [] }
     {
         self.ready.front()
     }
 
-    // Looks at all once all are watched, and where nobody is to be served by then, waits until
-    // someone moves. So who calls is heard beside those who ask without a pause.
+    // Looks at all where not all are watched. Where nobody is to be served by then, waits until
+    // someone moves, and looks at all.
     fn look_around(&mut self)
         ensures rounds { HasRounds (queues E.Entrance self.old) (queues E.Entrance self.new) }
     {
@@ -138,7 +140,10 @@ impl<E: Entrance> Waiting<E> {
     }
 
     // Whether all who are looked at are watched.
-    fn are_watched(&self) -> bool {
+    fn are_watched(&self) -> bool
+        ensures { result ≡ list_all (λ k. E.is_watched self.now.entrance k.caller)
+            self.now.line.items }
+    {
         for kept in &self.line {
             if !self.entrance.is_watched(&kept.caller) {
                 return false;
@@ -147,7 +152,7 @@ impl<E: Entrance> Waiting<E> {
         true
     }
 
-    // Until when nobody's time is over, from now on.
+    // How long the next wait lasts, at most: a second where the clock fails.
     fn longest_pause(&self) -> Duration {
         match self.entrance.now() {
             Some(now) => self.pause(now),
@@ -160,18 +165,24 @@ impl<E: Entrance> Waiting<E> {
     fn wait(&mut self, pause: Duration)
         ensures rounds { HasRounds (queues E.Entrance self.old) (queues E.Entrance self.new) }
     {
-        self.throw_away();
+        let now = self.entrance.now();
+        self.throw_away(now);
         self.entrance.wait(pause);
         if let Some(now) = self.entrance.now() {
             self.look(now);
         }
     }
 
-    // Throws away what those have said who are parted from.
-    fn throw_away(&mut self)
+    // Throws away what those have said by now who are parted from, where it is known what time it
+    // is. Who rests stays.
+    fn throw_away(&mut self, now: Option<Duration>)
         ensures same { queues E.Entrance self.new ≡ queues E.Entrance self.old }
+        ensures in_time { IfSome now (λ now.
+            All (λ l. as_nanos now < as_nanos l.until) self.new.leavers.items) }
+        ensures rest { IfSome now (λ now. filter (is_resting now) self.new.leavers.items
+            ≡ filter (is_resting now) self.old.leavers.items) }
     {
-        if let Some(now) = self.entrance.now() {
+        if let Some(now) = now {
             throw_away_all(&mut self.entrance, &mut self.leavers, now);
         }
     }
@@ -200,7 +211,8 @@ impl<E: Entrance> Waiting<E> {
         );
     }
 
-    /// Until when nobody's time is over, from now on.
+    /// How long it may be waited from now on: until a time is over, a second at most, and two
+    /// milliseconds where one isn't watched.
     pub fn pause(&self, now: Duration) -> Duration
         ensures bound { as_nanos result ≤ 1_000_000_000 }
         ensures least { IsLeast (as_nanos result) (limits now (E.is_watched self.now.entrance)
@@ -234,10 +246,10 @@ impl<E: Entrance> Waiting<E> {
     }
 
     /// Takes one back who was served and may say more: there is room since it was given. It is
-    /// silent again from now on, or where the clock can't be read, from the clock's beginning.
-    pub fn take_back(&mut self, kept: Kept<E::Caller>)
+    /// silent again from now on.
+    pub fn take_back(&mut self, kept: Kept<E::Caller>, now: Duration)
         ensures again { length self.old.line.items + length self.old.ready.items < 1024
-            → WaitsAgain self.old.keep kept.number kept.caller self.old.line.items
+            → WaitsAgain self.old.keep now kept.number kept.caller self.old.line.items
             self.new.line.items }
         ensures back { ComesBack kept.number self.old.line.items self.new.line.items
             self.old.ready.items self.old.next }
@@ -245,7 +257,6 @@ impl<E: Entrance> Waiting<E> {
             × (self.new.leavers ≡ self.old.leavers) × (self.new.next ≡ self.old.next) }
         ensures times { (self.new.keep ≡ self.old.keep) × (self.new.patience ≡ self.old.patience) }
     {
-        let now = self.entrance.now().unwrap_or(Duration::ZERO);
         if self.line.len() + self.ready.len() < MOST_KEPT {
             self.line.push_back_reserved(Kept {
                 number: kept.number,
@@ -256,16 +267,19 @@ impl<E: Entrance> Waiting<E> {
         }
     }
 
-    /// Parts from one who was served: what they still say is thrown away until a moment.
-    pub fn part(&mut self, kept: Kept<E::Caller>, until: Duration)
+    /// Parts now from one who was served: what they still say is thrown away until a moment. Where
+    /// it isn't known what time it is, it is dropped.
+    pub fn part(&mut self, kept: Kept<E::Caller>, until: Duration, now: Option<Duration>)
         ensures departs { Departs kept.caller until self.old.leavers.items self.new.leavers.items }
+        ensures parts { IfSome now (λ now. length self.old.leavers.items < 1024
+            → IsParting kept.caller until now self.old.leavers.items self.new.leavers.items) }
         ensures back { ComesBack kept.number self.old.line.items self.new.line.items
             self.old.ready.items self.old.next }
         ensures same { (self.new.line.items ≡ self.old.line.items)
             × (self.new.ready.items ≡ self.old.ready.items) × (self.new.next ≡ self.old.next) }
         ensures times { (self.new.keep ≡ self.old.keep) × (self.new.patience ≡ self.old.patience) }
     {
-        let Some(now) = self.entrance.now() else {
+        let Some(now) = now else {
             return;
         };
         if self.leavers.len() < MOST_KEPT {

@@ -1,7 +1,7 @@
 -- Parts of a room's service, one after another.
 use Rattle.std.proofs.Common.{◌≡◌, ◌⊎◌, ◌+◌, arith, length, refl, ap, inl, inr, sym, subst, [], ◌∷◌}
 use Rattle.std.proofs.Common.{Bool, true, false, Option, None, Some, Result, Ok, Err}
-use Rattle.std.specs.Prelude.{IfSome, OnErr, is_err, not}
+use Rattle.std.specs.Prelude.{IfSome, OnErr, is_err, not, ◌&&◌}
 use Rattle.sqlite_trees.specs.declared.store.Store.{Ghosts}
 use Rattle.dispatch_room_cli.specs.declared.exit_status.Done.{Done}
 use Rattle.dispatch_room_cli.specs.declared.exit_status.Failure.{Failure}
@@ -12,6 +12,7 @@ use Rattle.dispatch_room_serving.specs.declared.journal_files.OpenedList.{Opened
 use Rattle.dispatch_room_serving.specs.declared.journals.Journal.{Journal}
 use Rattle.dispatch_room_tcp.specs.ServedFiles.{PrintsServing}
 use Rattle.dispatch_room_tcp.specs.ServedParts.{EndsAs, EndsLast, EndsPart, Interval, IsPart}
+use Rattle.dispatch_room_tcp.specs.ServedParts.{ListOrigin}
 use Rattle.dispatch_room_tcp.specs.ServedParts.{PartsBefore, Watch}
 
 -- where there is a list, a part ends as its service does with it
@@ -54,6 +55,10 @@ pub not_false : (b : Bool) → not b ≡ false → b ≡ true
 not_false true is = refl
 not_false false is = absurd (cc)
 
+pub second_true : (a b : Bool) → (a && b) ≡ true → b ≡ true
+second_true true b is = is
+second_true false b is = absurd (cc)
+
 -- the first list, and one that is opened later
 module _ (is_list : OpenedList → Type 0) (first : Option OpenedList) where
   opened_as : (list : Option OpenedList) → first ≡ list
@@ -69,20 +74,20 @@ module _ (is_list : OpenedList → Type 0) (first : Option OpenedList) where
   later_opened None is = tt
   later_opened (Some it) is = inr is
 
-module _ {S : Type 0} (g : Ghosts S) (watch : Watch) (terms : Terms) (is_list : OpenedList → Type 0) where
-  abbrev pub first_before : (first : Interval S) → PartsBefore g watch terms is_list first first
+module _ {S : Type 0} (g : Ghosts S) (watch : Watch) (terms : Terms) (lists : ListOrigin) where
+  abbrev pub first_before : (first : Interval S) → PartsBefore g watch terms lists first first
   first_before first = record { earlier = []; are = refl; only = λ once. refl }
 
-  abbrev pub first_part : (list : Option OpenedList) → IfSome list is_list → (first last : Interval S)
+  abbrev pub first_part : (list : Option OpenedList) → IfSome list lists.gives → (first last : Interval S)
       (result : Result Done Failure) → IsPart g watch terms list first last result
-      → EndsPart g watch terms is_list first last result
+      → EndsPart g watch terms lists first last result
   first_part list listed first last result is =
       record { at = first; before = first_before first; list = list; listed = listed; is = is }
 
   -- after a part that ended well another begins
   pub next_before : (first now : Interval S) (result : Result Done Failure) → terms.renews ≡ true
-      → is_err result ≡ false → (part : EndsPart g watch terms is_list first now result)
-      → (next : PartsBefore g watch terms is_list first now)
+      → is_err result ≡ false → (part : EndsPart g watch terms lists first now result)
+      → (next : PartsBefore g watch terms lists first now)
       × (length next.earlier ≡ length part.before.earlier + 1)
   next_before first now (Ok done) renews well part = (
     record {
@@ -95,10 +100,10 @@ module _ {S : Type 0} (g : Ghosts S) (watch : Watch) (terms : Terms) (is_list : 
   next_before first now (Err fault) renews well part = absurd (cc)
 
   -- where one part is all, it is the last
-  pub ends_once : (list : Option OpenedList) → IfSome list is_list → (first last : Interval S)
+  pub ends_once : (list : Option OpenedList) → IfSome list lists.gives → (first last : Interval S)
       (result : Result Done Failure) → terms.renews ≡ false
       → IsPart g watch terms list first last result
-      → EndsLast g watch terms is_list first last result
+      → EndsLast g watch terms lists first last result
   ends_once list listed first last result once is = record {
     part = first_part list listed first last result is;
     followed = λ renews well. absurd (cc (once, renews));
@@ -106,7 +111,7 @@ module _ {S : Type 0} (g : Ghosts S) (watch : Watch) (terms : Terms) (is_list : 
 
   -- and one that ended badly is
   pub ends_badly : (first last : Interval S) (result : Result Done Failure)
-      → is_err result ≡ true → EndsPart g watch terms is_list first last result
-      → EndsLast g watch terms is_list first last result
+      → is_err result ≡ true → EndsPart g watch terms lists first last result
+      → EndsLast g watch terms lists first last result
   ends_badly first last (Ok done) bad part = absurd (cc)
   ends_badly first last (Err fault) bad part = record { part = part; followed = λ renews well. absurd (cc well) }

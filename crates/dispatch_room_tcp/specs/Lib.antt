@@ -1,4 +1,4 @@
--- what a command finds at its paths
+-- what a command finds around it
 pub mod Hosts
 -- how the callers of a listener are parted from
 pub mod Listeners

@@ -11,10 +11,9 @@ use Rattle.dispatch_room_journal.specs.JournalRecords.{answer_text, message_text
 use Rattle.dispatch_room_journal.specs.declared.list_ends.ListEnd.{ListEnd}
 use Rattle.dispatch_room_serving.specs.Callers.{Opening}
 use Rattle.dispatch_room_journal.specs.RowRuns.{PutsEnd}
-use Rattle.dispatch_room_serving.specs.Journals.{EndsAfter, failed_by, held_by}
+use Rattle.dispatch_room_serving.specs.Journals.{EndsAfter, KeptFile, failed_by, held_by}
 use Rattle.dispatch_room_serving.specs.ServedRoom.{ServesRoom}
 use Rattle.dispatch_room_serving.specs.declared.journal_files.OpenedList.{OpenedList}
-use Rattle.dispatch_room_serving.specs.declared.journal_files.SystemFile.{SystemFile}
 use Rattle.dispatch_room_serving.specs.declared.journal_files.WrittenFile.{WrittenFile}
 use Rattle.dispatch_room_serving.specs.declared.journals.Journal.{Journal}
 use Rattle.dispatch_room_serving.specs.declared.list_places.Finding.{Finding}
@@ -36,47 +35,44 @@ EndsAs has_journal served result = (result ≡ served)
     ⊎ (IsOk served × (has_journal ≡ true) × (result ≡ Err failure.Journal))
 
 -- how a part is observed: whether there is a journal, and then whether each message lasts before
--- the room acts on it, and whether questions are kept too; and whether a log is written
+-- the room acts on it, and whether questions are kept too
 pub record Watch : Type 0 where
   pub has_journal : Bool
   pub is_synced : Bool
   pub keeps_questions : Bool
-  pub logs : Bool
 
 -- the journal of a part, in a file of the system
 abbrev pub PartJournal : Type 0
-PartJournal = Journal (WrittenFile SystemFile × ListEnd)
+PartJournal = Journal (WrittenFile KeptFile × ListEnd)
 
 -- an end was put behind the list of such a journal
-abbrev pub puts_end : WrittenFile SystemFile × ListEnd → WrittenFile SystemFile × ListEnd → Type 0
+abbrev pub puts_end : WrittenFile KeptFile × ListEnd → WrittenFile KeptFile × ListEnd → Type 0
 puts_end old new = PutsEnd old.1 new.1 None None
 
 -- where there is a list, a journal goes on where that ends
 abbrev pub GoesOn : Option OpenedList → PartJournal → Type 0
 GoesOn list journal = IfSome list (λ list. journal.out.1 ≡ list.end)
 
--- the log (`logs`) and the journal are as `watch` says, for a part that has this list or none
-pub record AreOf (watch : Watch) (list : Option OpenedList) (logs : Bool)
-    (journal : Option PartJournal) : Type 0 where
-  pub logged : logs ≡ watch.logs
+-- the journal is as `watch` says, for a part that has this list or none
+pub record IsJournalOf (watch : Watch) (list : Option OpenedList) (journal : Option PartJournal)
+    : Type 0 where
   pub kept : is_some journal ≡ watch.has_journal
   pub synced : IfSome journal (λ it. it.is_synced ≡ watch.is_synced)
   pub of : IfSome journal (λ it. it.keeps_questions ≡ watch.keeps_questions)
   pub goes_on : IfSome journal (GoesOn list)
 
 module _ {S : Type 0} (g : Ghosts S) (watch : Watch) (terms : Terms) where
-  -- A part was served, which is a start of the room's service, with a log and a journal in this
-  -- list or none, and ended so. If serving ended well, an end is put in the journal then, and not
-  -- before, unless its list was truncated. No contract can say what the list holds, nor what a look
-  -- finds at its place; but there is a look only where a part may end before all calls came.
+  -- A part was served, which is a start of the room's service, with a journal in this list or none,
+  -- and ended so. If serving ended well, an end is put in the journal then, and not before, unless
+  -- its list was truncated. No contract can say what the list holds, nor what a look finds at its
+  -- place; but there is a look only where a part may end before all calls came.
   pub record IsPart (list : Option OpenedList) (old new : Interval S)
       (result : Result Done Failure) : Type 0 where
-    pub logs : Bool
     -- the journal as the part begins, as serving ended, and as the part ended
     pub journal : Option PartJournal
     pub later : Option PartJournal
     pub last : Option PartJournal
-    pub are : AreOf watch list logs journal
+    pub observed : IsJournalOf watch list journal
     pub served : Result Done Failure
     pub ends : EndsAs watch.has_journal served result
     -- whether a look had found its list moved or truncated as serving ended: only then may that
@@ -112,15 +108,19 @@ module _ {S : Type 0} (g : Ghosts S) (watch : Watch) (terms : Terms) where
         })
         (terms.renews && has_left) terms.connections (served, new.conn)
 
--- by what is said of each list that is opened for a part
-module _ {S : Type 0} (g : Ghosts S) (watch : Watch) (terms : Terms)
-    (is_list : OpenedList → Type 0) where
+-- what is said of each list that is opened for a part, and of why none is
+pub record ListOrigin : Type 1 where
+  pub gives : OpenedList → Type 0
+  pub lacks : Failure → Type 0
+
+-- by what is said of the lists of the parts
+module _ {S : Type 0} (g : Ghosts S) (watch : Watch) (terms : Terms) (lists : ListOrigin) where
   -- these parts ended well, the last of them first: each began where the one before ended
   abbrev pub AreParts : List (Interval S) → Interval S → Interval S → Type 0
   AreParts [] first now = now ≡ first
   AreParts (at ∷ earlier) first now =
-      AreParts earlier first at × (list : Option OpenedList) × IfSome list is_list × (done : Done)
-      × IsPart g watch terms list at now (Ok done)
+      AreParts earlier first at × (list : Option OpenedList) × IfSome list lists.gives
+      × (done : Done) × IsPart g watch terms list at now (Ok done)
 
   -- before a part there were others only where a part may end before all calls came
   pub record PartsBefore (first at : Interval S) : Type 0 where
@@ -133,7 +133,7 @@ module _ {S : Type 0} (g : Ghosts S) (watch : Watch) (terms : Terms)
     pub at : Interval S
     pub before : PartsBefore first at
     pub list : Option OpenedList
-    pub listed : IfSome list is_list
+    pub listed : IfSome list lists.gives
     pub is : IsPart g watch terms list at last result
 
   -- The last part ended so. Where a part may end before all calls came, another follows each that
@@ -149,7 +149,7 @@ module _ {S : Type 0} (g : Ghosts S) (watch : Watch) (terms : Terms)
     pub before : PartsBefore first last
     pub fault : Failure
     pub result_is : result ≡ Err fault
-    pub why : (fault ≡ failure.Memory) ⊎ (fault ≡ failure.Journal)
+    pub why : lists.lacks fault
 
   -- the room was served in parts, and so that ended
   abbrev pub ServesParts : Interval S → Interval S → Result Done Failure → Type 0

@@ -1,18 +1,21 @@
 //! What a command runs on.
-ghost use Rattle.std.specs.Prelude.{◌≡◌, ◌≢◌, ◌⊎◌, List, None, Option, false, option_map};
+ghost use Rattle.std.specs.Prelude.{◌≡◌, ◌≢◌, ◌||◌, ◌==◌, List, None, Option, false, option_map};
 ghost use Rattle.std.specs.Prelude.{IfErr, IfOk, IfSome, OnOk};
 ghost use Rattle.std.specs.Duration.{as_nanos};
 ghost use Rattle.std.specs.IoError.{error_kind};
 ghost use Rattle.dispatch_room_cli.specs.declared.exit_status.Failure.TheVariants as failure;
 ghost use Rattle.dispatch_room_disk.specs.FileSteps.{Does};
 ghost use Rattle.dispatch_room_disk.specs.ReplacingSteps.{Step};
-ghost use Rattle.dispatch_room_tcp.specs.Hosts.{IsDoneAt, IsUndoneAt, Paths, opens, unknown};
+ghost use Rattle.dispatch_room_journal.specs.ReadSteps.{most_rows};
+ghost use Rattle.dispatch_room_tcp.specs.Hosts.{IsDoneAt, IsUndoneAt, IsUnlisted, IsUnread};
+ghost use Rattle.dispatch_room_tcp.specs.Hosts.{Surroundings, opens, unknown};
 
 use dispatch_room_cli::exit_status::Failure;
 use dispatch_room_cli::failure_causes::Explainer;
 use dispatch_room_disk::restored_files::Replacing;
 use dispatch_room_disk::room_files::{self, RoomFile, RoomTask};
 use dispatch_room_disk::systems::System;
+use dispatch_room_journal::list_source::ListSource;
 use dispatch_room_serving::journal_files::{self, OpenedList};
 use dispatch_room_sockets::client;
 use dispatch_room_sockets::socket_readers::SocketReader;
@@ -22,7 +25,7 @@ use room_http_messages::sources::Source;
 use room_http_messages::standard_wires::Wire;
 use std::alloc::Global;
 use std::fs::{self, File};
-use std::io::{self, ErrorKind, Write};
+use std::io::{self, ErrorKind, Stdin, Write};
 use std::net::TcpStream;
 use std::random::RandomSource;
 use std::time::Duration;
@@ -31,9 +34,9 @@ type CallReader<'a> = SocketReader<'a, TcpStream, HostRuntime>;
 
 type CallWriter<'a> = SocketWriter<'a, TcpStream, HostRuntime>;
 
-/// The machine that a command runs on, with its files. What is at its paths and addresses, and
-/// which bytes are random, a command knows only by these calls: so where the contract of a command
-/// names a path or an address, it can't have opened another file or called another room.
+/// The machine that a command runs on, with its files. What is at its paths and addresses, what is
+/// lacking there, and which bytes are random, a command knows only by these calls: so what its
+/// contract says of a path or an address came of a call there. What it did besides isn't said.
 pub trait Machine: Copy {
     /// A list that is read from its beginning.
     type List: Source + Drop;
@@ -47,8 +50,11 @@ pub trait Machine: Copy {
     /// What is written to on it.
     type Writer: Sink + Drop;
 
-    // What there is at its paths.
-    ghost paths: { Self → Paths };
+    /// Standard input.
+    type Input: Source + Drop;
+
+    // What there is around it.
+    ghost surroundings: { Self → Surroundings };
 
     // What those calls have done as they are given.
     ghost begun: { Self → Option (List Step) };
@@ -63,29 +69,34 @@ pub trait Machine: Copy {
         work: W,
         out: &mut O,
     ) -> Result<W::Done, Failure>
-        ensures done { IfOk result (IsDoneAt (opens (paths self) file.entry) (W.says work)
+        ensures done { IfOk result (IsDoneAt (opens (surroundings self) file.entry) (W.says work)
             (O.contents out.old) (O.contents out.new)) }
-        ensures undone { IfErr result (IsUndoneAt (opens (paths self) file.entry) (W.says work)
-            (W.refuses work) (O.contents out.old) (O.contents out.new)) };
+        ensures undone { IfErr result (IsUndoneAt (opens (surroundings self) file.entry)
+            (W.says work) (W.refuses work) (O.contents out.old) (O.contents out.new)) };
 
     /// The bytes of a text file. Explains why where it can't be read.
     fn read_text(self, path: &str) -> Result<Vec<u8>, Failure>
-        ensures text { IfOk result (λ text. (paths self).text path.now text.items) }
-        ensures fault { IfErr result (λ fault.
-            (fault ≡ failure.Memory) ⊎ (fault ≡ failure.Input)) };
+        ensures text { IfOk result (λ text. (surroundings self).text path.now text.items) }
+        ensures fault { IfErr result (IsUnread (surroundings self) path.now) };
 
-    /// Opens the file of a journal at a path, and reports on `err` what was cut off at its end.
+    /// Opens the file of a journal at a path, and reports on `err` that a record was cut
+    /// off at its end.
     fn open_journal<E: Write>(self, path: &str, err: &mut E) -> Result<OpenedList, Failure>
-        ensures list { IfOk result ((paths self).list path.now) }
-        ensures fault { IfErr result (λ fault.
-            (fault ≡ failure.Memory) ⊎ (fault ≡ failure.Journal)) };
+        ensures list { IfOk result ((surroundings self).list path.now) }
+        ensures fault { IfErr result (IsUnlisted (surroundings self) path.now) };
 
     /// Opens the list at a path, to be read. Explains why where it can't be.
     fn open_list(self, path: &str) -> Result<Self::List, Failure>
-        ensures bytes { IfOk result (λ list. (paths self).bytes path.now (Self.List.left list)) }
+        ensures bytes { IfOk result (λ list.
+            (surroundings self).bytes path.now (Self.List.left list)) }
         ensures sound { IfOk result (λ list. Self.List.has_failed list ≡ false) }
-        ensures fault { IfErr result (λ fault.
-            (fault ≡ failure.Memory) ⊎ (fault ≡ failure.Input)) };
+        ensures fault { IfErr result (IsUnread (surroundings self) path.now) };
+
+    /// Leaves the list at a path: whether a read of it failed is known from here on. Where more
+    /// rows stand in it than are counted, one did.
+    fn leave_list(self, path: &str, list: &ListSource<Self::List>)
+        ensures { (surroundings self).read_failed path.now
+            (Self.List.has_failed list.now.reader || list.now.passed == most_rows) };
 
     /// Gives the calls by which a copy is put in the place of a file.
     fn calls(self) -> Self::Calls
@@ -94,17 +105,24 @@ pub trait Machine: Copy {
     /// Takes those calls back: what they did since they were given is done.
     fn release(self, calls: Self::Calls)
         ensures { (steps : List Step) → Does steps (begun self) (Self.Calls.done calls)
-            → (paths self).replaced steps };
+            → (surroundings self).replaced steps };
 
     /// Fills a buffer with random bytes. Explains why where there are none.
     fn fill_random(self, bytes: &mut [u8]) -> Result<(), Failure>
-        ensures random { OnOk result ((paths self).random bytes.new) }
-        ensures fault { IfErr result (λ fault. fault ≡ failure.Storage) };
+        ensures random { OnOk result ((surroundings self).random bytes.new) }
+        ensures fault { IfErr result (λ fault.
+            (fault ≡ failure.Storage) × (surroundings self).unrandom fault) };
+
+    /// Gives standard input, to be read from its beginning.
+    fn input(self) -> Self::Input
+        ensures bytes { (surroundings self).input (Self.Input.left result) }
+        ensures sound { Self.Input.has_failed result ≡ false }
+        ensures unread { Self.Input.has_ended result ≡ false };
 
     /// The two sides of a connection to an address, on which all that is said ends within a time.
     /// None, with an explanation, where it is not made within that.
     fn call(self, address: &str, patience: Duration) -> Option<(Self::Reader, Self::Writer)>
-        ensures called { (paths self).called address.now (as_nanos patience)
+        ensures called { (surroundings self).called address.now (as_nanos patience)
             (option_map (λ sides. Self.Reader.left sides.0) result) }
         ensures reader { IfSome result (λ sides. Self.Reader.has_failed sides.0 ≡ false) }
         ensures writer { IfSome result (λ sides. Self.Writer.has_failed sides.1 ≡ false) };
@@ -127,7 +145,9 @@ impl<'a> Machine for Host<'a> {
 
     type Writer = CallWriter<'a>;
 
-    ghost paths = { λ _. unknown };
+    type Input = Wire<Stdin>;
+
+    ghost surroundings = { λ _. unknown };
 
     ghost begun = { λ _. None };
 
@@ -162,6 +182,8 @@ impl<'a> Machine for Host<'a> {
         }
     }
 
+    fn leave_list(self, _path: &str, _list: &ListSource<Wire<File>>) {}
+
     fn calls(self) -> System<'a> {
         System {
             rt: self.rt,
@@ -178,6 +200,10 @@ impl<'a> Machine for Host<'a> {
             return Err(Failure::Storage);
         }
         Ok(())
+    }
+
+    fn input(self) -> Wire<Stdin> {
+        Wire::new(self.rt.stdin())
     }
 
     // Beside what each machine ensures: how long both sides wait.

@@ -1,6 +1,8 @@
 //! What listens at an address: it gives the connections of those who call, and lets their peers go.
 ghost use Rattle.std.specs.Prelude.{◌≡◌, ℕ, List, [], ◌∷◌, Bool, None, Option, IfErr, IfSome};
-ghost use Rattle.std.specs.Prelude.{OnErr, OnOk, false, is_some, option_map, true};
+ghost use Rattle.std.specs.Prelude.{◌↔◌, ◌⊎◌, IsTrue, OnErr, OnOk, false, is_some, option_map};
+ghost use Rattle.std.specs.Prelude.{true};
+ghost use Rattle.std.specs.Net.Socket.{socket_ip, socket_port};
 ghost use Rattle.dispatch_room_cli.specs.declared.exit_status.Failure.TheVariants.{Network};
 ghost use Rattle.room_http_messages.specs.Streams.{Grows};
 ghost use Rattle.dispatch_room_serving.specs.Callers.{Opening};
@@ -19,7 +21,7 @@ use room_http_messages::sources::Source;
 use std::io::{Error, ErrorKind};
 use std::net::{SocketAddr, TcpListener, TcpStream};
 use std::thread;
-use std::time::Duration;
+use std::time::{Clock, Duration};
 
 /// What listens for connections: it gives the two sides of each, makes its peer of them once it was
 /// served, and releases the peer once the room parted from it.
@@ -163,7 +165,7 @@ impl<'a> Listener for TcpAddress<'a> {
         ensures patient { IfSome result (λ sides. sides.1.patience ≡ self.old.waits.patience) }
     {
         match self.listener.as_ref()?.accept() {
-            Ok((stream, _)) => sides(stream, self.rt, self.waits),
+            Ok((stream, _)) => sides(stream, self.rt, self.rt.monotonic().ok()?, self.waits),
             Err(error) => {
                 pause_after(self.rt, &error);
                 None
@@ -188,13 +190,32 @@ pub(crate) fn bound(
 ) -> Result<TcpListener, Failure>
     ensures { IfErr result (λ fault. fault ≡ Network) }
 {
-    match TcpListener::bind(rt, address) {
+    match listener_at(rt, address) {
         Ok(listener) => Ok(listener),
         Err(error) => {
             explainer.explain(format_args!("{address}: {error}"));
             Err(Failure::Network)
         }
     }
+}
+
+// What listens at an address, if the system says that it does so there. A room is served without
+// encryption, so it must not be served at an address that other machines reach.
+fn listener_at(rt: &HostRuntime, address: SocketAddr) -> Result<TcpListener, Error> {
+    let listener = TcpListener::bind(rt, address)?;
+    if is_at(address, listener.local_addr()?) {
+        Ok(listener)
+    } else {
+        Err(Error::from(ErrorKind::AddrNotAvailable))
+    }
+}
+
+// Whether what listens at one address was asked to listen there. For port 0 the system chooses one.
+fn is_at(asked: SocketAddr, bound: SocketAddr) -> bool
+    ensures { IsTrue result ↔ ((socket_ip asked ≡ socket_ip bound)
+        × ((socket_port asked ≡ 0) ⊎ (socket_port asked ≡ socket_port bound))) }
+{
+    asked.ip() == bound.ip() && (asked.port() == 0 || asked.port() == bound.port())
 }
 
 // Pauses after a connection that failed, unless its peer aborted it.

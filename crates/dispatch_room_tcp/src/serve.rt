@@ -4,19 +4,19 @@
 ghost use Rattle.std.specs.Prelude.{◌≡◌, ◌≢◌, ◌⊎◌, ◌*◌, Option, None, false, true, is_some, IfErr};
 ghost use Rattle.std.specs.Prelude.{IfOk, IfSome, OnErr};
 ghost use Rattle.std.specs.Duration.{as_nanos};
-ghost use Rattle.dispatch_room_cli.specs.declared.exit_status.Failure.TheVariants as failure;
 ghost use Rattle.dispatch_room_tasks.specs.OpenedRoom.{IsUnopened};
 ghost use Rattle.dispatch_room_serving.specs.Callers.{MayCall, Prints, PrintsStart};
 ghost use Rattle.dispatch_room_serving.specs.Journals.{EndsAfter, failed_by};
 ghost use Rattle.dispatch_room_serving.specs.declared.list_places.Finding.TheVariants.{Truncated};
 ghost use Rattle.dispatch_room_tcp.specs.ServedFiles.{FailsAt, FailsBy, FailsServe, IsAddressOf};
 ghost use Rattle.dispatch_room_tcp.specs.ServedFiles.{IsDoorOf, IsFirstList, IsListOf, IsServe};
-ghost use Rattle.dispatch_room_tcp.specs.ServedFiles.{IsOpenedFor, IsServed, IsServedAt};
-ghost use Rattle.dispatch_room_tcp.specs.ServedFiles.{IsServedBy, OpensNone, PrintsServing, Serves};
-ghost use Rattle.dispatch_room_tcp.specs.ServedFiles.{ServesNone, ended, is_endless, is_synced_by};
-ghost use Rattle.dispatch_room_tcp.specs.ServedFiles.{keeps_questions_by, terms_of, watch_of};
-ghost use Rattle.dispatch_room_tcp.specs.ServedParts.{EndsAs, GoesOn, IsPart, OpensNoPart};
-ghost use Rattle.dispatch_room_tcp.specs.ServedParts.{ServesParts};
+ghost use Rattle.dispatch_room_tcp.specs.ServedFiles.{IsServed, IsServedAt, IsServedBy};
+ghost use Rattle.dispatch_room_tcp.specs.ServedFiles.{IsUnlistedFor, OpensNone, PrintsServing};
+ghost use Rattle.dispatch_room_tcp.specs.ServedFiles.{Serves, ServesNone, ended, is_endless};
+ghost use Rattle.dispatch_room_tcp.specs.ServedFiles.{is_synced_by, keeps_questions_by, lists_for};
+ghost use Rattle.dispatch_room_tcp.specs.ServedFiles.{terms_of, watch_of};
+ghost use Rattle.dispatch_room_tcp.specs.ServedParts.{EndsAs, GoesOn, IsJournalOf, IsPart};
+ghost use Rattle.dispatch_room_tcp.specs.ServedParts.{OpensNoPart, ServesParts};
 
 use crate::hosts::{Host, Machine};
 use crate::listeners::{Listener, TcpAddress};
@@ -38,6 +38,7 @@ use dispatch_room_tasks::opened_room::TaskResult;
 use room_http::clocks::{Clock, MachineClock};
 use sqlite::{Alter, Connection};
 use std::alloc::Global;
+use std::fs::File;
 use std::io::Write;
 use std::time::{self, Duration};
 
@@ -53,9 +54,9 @@ pub fn serve_file<M: Machine, O: Write, E: Write>(
     out: &mut O,
     err: &mut E,
 ) -> Result<Done, Failure>
-    ensures done { IfOk result (λ done. IsServe (M.paths machine) (O.contents out.old)
+    ensures done { IfOk result (λ done. IsServe (M.surroundings machine) (O.contents out.old)
         (O.contents out.new) done file.now service.entry) }
-    ensures undone { IfErr result (λ fault. FailsServe (M.paths machine) (O.contents out.old)
+    ensures undone { IfErr result (λ fault. FailsServe (M.surroundings machine) (O.contents out.old)
         (O.contents out.new) fault file.now service.entry) }
 {
     let journal = journal_file(machine, &service, err)?;
@@ -95,10 +96,10 @@ fn serve_at_door<M: Machine, O: Write, E: Write>(
     out: &mut O,
     err: &mut E,
 ) -> Result<Done, Failure>
-    ensures done { IfOk result (λ done. IsServedBy (M.paths run.now.machine) (O.contents out.old)
-        (O.contents out.new) done true journal file.now run.now.service.now) }
-    ensures undone { IfErr result (λ fault. FailsBy (M.paths run.now.machine) (O.contents out.old)
-        (O.contents out.new) fault true journal file.now run.now.service.now) }
+    ensures done { IfOk result (λ done. IsServedBy (M.surroundings run.now.machine)
+        (O.contents out.old) (O.contents out.new) done true journal file.now run.now.service.now) }
+    ensures undone { IfErr result (λ fault. FailsBy (M.surroundings run.now.machine)
+        (O.contents out.old) (O.contents out.new) fault true journal file.now run.now.service.now) }
 {
     serve_at(file, run, journal, door_of(file, run), out, err)
 }
@@ -121,10 +122,11 @@ fn serve_at_address<M: Machine, O: Write, E: Write>(
     out: &mut O,
     err: &mut E,
 ) -> Result<Done, Failure>
-    ensures done { IfOk result (λ done. IsServedBy (M.paths run.now.machine) (O.contents out.old)
-        (O.contents out.new) done false journal file.now run.now.service.now) }
-    ensures undone { IfErr result (λ fault. FailsBy (M.paths run.now.machine) (O.contents out.old)
-        (O.contents out.new) fault false journal file.now run.now.service.now) }
+    ensures done { IfOk result (λ done. IsServedBy (M.surroundings run.now.machine)
+        (O.contents out.old) (O.contents out.new) done false journal file.now run.now.service.now) }
+    ensures undone { IfErr result (λ fault. FailsBy (M.surroundings run.now.machine)
+        (O.contents out.old) (O.contents out.new) fault false journal file.now
+        run.now.service.now) }
 {
     serve_at(file, run, journal, address_of(run), out, err)
 }
@@ -151,14 +153,16 @@ fn serve_at<M: Machine, L: Listener, O: Write, E: Write>(
     out: &mut O,
     err: &mut E,
 ) -> Result<Done, Failure>
-    ensures done { IfOk result (λ done. IsServedAt (M.paths run.now.machine) (O.contents out.old)
-        (O.contents out.new) done L.heard L.written (L.is_listening listener)
+    ensures done { IfOk result (λ done. IsServedAt (M.surroundings run.now.machine)
+        (O.contents out.old) (O.contents out.new) done L.heard L.written (L.is_listening listener)
         (watch_of (is_some journal) run.now.service.now) (terms_of run.now.service.now)
-        (IsOpenedFor (M.paths run.now.machine) run.now.service.now journal) listener file.now) }
-    ensures undone { IfErr result (λ fault. FailsAt (M.paths run.now.machine) (O.contents out.old)
-        (O.contents out.new) fault L.heard L.written (L.is_listening listener)
+        (lists_for (M.surroundings run.now.machine) run.now.service.now journal) listener
+        file.now) }
+    ensures undone { IfErr result (λ fault. FailsAt (M.surroundings run.now.machine)
+        (O.contents out.old) (O.contents out.new) fault L.heard L.written (L.is_listening listener)
         (watch_of (is_some journal) run.now.service.now) (terms_of run.now.service.now)
-        (IsOpenedFor (M.paths run.now.machine) run.now.service.now journal) listener file.now) }
+        (lists_for (M.surroundings run.now.machine) run.now.service.now journal) listener
+        file.now) }
 {
     let serving = Serving {
         run,
@@ -178,12 +182,14 @@ fn journal_file<M: Machine, E: Write>(
     service: &Service<'_>,
     err: &mut E,
 ) -> Result<Option<OpenedList>, Failure>
-    ensures list { IfOk result (IsFirstList (M.paths machine) service.now) }
-    ensures wanted { OnErr result (is_some service.now.journal ≡ true) }
-    ensures fault { IfErr result (λ fault. (fault ≡ failure.Memory) ⊎ (fault ≡ failure.Journal)) }
+    ensures list { IfOk result (IsFirstList (M.surroundings machine) service.now) }
+    ensures fault { IfErr result (IsUnlistedFor (M.surroundings machine) service.now.journal) }
 {
     match &service.journal {
-        Some(journal) => Ok(Some(machine.open_journal(journal.list, err)?)),
+        Some(journal) => match machine.open_journal(journal.list, err) {
+            Ok(list) => Ok(Some(list)),
+            Err(fault) => Err(fault),
+        },
         None => Ok(None),
     }
 }
@@ -210,13 +216,13 @@ impl<'a, M: Machine, L: Listener, E: Write> RoomTask for Serving<'a, M, L, E> {
     ghost says = { λ work. Serves L.heard L.written (L.is_listening work.listener)
         (watch_of (is_some work.list) work.run.now.service.now)
         (terms_of work.run.now.service.now)
-        (IsOpenedFor (M.paths work.run.now.machine) work.run.now.service.now work.list)
+        (lists_for (M.surroundings work.run.now.machine) work.run.now.service.now work.list)
         work.listener };
 
     ghost refuses = { λ work. ServesNone L.heard L.written (L.is_listening work.listener)
         (watch_of (is_some work.list) work.run.now.service.now)
         (terms_of work.run.now.service.now)
-        (IsOpenedFor (M.paths work.run.now.machine) work.run.now.service.now work.list)
+        (lists_for (M.surroundings work.run.now.machine) work.run.now.service.now work.list)
         work.listener };
 
     fn run<S: Alter + Drop, O: Write>(
@@ -247,12 +253,12 @@ fn serve_listened<M: Machine, S: Alter + Drop, L: Listener, O: Write, E: Write>(
     requires outside { conn.in_transaction ≡ false }
     ensures served { IfOk result (λ worked. IsServed L.heard L.written S.Store conn worked.1
         (watch_of (is_some list) run.now.service.now) (terms_of run.now.service.now)
-        (IsOpenedFor (M.paths run.now.machine) run.now.service.now list) listener worked.0) }
+        (lists_for (M.surroundings run.now.machine) run.now.service.now list) listener worked.0) }
     ensures printed { IfOk result (λ worked. PrintsServing (L.is_listening listener)
         (O.contents out.old) (O.contents out.new) (ended worked.0)) }
     ensures fault { IfErr result (OpensNone L.heard L.written S.Store conn
         (watch_of (is_some list) run.now.service.now) (terms_of run.now.service.now)
-        (IsOpenedFor (M.paths run.now.machine) run.now.service.now list) listener) }
+        (lists_for (M.surroundings run.now.machine) run.now.service.now list) listener) }
     ensures unopened { OnErr result ((O.contents out.new ≡ O.contents out.old)
         ⊎ PrintsStart (L.is_listening listener) (O.contents out.old) (O.contents out.new)) }
 {
@@ -288,7 +294,7 @@ fn serve_parts<M: Machine, S: Alter + Drop, P: Callers, C: Clock, E: Write>(
     requires outside { conn.in_transaction ≡ false }
     ensures served { IfOk result (λ worked. ServesParts S.Store
         (watch_of (is_some list) run.now.service.now) (terms_of run.now.service.now)
-        (IsOpenedFor (M.paths run.now.machine) run.now.service.now list)
+        (lists_for (M.surroundings run.now.machine) run.now.service.now list)
         (record {
           conn = conn;
           heard = P.heard callers.old;
@@ -306,7 +312,7 @@ fn serve_parts<M: Machine, S: Alter + Drop, P: Callers, C: Clock, E: Write>(
         Prints (P.prints callers.old) (P.prints callers.new) worked.0) }
     ensures fault { IfErr result (OpensNoPart S.Store
         (watch_of (is_some list) run.now.service.now) (terms_of run.now.service.now)
-        (IsOpenedFor (M.paths run.now.machine) run.now.service.now list)
+        (lists_for (M.surroundings run.now.machine) run.now.service.now list)
         (record {
           conn = conn;
           heard = P.heard callers.old;
@@ -344,19 +350,18 @@ fn next_list<M: Machine, E: Write>(
     list: Option<OpenedList>,
     err: &mut E,
 ) -> Result<Option<OpenedList>, Failure>
+    requires journal { is_some run.now.service.now.journal ≡ true }
     ensures listed { IfOk result (λ next. is_some next ≡ is_some list) }
     ensures list { IfOk result (λ next. IfSome next
-        (IsListOf (M.paths run.now.machine) run.now.service.now.journal)) }
-    ensures fault { IfErr result (λ fault. (fault ≡ failure.Memory) ⊎ (fault ≡ failure.Journal)) }
+        (IsListOf (M.surroundings run.now.machine) run.now.service.now.journal)) }
+    ensures fault { IfErr result
+        (IsUnlistedFor (M.surroundings run.now.machine) run.now.service.now.journal) }
 {
     let Some(last) = list else {
         return Ok(None);
     };
     drop(last);
-    match journal_file(run.machine, run.service, err)? {
-        Some(next) => Ok(Some(next)),
-        None => Err(Failure::Journal),
-    }
+    journal_file(run.machine, run.service, err)
 }
 
 // Serves the room of a database to as many callers as the service says, or until its list is moved
@@ -399,15 +404,7 @@ fn serve_part<M: Machine, S: Alter + Drop, P: Callers, C: Clock, E: Write>(
         terms,
         place: place_of(run, list, terms.renews),
     };
-    let log = Log::new(
-        host.alloc,
-        host.rt,
-        Explainer::new(host.rt, service.log),
-        err,
-        service.log,
-    );
-    let journal = journal_of(service, host.explainer, list);
-    let mut log_and_journal = LogAndJournal::new(log, journal);
+    let mut log_and_journal = observer_of(host, service, list, err);
     let (done, conn) = serve_in(
         host.alloc,
         conn,
@@ -493,12 +490,45 @@ fn terms_of(service: &Service<'_>) -> Terms
     }
 }
 
+// Who observes a part of a service: its log, and its journal if there is a list for it.
+fn observer_of<'a, E: Write>(
+    host: Host<'a>,
+    service: &Service<'a>,
+    list: &'a Option<OpenedList>,
+    err: &'a mut E,
+) -> LogAndJournal<'a, E, HostRuntime, JournalFile<SystemFile<'a, &'a File>>>
+    ensures journal { IsJournalOf (watch_of (is_some list.now) service.now) list.now
+        result.journal }
+    ensures fresh { failed_by result.journal ≡ false }
+    ensures log { result.log.goes_on ≡ service.now.log }
+{
+    let journal = journal_of(service, host.explainer, list);
+    LogAndJournal::new(log_of(host, service, err), journal)
+}
+
+// The log of a service, which is written where one is asked for.
+fn log_of<'a, E: Write>(
+    host: Host<'a>,
+    service: &Service<'_>,
+    err: &'a mut E,
+) -> Log<'a, E, HostRuntime>
+    ensures { result.goes_on ≡ service.now.log }
+{
+    Log::new(
+        host.alloc,
+        host.rt,
+        Explainer::new(host.rt, service.log),
+        err,
+        service.log,
+    )
+}
+
 // The journal of a service, in its file.
 fn journal_of<'a>(
     service: &Service<'a>,
     explainer: Explainer<'a>,
     list: &'a Option<OpenedList>,
-) -> Option<Journal<JournalFile<SystemFile<'a>>>>
+) -> Option<Journal<JournalFile<SystemFile<'a, &'a File>>>>
     ensures kept { is_some result ≡ is_some list.now }
     ensures synced { IfSome result (λ journal.
         journal.is_synced ≡ is_synced_by service.now.journal) }

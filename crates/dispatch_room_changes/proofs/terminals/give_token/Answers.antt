@@ -4,7 +4,8 @@ use Rattle.dispatch_room_changes.proofs.terminals.give_token.Goals as goal
 
 pub returns-in_err-token-clause-undone : goal.returns-in_err-token-clause-undone
 returns-in_err-token-clause-undone g c =
-    handed_on c.from_residual.result _ c.from_residual.ensures.1 (λ fault is. inl (refl, refl, rw is c.in_err-token.ensures.none))
+    handed_on c.from_residual.result _ c.from_residual.ensures.1
+    (λ fault is. inl (refl, refl, rw is c.in_err-token.ensures.none))
 
 pub returns-in_err-reissue-clause-undone : goal.returns-in_err-reissue-clause-undone
 returns-in_err-reissue-clause-undone g c =

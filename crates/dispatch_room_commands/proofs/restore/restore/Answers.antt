@@ -1,9 +1,10 @@
-use Rattle.std.proofs.Common.{◌∷◌, [], ℕ, Bool, List, None, Option, Some, inl, inr, refl, sym}
+use Rattle.std.proofs.Common.{[], List, None, Option, Some, inl, inr, sym}
 use Rattle.std.proofs.lemmas.List.{append-nil}
 use Rattle.std.proofs.lemmas.Result.{IfErr-weaker}
-use Rattle.dispatch_room_disk.specs.FileSteps.{Does, Stops}
-use Rattle.dispatch_room_disk.specs.ReplacingSteps.{Step, distinguished, held, putting, replacing}
-use Rattle.dispatch_room_tcp.specs.Hosts.{Paths}
+use Rattle.dispatch_room_disk.specs.FileSteps.{Does, StopsFor}
+use Rattle.dispatch_room_disk.specs.ReplacingSteps.{IsFaultOf, Step}
+use Rattle.dispatch_room_cli.specs.declared.exit_status.Failure.{Failure}
+use Rattle.dispatch_room_tcp.specs.Hosts.{Surroundings}
 use Rattle.dispatch_room_commands.specs.DoneTasks.{IsReplacedInPart}
 use Rattle.dispatch_room_commands.proofs.restore.restore.Goals as goal
 
@@ -13,18 +14,17 @@ none_done None = tt
 none_done (Some steps) = sym (append-nil steps)
 
 -- where one of the steps failed, those before it were done
-in_part : (paths : Paths) (copy file : List ℕ) (there : Bool) (begun now : Option (List Step))
-    → ((steps : List Step) → Does steps begun now → paths.replaced steps)
-    → Stops (replacing copy file there) begun now → IsReplacedInPart paths (replacing copy file there)
-in_part paths copy file there None now says stops = record {
-  first = [];
-  failed = distinguished copy file;
-  rest = held file ∷ putting copy file there;
-  are = refl;
-  done = says [] tt;
+in_part : (around : Surroundings) (steps : List Step) (begun now : Option (List Step)) (fault : Failure)
+    → ((first : List Step) → Does first begun now → around.replaced first)
+    → StopsFor IsFaultOf steps begun now fault → IsReplacedInPart around steps fault
+in_part around steps begun now fault says stops = record {
+  first = stops.first;
+  failed = stops.failed;
+  rest = stops.rest;
+  are = stops.are;
+  done = says stops.first stops.done;
+  why = stops.why;
 }
-in_part paths copy file there (Some old) now says (first, failed, rest, are, does) =
-    record { first = first; failed = failed; rest = rest; are = are; done = says first does }
 
 pub returns-clause-undone : goal.returns-clause-undone
 returns-clause-undone g c =
@@ -32,13 +32,10 @@ returns-clause-undone g c =
     (λ fault is. elim is [
       | inl (unchecked, same) ↦ inl
           (unchecked, c.release.ensures [] (rw (same, c.calls-calls.ensures) (none_done _)))
-      | inr (why, (done, checked, (there, stops))) ↦ inr (
-        why,
-        (
-          done,
-          checked,
-          (there, in_part _ _ _ there _ _ c.release.ensures (rw c.calls-calls.ensures at stops)),
-        ),
+      | inr (done, checked, (there, stops)) ↦ inr (
+        done,
+        checked,
+        (there, in_part _ _ _ _ fault c.release.ensures (rw c.calls-calls.ensures at stops)),
       )
     ])
     c.restore_by-done.ensures.undone

@@ -74,7 +74,7 @@ returns-in-Ok-begins-clause-announces g c = (
 pub returns-in-Err-begins-clause-announces : goal.returns-in-Err-begins-clause-announces
 returns-in-Err-begins-clause-announces g c =
     let kept = c.in-Err-begins.ensures.kept in (
-      inr (inl refl),
+      (sym c.wants_digest.ensures ∙ c.if-not-wants_digest.false, inl refl),
       record {
         zone = ap (λ plan. plan.zone) c.digest_of_room.ensures.plan;
         trusted = c.digest_of_room.ensures.trusted;

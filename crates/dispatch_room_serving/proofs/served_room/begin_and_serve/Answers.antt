@@ -32,7 +32,7 @@ module _ {S : Type 0} (g : Ghosts S) (wants : Bool) (begun : Head → List ℕ) 
 pub returns-in-Err-clause-attends : goal.returns-in-Err-clause-attends
 returns-in-Err-clause-attends g c = inl (record {
   fault = c.in-Err.fault;
-  why = c.in-Err.ensures.announces.0;
+  why = inl c.in-Err.ensures.announces.0;
   result_is = refl;
   failed = c.in-Err.ensures.failed;
   unheard = (refl, refl, refl);
@@ -61,7 +61,7 @@ returns-in-Err-begin-clause-attends g c =
     c.announce.ensures.announces in
     inl (record {
       fault = c.in-Err-begin.fault;
-      why = inl c.in-Err-begin.ensures.fault;
+      why = inr (inr c.in-Err-begin.ensures.fault);
       result_is = refl;
       failed = λ is. absurd (cc (is, c.in-Err-begin.ensures.fault));
       unheard = (c.begin.ensures.heard, c.begin.ensures.written, refl);

@@ -24,7 +24,7 @@ returns-in-Err-clause-served g c = record {
   is_set = record { zone = c.in_ok-room.ensures.zone; history = refl };
   attended = inl (record {
     fault = Memory;
-    why = inr (inr (inl refl));
+    why = inr (inl refl);
     result_is = refl;
     failed = λ is. absurd (cc);
     unheard = (refl, refl, refl);

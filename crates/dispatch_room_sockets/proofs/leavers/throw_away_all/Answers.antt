@@ -1,8 +1,8 @@
 -- Who stays is behind the others.
 use Rattle.std.proofs.Common.{[], ap, arith, length, option_to_list, refl, ◌+◌, ◌++◌, ◌-◌, ◌∙◌, ◌∷◌}
 use Rattle.std.proofs.Common.{◌≡◌}
-use Rattle.dispatch_room_sockets.proofs.LeaverLaws.{all_seen, none_yet, one_gone, one_stays}
-use Rattle.dispatch_room_sockets.proofs.LeaverLaws.{some_left}
+use Rattle.dispatch_room_sockets.proofs.LeaverLaws.{all_seen, none_rested, none_yet, one_gone}
+use Rattle.dispatch_room_sockets.proofs.LeaverLaws.{one_stays, some_left}
 use Rattle.dispatch_room_sockets.proofs.leavers.throw_away_all.Goals.{in-Some+then-stays}
 use Rattle.dispatch_room_sockets.proofs.leavers.throw_away_all.Goals.{in-Some+else-stays}
 use Rattle.dispatch_room_sockets.proofs.leavers.throw_away_all.Goals.{in_default}
@@ -29,9 +29,10 @@ loop-leaver-preserved g c =
     elim c.match-pop_front.branch [
       | in-Some+then-stays w ↦ rw (w.entrance-is, w.leavers-is) (record {
         in_time =
-            one_stays c.args.now _ _ others _ w.in-Some.leaver w.stays.new.leaver (rw rest at i.in_time)
+            one_stays c.args.now _ _ _ others _ w.in-Some.leaver w.stays.new.leaver (rw rest at i.in_time)
             (c.pop_front.ensures.items ∙ ap (λ r. option_to_list r ++ others) w.in-Some.is)
-            w.push_back_reserved.ensures.items (w.stays.ensures.in_time w.if-stays.true);
+            w.push_back_reserved.ensures.items (w.stays.ensures.in_time w.if-stays.true)
+            (λ rests. (w.stays.ensures.rests rests).1) w.stays.ensures.due;
         came = w.stays.ensures.came ∙ i.came;
         heard = w.stays.ensures.heard ∙ i.heard;
         bound =
@@ -46,8 +47,9 @@ loop-leaver-preserved g c =
       })
       | in-Some+else-stays w ↦ rw (w.entrance-is, w.leavers-is) (record {
         in_time =
-            one_gone c.args.now _ _ others w.in-Some.leaver (rw rest at i.in_time)
-            (c.pop_front.ensures.items ∙ ap (λ r. option_to_list r ++ others) w.in-Some.is);
+            one_gone c.args.now _ _ _ others w.in-Some.leaver (rw rest at i.in_time)
+            (c.pop_front.ensures.items ∙ ap (λ r. option_to_list r ++ others) w.in-Some.is)
+            (none_rested c.args.now _ _ _ w.stays.ensures.rests w.if-stays.false);
         came = w.stays.ensures.came ∙ i.came;
         heard = w.stays.ensures.heard ∙ i.heard;
         bound = omega (arith, i.bound, c.pop_front.ensures.len, ap (λ r. length (option_to_list r)) w.in-Some.is);
@@ -55,7 +57,7 @@ loop-leaver-preserved g c =
       })
       | in_default w ↦
           let none : length others ≡ 0 = omega (arith, (rw w.in_default.is at c.pop_front.ensures.cases).1) in
-          absurd (some_left c.args.now _ _ _ (rw rest at i.in_time)
+          absurd (some_left c.args.now _ _ _ _ (rw rest at i.in_time)
           (c.pop_front.ensures.items ∙ ap (λ r. option_to_list r ++ others) w.in_default.is) none)
     ]
 
@@ -63,8 +65,10 @@ pub returns : goal.returns
 returns g c =
     let i = c.loop-leaver.invariant in
     let last : c.len-leaver-end.result - c.loop-leaver._leaver ≡ 0 = omega (arith, c.loop-leaver-test.false) in
+    let seen = all_seen c.args.now _ _ (rw last at i.in_time) in
     record {
-      in_time = all_seen c.args.now _ (rw last at i.in_time);
+      in_time = seen.0;
+      rest = seen.1;
       came = i.came;
       heard = i.heard;
       bound = i.bound;

@@ -1,4 +1,4 @@
-use Rattle.std.proofs.Common.{◌≡◌, ◌+◌, ◌≤◌}
+use Rattle.std.proofs.Common.{◌≡◌, ◌+◌}
 use Rattle.std.specs.VecDeque.{deque_capacity, deque_len}
 use Rattle.dispatch_room_sockets.specs.Sweeps.{IsAdmitted}
 use Rattle.dispatch_room_sockets.proofs.lines.admit.Given as goal
@@ -8,6 +8,6 @@ invariant-loop-caller g l = record {
   admitted : IsAdmitted l.until l.initial.line.items l.line.items l.initial.next l.next
       (g.E.Entrance.came l.initial.entrance) (g.E.Entrance.came l.entrance);
   heard : g.E.Entrance.heard l.entrance ≡ g.E.Entrance.heard l.initial.entrance;
-  bound : deque_len l.line ≤ deque_len l.initial.line + l._caller;
+  count : deque_len l.line ≡ deque_len l.initial.line + l._caller;
   capacity : deque_capacity l.line ≡ deque_capacity l.initial.line;
 }

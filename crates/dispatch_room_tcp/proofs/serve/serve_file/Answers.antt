@@ -1,6 +1,12 @@
-use Rattle.std.proofs.Common.{false, sym, true, ◌∙◌}
+use Rattle.std.proofs.Common.{false, inl, refl, sym, true, ◌∙◌}
+use Rattle.dispatch_room_disk.proofs.WorkLemmas.{handed_on}
 use Rattle.dispatch_room_tcp.proofs.ServiceLemmas.{served, unserved}
 use Rattle.dispatch_room_tcp.proofs.serve.serve_file.Goals as goal
+
+pub returns-in_err-journal-clause-undone : goal.returns-in_err-journal-clause-undone
+returns-in_err-journal-clause-undone g c =
+    handed_on c.from_residual.result _ c.from_residual.ensures.1
+    (λ fault is. inl (refl, rw is c.in_err-journal.ensures.fault))
 
 pub returns-then-is_endless-clause-done : goal.returns-then-is_endless-clause-done
 returns-then-is_endless-clause-done g c =

@@ -1,28 +1,17 @@
-use Rattle.std.proofs.Common.{ap, false, is_some, ◌∙◌, ◌≡◌}
-use Rattle.dispatch_room_serving.specs.Journals.{failed_by}
+use Rattle.std.proofs.Common.{ap, is_some, ◌∙◌, ◌≡◌}
 use Rattle.dispatch_room_serving.specs.ListPlaces.{has_left}
 use Rattle.dispatch_room_tcp.proofs.PartLemmas.{printed_to_end, where_failed}
 use Rattle.dispatch_room_tcp.proofs.serve.serve_part.Goals as goal
 
 pub returns-clause-served : goal.returns-clause-served
 returns-clause-served g c =
-    let journal : is_some c.new-log_and_journal.result.journal
-    ≡ is_some c.args.list.now =
-    ap (λ it. is_some it) c.new-log_and_journal.ensures.journal ∙ c.journal_of-journal.ensures.kept in
-    let fresh : failed_by c.new-log_and_journal.result.journal
-    ≡ false = ap (λ it. failed_by it) c.new-log_and_journal.ensures.journal ∙ c.journal_of-journal.ensures.fresh in
+    let kept : is_some c.observer_of-log_and_journal.result.journal
+    ≡ is_some c.args.list.now = c.observer_of-log_and_journal.ensures.journal.kept in
     record {
-      logs = c.new-log_and_journal.result.log.goes_on;
-      journal = c.new-log_and_journal.result.journal;
+      journal = c.observer_of-log_and_journal.result.journal;
       later = c.serve_in.new.journal_observer.journal;
       last = c.end_part-done.new.log_and_journal.journal;
-      are = record {
-        logged = c.new-log_and_journal.ensures.log ∙ c.new-log.ensures;
-        kept = journal;
-        synced = rw c.new-log_and_journal.ensures.journal c.journal_of-journal.ensures.synced;
-        of = rw c.new-log_and_journal.ensures.journal c.journal_of-journal.ensures.of;
-        goes_on = rw c.new-log_and_journal.ensures.journal c.journal_of-journal.ensures.goes_on;
-      };
+      observed = c.observer_of-log_and_journal.ensures.journal;
       served = _;
       ends = c.end_part-done.ensures.part;
       has_left = has_left c.serve_in.new.part.place;
@@ -33,7 +22,9 @@ returns-clause-served g c =
           (c.serve_in.ensures.none (c.place_of.ensures (ap (λ it. it.renews) c.terms_of-terms.ensures ∙ once)));
       ended = c.end_part-done.ensures.ended;
       cut = λ is. let cut = c.end_part-done.ensures.cut is in (cut.0, ap (λ it. it.journal) cut.1);
-      is = rw (journal, fresh, c.terms_of-terms.ensures) at c.in_ok-done.ensures.served;
+      is =
+          rw (kept, c.observer_of-log_and_journal.ensures.fresh, c.terms_of-terms.ensures)
+          at c.in_ok-done.ensures.served;
     }
 
 pub returns-clause-prints : goal.returns-clause-prints

@@ -2,7 +2,7 @@ use Rattle.std.proofs.Common.{◌∙◌, ap, arith, inl, inr, refl, sym}
 use Rattle.dispatch_room_serving.proofs.CallerLemmas.{may_of, printed_once}
 use Rattle.dispatch_room_tcp.proofs.PartLemmas.{called_before, ends_badly, ends_once, first_before}
 use Rattle.dispatch_room_tcp.proofs.PartLemmas.{first_opened, first_part, later_opened, next_before}
-use Rattle.dispatch_room_tcp.proofs.PartLemmas.{not_false, not_true, where_failed}
+use Rattle.dispatch_room_tcp.proofs.PartLemmas.{not_false, not_true, second_true, where_failed}
 use Rattle.dispatch_room_disk.proofs.WorkLemmas.{handed_on}
 use Rattle.dispatch_room_tcp.proofs.serve.serve_parts.Goals as goal
 
@@ -40,6 +40,13 @@ loop-part-preserved g c =
           printed_once _ _ _ c.in_ok-next.next (may_of _ _ _ well c.loop-part.invariant.prints)
           c.in_ok-next.ensures.prints;
     }
+
+pub next_list-requires : goal.next_list-requires
+next_list-requires g c = record {
+  journal =
+      second_true _ _
+      (sym (ap (λ terms. terms.renews) c.terms_of.ensures) ∙ not_false _ c.if-not-terms_of.false);
+}
 
 pub returns-in_err-first-clause-fault : goal.returns-in_err-first-clause-fault
 returns-in_err-first-clause-fault g c =

@@ -1,6 +1,6 @@
 use Rattle.std.specs.Prelude.{◌≡◌, ◌≤◌, ◌+◌, false, is_some, length}
 use Rattle.dispatch_room_serving.specs.Callers.{Prints}
-use Rattle.dispatch_room_tcp.specs.ServedFiles.{IsOpenedFor, terms_of, watch_of}
+use Rattle.dispatch_room_tcp.specs.ServedFiles.{lists_for, terms_of, watch_of}
 use Rattle.dispatch_room_tcp.specs.ServedParts.{EndsPart, Interval, IsPart}
 use Rattle.dispatch_room_tcp.proofs.serve.serve_parts.Given as goal
 
@@ -20,7 +20,7 @@ invariant-loop-part g l = record {
       })
       l.initial.done
       → (part : EndsPart g.S.Store (watch_of (is_some l.initial.list) l.run.service.now) (terms_of l.run.service.now)
-      (IsOpenedFor (g.M.Machine.paths l.run.machine) l.run.service.now l.initial.list) first
+      (lists_for (g.M.Machine.surroundings l.run.machine) l.run.service.now l.initial.list) first
       (record {
         conn = l.conn;
         heard = g.P.Callers.heard l.callers;

@@ -1,4 +1,5 @@
 use Rattle.dispatch_room_sockets.proofs.doors.Door.look_anew.Goals as goal
 
-pub returns-then-self : goal.returns-then-self
-returns-then-self c = rw c.watch.ensures.0 (rw c.watch.ensures.1 c.look_ahead-client.ensures.seen)
+pub returns-then-self-clause-seen : goal.returns-then-self-clause-seen
+returns-then-self-clause-seen c =
+    rw c.watch.ensures.same.0 (rw c.watch.ensures.same.1 c.look_ahead-client.ensures.seen)

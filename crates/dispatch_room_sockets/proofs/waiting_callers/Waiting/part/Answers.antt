@@ -11,7 +11,12 @@ returns-in_default-clause-back g c = back_gone _ _ _ _
 pub returns-then-len-lt-MOST_KEPT-clause-departs : goal.returns-then-len-lt-MOST_KEPT-clause-departs
 returns-then-len-lt-MOST_KEPT-clause-departs g c =
     let rests = rw c.from_millis.ensures at c.saturating_add.ensures in
-    inr (c.in-Some.now, c.saturating_add.result, rests, c.push_back_reserved.ensures.items)
+    inr (c.in-Some.now, (c.saturating_add.result, rests, c.push_back_reserved.ensures.items))
+
+pub returns-then-len-lt-MOST_KEPT-clause-parts : goal.returns-then-len-lt-MOST_KEPT-clause-parts
+returns-then-len-lt-MOST_KEPT-clause-parts g c =
+    let rests = rw c.from_millis.ensures at c.saturating_add.ensures in
+    rw c.in-Some.is (λ _. (c.saturating_add.result, rests, c.push_back_reserved.ensures.items))
 
 pub returns-then-len-lt-MOST_KEPT-clause-back : goal.returns-then-len-lt-MOST_KEPT-clause-back
 returns-then-len-lt-MOST_KEPT-clause-back g c = back_gone _ _ _ _

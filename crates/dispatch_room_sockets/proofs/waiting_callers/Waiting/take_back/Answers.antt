@@ -4,7 +4,7 @@ use Rattle.dispatch_room_sockets.proofs.waiting_callers.Waiting.take_back.Goals 
 pub returns-then-len-lt-MOST_KEPT-clause-again : goal.returns-then-len-lt-MOST_KEPT-clause-again
 returns-then-len-lt-MOST_KEPT-clause-again g c =
     let until = c.saturating_add.ensures in
-    λ _. (c.unwrap_or-now.result, c.saturating_add.result, until, c.push_back_reserved.ensures.items)
+    λ _. (c.saturating_add.result, until, c.push_back_reserved.ensures.items)
 
 pub returns-then-len-lt-MOST_KEPT-clause-back : goal.returns-then-len-lt-MOST_KEPT-clause-back
 returns-then-len-lt-MOST_KEPT-clause-back g c = back_in_line _ _ _ _ _ c.push_back_reserved.ensures.items

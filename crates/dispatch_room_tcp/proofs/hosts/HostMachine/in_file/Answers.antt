@@ -3,16 +3,23 @@ use Rattle.std.proofs.lemmas.Result.{IfErr-weaker, IfOk-weaker}
 use Rattle.dispatch_room_disk.specs.declared.room_files.RoomFile.{RoomFile}
 use Rattle.dispatch_room_disk.specs.declared.room_files.RoomFile.TheVariants.{Kept, New, Old}
 use Rattle.dispatch_room_tcp.specs.Hosts.{opens, unknown}
+use Rattle.dispatch_room_cli.specs.declared.exit_status.Failure.{Failure}
 use Rattle.sqlite.specs.Held.{Held}
 use Rattle.sqlite_store.specs.declared.store.FileStore.{FileStore}
 use Rattle.dispatch_room_disk.specs.SystemFiles.{SystemFile, system}
 use Rattle.dispatch_room_tcp.proofs.hosts.HostMachine.in_file.Goals as goal
 
 -- any database may be that of a file
-any_opened : (file : RoomFile) (conn : Held (FileStore SystemFile system)) → opens unknown file conn
+any_opened : (file : RoomFile) (conn : Held (FileStore SystemFile system)) → (opens unknown file).holds conn
 any_opened (Kept path) conn = tt
 any_opened (Old path) conn = tt
 any_opened (New path) conn = tt
+
+-- and any file may be lacking
+any_lacked : (file : RoomFile) (fault : Failure) → (opens unknown file).lacks fault
+any_lacked (Kept path) fault = tt
+any_lacked (Old path) fault = tt
+any_lacked (New path) fault = tt
 
 pub returns-clause-done : goal.returns-clause-done
 returns-clause-done g c =
@@ -22,7 +29,7 @@ pub returns-clause-undone : goal.returns-clause-undone
 returns-clause-undone g c =
     IfErr-weaker c.in_file.result _ _
     (λ fault is. elim is [
-      | inl unfound ↦ inl unfound
+      | inl unfound ↦ inl (unfound, any_lacked c.args.file fault)
       | inr (conn, connected, undone) ↦ inr (conn, any_opened c.args.file conn, connected, undone)
     ])
     c.in_file.ensures.undone

@@ -1,6 +1,6 @@
 use Rattle.std.proofs.Common.{refl, subst, sym, take_all, ◌∙◌}
 use Rattle.dispatch_room_serving.proofs.LeftLemmas.{StandFrom, left_where_all, not_left, stand_more}
-use Rattle.dispatch_room_serving.proofs.journal_files.may_be_left.Goals as goal
+use Rattle.dispatch_room_serving.proofs.opened_lists.may_be_left.Goals as goal
 
 pub loop-at-init : goal.loop-at-init
 loop-at-init c = tt
