@@ -5,10 +5,20 @@ use Rattle.std.proofs.lemmas.List.{append-nil, length-append}
 use Rattle.std.specs.List.{flat_map}
 use Rattle.std.specs.Prelude.{OnErr, OnOk, is_err, ◌||◌}
 use Rattle.dispatch_room_changes.proofs.LineLemmas.{AreTaken}
+use Rattle.dispatch_room_changes.specs.ChangeTasks.{IsOpenedAs}
 use Rattle.dispatch_room_changes.specs.KeptImports.{HasLongLine, LacksRow, LacksRows}
 use Rattle.dispatch_room_journal.specs.TextParts.{Lacks}
 use Rattle.dispatch_room_journal.specs.declared.row_runs.TheConstants.{ROW_ROOM}
+use Rattle.dispatch_room_journal.specs.declared.list_ends.ListEnd.{ListEnd}
+use Rattle.dispatch_room_serving.specs.declared.journal_files.SystemFile.{SystemFile}
 use Rattle.dispatch_room_changes.specs.declared.kept_fleets.FleetList.{FleetList}
+
+-- a list that is made of what was opened is opened as that
+pub opened_as : {F : Type 0} (opened : F × ListEnd) (file : SystemFile F) (end : ListEnd)
+    (list : FleetList (SystemFile F)) → file.file ≡ opened.0 → end ≡ opened.1
+    → list ≡ record { out = record { file = file; failed = false }; end = end } → IsOpenedAs opened list
+opened_as opened file end list of at is =
+    (ap (λ it. it.out.file.file) is ∙ of, ap (λ it. it.end) is ∙ at, ap (λ it. it.out.failed) is)
 
 -- what holds where a call failed, once it is known that it did
 pub where_failed : {T E : Type 0} (r : Result T E) (P : Type 0) → is_err r ≡ true → OnErr r P → P

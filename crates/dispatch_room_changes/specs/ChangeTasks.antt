@@ -1,5 +1,5 @@
 -- What each command that changes a room as a file says does in its database, over any storage.
-use Rattle.std.specs.Prelude.{IfOk, List, None, false, ℕ, ◌≡◌, ◌⊎◌}
+use Rattle.std.specs.Prelude.{IfOk, List, Option, false, ℕ, ◌≡◌, ◌⊎◌}
 use Rattle.sqlite.specs.Held.{state}
 use Rattle.dispatch_room_disk.specs.RoomFiles.{Refusing, Saying}
 use Rattle.dispatch_room_cli.specs.declared.exit_status.Done.{Done}
@@ -13,7 +13,7 @@ use Rattle.dispatch_room_changes.specs.declared.kept_fleets.FleetList.{FleetList
 use Rattle.dispatch_room_journal.specs.declared.list_ends.ListEnd.{ListEnd}
 use Rattle.dispatch_room_lists.specs.RoomChanges.{Makes}
 use Rattle.dispatch_room_lists.specs.declared.room_changes.RoomChange.{RoomChange}
-use Rattle.dispatch_room_serving.specs.Journals.{KeptFile}
+use Rattle.dispatch_room_serving.specs.declared.journal_files.SystemFile.{SystemFile}
 use Rattle.dispatch_room_tasks.specs.Creation as created
 use Rattle.dispatch_room_tasks.specs.ListedTerminals.{HasListed}
 use Rattle.dispatch_room_tasks.specs.Enrolment as imported
@@ -35,16 +35,19 @@ Enrols lines = λ S g old new before after done.
     (IsClean g new → imported.HasImportedIn g old new lines before after done)
     × IfOk done (imported.PrintsFates lines before after)
 
--- a list that goes on here, and to which no write failed
-abbrev pub GoesOnAt : ListEnd → FleetList KeptFile → Type 0
-GoesOnAt end list = (list.end ≡ end) × (list.out.failed ≡ false)
+-- The list of a room, in the file that was opened for it. It goes on where that does, and no write
+-- to it failed.
+abbrev pub IsOpenedAs : {F : Type 0} → F × ListEnd → FleetList (SystemFile F) → Type 0
+IsOpenedAs opened list =
+    (list.out.file.file ≡ opened.0) × (list.end ≡ opened.1) × (list.out.failed ≡ false)
 
--- The same once the fleet lasts in a list that goes on here, and then the room's digest is kept. No
--- contract can say what the file of a list holds.
-abbrev pub EnrolsKept : ListEnd → List FleetLine → List ℕ → Saying Done
-EnrolsKept end lines text = λ S g old new before after done.
-    (from to : FleetList KeptFile) × GoesOnAt end from
-    × ImportsKeptIn g (λ _. None) (λ _. None) old new from to lines text before after done
+-- The same once the fleet lasts in a list that was opened, and then the room's digest is kept.
+abbrev pub EnrolsKept : {F : Type 0} → (F → Option (List ℕ)) → (F → Option (List ℕ)) → F × ListEnd
+    → List FleetLine → List ℕ → Saying Done
+EnrolsKept {F} contents lasting opened lines text = λ S g old new before after done.
+    (from to : FleetList (SystemFile F)) × IsOpenedAs opened from
+    × ImportsKeptIn g (λ it. contents it.file) (λ it. lasting it.file) old new from to lines text
+    before after done
 
 -- or memory fails, or no room is opened, and nothing is printed
 abbrev pub EnrolsNone : Refusing
@@ -59,19 +62,22 @@ Lists = λ S g old new before after done. HasListed g old new before after done
 abbrev pub Changes : RoomChange → Saying (Unit {0})
 Changes change = λ S g old new before after done. Makes g old new change done × (after ≡ before)
 
--- The same once its text lasts in a list that goes on here, and then the room's digest is kept. No
--- contract can say what the file of a list holds.
-abbrev pub ChangesKept : ListEnd → RoomChange → List ℕ → Saying (Unit {0})
-ChangesKept end change text = λ S g old new before after done.
-    ((from to : FleetList KeptFile) × GoesOnAt end from
-    × MakesKeptIn g (λ _. None) (λ _. None) old new from to change text done) × (after ≡ before)
+-- The same once its text lasts in a list that was opened, and then the room's digest is kept.
+abbrev pub ChangesKept : {F : Type 0} → (F → Option (List ℕ)) → (F → Option (List ℕ)) → F × ListEnd
+    → RoomChange → List ℕ → Saying (Unit {0})
+ChangesKept {F} contents lasting opened change text = λ S g old new before after done.
+    ((from to : FleetList (SystemFile F)) × IsOpenedAs opened from
+    × MakesKeptIn g (λ it. contents it.file) (λ it. lasting it.file) old new from to change text
+    done) × (after ≡ before)
 
 -- or no room is opened for it, or none is opened again once the text was kept; and nothing is
 -- printed
-abbrev pub LosesKeptRoom : ListEnd → RoomChange → List ℕ → Refusing
-LosesKeptRoom end change text = λ S g conn before after fault.
-    ((from : FleetList KeptFile) × GoesOnAt end from
-    × OpensNoneKept g (λ _. None) (λ _. None) conn from change text fault) × (after ≡ before)
+abbrev pub LosesKeptRoom : {F : Type 0} → (F → Option (List ℕ)) → (F → Option (List ℕ))
+    → F × ListEnd → RoomChange → List ℕ → Refusing
+LosesKeptRoom {F} contents lasting opened change text = λ S g conn before after fault.
+    ((from : FleetList (SystemFile F)) × IsOpenedAs opened from
+    × OpensNoneKept g (λ it. contents it.file) (λ it. lasting it.file) conn from change text fault)
+    × (after ≡ before)
 
 -- or the file holds no room, for this, and nothing is printed
 abbrev pub HoldsNoRoom : Refusing

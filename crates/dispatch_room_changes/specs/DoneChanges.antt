@@ -23,13 +23,12 @@ use Rattle.dispatch_room_changes.specs.ChangeTasks.{Lists, LosesKeptRoom}
 use Rattle.dispatch_room_changes.specs.declared.kept_changes.ChangedFile.{ChangedFile}
 use Rattle.dispatch_room_changes.specs.TerminalFiles.{AreGiven, GivesNoFleet, GivesNoPlan}
 use Rattle.dispatch_room_changes.specs.TerminalFiles.{GivesNone}
+use Rattle.dispatch_room_journal.specs.declared.list_ends.ListEnd.{ListEnd}
 use Rattle.dispatch_room_journal.specs.declared.list_ends.ListEnd.TheVariants.{Chain, Plain}
 use Rattle.dispatch_room_journal.specs.declared.record_fronts.Link.{Link}
 use Rattle.dispatch_room_lists.specs.RoomChanges.{IsTextOf}
-use Rattle.dispatch_room_serving.specs.declared.journal_files.OpenedList.{OpenedList}
 use Rattle.dispatch_room_tasks.specs.RandomTokens.{AreEnough, first_letters}
-use Rattle.dispatch_room_tcp.specs.Hosts.{IsDoneAt, IsUndoneAt, IsUnlisted, IsUnread}
-use Rattle.dispatch_room_tcp.specs.Hosts.{Surroundings}
+use Rattle.dispatch_room_tcp.specs.Hosts.{IsDoneAt, IsUndoneAt, IsUnlisted, IsUnread, Surroundings}
 use Rattle.dispatch_room_lists.specs.declared.room_changes.RoomChange.{RoomChange}
 use Rattle.dispatch_room_lists.specs.declared.room_changes.RoomChange.TheVariants as change
 
@@ -44,70 +43,70 @@ abbrev pub reissue_of : Who → Option Token → RoomChange
 reissue_of who token = change.Token (record { who = who; token = token })
 
 -- a token is that of random bytes
-abbrev pub IsRandom : Surroundings → Token → Type 0
+abbrev pub IsRandom : {F : Type 0} → Surroundings F → Token → Type 0
 IsRandom around token =
-    (bytes : List ℕ) × around.random bytes × AreEnough bytes × (token ≡ first_letters bytes)
+    (bytes : List ℕ) × around.random.holds bytes × AreEnough bytes × (token ≡ first_letters bytes)
 
 -- no token was given, for this: there is no memory for it, or there are no random bytes, or too few
-abbrev pub LacksToken : Surroundings → Failure → Type 0
+abbrev pub LacksToken : {F : Type 0} → Surroundings F → Failure → Type 0
 LacksToken around fault = (fault ≡ failure.Memory)
-    ⊎ ((fault ≡ failure.Storage) × (around.unrandom fault
-    ⊎ ((bytes : List ℕ) × around.random bytes × (¬ AreEnough bytes))))
+    ⊎ ((fault ≡ failure.Storage) × (around.random.lacks fault
+    ⊎ ((bytes : List ℕ) × around.random.holds bytes × (¬ AreEnough bytes))))
 
 -- a token where one is to be given, and then a random one
-abbrev pub IsGiven : Surroundings → Bool → Option Token → Type 0
+abbrev pub IsGiven : {F : Type 0} → Surroundings F → Bool → Option Token → Type 0
 IsGiven around has_token token = (is_some token ≡ has_token) × IfSome token (IsRandom around)
 
--- the list at a path was opened, and goes on as a chain behind this link
-abbrev pub GoesOnAsChain : Surroundings → List ℕ → Link → Type 0
-GoesOnAsChain around path link =
-    (opened : OpenedList) × around.list path opened × (opened.end ≡ Chain link)
+-- the list at a path was opened, and goes on as a chain
+abbrev pub IsChain : {F : Type 0} → Surroundings F → List ℕ → F × ListEnd → Type 0
+IsChain around path opened =
+    (around.list path).holds opened × ((link : Link) × (opened.1 ≡ Chain link))
 
 -- A change was made in a room's file, by what the output held before and after. Where there is a
 -- list for it, its text was kept there before.
-abbrev pub IsMade : Surroundings → Option (List ℕ) → Option (List ℕ) → ChangedFile → RoomChange
-    → Type 0
-IsMade around before after place change =
+abbrev pub IsMade : {F : Type 0} → Surroundings F → Option (List ℕ) → Option (List ℕ)
+    → ChangedFile → RoomChange → Type 0
+IsMade {F} around before after place change =
     MatchOption place.list
     (IsDoneAt (around.kept place.file.now) (Changes change) before after tt)
-    (λ list. (text : List ℕ) × IsTextOf change text × ((link : Link)
-    × GoesOnAsChain around list.now link
-    × IsDoneAt (around.kept place.file.now) (ChangesKept (Chain link) change text)
-    before after tt))
+    (λ list. (text : List ℕ) × IsTextOf change text × ((opened : F × ListEnd)
+    × IsChain around list.now opened × IsDoneAt (around.kept place.file.now)
+    (ChangesKept around.contents around.lasting opened change text) before after tt))
 
 -- the list at a path was opened, and is no chain
-abbrev pub IsPlain : Surroundings → List ℕ → Type 0
-IsPlain around path = (opened : OpenedList) × around.list path opened × (opened.end ≡ Plain)
+abbrev pub IsPlain : {F : Type 0} → Surroundings F → List ℕ → Type 0
+IsPlain {F} around path =
+    (opened : F × ListEnd) × (around.list path).holds opened × (opened.1 ≡ Plain)
 
 -- no chain was opened at a path, for this: there is no list, or it is none
-abbrev pub LacksChain : Surroundings → List ℕ → Failure → Type 0
+abbrev pub LacksChain : {F : Type 0} → Surroundings F → List ℕ → Failure → Type 0
 LacksChain around path fault =
     IsUnlisted around path fault ⊎ ((fault ≡ failure.Journal) × IsPlain around path)
 
 -- there is no list at a path to keep a change in, and nothing is printed
-abbrev pub HasNoList : Surroundings → List ℕ → Option (List ℕ) → Option (List ℕ) → Failure
-    → Type 0
+abbrev pub HasNoList : {F : Type 0} → Surroundings F → List ℕ → Option (List ℕ)
+    → Option (List ℕ) → Failure → Type 0
 HasNoList around path before after fault = LacksChain around path fault × (after ≡ before)
 
 -- the file at a path can't be read, or there is no memory for it, and nothing is printed
-abbrev pub HasNoText : Surroundings → List ℕ → Option (List ℕ) → Option (List ℕ) → Failure
-    → Type 0
+abbrev pub HasNoText : {F : Type 0} → Surroundings F → List ℕ → Option (List ℕ)
+    → Option (List ℕ) → Failure → Type 0
 HasNoText around path before after fault = IsUnread around path fault × (after ≡ before)
 
 -- why it was not made: this became of the room's file, or there is no list for it
-abbrev pub IsUnmade : Surroundings → Option (List ℕ) → Option (List ℕ) → Failure → ChangedFile
-    → RoomChange → Type 0
-IsUnmade around before after fault place change =
+abbrev pub IsUnmade : {F : Type 0} → Surroundings F → Option (List ℕ) → Option (List ℕ)
+    → Failure → ChangedFile → RoomChange → Type 0
+IsUnmade {F} around before after fault place change =
     MatchOption place.list
     (IsUndoneAt (around.kept place.file.now) (Changes change) HoldsNoRoom before after fault)
     (λ list. HasNoList around list.now before after fault
-    ⊎ ((text : List ℕ) × IsTextOf change text × ((link : Link)
-    × GoesOnAsChain around list.now link
-    × IsUndoneAt (around.kept place.file.now) (ChangesKept (Chain link) change text)
-    (LosesKeptRoom (Chain link) change text) before after fault)))
+    ⊎ ((text : List ℕ) × IsTextOf change text × ((opened : F × ListEnd)
+    × IsChain around list.now opened × IsUndoneAt (around.kept place.file.now)
+    (ChangesKept around.contents around.lasting opened change text)
+    (LosesKeptRoom around.contents around.lasting opened change text) before after fault)))
 
 -- by what is around, what the output held before and holds after, and how much is done
-module _ (around : Surroundings) (before after : Option (List ℕ)) (done : Done) where
+module _ {F : Type 0} (around : Surroundings F) (before after : Option (List ℕ)) (done : Done) where
   -- a room was created in a file by the plan of this text
   abbrev pub IsInitOf : List ℕ → List ℕ → Type 0
   IsInitOf file text =
@@ -146,8 +145,8 @@ module _ (around : Surroundings) (before after : Option (List ℕ)) (done : Done
   -- they were kept in a list, which goes on as a chain, and enrolled
   abbrev pub IsKeptImportOf : List ℕ → List ℕ → List ℕ → Type 0
   IsKeptImportOf file list text = (lines : List FleetLine) × IsFleetText text lines
-      × ((link : Link) × GoesOnAsChain around list link
-      × IsDoneAt (around.kept file) (EnrolsKept (Chain link) lines text) before after done)
+      × ((opened : F × ListEnd) × IsChain around list opened × IsDoneAt (around.kept file)
+      (EnrolsKept around.contents around.lasting opened lines text) before after done)
 
   abbrev pub IsKeptImport : List ℕ → List ℕ → List ℕ → Type 0
   IsKeptImport file fleet list =
@@ -191,7 +190,8 @@ module _ (around : Surroundings) (before after : Option (List ℕ)) (done : Done
       × IsReissued place who token (codes "revoked\n")
 
 -- by what is around, what the output held before and holds after, and why the task fails
-module _ (around : Surroundings) (before after : Option (List ℕ)) (fault : Failure) where
+module _ {F : Type 0} (around : Surroundings F) (before after : Option (List ℕ))
+    (fault : Failure) where
   -- a change was not made; or it was, and the output failed
   abbrev pub FailsChange : ChangedFile → RoomChange → Type 0
   FailsChange place change = IsUnmade around before after fault place change
@@ -243,9 +243,9 @@ module _ (around : Surroundings) (before after : Option (List ℕ)) (fault : Fai
   abbrev pub FailsKeptImportOf : List ℕ → List ℕ → List ℕ → Type 0
   FailsKeptImportOf file list text = (GivesNoFleet text fault × (after ≡ before))
       ⊎ HasNoList around list before after fault
-      ⊎ ((lines : List FleetLine) × IsFleetText text lines × ((link : Link)
-      × GoesOnAsChain around list link
-      × IsUndoneAt (around.kept file) (EnrolsKept (Chain link) lines text) EnrolsNone
+      ⊎ ((lines : List FleetLine) × IsFleetText text lines × ((opened : F × ListEnd)
+      × IsChain around list opened × IsUndoneAt (around.kept file)
+      (EnrolsKept around.contents around.lasting opened lines text) EnrolsNone
       before after fault))
 
   abbrev pub FailsKeptImport : List ℕ → List ℕ → List ℕ → Type 0

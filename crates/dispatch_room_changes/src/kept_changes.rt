@@ -12,7 +12,7 @@ use dispatch_room_cli::exit_status::Failure;
 use dispatch_room_cli::failure_causes::Explainer;
 use dispatch_room_disk::room_files::{RoomFile, RoomTask};
 use dispatch_room_lists::room_changes::{RoomChange, make};
-use dispatch_room_serving::journal_files::{OpenedList, SystemFile};
+use dispatch_room_serving::journal_files::{Lasting, OpenedList};
 use dispatch_room_tasks::opened_room::TaskResult;
 use dispatch_room_tcp::hosts::Machine;
 use sqlite::{Alter, Connection};
@@ -77,7 +77,7 @@ fn make_by<M: Machine, O: Write, E: Write>(
                 change,
                 text,
                 path,
-                opened: &opened,
+                opened,
             };
             machine.in_file(file, making, out)
         }
@@ -109,22 +109,23 @@ impl<'a> RoomTask for Making<'a> {
 }
 
 // A change is kept in a list, and made, and nothing is printed yet.
-#[derive(Clone, Copy)]
-struct KeptMaking<'a> {
+#[derive(Drop)]
+struct KeptMaking<'a, F: Lasting> {
     explainer: Explainer<'a>,
     change: &'a RoomChange,
     text: &'a [u8],
     path: &'a str,
-    opened: &'a OpenedList,
+    opened: OpenedList<F>,
 }
 
-impl<'a> RoomTask for KeptMaking<'a> {
+impl<'a, F: Lasting + Drop> RoomTask for KeptMaking<'a, F> {
     type Done = ();
 
-    ghost says = { λ work. ChangesKept work.opened.now.end work.change.now work.text.now };
+    ghost says = { λ work.
+        ChangesKept F.contents F.lasting work.opened work.change.now work.text.now };
 
     ghost refuses = { λ work.
-        LosesKeptRoom work.opened.now.end work.change.now work.text.now };
+        LosesKeptRoom F.contents F.lasting work.opened work.change.now work.text.now };
 
     fn run<S: Alter + Drop, O: Write>(
         self,
@@ -132,9 +133,15 @@ impl<'a> RoomTask for KeptMaking<'a> {
         conn: Connection<S>,
         _out: &mut O,
     ) -> TaskResult<(), S> {
-        let file = SystemFile::new(&self.opened.file, self.explainer, self.path);
-        let mut list = FleetList::new(file, self.opened.end);
-        let text = self.text;
-        make_kept_in(alloc, self.explainer, conn, &mut list, self.change, text)
+        let KeptMaking {
+            explainer,
+            change,
+            text,
+            path,
+            opened,
+        } = self;
+        let (file, end) = opened.into_file(explainer, path);
+        let mut list = FleetList::new(file, end);
+        make_kept_in(alloc, explainer, conn, &mut list, change, text)
     }
 }

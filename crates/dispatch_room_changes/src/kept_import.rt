@@ -1,9 +1,8 @@
 //! `import` with a list: a fleet is kept in the list of a room, and then enrolled.
-ghost use Rattle.std.specs.Prelude.{◌≡◌, IfErr, IfOk};
-ghost use Rattle.dispatch_room_journal.specs.declared.list_ends.ListEnd.TheVariants.{Chain};
-ghost use Rattle.dispatch_room_journal.specs.declared.record_fronts.Link.{Link};
+ghost use Rattle.std.specs.Prelude.{IfErr, IfOk};
 ghost use Rattle.dispatch_room_changes.specs.DoneChanges.{FailsKeptImport, FailsKeptImportOf};
-ghost use Rattle.dispatch_room_changes.specs.DoneChanges.{IsKeptImport, IsKeptImportOf, LacksChain};
+ghost use Rattle.dispatch_room_changes.specs.DoneChanges.{IsChain, IsKeptImport, IsKeptImportOf};
+ghost use Rattle.dispatch_room_changes.specs.DoneChanges.{LacksChain};
 ghost use Rattle.dispatch_room_changes.specs.ChangeTasks.{EnrolsKept, EnrolsNone};
 
 use crate::import::lines_in;
@@ -13,7 +12,7 @@ use dispatch_room_cli::exit_status::{Done, Failure};
 use dispatch_room_csv::sheets::Sheet;
 use dispatch_room_disk::room_files::{RoomFile, RoomTask};
 use dispatch_room_journal::list_ends::ListEnd;
-use dispatch_room_serving::journal_files::{OpenedList, SystemFile};
+use dispatch_room_serving::journal_files::{Lasting, OpenedList};
 use dispatch_room_tasks::opened_room::TaskResult;
 use dispatch_room_tcp::hosts::Machine;
 use sqlite::{Alter, Connection};
@@ -66,7 +65,7 @@ fn import_kept_by<'a, M: Machine, O: Write, E: Write>(
     let enrolment = KeptEnrolment {
         fleet,
         path,
-        opened: &opened,
+        opened,
     };
     machine.in_file(RoomFile::Kept(file), enrolment, out)
 }
@@ -77,13 +76,12 @@ pub fn opened_list<M: Machine, E: Write>(
     machine: M,
     path: &str,
     err: &mut E,
-) -> Result<OpenedList, Failure>
-    ensures list { IfOk result ((M.surroundings machine).list path.now) }
-    ensures chain { IfOk result (λ opened. (link : Link) × (opened.end ≡ Chain link)) }
+) -> Result<OpenedList<M::File>, Failure>
+    ensures chain { IfOk result (IsChain (M.surroundings machine) path.now) }
     ensures fault { IfErr result (LacksChain (M.surroundings machine) path.now) }
 {
     let opened = machine.open_journal(path, err)?;
-    match opened.end {
+    match opened.end() {
         ListEnd::Chain(_) => Ok(opened),
         ListEnd::Plain => {
             machine.host().explainer.explain(format_args!(
@@ -96,18 +94,18 @@ pub fn opened_list<M: Machine, E: Write>(
 }
 
 // The rows of a fleet are kept in a list, and enrolled.
-#[derive(Clone, Copy)]
-struct KeptEnrolment<'a> {
+#[derive(Drop)]
+struct KeptEnrolment<'a, F: Lasting> {
     fleet: Fleet<'a>,
     path: &'a str,
-    opened: &'a OpenedList,
+    opened: OpenedList<F>,
 }
 
-impl<'a> RoomTask for KeptEnrolment<'a> {
+impl<'a, F: Lasting + Drop> RoomTask for KeptEnrolment<'a, F> {
     type Done = Done;
 
-    ghost says = { λ work.
-        EnrolsKept work.opened.now.end work.fleet.lines.now work.fleet.sheet.text.now };
+    ghost says = { λ work. EnrolsKept F.contents F.lasting work.opened work.fleet.lines.now
+        work.fleet.sheet.text.now };
 
     ghost refuses = { λ _. EnrolsNone };
 
@@ -117,9 +115,13 @@ impl<'a> RoomTask for KeptEnrolment<'a> {
         conn: Connection<S>,
         out: &mut O,
     ) -> TaskResult<Done, S> {
-        let fleet = self.fleet;
-        let file = SystemFile::new(&self.opened.file, fleet.explainer, self.path);
-        let mut list = FleetList::new(file, self.opened.end);
+        let KeptEnrolment {
+            fleet,
+            path,
+            opened,
+        } = self;
+        let (file, end) = opened.into_file(fleet.explainer, path);
+        let mut list = FleetList::new(file, end);
         import_in(alloc, conn, &mut list, &fleet, out)
     }
 }

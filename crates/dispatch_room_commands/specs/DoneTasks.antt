@@ -4,10 +4,11 @@ use Rattle.std.specs.Io.KnownBytes.{Appends}
 use Rattle.std.specs.Prelude.{Bool, Err, IfOk, List, MatchResult, None, Ok, Option, Result, Some}
 use Rattle.std.specs.Prelude.{Vec, [], codes, ◌++◌, ◌∷◌}
 use Rattle.std.specs.Option.{option_map}
-use Rattle.std.specs.Prelude.{is_some, true, ℕ, ◌≡◌, ◌⊎◌}
+use Rattle.std.specs.Prelude.{is_some, true, ℕ, ◌*◌, ◌≡◌, ◌⊎◌}
 use Rattle.clap.specs.Words.{kind_of}
 use Rattle.clap.specs.declared.error.Error.{Error}
-use Rattle.dispatch_room_disk.specs.ReplacingSteps.{IsFaultOf, Step, replacing}
+use Rattle.dispatch_room_disk.specs.FileSteps.{StopsFor}
+use Rattle.dispatch_room_disk.specs.ReplacingSteps.{IsFaultOf, replacing}
 use Rattle.dispatch_room_cli.specs.AskedTasks.{IsRead}
 use Rattle.dispatch_room_cli.specs.ExitStatus.{status_after}
 use Rattle.dispatch_room_cli.specs.Tasks.{IsServedHere}
@@ -27,7 +28,8 @@ use Rattle.dispatch_room_cli.specs.declared.tasks.Task.TheVariants.{Times, Verif
 use Rattle.dispatch_room_archive.specs.declared.division_days.DivisionDay.{DivisionDay}
 use Rattle.dispatch_room_commands.specs.CommandEnds.{FailsToPrint, IsColour, PrintsBoard}
 use Rattle.dispatch_room_commands.specs.CommandEnds.{IsWordsOutput, IsWordsStatus}
-use Rattle.dispatch_room_commands.specs.HeardRooms.{IsHeardAt}
+use Rattle.dispatch_room_board.specs.Requests.{requests}
+use Rattle.dispatch_room_board.specs.declared.exchange.TheConstants.{MOST_HEARD}
 use Rattle.room_types.specs.Texts.{is_token}
 use Rattle.dispatch_room_commands.specs.RoomTasks.{Begins, BeginsNone, Digests, Examines}
 use Rattle.dispatch_room_commands.specs.RoomTasks.{ExaminesNone, FindsDay, FindsNoDay}
@@ -51,15 +53,10 @@ use Rattle.dispatch_room_changes.specs.DoneChanges.{IsSetting, IsTerminals}
 abbrev pub said_by : Option (List ℕ) → Option (List ℕ)
 said_by bytes = option_map (list_says sha256_digits Full) bytes
 
--- the first of these steps were done, and the next one failed with a fault that it may have
-pub record IsReplacedInPart (around : Surroundings) (steps : List Step) (fault : Failure)
-    : Type 0 where
-  pub first : List Step
-  pub failed : Step
-  pub rest : List Step
-  pub are : steps ≡ first ++ failed ∷ rest
-  pub done : around.replaced first
-  pub why : IsFaultOf failed fault
+-- what a desk hears of the room at an address where it asks for its board, within its seconds
+abbrev pub IsHeardAt : {F : Type 0} → Surroundings F → Look → List ℕ → Type 0
+IsHeardAt around look heard = around.heard look.address.now (look.patience * 1_000_000_000)
+    (requests look.token.now look.incident) MOST_HEARD heard
 
 -- by what the output held before, what it holds after, and how much is done
 module _ (before after : Option (List ℕ)) (done : Done) where
@@ -71,7 +68,7 @@ module _ (before after : Option (List ℕ)) (done : Done) where
     pub whole : done ≡ Whole
 
 -- by what is around, what the output held before and holds after, and how much is done
-module _ (around : Surroundings) (before after : Option (List ℕ)) (done : Done) where
+module _ {F : Type 0} (around : Surroundings F) (before after : Option (List ℕ)) (done : Done) where
   -- the room of a file was moved without an output, and then that was reported
   pub record IsMigrate (file : List ℕ) : Type 0 where
     pub is : IsDoneAt (around.old file) Moves None None tt
@@ -109,9 +106,10 @@ module _ (around : Surroundings) (before after : Option (List ℕ)) (done : Done
     pub text : Appends before after report.items
     pub whole : done ≡ Whole
 
-  -- the list of a file was looked through
+  -- the list of a file was looked through, and it is printed whether it ended well
   abbrev pub IsVerify : List ℕ → Type 0
-  IsVerify path = (bytes : Option (List ℕ)) × around.bytes path bytes × ((has_ended : Bool)
+  IsVerify path = (bytes : Option (List ℕ)) × around.bytes path bytes
+      × ((has_ended : Bool) × around.ended_well path has_ended
       × IsVerifyOf before after done (said_by bytes) has_ended)
 
   -- the board of a desk that has a token was shown, of what is heard of a room at its address, in
@@ -120,7 +118,7 @@ module _ (around : Surroundings) (before after : Option (List ℕ)) (done : Done
   IsBoardOf look =
       (is_token look.token.now ≡ true)
       × ((heard : List ℕ) × IsHeardAt around look heard
-      × ((colour : Bool) × IsColour look.color colour
+      × ((colour : Bool) × IsColour around look.color colour
       × PrintsBoard heard (is_some look.incident) colour before after done))
 
   -- a list from standard input was replayed
@@ -170,7 +168,8 @@ module _ (before after : Option (List ℕ)) (fault : Failure) where
       × ((text : List ℕ) → list ≡ Some text → IsVerified text tally)))
 
 -- by what is around, what the output held before and holds after, and why the task fails
-module _ (around : Surroundings) (before after : Option (List ℕ)) (fault : Failure) where
+module _ {F : Type 0} (around : Surroundings F) (before after : Option (List ℕ))
+    (fault : Failure) where
   -- no room was moved, and nothing is written; or one was, and the output failed
   abbrev pub FailsMigrate : List ℕ → Type 0
   FailsMigrate file =
@@ -190,7 +189,8 @@ module _ (around : Surroundings) (before after : Option (List ℕ)) (fault : Fai
   abbrev pub FailsRestore : List ℕ → List ℕ → Type 0
   FailsRestore copy file = (FailsCheck copy × around.replaced [])
       ⊎ ((done : Done) × IsDoneAt (around.kept copy) Examines before after done
-      × ((there : Bool) × IsReplacedInPart around (replacing copy file there) fault))
+      × ((there : Bool)
+      × StopsFor IsFaultOf around.replaced (replacing copy file there) fault))
 
   -- no day was reported, and nothing is written; or one was, and the output failed
   abbrev pub FailsTimes : List ℕ → ℕ → List ℕ → Type 0
@@ -228,7 +228,7 @@ module _ (around : Surroundings) (before after : Option (List ℕ)) (fault : Fai
       ((fault ≡ failure.Input) × (¬ (is_token look.token.now ≡ true)) × (after ≡ before))
       ⊎ ((is_token look.token.now ≡ true) × (((fault ≡ failure.Memory) × (after ≡ before))
       ⊎ ((heard : List ℕ) × IsHeardAt around look heard
-      × ((colour : Bool) × IsColour look.color colour
+      × ((colour : Bool) × IsColour around look.color colour
       × FailsToPrint heard (is_some look.incident) colour before after fault))))
 
   -- a list was not replayed whole, and this became of the room's file
@@ -279,8 +279,8 @@ IsAskedBy words asked = IfOk asked IsServedHere × IfOk asked (IsRead words)
 -- The exit status of what the words of a command line ask for. Of a task it is by how much was
 -- done, or by why it was not, and what the output holds is by that; of other words it is by what
 -- they are, and nothing is written but help that is asked for.
-abbrev pub IsExit : Surroundings → Result Task Error → Option (List ℕ) → Option (List ℕ) → ℕ
-    → Type 0
+abbrev pub IsExit : {F : Type 0} → Surroundings F → Result Task Error → Option (List ℕ)
+    → Option (List ℕ) → ℕ → Type 0
 IsExit around (Ok task) before after status =
     (done : Result Done Failure)
     × MatchResult done (λ it. IsTask around before after it task)

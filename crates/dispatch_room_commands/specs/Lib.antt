@@ -1,7 +1,5 @@
 -- how a command ends
 pub mod CommandEnds
--- what a desk hears of a room
-pub mod HeardRooms
 -- what is printed of a list
 pub mod VerifiedLists
 -- what each command does in a database

@@ -2,23 +2,25 @@
 ghost use Rattle.std.specs.Prelude.{◌≡◌, ◌⊎◌, ℕ, List, IfErr, IfOk, IfSome, SomeIff, false};
 ghost use Rattle.std.specs.Prelude.{is_some, true};
 ghost use Rattle.room_types.specs.Texts.{is_token};
+ghost use Rattle.dispatch_room_board.specs.Requests.{requests};
+ghost use Rattle.dispatch_room_board.specs.declared.exchange.TheConstants.{MOST_HEARD};
 ghost use Rattle.dispatch_room_cli.specs.declared.exit_status.Failure.TheVariants.{Memory};
 ghost use Rattle.dispatch_room_commands.specs.CommandEnds.{FailsToPrint, IsColour, PrintsBoard};
 ghost use Rattle.dispatch_room_commands.specs.CommandEnds.{end_of_board};
 ghost use Rattle.dispatch_room_commands.specs.DoneTasks.{FailsBoard, IsBoardOf};
-ghost use Rattle.dispatch_room_commands.specs.HeardRooms.{IsHeard};
+ghost use Rattle.dispatch_room_tcp.specs.HeardRooms.{IsHeard};
 
 use dispatch_room_board::boards::{Reached, board_of};
 use dispatch_room_board::exchange::{hear, send};
 use dispatch_room_board::requests::Asker;
 use dispatch_room_cli::exit_status::{Done, Failure};
 use dispatch_room_cli::tasks::{Color, Look};
-use dispatch_room_tcp::hosts::{Host, Machine};
+use dispatch_room_tcp::hosts::Machine;
 use room_http_messages::sinks::Sink;
 use room_http_messages::sources::Source;
 use room_types::token::Token;
 use std::alloc::{AllocError, Global};
-use std::io::{IsTerminal, Write};
+use std::io::Write;
 use std::time::Duration;
 
 /// Shows the board of a desk, of what it hears of the room at an address within a time: what could
@@ -37,11 +39,10 @@ pub fn board<M: Machine, O: Write>(
     let Some(asker) = asker_of(look) else {
         return Err(Failure::Input);
     };
-    let Host { rt, alloc, .. } = machine.host();
-    let colour = has_colour(rt, look.color);
+    let colour = has_colour(machine, look.color);
     let patience = Duration::from_secs(u64::from(look.patience));
     let sides = machine.call(look.address, patience);
-    show(alloc, &asker, sides, colour, out)
+    show(machine.host().alloc, &asker, sides, colour, out)
 }
 
 // Who asks, and of which incident: nobody where the text is no token.
@@ -66,12 +67,14 @@ fn show<R: Source + Drop, W: Sink + Drop, O: Write>(
 ) -> Result<Done, Failure>
     requires { IfSome sides (λ sides. W.has_failed sides.1 ≡ false) }
     ensures done { IfOk result (λ done. (heard : List ℕ)
-        × IsHeard R.left R.has_failed W.held W.has_failed sides asker.now heard
+        × IsHeard R.left R.has_failed W.held W.has_failed sides
+        (requests asker.now.token asker.now.incident) MOST_HEARD heard
         × PrintsBoard heard (is_some asker.now.incident) colour (O.contents out.old)
         (O.contents out.new) done) }
     ensures undone { IfErr result (λ fault.
         ((fault ≡ Memory) × (O.contents out.new ≡ O.contents out.old)) ⊎ ((heard : List ℕ)
-        × IsHeard R.left R.has_failed W.held W.has_failed sides asker.now heard
+        × IsHeard R.left R.has_failed W.held W.has_failed sides
+        (requests asker.now.token asker.now.incident) MOST_HEARD heard
         × FailsToPrint heard (is_some asker.now.incident) colour (O.contents out.old)
         (O.contents out.new) fault)) }
 {
@@ -121,11 +124,11 @@ fn end_of(reached: Reached) -> Result<Done, Failure>
 }
 
 // Whether a board has colours.
-fn has_colour(rt: &HostRuntime, color: Color) -> bool
-    ensures { IsColour color result }
+fn has_colour<M: Machine>(machine: M, color: Color) -> bool
+    ensures { IsColour (M.surroundings machine) color result }
 {
     match color {
-        Color::Auto => rt.stdout().is_terminal(),
+        Color::Auto => machine.has_terminal(),
         Color::Always => true,
         Color::Never => false,
     }
@@ -139,8 +142,8 @@ fn hear_on<R: Source + Drop, W: Sink + Drop>(
     sides: Option<(R, W)>,
 ) -> Result<Vec<u8>, AllocError>
     requires { IfSome sides (λ sides. W.has_failed sides.1 ≡ false) }
-    ensures { IfOk result (λ heard.
-        IsHeard R.left R.has_failed W.held W.has_failed sides asker.now heard.items) }
+    ensures { IfOk result (λ heard. IsHeard R.left R.has_failed W.held W.has_failed sides
+        (requests asker.now.token asker.now.incident) MOST_HEARD heard.items) }
 {
     match sides {
         Some((mut reader, mut writer)) => {

@@ -49,8 +49,9 @@ fn restore_by<M: Machine, R: Replacing, O: Write>(
         (O.contents out.old) (O.contents out.new) fault copy.now × (calls.new ≡ calls.old))
         ⊎ ((done : Amount)
         × IsCheck (M.surroundings machine) (O.contents out.old) (O.contents out.new) done copy.now
-        × ((there : Bool) × StopsFor IsFaultOf (replacing copy.now file.now there)
-        (R.done calls.old) (R.done calls.new) fault))) }
+        × ((there : Bool) × StopsFor IsFaultOf
+        (λ first. Does first (R.done calls.old) (R.done calls.new))
+        (replacing copy.now file.now there) fault))) }
 {
     match check(machine, copy, out) {
         Ok(done) => match put_in_place(calls, machine.host().explainer, copy, file) {

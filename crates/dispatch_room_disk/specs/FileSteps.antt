@@ -15,20 +15,21 @@ module _ {S : Type 0} where
       × (steps ≡ before ++ failed ∷ after) × Does before (Some old) new
 
   -- one of the steps failed with a fault that it may have, and those before it were done
-  pub record StopsFor {E : Type 0} (may_have : S → E → Type 0) (steps : List S)
-      (old new : Option (List S)) (fault : E) : Type 0 where
+  pub record StopsFor {E : Type 0} (may_have : S → E → Type 0) (are_done : List S → Type 0)
+      (steps : List S) (fault : E) : Type 0 where
     pub first : List S
     pub failed : S
     pub rest : List S
     pub are : steps ≡ first ++ failed ∷ rest
-    pub done : Does first old new
+    pub done : are_done first
     pub why : may_have failed fault
 
   -- all of the steps were done, one after another, or those before one that failed with its fault
   abbrev pub FollowsFor : {T E : Type 0} → (S → E → Type 0) → List S → Option (List S)
       → Option (List S) → Result T E → Type 0
   FollowsFor may_have steps old new (Ok done) = Does steps old new
-  FollowsFor may_have steps old new (Err fault) = StopsFor may_have steps old new fault
+  FollowsFor may_have steps old new (Err fault) =
+      StopsFor may_have (λ first. Does first old new) steps fault
 
   -- all of the steps were done, one after another, or those before the first that failed
   abbrev pub Follows : {T E : Type 0} → List S → Option (List S) → Option (List S)

@@ -1,19 +1,12 @@
 -- What a journal holds, what of it lasts, and when it has failed.
 use Rattle.std.specs.Prelude.{◌≡◌, ◌⊎◌, ℕ, List, Bool, true, false, Option, None, Some}
 use Rattle.std.specs.Prelude.{option_and_then, Err, IsErr, IsNone, Ok, Result}
-use Rattle.std.specs.Borrow.{Bor}
-use Rattle.std.specs.declared.fs.File.{File}
 use Rattle.dispatch_room_cli.specs.declared.exit_status.Done.{Done}
 use Rattle.dispatch_room_cli.specs.declared.exit_status.Failure.{Failure}
 use Rattle.dispatch_room_cli.specs.declared.exit_status.Failure.TheVariants as failure
 use Rattle.dispatch_room_journal.specs.WholeEntries.{FailsIn}
 use Rattle.dispatch_room_journal.specs.declared.entry_reader.EntryFault.{EntryFault}
-use Rattle.dispatch_room_serving.specs.declared.journal_files.SystemFile.{SystemFile}
 use Rattle.dispatch_room_serving.specs.declared.journals.Journal.{Journal}
-
--- the file of a list that is kept, in the system
-abbrev pub KeptFile : Type 0
-KeptFile = SystemFile (Bor File)
 
 -- What a journal holds is known as the list of all that came only where questions are kept too.
 abbrev pub known_where : Bool → Option (List ℕ) → Option (List ℕ)

@@ -30,11 +30,49 @@ use std::marker::Model;
 use std::os::fd::AsRawFd;
 use std::os::unix::fs::OpenOptionsExt;
 
-/// The file of a journal that was opened, and how its list goes on.
+/// The list of a journal that was opened: its file, and how it goes on there.
 #[derive(Drop)]
-pub struct OpenedList {
-    pub file: File,
-    pub end: ListEnd,
+pub struct OpenedList<F: Lasting> {
+    file: F,
+    end: ListEnd,
+}
+
+// The list goes on at the file's end.
+impl<F: Lasting> Model for OpenedList<F> {
+    ghost Value = { F × ListEnd };
+
+    ghost view = { λ list. (list.file, list.end) };
+
+    ghost invariant = { λ list. StandsKnown list.end (F.contents list.file) };
+}
+
+impl<F: Lasting> OpenedList<F> {
+    /// Its file.
+    pub fn file(&self) -> &F
+        ensures { result.now ≡ self.now.0 }
+    {
+        &self.file
+    }
+
+    /// How it goes on.
+    pub fn end(&self) -> ListEnd
+        ensures { result ≡ self.now.1 }
+    {
+        self.end
+    }
+
+    /// Its file, which from here on explains why it can't be written, and how the list goes on.
+    pub fn into_file<'a>(
+        self,
+        explainer: Explainer<'a>,
+        path: &'a str,
+    ) -> (SystemFile<'a, F>, ListEnd)
+        ensures file { result.0.file ≡ self.0 }
+        ensures end { result.1 ≡ self.1 }
+        ensures stands { StandsKnown result.1 (F.contents result.0.file) }
+    {
+        (SystemFile::new(self.file, explainer, path), self.end)
+    }
 }
 
 /// Opens the file of a journal behind its last whole record, and locks it against other writers. A
@@ -47,7 +85,7 @@ pub fn open_journal<E: Write>(
     alloc: Global,
     path: &str,
     err: &mut E,
-) -> Result<OpenedList, Failure>
+) -> Result<OpenedList<File>, Failure>
     ensures { IfErr result (λ fault. (fault ≡ failure.Memory) ⊎ (fault ≡ failure.Journal)) }
 {
     let file = opened(rt, explainer, path)?;
@@ -225,6 +263,18 @@ pub trait Lasting: Write {
 }
 
 // No contract can say what a file holds, nor what of it lasts.
+impl Lasting for File {
+    ghost lasting = { λ _. None };
+
+    ghost is_known = { false };
+
+    fn sync(&mut self) -> Result<(), Error> {
+        self.sync_data()
+    }
+
+    ghost known = { λ _. refl };
+}
+
 impl<'a> Lasting for &'a File {
     ghost lasting = { λ _. None };
 

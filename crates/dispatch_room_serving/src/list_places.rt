@@ -35,12 +35,16 @@ pub struct ListPlace<'a> {
     has_left: bool,
 }
 
-impl<'a> ListPlace<'a> {
-    /// The place at which this file was opened.
-    pub fn new(rt: &'a HostRuntime, path: &'a str, file: &File) -> Result<ListPlace<'a>, Error>
-        ensures { IfOk result (λ place. place.has_left ≡ false) }
-    {
-        let found = file.metadata()?;
+/// A file of the system that stands at a place.
+pub trait Placed {
+    /// The place at which it was opened.
+    fn place<'a>(&self, rt: &'a HostRuntime, path: &'a str) -> Result<ListPlace<'a>, Error>
+        ensures { IfOk result (λ place. place.has_left ≡ false) };
+}
+
+impl Placed for File {
+    fn place<'a>(&self, rt: &'a HostRuntime, path: &'a str) -> Result<ListPlace<'a>, Error> {
+        let found = self.metadata()?;
         Ok(ListPlace {
             rt,
             path,
@@ -50,7 +54,9 @@ impl<'a> ListPlace<'a> {
             has_left: false,
         })
     }
+}
 
+impl<'a> ListPlace<'a> {
     /// What a look finds there, by one call of the system.
     pub fn look(&mut self) -> Finding
         ensures left { result ≢ There → self.new.has_left ≡ true }

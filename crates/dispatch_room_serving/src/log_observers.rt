@@ -50,8 +50,8 @@ impl<'a, E: Write, T: Clock, W: Keeper> LogAndJournal<'a, E, T, W> {
         }
     }
 
-    /// Records in the journal that serving ended well, if it did, and returns how the service ended:
-    /// as serving did, or as `Journal` if that could not be kept.
+    /// Records in the journal that serving ended well, if it did, and returns how the service
+    /// ended: as serving did, or as `Journal` if that could not be kept.
     pub fn end_after(&mut self, served: Result<Done, Failure>) -> Result<Done, Failure>
         ensures { EndsAfter W.ends self.old.journal self.new.journal served result }
     {

@@ -1,6 +1,6 @@
 -- What a look at the bytes ahead says.
 use Rattle.std.proofs.Common.{◌≡◌, ◌∙◌, ◌<◌, ◌++◌, ap, append-nil, append_assoc, length, subst, sym}
-use Rattle.std.proofs.Common.{ℕ, List, []}
+use Rattle.std.proofs.Common.{ℕ, List, [], arith, length-append}
 use Rattle.dispatch_room_sockets.specs.Lookaheads.{StaysInFront}
 use Rattle.room_http_messages.specs.Layouts.{LookIs}
 use Rattle.room_http_messages.specs.Messages.{IsPart}
@@ -25,3 +25,7 @@ read_on a b c first then = record {
   more = first.more ++ then.more;
   grown = then.grown ∙ ap (λ l. l ++ then.more) first.grown ∙ append_assoc a first.more then.more;
 }
+
+-- what had room after a read had room before it
+pub few_before : (most : ℕ) (a b : List ℕ) → StaysInFront a b → length b < most → length a < most
+few_before most a b front few = omega (arith, few, ap length front.grown ∙ length-append a front.more)

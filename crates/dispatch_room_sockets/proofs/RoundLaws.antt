@@ -1,8 +1,13 @@
 -- Rounds, one after the other.
-use Rattle.std.proofs.Common.{◌≡◌, ◌∙◌, ap, refl, List, [], ◌∷◌, None}
+use Rattle.std.proofs.Common.{◌≡◌, ◌∙◌, ap, refl, List, [], ◌∷◌, Bool, true, false, None, Option}
+use Rattle.std.proofs.Common.{Some}
+use Rattle.std.specs.Prelude.{MatchOption}
 use Rattle.std.specs.declared.time.Duration.{Duration}
+use Rattle.dispatch_room_sockets.specs.declared.entrances.Entrance.{Ghosts}
+use Rattle.dispatch_room_sockets.specs.declared.waiting_callers.Waiting.{Waiting}
 use Rattle.dispatch_room_sockets.specs.CallerHistories.{GivesNext}
-use Rattle.dispatch_room_sockets.specs.Rounds.{AreRounds, HasRounds, IsRound, Queues}
+use Rattle.dispatch_room_sockets.specs.Rounds.{AreRounds, HasRounds, IsRound, LooksAround, Queues}
+use Rattle.dispatch_room_sockets.specs.Rounds.{Waited, all_watched, none_ready, queues}
 use Rattle.dispatch_room_sockets.proofs.HistoryLaws.{admitted_given, given_after, looked_given}
 use Rattle.dispatch_room_sockets.proofs.HistoryLaws.{nobody_given}
 
@@ -10,9 +15,15 @@ module _ {C : Type 0} where
   pub no_round : (old new : Queues C) → new ≡ old → HasRounds old new
   no_round old new same = record { moments = []; are = same }
 
-  pub one_round : (now : Duration) (old before new : Queues C) → IsRound now before new → before ≡ old
-      → HasRounds old new
-  one_round now old before new round same = record { moments = now ∷ []; are = (new, rw same at round, refl) }
+  pub round_of : (now : Duration) (old before new : Queues C) → IsRound now before new → before ≡ old
+      → IsRound now old new
+  round_of now old before new round same = rw same at round
+
+  -- a round, where the moment is known that it is
+  rounds_after : (after : Option Duration) (old new : Queues C)
+      → MatchOption after (new ≡ old) (λ now. IsRound now old new) → HasRounds old new
+  rounds_after None old new same = no_round old new same
+  rounds_after (Some now) old new round = record { moments = now ∷ []; are = (new, round, refl) }
 
   joined_from : (moments : List Duration) (old mid new : Queues C) → AreRounds moments old mid
       → HasRounds mid new → HasRounds old new
@@ -49,3 +60,28 @@ module _ {C : Type 0} where
   pub rounds_times : (old new : Queues C) → HasRounds old new
       → (new.keep ≡ old.keep) × (new.patience ≡ old.patience)
   rounds_times old new all = times_from all.moments old new all.are
+
+module _ {E C : Type 0} (g : Ghosts E C) where
+  waited_rounds : (most : Duration) (old new : Waiting E C g) → Waited g most old new
+      → HasRounds (queues g old) (queues g new)
+  waited_rounds most old new w = rounds_after w.after (queues g old) (queues g new) w.round
+
+  same_rounds : (old new : Waiting E C g) → new ≡ old → HasRounds (queues g old) (queues g new)
+  same_rounds old new same = no_round (queues g old) (queues g new) (ap (λ w. queues g w) same)
+
+  -- nobody was looked at, or it was waited
+  either_rounds : (b : Bool) (old new : Waiting E C g) → (b ≡ true → HasRounds (queues g old) (queues g new))
+      → (b ≡ false → HasRounds (queues g old) (queues g new)) → HasRounds (queues g old) (queues g new)
+  either_rounds true old new is not = is refl
+  either_rounds false old new is not = not refl
+
+  -- whoever looks around makes rounds
+  pub around_rounds : (old new : Waiting E C g) → LooksAround g old new
+      → HasRounds (queues g old) (queues g new)
+  around_rounds old new a =
+      joined_rounds (queues g old) (queues g a.mid) (queues g new)
+      (either_rounds (all_watched g old) old a.mid (λ all. same_rounds old a.mid (a.watched.same all))
+      (λ some. let w = a.watched.waited some in waited_rounds w.0 old a.mid w.2))
+      (either_rounds (none_ready g a.mid) a.mid new
+      (λ none. let w = a.waited none in waited_rounds w.0 a.mid new w.2)
+      (λ some. same_rounds a.mid new (a.same some)))

@@ -1,5 +1,8 @@
 -- What stands ahead in a stream.
-use Rattle.std.specs.Prelude.{◌≡◌, ◌≢◌, ◌⊎◌, ℕ, List, [], ◌++◌, Bool, true, false}
+use Rattle.std.specs.Prelude.{◌≡◌, ◌≢◌, ◌⊎◌, ◌<◌, ℕ, List, [], ◌++◌, Bool, true, false, length}
+use Rattle.std.specs.Prelude.{Option}
+use Rattle.std.specs.Io.KnownBytes.{IsAtEnd}
+use Rattle.room_http_messages.specs.declared.limits.TheConstants.{INBOX_ROOM}
 use Rattle.room_types.specs.declared.refusal_statuses.Refusal.{Refusal}
 use Rattle.room_http_messages.specs.declared.messages.Layout.{Layout}
 use Rattle.room_http_messages.specs.Layouts.{IsWhole}
@@ -24,6 +27,14 @@ LookaheadIs bytes has_ended ahead.Last = AreRefused bytes ⊎ ((has_ended ≡ tr
 LookaheadIs bytes has_ended ahead.Part = (has_ended ≡ false) × IsPart bytes
 LookaheadIs bytes has_ended ahead.Nothing = (has_ended ≡ false) × (bytes ≡ [])
 LookaheadIs bytes has_ended ahead.End = (has_ended ≡ true) × (bytes ≡ [])
+
+-- These bytes were read of a stream, by way of so much room, and this is left of it where that is
+-- known. This is what they are. That the stream has ended after them is said only where nothing is
+-- left of it, if there was room for more.
+abbrev pub IsSeen : ℕ → List ℕ → Option (List ℕ) → Lookahead → Type 0
+IsSeen room bytes left seen = (has_ended : Bool)
+    × (has_ended ≡ true → 0 < room → length bytes < INBOX_ROOM → IsAtEnd left)
+    × LookaheadIs bytes has_ended seen
 
 -- These bytes were read of a stream, and this is what they are. It may be lost too: then nothing is
 -- said of them.

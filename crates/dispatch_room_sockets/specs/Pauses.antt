@@ -6,6 +6,12 @@ use Rattle.std.specs.declared.time.Duration.{Duration}
 use Rattle.dispatch_room_sockets.specs.declared.kept_callers.Kept.{Kept}
 use Rattle.dispatch_room_sockets.specs.declared.leavers.Leaver.{Leaver}
 
+-- it was waited for someone to move, so long at most, and this was the moment after it, where it is
+-- known
+pub record Wait : Type 0 where
+  pub most : Duration
+  pub after : Option Duration
+
 -- n is one of these, and none of them is less
 pub record IsLeast (n : ℕ) (all : List ℕ) : Type 0 where
   pub before : List ℕ

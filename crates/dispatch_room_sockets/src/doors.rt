@@ -1,6 +1,7 @@
 //! The door of a room: its sockets, and the system's set of those that move.
-ghost use Rattle.std.specs.Prelude.{◌≡◌, ◌-◌, ◌||◌, ◌↔◌, ◌≤ℤ◌, [], IfSome, IsTrue, false, min, pos};
-ghost use Rattle.std.specs.Prelude.{if◌then◌else◌, true};
+ghost use Rattle.std.specs.Prelude.{◌≡◌, ◌+◌, ◌-◌, ◌||◌, ◌↔◌, ◌≤ℤ◌, [], IfSome, IsTrue};
+ghost use Rattle.std.specs.Prelude.{if◌then◌else◌, false, min, pos, true};
+ghost use Rattle.std.specs.Duration.{as_nanos, max_nanos};
 ghost use Rattle.dispatch_room_sockets.specs.Lookaheads.{StandsAhead, StaysInFront, heard_of};
 ghost use Rattle.dispatch_room_sockets.specs.Lookaheads.{may_grow};
 ghost use Rattle.dispatch_room_sockets.specs.Moves.{has_moved};
@@ -80,7 +81,7 @@ impl Client {
         ensures front { StaysInFront self.old.unserved self.new.unserved }
     {
         let mut stream = self.stream.as_ref();
-        look_ahead(&mut self.unserved, &mut stream, room)
+        look_ahead(&mut self.unserved, &mut stream, room).unwrap_or(Lookahead::End)
     }
 
     /// From now on it is looked at anew.
@@ -112,6 +113,13 @@ fn spare_from(limit: u64) -> RawFd
         Ok(first) => first,
         Err(_) => RawFd::MAX,
     }
+}
+
+// Until when nobody is accepted from now on.
+fn deaf_until(now: Duration) -> Duration
+    ensures { as_nanos result ≡ min (as_nanos now + 100_000_000) max_nanos }
+{
+    now.saturating_add(Duration::from_millis(PAUSE))
 }
 
 /// A door at which those who call are accepted.
@@ -254,7 +262,36 @@ impl<'a> Door<'a> {
     fn pause(&mut self) {
         self.known = 0;
         if let Ok(now) = self.rt.monotonic() {
-            self.deaf_until = now.saturating_add(Duration::from_millis(PAUSE));
+            self.deaf_until = deaf_until(now);
+        }
+    }
+
+    // Begins a wait, and returns how long it lasts at most: where someone may be calling, no longer
+    // than nobody is accepted for a while. Who is looked at after a wait of no time is watched.
+    fn begin_wait(&mut self, most: Duration) -> Duration
+        ensures most { as_nanos result ≡
+            (if self.old.is_called then min (as_nanos most) 100_000_000 else as_nanos most) }
+        ensures watches { IsTrue self.new.watches ↔ (as_nanos result ≡ 0) }
+        ensures count { self.new.wait ≡ min (self.old.wait + 1) u64.MAX }
+    {
+        let most = if self.is_called {
+            earlier(most, Duration::from_millis(PAUSE))
+        } else {
+            most
+        };
+        self.watches = most.is_zero();
+        self.wait = self.wait.saturating_add(1);
+        most
+    }
+
+    // Notes who has moved, as the last wait reported it.
+    fn note_moves(&mut self) {
+        for event in self.events.iter() {
+            let Token(slot) = event.token();
+            match self.moved.get_mut(slot) {
+                Some(wait) => *wait = self.wait,
+                None => self.is_called = true,
+            }
         }
     }
 
@@ -320,6 +357,10 @@ impl<'a> Entrance for Door<'a> {
 
     ghost is_done = { λ _. ⊤ };
 
+    ghost waits = { λ _. None };
+
+    ghost shows = { λ _ _. ⊤ };
+
     // Beside what each entrance ensures: the next look includes who was accepted.
     fn accept(&mut self) -> Option<Client>
         ensures fresh { IfSome result (λ client. (client.unserved ≡ [])
@@ -380,26 +421,13 @@ impl<'a> Entrance for Door<'a> {
         client.is_watched
     }
 
-    fn wait(&mut self, most: Duration) {
-        let pause = Duration::from_millis(PAUSE);
-        let most = if self.is_called {
-            earlier(most, pause)
-        } else {
-            most
-        };
-        self.watches = most.is_zero();
-        self.wait = self.wait.saturating_add(1);
-        if self.poll.poll(&mut self.events, Some(most)).is_err() {
-            thread::sleep(self.rt, pause);
-            return;
+    fn wait(&mut self, most: Duration) -> Option<Duration> {
+        let most = self.begin_wait(most);
+        match self.poll.poll(&mut self.events, Some(most)) {
+            Ok(_) => self.note_moves(),
+            Err(_) => thread::sleep(self.rt, Duration::from_millis(PAUSE)),
         }
-        for event in self.events.iter() {
-            let Token(slot) = event.token();
-            match self.moved.get_mut(slot) {
-                Some(wait) => *wait = self.wait,
-                None => self.is_called = true,
-            }
-        }
+        self.rt.monotonic().ok()
     }
 
     fn now(&self) -> Option<Duration> {

@@ -69,6 +69,7 @@ pub(crate) fn throw_away_all<E: Entrance>(
         ≡ filter (is_resting now) leavers.old.items }
     ensures came { E.came entrance.new ≡ E.came entrance.old }
     ensures heard { E.heard entrance.new ≡ E.heard entrance.old }
+    ensures waits { E.waits entrance.new ≡ E.waits entrance.old }
     ensures bound { deque_len leavers.new ≤ deque_len leavers.old }
     ensures capacity { deque_capacity leavers.new ≡ deque_capacity leavers.old }
 {
@@ -88,6 +89,7 @@ fn stays<E: Entrance>(entrance: &mut E, leaver: &mut Leaver<E::Caller>, now: Dur
     ensures due { is_resting now leaver.old ≡ false → is_resting now leaver.new ≡ false }
     ensures came { E.came entrance.new ≡ E.came entrance.old }
     ensures heard { E.heard entrance.new ≡ E.heard entrance.old }
+    ensures waits { E.waits entrance.new ≡ E.waits entrance.old }
 {
     if is_over(now, leaver.until) {
         return false;

@@ -23,6 +23,7 @@ pub(crate) fn admit<E: Entrance>(
     ensures all { (deque_len line.new ≡ deque_len line.old + most) ⊎ E.is_done entrance.new
         ⊎ (next.new ≡ u64.MAX) }
     ensures heard { E.heard entrance.new ≡ E.heard entrance.old }
+    ensures waits { E.waits entrance.new ≡ E.waits entrance.old }
     ensures bound { deque_len line.new ≤ deque_len line.old + most }
     ensures capacity { deque_capacity line.new ≡ deque_capacity line.old }
 {
@@ -57,6 +58,7 @@ pub(crate) fn look_at_all<E: Entrance>(
     ensures swept { IsSwept now patience line.old.items line.new.items ready.old.items
         ready.new.items (E.heard entrance.old) (E.heard entrance.new) }
     ensures came { E.came entrance.new ≡ E.came entrance.old }
+    ensures waits { E.waits entrance.new ≡ E.waits entrance.old }
     ensures bound { deque_len line.new + deque_len ready.new
         ≤ deque_len line.old + deque_len ready.old }
     ensures capacity { (deque_capacity line.new ≡ deque_capacity line.old)
@@ -83,6 +85,7 @@ fn look_at<E: Entrance>(
     ensures looked { IsLookedAt now patience kept.old kept.new (E.heard entrance.old)
         (E.heard entrance.new) result }
     ensures came { E.came entrance.new ≡ E.came entrance.old }
+    ensures waits { E.waits entrance.new ≡ E.waits entrance.old }
 {
     let heard = entrance.look(&mut kept.caller);
     kept.note(heard, now, patience)

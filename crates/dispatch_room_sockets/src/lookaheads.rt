@@ -1,15 +1,15 @@
 //! What stands ahead in a stream, before any of it is served.
 ghost use Rattle.std.specs.Io.KnownBytes.{Keeps, prepend_known};
-ghost use Rattle.std.specs.Prelude.{◌≡◌, ◌≢◌, ◌≤◌, Bool, length};
+ghost use Rattle.std.specs.Prelude.{◌≡◌, ◌≤◌, IfOk, OnOk, length};
 ghost use Rattle.room_http_messages.specs.declared.limits.TheConstants.{INBOX_ROOM};
-ghost use Rattle.dispatch_room_sockets.specs.Lookaheads.{LookaheadIs, StaysInFront, heard_of};
-ghost use Rattle.dispatch_room_sockets.specs.Lookaheads.{may_grow};
-ghost use Rattle.dispatch_room_sockets.specs.declared.lookaheads.Lookahead.TheVariants.{End};
+ghost use Rattle.dispatch_room_sockets.specs.Lookaheads.{IsSeen, LookaheadIs, StaysInFront};
+ghost use Rattle.dispatch_room_sockets.specs.Lookaheads.{heard_of, may_grow};
 
 use crate::kept_callers::Heard;
 use crate::unserved_bytes::UnservedBytes;
 use room_http_messages::limits::INBOX_ROOM;
 use room_http_messages::message_prefixes::{MessagePrefix, look_at};
+use room_http_messages::sources::ReadFailed;
 use std::io::Read;
 
 /// What stands ahead in a stream.
@@ -28,31 +28,31 @@ pub enum Lookahead {
 }
 
 /// What stands ahead in a stream that doesn't block, by what was read of it and can be read now, by
-/// way of some room. Once that is more than a part, no more is read.
+/// way of some room. Once that is more than a part, no more is read. It fails where the stream is
+/// lost.
 pub(crate) fn look_ahead<T: Read>(
     unserved: &mut UnservedBytes,
     stream: &mut T,
     room: &mut [u8],
-) -> Lookahead
-    ensures seen { result ≢ End → (has_ended : Bool) × LookaheadIs unserved.new has_ended result }
-    ensures kept { result ≢ End → Keeps
+) -> Result<Lookahead, ReadFailed>
+    ensures seen { IfOk result (IsSeen (length room.old) unserved.new (T.remaining stream.new)) }
+    ensures kept { OnOk result (Keeps
         (prepend_known unserved.old (T.remaining stream.old))
-        (prepend_known unserved.new (T.remaining stream.new)) }
+        (prepend_known unserved.new (T.remaining stream.new))) }
     ensures front { StaysInFront unserved.old unserved.new }
 {
     for _read in 0..INBOX_ROOM {
         let ahead = lookahead_of(unserved.bytes(), false);
         if !ahead.may_grow() {
-            return ahead;
+            return Ok(ahead);
         }
-        match unserved.fill(stream, room) {
-            Ok(Some(0)) => return lookahead_of(unserved.bytes(), true),
-            Ok(Some(_)) => {}
-            Ok(None) => break,
-            Err(_) => return Lookahead::End,
+        match unserved.fill(stream, room)? {
+            Some(0) => return Ok(lookahead_of(unserved.bytes(), true)),
+            Some(_) => {}
+            None => break,
         }
     }
-    lookahead_of(unserved.bytes(), false)
+    Ok(lookahead_of(unserved.bytes(), false))
 }
 
 // What these bytes are at the front of a stream that has ended after them or may go on. It is said

@@ -1,14 +1,15 @@
 //! The bytes of a stream that were read ahead of the requests that are served.
-ghost use Rattle.std.specs.Prelude.{◌≡◌, ◌≤◌, ◌++◌, ◌==◌, ℕ, List, [], OnOk, drop, length, min};
-ghost use Rattle.std.specs.Prelude.{take};
-ghost use Rattle.std.specs.Io.KnownBytes.{Keeps, prepend_known};
+ghost use Rattle.std.specs.Prelude.{◌≡◌, ◌≢◌, ◌≤◌, ◌<◌, ◌++◌, ◌==◌, ℕ, List, [], IfOk, None, Ok};
+ghost use Rattle.std.specs.Prelude.{OnOk, Some, drop, is_err, length, min, take, true};
+ghost use Rattle.std.specs.IoError.{error_kind};
+ghost use Rattle.std.specs.Io.KnownBytes.{IsAtEnd, Keeps, prepend_known};
 ghost use Rattle.room_http_messages.specs.declared.limits.TheConstants.{INBOX_ROOM};
 ghost use Rattle.dispatch_room_sockets.specs.Lookaheads.{StaysInFront};
 
 use room_http_messages::limits::INBOX_ROOM;
 use room_http_messages::sources::ReadFailed;
 use std::alloc::Global;
-use std::io::{ErrorKind, Read};
+use std::io::{Error, ErrorKind, Read};
 use std::marker::Model;
 
 /// The bytes of a stream that were read and not served yet: no more than a request has. They go
@@ -24,6 +25,21 @@ impl Model for UnservedBytes {
     ghost view = { λ unserved. unserved.bytes.items };
 
     ghost invariant = { λ unserved. length unserved.bytes.items ≤ INBOX_ROOM };
+}
+
+// What a read gave that failed: none where nothing has come yet, and else the stream is lost.
+fn unread(error: &Error) -> Result<Option<usize>, ReadFailed>
+    ensures silent { error_kind error.now ≡ ErrorKind.WouldBlock → result ≡ Ok None }
+    ensures again { error_kind error.now ≡ ErrorKind.Interrupted → result ≡ Ok None }
+    ensures lost { error_kind error.now ≢ ErrorKind.WouldBlock
+        → error_kind error.now ≢ ErrorKind.Interrupted → is_err result ≡ true }
+{
+    let kind = error.kind();
+    if kind == ErrorKind::WouldBlock || kind == ErrorKind::Interrupted {
+        Ok(None)
+    } else {
+        Err(ReadFailed)
+    }
 }
 
 impl UnservedBytes {
@@ -61,6 +77,8 @@ impl UnservedBytes {
         ensures bytes { OnOk result (Keeps
             (prepend_known self.old (T.remaining stream.old))
             (prepend_known self.new (T.remaining stream.new))) }
+        ensures end { IfOk result (λ count. count ≡ Some 0 → 0 < length room.old
+            → length self.old < INBOX_ROOM → IsAtEnd (T.remaining stream.new)) }
         ensures front { StaysInFront self.old self.new }
     {
         let most = room.len().min(INBOX_ROOM - self.bytes.len());
@@ -69,10 +87,7 @@ impl UnservedBytes {
                 Ok(()) => Ok(Some(count)),
                 Err(_) => Err(ReadFailed),
             },
-            Err(error) => match error.kind() {
-                ErrorKind::WouldBlock | ErrorKind::Interrupted => Ok(None),
-                _ => Err(ReadFailed),
-            },
+            Err(error) => unread(&error),
         }
     }
 

@@ -1,7 +1,7 @@
 //! Those who wait: each is kept until a request of theirs is whole, and is then given in that
-//! order, so that nobody waits for a silent caller. Nobody is looked at while someone is ready. Then
-//! all are, first without waiting where one isn't watched: who comes back isn't, so new callers are
-//! heard beside those who ask without a pause.
+//! order, so that nobody waits for a silent caller. Nobody is looked at while someone is ready.
+//! Then all are, first without waiting where one isn't watched: who comes back isn't, so new
+//! callers are heard beside those who ask without a pause.
 ghost use Rattle.std.specs.Prelude.{◌≡◌, ◌+◌, ◌≤◌, IfOk};
 ghost use Rattle.std.specs.VecDeque.{deque_len, deque_capacity};
 
@@ -48,13 +48,14 @@ pub struct Waiting<E: Entrance> {
 
 impl<E: Entrance> Waiting<E> {
     ghost use Rattle.dispatch_room_sockets.specs.CallerHistories.{AreInTime, ComesBack, GivesNext};
-    ghost use Rattle.dispatch_room_sockets.specs.Rounds.{HasRounds, IsRound, before_giving, queues};
+    ghost use Rattle.dispatch_room_sockets.specs.Rounds.{AreWatched, HasRounds, Hears, IsPause};
+    ghost use Rattle.dispatch_room_sockets.specs.Rounds.{IsRound, LooksAround, Waited, all_watched};
+    ghost use Rattle.dispatch_room_sockets.specs.Rounds.{before_giving, queues};
     ghost use Rattle.dispatch_room_sockets.specs.Turns.{IsInTurn, WaitsAgain};
     ghost use Rattle.dispatch_room_sockets.specs.Departures.{Departs, IsParting, is_resting};
     ghost use Rattle.dispatch_room_sockets.specs.Pauses.{IsLeast, limits};
     ghost use Rattle.std.specs.Prelude.{[], ◌∷◌, ◌≢◌, ◌<◌, ◌==◌, IfSome, IsSome, drop, All, None};
     ghost use Rattle.std.specs.Prelude.{filter, length, not};
-    ghost use Rattle.std.specs.List.{list_all};
     ghost use Rattle.std.specs.Duration.{as_nanos};
 
     /// Nobody waits yet where they come in. Each may be silent so long, and a request may take so
@@ -88,6 +89,7 @@ impl<E: Entrance> Waiting<E> {
             self.new.line.items self.new.ready.items self.new.next result }
         ensures rounds { HasRounds (queues E.Entrance self.old)
             (before_giving result (queues E.Entrance self.new)) }
+        ensures hears { Hears E.Entrance self.old self.new result }
         ensures in_turn { IsInTurn self.old.line.items self.new.line.items self.old.ready.items
             self.new.ready.items result }
         ensures room { IsSome result
@@ -102,6 +104,8 @@ impl<E: Entrance> Waiting<E> {
     pub(crate) fn hear(&mut self)
         ensures rounds { HasRounds (queues E.Entrance self.old) (queues E.Entrance self.new) }
         ensures stay { length self.old.ready.items ≢ 0 → self.new ≡ self.old }
+        ensures around { length self.old.ready.items ≡ 0
+            → LooksAround E.Entrance self.old self.new }
         ensures times { (self.new.keep ≡ self.old.keep) × (self.new.patience ≡ self.old.patience) }
     {
         if self.ready.is_empty() {
@@ -121,7 +125,7 @@ impl<E: Entrance> Waiting<E> {
     // Looks at all where not all are watched. Where nobody is to be served by then, waits until
     // someone moves, and looks at all.
     fn look_around(&mut self)
-        ensures rounds { HasRounds (queues E.Entrance self.old) (queues E.Entrance self.new) }
+        ensures { LooksAround E.Entrance self.old self.new }
     {
         self.watch_all();
         if self.ready.is_empty() {
@@ -132,7 +136,7 @@ impl<E: Entrance> Waiting<E> {
 
     // Where not all are watched, looks at all as they have moved by now, so that they are.
     fn watch_all(&mut self)
-        ensures rounds { HasRounds (queues E.Entrance self.old) (queues E.Entrance self.new) }
+        ensures { AreWatched E.Entrance self.old self.new }
     {
         if !self.are_watched() {
             self.wait(Duration::ZERO);
@@ -141,8 +145,7 @@ impl<E: Entrance> Waiting<E> {
 
     // Whether all who are looked at are watched.
     fn are_watched(&self) -> bool
-        ensures { result ≡ list_all (λ k. E.is_watched self.now.entrance k.caller)
-            self.now.line.items }
+        ensures { result ≡ all_watched E.Entrance self.now }
     {
         for kept in &self.line {
             if !self.entrance.is_watched(&kept.caller) {
@@ -153,7 +156,9 @@ impl<E: Entrance> Waiting<E> {
     }
 
     // How long the next wait lasts, at most: a second where the clock fails.
-    fn longest_pause(&self) -> Duration {
+    fn longest_pause(&self) -> Duration
+        ensures { IsPause E.Entrance self.now result }
+    {
         match self.entrance.now() {
             Some(now) => self.pause(now),
             None => Duration::from_secs(LONGEST_PAUSE),
@@ -163,12 +168,11 @@ impl<E: Entrance> Waiting<E> {
     // Waits until someone moves, at most this long, and looks at all. Closing connections are read
     // before the wait, so that nobody who calls meanwhile waits for them.
     fn wait(&mut self, pause: Duration)
-        ensures rounds { HasRounds (queues E.Entrance self.old) (queues E.Entrance self.new) }
+        ensures { Waited E.Entrance pause self.old self.new }
     {
         let now = self.entrance.now();
         self.throw_away(now);
-        self.entrance.wait(pause);
-        if let Some(now) = self.entrance.now() {
+        if let Some(now) = self.entrance.wait(pause) {
             self.look(now);
         }
     }
@@ -177,6 +181,7 @@ impl<E: Entrance> Waiting<E> {
     // is. Who rests stays.
     fn throw_away(&mut self, now: Option<Duration>)
         ensures same { queues E.Entrance self.new ≡ queues E.Entrance self.old }
+        ensures waits { E.waits self.new.entrance ≡ E.waits self.old.entrance }
         ensures in_time { IfSome now (λ now.
             All (λ l. as_nanos now < as_nanos l.until) self.new.leavers.items) }
         ensures rest { IfSome now (λ now. filter (is_resting now) self.new.leavers.items
@@ -191,6 +196,8 @@ impl<E: Entrance> Waiting<E> {
     fn look(&mut self, now: Duration)
         ensures round { IsRound now (queues E.Entrance self.old) (queues E.Entrance self.new) }
         ensures in_time { AreInTime now self.new.line.items }
+        ensures leavers { self.new.leavers ≡ self.old.leavers }
+        ensures waits { E.waits self.new.entrance ≡ E.waits self.old.entrance }
     {
         let kept = self.line.len() + self.ready.len();
         let most = MOST_KEPT.saturating_sub(kept + self.leavers.len());

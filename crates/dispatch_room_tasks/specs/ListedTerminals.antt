@@ -1,12 +1,16 @@
 -- Who has a terminal in a room, and what is written of that.
 use Rattle.std.specs.Io.KnownBytes.{Appends}
 use Rattle.std.specs.List.{flat_map}
-use Rattle.std.specs.Prelude.{IfErr, IfOk, IsPermutation, List, OnOk, Option, Result, codes}
-use Rattle.std.specs.Prelude.{decimal, map, ℕ, ◌++◌, ◌≡◌, ◌⊎◌}
+use Rattle.std.specs.Ordering.{nat_cmp}
+use Rattle.std.specs.Prelude.{IfErr, IfOk, IsPermutation, IsSorted, List, OnOk, Option, Result}
+use Rattle.std.specs.Prelude.{codes, decimal, map, ℕ, ◌++◌, ◌≡◌, ◌⊎◌}
+use Rattle.std.specs.declared.cmp.Ordering.{Ordering}
+use Rattle.std.specs.declared.cmp.Ordering.TheVariants.{Greater, Less}
 use Rattle.sqlite.specs.Held.{Held, state}
 use Rattle.sqlite.specs.State.{Survives}
 use Rattle.sqlite_trees.specs.declared.store.Store.{Ghosts}
 use Rattle.room_place.specs.Plans.{Layout}
+use Rattle.room_types.specs.Keys.{callsign_cmp}
 use Rattle.room_types.specs.declared.asks.Who.{Who}
 use Rattle.room_types.specs.declared.asks.Who.TheVariants as who
 use Rattle.room_types.specs.declared.fleet.Terminal.{Terminal}
@@ -39,11 +43,22 @@ line_text (Crew c) = codes "crew " ++ c ++ codes "\n"
 abbrev pub lines_text : List Listed → List ℕ
 lines_text listed = flat_map line_text listed
 
--- each terminal is listed once
-abbrev pub IsListing : List Terminal → List Listed → Type 0
-IsListing ts listed = IsPermutation (map (λ t. listed_of t.who) ts) listed
+-- the desks first, then the positions, then the crews; each by number or by callsign
+abbrev pub listed_cmp : Listed → Listed → Ordering
+listed_cmp (Desk d) (Desk e) = nat_cmp d e
+listed_cmp (Desk d) other = Less
+listed_cmp (Position p) (Desk d) = Greater
+listed_cmp (Position p) (Position q) = nat_cmp p q
+listed_cmp (Position p) (Crew c) = Less
+listed_cmp (Crew c) (Crew e) = callsign_cmp c e
+listed_cmp (Crew c) other = Greater
 
--- a line of each of these terminals is written, and nothing else
+-- each terminal is listed once, in this order
+abbrev pub IsListing : List Terminal → List Listed → Type 0
+IsListing ts listed =
+    IsPermutation (map (λ t. listed_of t.who) ts) listed × IsSorted listed_cmp listed
+
+-- a line of each of these terminals is written, in order, and nothing else
 abbrev pub Prints : List Terminal → Option (List ℕ) → Option (List ℕ) → Type 0
 Prints ts before after =
     (listed : List Listed) × IsListing ts listed × Appends before after (lines_text listed)

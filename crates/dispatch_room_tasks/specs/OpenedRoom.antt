@@ -10,10 +10,12 @@ use Rattle.room_tables.specs.RoomsInTables.{Configuration, Stands}
 use Rattle.room_tables_schema.specs.Versions.{HasTables}
 use Rattle.room_store.specs.StoredRoom.{IsKept, IsRoom}
 use Rattle.room_store.specs.declared.store.Store.{Store}
-use Rattle.room_store_file.specs.OpenedFile.{IsOldRoom, KeepsFile, MayBeIndexed}
+use Rattle.room_store_file.specs.OpenedFile.{HidesVersion, IsOldRoom, KeepsFile, MayBeIndexed}
+use Rattle.room_store_file.specs.OpeningCauses.{FailsToOpen}
 use Rattle.room_store_check_tables.specs.HeldRooms.{HoldsRoom, WritesNothing}
 use Rattle.room_store_file.specs.declared.opened_file.OpenFault.{OpenFault}
 use Rattle.room_store_file.specs.declared.opened_file.OpenFault.TheVariants.{NotARoom, OtherVersion}
+use Rattle.room_store_file.specs.declared.opened_file.OpenFault.TheVariants.{Storage}
 use Rattle.room_store_writes.specs.Transactions.{Leaves}
 use Rattle.dispatch_room_cli.specs.declared.exit_status.Failure.{Failure}
 use Rattle.dispatch_room_cli.specs.declared.exit_status.Failure.TheVariants.{File}
@@ -35,7 +37,8 @@ abbrev pub OpensRoom : {S : Type 0} → Ghosts S → Held S → Store S → Type
 OpensRoom g old opened =
     (terminals : List Terminal) × (room : Room) × IsOpened g old opened terminals room
 
--- The store reports why it opens none, and the database, which is released, is as it was.
+-- The store reports why it opens none, and the database, which is released, is as it was. Storage
+-- is reported only where the database failed, or a row is not of its table.
 pub record HoldsNone {S : Type 0} (g : Ghosts S) (old : Held S) (failure : Failure) : Type 0 where
   pub fault : OpenFault
   pub failed : failure ≡ open_fault fault
@@ -48,6 +51,8 @@ pub record HoldsNone {S : Type 0} (g : Ghosts S) (old : Held S) (failure : Failu
       × (fault ≡ NotARoom → ¬ IsOldRoom (state g old).now)
   pub no_room : IsClean g released → fault ≡ NotARoom
       → HasTables (state g old).now.schema → ¬ HoldsRoom (state g old).now.trees
+  pub why : IsClean g released → fault ≡ Storage
+      → HidesVersion (state g old) (state g released) ⊎ FailsToOpen g old released
   pub survives : Survives (state g old) (state g released) (MayBeIndexed (state g old).now)
 
 -- There is a room, but the zone of its plan is no rule, so its days can't be reckoned. It is closed

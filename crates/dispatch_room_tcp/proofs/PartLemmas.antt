@@ -5,15 +5,13 @@ use Rattle.std.specs.Prelude.{IfSome, OnErr, is_err, not, ◌&&◌}
 use Rattle.sqlite_trees.specs.declared.store.Store.{Ghosts}
 use Rattle.dispatch_room_cli.specs.declared.exit_status.Done.{Done}
 use Rattle.dispatch_room_cli.specs.declared.exit_status.Failure.{Failure}
-use Rattle.dispatch_room_serving.specs.declared.served_room.Terms.{Terms}
 use Rattle.dispatch_room_serving.specs.Callers.{MayCall, Printing, Prints}
 use Rattle.dispatch_room_serving.specs.Journals.{EndsAfter}
-use Rattle.dispatch_room_serving.specs.declared.journal_files.OpenedList.{OpenedList}
+use Rattle.dispatch_room_journal.specs.declared.list_ends.ListEnd.{ListEnd}
 use Rattle.dispatch_room_serving.specs.declared.journals.Journal.{Journal}
 use Rattle.dispatch_room_tcp.specs.ServedFiles.{PrintsServing}
 use Rattle.dispatch_room_tcp.specs.ServedParts.{EndsAs, EndsLast, EndsPart, Interval, IsPart}
-use Rattle.dispatch_room_tcp.specs.ServedParts.{ListOrigin}
-use Rattle.dispatch_room_tcp.specs.ServedParts.{PartsBefore, Watch}
+use Rattle.dispatch_room_tcp.specs.ServedParts.{Manner, PartsBefore}
 
 -- where there is a list, a part ends as its service does with it
 pub ends_as : {W : Type 0} (ends : W → W → Type 0) (old new : Option (Journal W))
@@ -60,8 +58,8 @@ second_true true b is = is
 second_true false b is = absurd (cc)
 
 -- the first list, and one that is opened later
-module _ (is_list : OpenedList → Type 0) (first : Option OpenedList) where
-  opened_as : (list : Option OpenedList) → first ≡ list
+module _ {F : Type 0} (is_list : F × ListEnd → Type 0) (first : Option (F × ListEnd)) where
+  opened_as : (list : Option (F × ListEnd)) → first ≡ list
       → IfSome list (λ it. (first ≡ Some it) ⊎ is_list it)
   opened_as None is = tt
   opened_as (Some it) is = inl is
@@ -69,25 +67,25 @@ module _ (is_list : OpenedList → Type 0) (first : Option OpenedList) where
   pub first_opened : IfSome first (λ it. (first ≡ Some it) ⊎ is_list it)
   first_opened = opened_as first refl
 
-  pub later_opened : (next : Option OpenedList) → IfSome next is_list
+  pub later_opened : (next : Option (F × ListEnd)) → IfSome next is_list
       → IfSome next (λ it. (first ≡ Some it) ⊎ is_list it)
   later_opened None is = tt
   later_opened (Some it) is = inr is
 
-module _ {S : Type 0} (g : Ghosts S) (watch : Watch) (terms : Terms) (lists : ListOrigin) where
-  abbrev pub first_before : (first : Interval S) → PartsBefore g watch terms lists first first
+module _ {S F : Type 0} (g : Ghosts S) (manner : Manner F) where
+  abbrev pub first_before : (first : Interval S) → PartsBefore g manner first first
   first_before first = record { earlier = []; are = refl; only = λ once. refl }
 
-  abbrev pub first_part : (list : Option OpenedList) → IfSome list lists.gives → (first last : Interval S)
-      (result : Result Done Failure) → IsPart g watch terms list first last result
-      → EndsPart g watch terms lists first last result
+  abbrev pub first_part : (list : Option (F × ListEnd)) → IfSome list manner.lists.holds → (first last : Interval S)
+      (result : Result Done Failure) → IsPart g manner.watch manner.terms list first last result
+      → EndsPart g manner first last result
   first_part list listed first last result is =
       record { at = first; before = first_before first; list = list; listed = listed; is = is }
 
   -- after a part that ended well another begins
-  pub next_before : (first now : Interval S) (result : Result Done Failure) → terms.renews ≡ true
-      → is_err result ≡ false → (part : EndsPart g watch terms lists first now result)
-      → (next : PartsBefore g watch terms lists first now)
+  pub next_before : (first now : Interval S) (result : Result Done Failure) → manner.terms.renews ≡ true
+      → is_err result ≡ false → (part : EndsPart g manner first now result)
+      → (next : PartsBefore g manner first now)
       × (length next.earlier ≡ length part.before.earlier + 1)
   next_before first now (Ok done) renews well part = (
     record {
@@ -100,10 +98,10 @@ module _ {S : Type 0} (g : Ghosts S) (watch : Watch) (terms : Terms) (lists : Li
   next_before first now (Err fault) renews well part = absurd (cc)
 
   -- where one part is all, it is the last
-  pub ends_once : (list : Option OpenedList) → IfSome list lists.gives → (first last : Interval S)
-      (result : Result Done Failure) → terms.renews ≡ false
-      → IsPart g watch terms list first last result
-      → EndsLast g watch terms lists first last result
+  pub ends_once : (list : Option (F × ListEnd)) → IfSome list manner.lists.holds → (first last : Interval S)
+      (result : Result Done Failure) → manner.terms.renews ≡ false
+      → IsPart g manner.watch manner.terms list first last result
+      → EndsLast g manner first last result
   ends_once list listed first last result once is = record {
     part = first_part list listed first last result is;
     followed = λ renews well. absurd (cc (once, renews));
@@ -111,7 +109,7 @@ module _ {S : Type 0} (g : Ghosts S) (watch : Watch) (terms : Terms) (lists : Li
 
   -- and one that ended badly is
   pub ends_badly : (first last : Interval S) (result : Result Done Failure)
-      → is_err result ≡ true → EndsPart g watch terms lists first last result
-      → EndsLast g watch terms lists first last result
+      → is_err result ≡ true → EndsPart g manner first last result
+      → EndsLast g manner first last result
   ends_badly first last (Ok done) bad part = absurd (cc)
   ends_badly first last (Err fault) bad part = record { part = part; followed = λ renews well. absurd (cc well) }

@@ -4,13 +4,13 @@ use Rattle.std.proofs.lemmas.Result.{IfErr-weaker, IfOk-weaker}
 use Rattle.dispatch_room_cli.specs.declared.exit_status.Done.{Done}
 use Rattle.dispatch_room_cli.specs.declared.exit_status.Failure.{Failure}
 use Rattle.dispatch_room_cli.specs.declared.tasks.Service.{Service}
-use Rattle.dispatch_room_serving.specs.declared.journal_files.OpenedList.{OpenedList}
+use Rattle.dispatch_room_journal.specs.declared.list_ends.ListEnd.{ListEnd}
 use Rattle.dispatch_room_tcp.specs.Hosts.{Surroundings}
 use Rattle.dispatch_room_tcp.specs.ServedFiles.{FailsBy, FailsServe, IsFirstList, IsServe}
 use Rattle.dispatch_room_tcp.specs.ServedFiles.{IsServedBy, is_endless}
 
-module _ (around : Surroundings) (before after : Option (List ℕ)) (result : Result Done Failure) (file : List ℕ)
-    (service : Service) (endless : Bool) (list : Option OpenedList) (is : is_endless service ≡ endless)
+module _ {F : Type 0} (around : Surroundings F) (before after : Option (List ℕ)) (result : Result Done Failure) (file : List ℕ)
+    (service : Service) (endless : Bool) (list : Option (F × ListEnd)) (is : is_endless service ≡ endless)
     (first : IsFirstList around service list) where
   pub served : IfOk result (λ done. IsServedBy around before after done endless list file service)
       → IfOk result (λ done. IsServe around before after done file service)

@@ -1,5 +1,7 @@
 -- what a command finds around it
 pub mod Hosts
+-- what is heard on a connection
+pub mod HeardRooms
 -- how the callers of a listener are parted from
 pub mod Listeners
 -- a room that is served in parts

@@ -10,12 +10,12 @@ use Rattle.dispatch_room_cli.specs.declared.exit_status.Failure.{Failure}
 use Rattle.dispatch_room_cli.specs.declared.exit_status.Failure.TheVariants.{Network}
 use Rattle.dispatch_room_cli.specs.declared.tasks.Journal.{Journal}
 use Rattle.dispatch_room_cli.specs.declared.tasks.Service.{Service}
-use Rattle.dispatch_room_tcp.specs.Hosts.{IsDoneAt, IsUndoneAt, IsUnlisted, Surroundings}
-use Rattle.dispatch_room_tcp.specs.ServedParts.{Interval, ListOrigin, OpensNoPart, ServesParts}
-use Rattle.dispatch_room_tcp.specs.ServedParts.{Watch}
+use Rattle.dispatch_room_journal.specs.declared.list_ends.ListEnd.{ListEnd}
+use Rattle.dispatch_room_tcp.specs.Hosts.{IsDoneAt, IsUndoneAt, IsUnlisted, Origin, Surroundings}
+use Rattle.dispatch_room_tcp.specs.ServedParts.{Interval, Manner, OpensNoPart}
+use Rattle.dispatch_room_tcp.specs.ServedParts.{ServesParts, Watch}
 use Rattle.dispatch_room_tcp.specs.declared.serve.Served.{Served}
 use Rattle.dispatch_room_serving.specs.Callers.{Opening, PrintsStart}
-use Rattle.dispatch_room_serving.specs.declared.journal_files.OpenedList.{OpenedList}
 use Rattle.dispatch_room_serving.specs.declared.served_room.Terms.{Terms}
 use Rattle.dispatch_room_tcp.specs.declared.listeners.TcpAddress.{TcpAddress}
 use Rattle.dispatch_room_tcp.specs.declared.tcp_doors.TcpDoor.{TcpDoor}
@@ -64,40 +64,37 @@ PrintsServing is_listening before after (Err fault) =
     (after ≡ before) ⊎ (PrintsStart is_listening before after
     ⊎ ((is_listening ≡ false) × (fault ≡ Network)))
 
--- The room was served on these terms, with a journal or none. What is known of the calls is what
--- the listener knew of them before, and what it knows after if it is given back (`heard`,
--- `written`). `lists` are those that are opened for it.
-pub record IsServed {S L : Type 0} (heard : L → Option (List (Option Opening)))
+-- The room was served in this manner. What is known of the calls is what the listener knew of them
+-- before, and what it knows after if it is given back (`heard`, `written`).
+pub record IsServed {S L F : Type 0} (heard : L → Option (List (Option Opening)))
     (written : L → Option (List (Option (List ℕ)))) (g : Ghosts S) (old new : Held S)
-    (watch : Watch) (terms : Terms) (lists : ListOrigin) (listener : L)
-    (served : Result (Served L) Failure) : Type 0 where
+    (manner : Manner F) (listener : L) (served : Result (Served L) Failure) : Type 0 where
   pub hears : Option (List (Option Opening))
   pub writes : Option (List (Option (List ℕ)))
   pub known : IfOk served (λ served. (hears ≡ heard served.listener)
       × (writes ≡ written served.listener))
-  pub is : ServesParts g watch terms lists (begins_at heard written listener old)
+  pub is : ServesParts g manner (begins_at heard written listener old)
       (stands_at hears writes new) (ended served)
 
-abbrev pub Serves : {L : Type 0} → (L → Option (List (Option Opening)))
-    → (L → Option (List (Option (List ℕ)))) → Bool → Watch → Terms → ListOrigin → L
+abbrev pub Serves : {L F : Type 0} → (L → Option (List (Option Opening)))
+    → (L → Option (List (Option (List ℕ)))) → Bool → Manner F → L
     → Saying (Served L)
-Serves heard written is_listening watch terms lists listener = λ S g old new before after served.
-    IsServed heard written g old new watch terms lists listener served
+Serves heard written is_listening manner listener = λ S g old new before after served.
+    IsServed heard written g old new manner listener served
     × PrintsServing is_listening before after (ended served)
 
 -- no room is opened for one of its parts
-abbrev pub OpensNone : {S L : Type 0} → (L → Option (List (Option Opening)))
-    → (L → Option (List (Option (List ℕ)))) → Ghosts S → Held S → Watch → Terms
-    → ListOrigin → L → Failure → Type 0
-OpensNone heard written g conn watch terms lists listener =
-    OpensNoPart g watch terms lists (begins_at heard written listener conn)
+abbrev pub OpensNone : {S L F : Type 0} → (L → Option (List (Option Opening)))
+    → (L → Option (List (Option (List ℕ)))) → Ghosts S → Held S → Manner F → L → Failure → Type 0
+OpensNone heard written g conn manner listener =
+    OpensNoPart g manner (begins_at heard written listener conn)
 
 -- the same, and nothing is printed; or a part before it had printed that the room is served
-abbrev pub ServesNone : {L : Type 0} → (L → Option (List (Option Opening)))
-    → (L → Option (List (Option (List ℕ)))) → Bool → Watch → Terms → ListOrigin → L
+abbrev pub ServesNone : {L F : Type 0} → (L → Option (List (Option Opening)))
+    → (L → Option (List (Option (List ℕ)))) → Bool → Manner F → L
     → Refusing
-ServesNone heard written is_listening watch terms lists listener = λ S g conn before after fault.
-    OpensNone heard written g conn watch terms lists listener fault
+ServesNone heard written is_listening manner listener = λ S g conn before after fault.
+    OpensNone heard written g conn manner listener fault
     × ((after ≡ before) ⊎ PrintsStart is_listening before after)
 
 -- whether each message lasts before the room acts on it: if there is a journal that says so
@@ -110,12 +107,14 @@ abbrev pub keeps_questions_by : Option Journal → Bool
 keeps_questions_by None = true
 keeps_questions_by (Some journal) = journal.keeps_questions
 
--- how a service is observed: whether it has a journal, and which
-abbrev pub watch_of : Bool → Service → Watch
-watch_of has_journal service = record {
+-- how a service is observed, by what is known of what a list's file holds: whether it has a
+-- journal, and which
+abbrev pub watch_of : {F : Type 0} → (F → Option (List ℕ)) → Bool → Service → Watch F
+watch_of contents has_journal service = record {
   has_journal = has_journal;
   is_synced = is_synced_by service.journal;
   keeps_questions = keeps_questions_by service.journal;
+  contents = contents;
 }
 
 -- the door of a service: where it listens, how many seconds a connection may be silent, and how
@@ -133,83 +132,89 @@ IsAddressOf service listener = (listener.address ≡ service.address)
     × (as_nanos listener.waits.patience ≡ service.patience * 1_000_000_000)
 
 -- a list is the one at the path of a journal, where one is asked for
-abbrev pub IsListOf : Surroundings → Option Journal → OpenedList → Type 0
+abbrev pub IsListOf : {F : Type 0} → Surroundings F → Option Journal → F × ListEnd → Type 0
 IsListOf around None list = ⊥
-IsListOf around (Some journal) list = around.list journal.list.now list
+IsListOf around (Some journal) list = (around.list journal.list.now).holds list
 
 -- the list for a journal was not opened for this, where one is asked for
-abbrev pub IsUnlistedFor : Surroundings → Option Journal → Failure → Type 0
+abbrev pub IsUnlistedFor : {F : Type 0} → Surroundings F → Option Journal → Failure → Type 0
 IsUnlistedFor around None fault = ⊥
 IsUnlistedFor around (Some journal) fault = IsUnlisted around journal.list.now fault
 
 -- the lists of a room: the one that it begins to be served with, and those that are opened later
 -- for its journal
-abbrev pub lists_for : Surroundings → Service → Option OpenedList → ListOrigin
+abbrev pub lists_for : {F : Type 0} → Surroundings F → Service → Option (F × ListEnd)
+    → Origin (F × ListEnd)
 lists_for around service first = record {
-  gives = λ list. (first ≡ Some list) ⊎ IsListOf around service.journal list;
+  holds = λ list. (first ≡ Some list) ⊎ IsListOf around service.journal list;
   lacks = IsUnlistedFor around service.journal;
 }
 
+-- how the room of a service is served that begins with this list or none
+abbrev pub manner_of : {F : Type 0} → Surroundings F → Service → Option (F × ListEnd) → Manner F
+manner_of around service first = record {
+  watch = watch_of around.contents (is_some first) service;
+  terms = terms_of service;
+  lists = lists_for around service first;
+}
+
 -- the list for the journal of a service, where one is asked for
-pub record IsFirstList (around : Surroundings) (service : Service) (list : Option OpenedList)
-    : Type 0 where
+pub record IsFirstList {F : Type 0} (around : Surroundings F) (service : Service)
+    (list : Option (F × ListEnd)) : Type 0 where
   pub asked : is_some list ≡ is_some service.journal
   pub is : IfSome list (IsListOf around service.journal)
 
 -- by what is around, what the output held before and holds after, and how much is done
-module _ (around : Surroundings) (before after : Option (List ℕ)) (done : Done) where
+module _ {F : Type 0} (around : Surroundings F) (before after : Option (List ℕ)) (done : Done) where
   -- the room of a file was served to those who call where this listens
   abbrev pub IsServedAt : {L : Type 0} → (L → Option (List (Option Opening)))
-      → (L → Option (List (Option (List ℕ)))) → Bool → Watch → Terms → ListOrigin
+      → (L → Option (List (Option (List ℕ)))) → Bool → Manner F
       → L → List ℕ → Type 0
-  IsServedAt {L} heard written is_listening watch terms lists listener file =
+  IsServedAt {L} heard written is_listening manner listener file =
       (served : Served L)
-      × IsDoneAt (around.kept file) (Serves heard written is_listening watch terms lists listener)
+      × IsDoneAt (around.kept file) (Serves heard written is_listening manner listener)
       before after served
       × (done ≡ served.done)
 
   -- The room of a file was served, with a log as it was asked for, and a journal in this list or
   -- none: at the door of a service, where it goes on until it is stopped, or at its address to as
   -- many connections as was asked for, one after another.
-  abbrev pub IsServedBy : Bool → Option OpenedList → List ℕ → Service → Type 0
+  abbrev pub IsServedBy : Bool → Option (F × ListEnd) → List ℕ → Service → Type 0
   IsServedBy true list file service =
       (door : TcpDoor) × IsDoorOf service door
-      × IsServedAt (λ _. None) (λ _. None) false (watch_of (is_some list) service)
-      (terms_of service) (lists_for around service list) door file
+      × IsServedAt (λ _. None) (λ _. None) false (manner_of around service list) door file
   IsServedBy false list file service =
       (listener : TcpAddress) × IsAddressOf service listener
-      × IsServedAt (λ _. None) (λ _. None) false (watch_of (is_some list) service)
-      (terms_of service) (lists_for around service list) listener file
+      × IsServedAt (λ _. None) (λ _. None) false (manner_of around service list) listener file
 
   abbrev pub IsServe : List ℕ → Service → Type 0
-  IsServe file service = (list : Option OpenedList) × IsFirstList around service list
+  IsServe file service = (list : Option (F × ListEnd)) × IsFirstList around service list
       × IsServedBy (is_endless service) list file service
 
 -- by what is around, what the output held before and holds after, and why the task fails
-module _ (around : Surroundings) (before after : Option (List ℕ)) (fault : Failure) where
+module _ {F : Type 0} (around : Surroundings F) (before after : Option (List ℕ))
+    (fault : Failure) where
   -- this became of the file of the room that was to be served to those who call where this listens
   abbrev pub FailsAt : {L : Type 0} → (L → Option (List (Option Opening)))
-      → (L → Option (List (Option (List ℕ)))) → Bool → Watch → Terms → ListOrigin
+      → (L → Option (List (Option (List ℕ)))) → Bool → Manner F
       → L → List ℕ → Type 0
-  FailsAt heard written is_listening watch terms lists listener file =
+  FailsAt heard written is_listening manner listener file =
       IsUndoneAt (around.kept file)
-      (Serves heard written is_listening watch terms lists listener)
-      (ServesNone heard written is_listening watch terms lists listener) before after fault
+      (Serves heard written is_listening manner listener)
+      (ServesNone heard written is_listening manner listener) before after fault
 
-  abbrev pub FailsBy : Bool → Option OpenedList → List ℕ → Service → Type 0
+  abbrev pub FailsBy : Bool → Option (F × ListEnd) → List ℕ → Service → Type 0
   FailsBy true list file service =
       (door : TcpDoor) × IsDoorOf service door
-      × FailsAt (λ _. None) (λ _. None) false (watch_of (is_some list) service)
-      (terms_of service) (lists_for around service list) door file
+      × FailsAt (λ _. None) (λ _. None) false (manner_of around service list) door file
   FailsBy false list file service =
       (listener : TcpAddress) × IsAddressOf service listener
-      × FailsAt (λ _. None) (λ _. None) false (watch_of (is_some list) service)
-      (terms_of service) (lists_for around service list) listener file
+      × FailsAt (λ _. None) (λ _. None) false (manner_of around service list) listener file
 
   -- no list was opened for the journal that was asked for, and nothing is printed; or this became
   -- of the file of the room that was to be served
   abbrev pub FailsServe : List ℕ → Service → Type 0
   FailsServe file service =
       ((after ≡ before) × IsUnlistedFor around service.journal fault)
-      ⊎ ((list : Option OpenedList) × IsFirstList around service list
+      ⊎ ((list : Option (F × ListEnd)) × IsFirstList around service list
       × FailsBy (is_endless service) list file service)

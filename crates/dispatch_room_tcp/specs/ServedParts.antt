@@ -1,25 +1,29 @@
 -- A room that is served in parts, one after another: each begins in a new list, at the room that
 -- the one before left in the same database.
 use Rattle.std.specs.Prelude.{◌≡◌, ◌⊎◌, ℕ, List, [], ◌∷◌, Bool, true, false, IfSome, IsOk, Option}
-use Rattle.std.specs.Prelude.{None, Result, Ok, Err, ◌≢◌, ◌&&◌, is_some, length}
+use Rattle.std.specs.Prelude.{Result, Ok, Err, ◌≢◌, ◌&&◌, is_some, length}
+use Rattle.std.specs.Option.{option_map}
 use Rattle.sqlite.specs.Held.{Held}
 use Rattle.sqlite_trees.specs.declared.store.Store.{Ghosts}
 use Rattle.dispatch_room_cli.specs.declared.exit_status.Done.{Done}
 use Rattle.dispatch_room_cli.specs.declared.exit_status.Failure.{Failure}
 use Rattle.dispatch_room_cli.specs.declared.exit_status.Failure.TheVariants as failure
+use Rattle.dispatch_room_journal.specs.Chains.{sha256_digits}
+use Rattle.dispatch_room_journal.specs.PlainTexts.{plain_of}
 use Rattle.dispatch_room_journal.specs.JournalRecords.{answer_text, message_text, room_text}
 use Rattle.dispatch_room_journal.specs.declared.list_ends.ListEnd.{ListEnd}
 use Rattle.dispatch_room_serving.specs.Callers.{Opening}
 use Rattle.dispatch_room_journal.specs.RowRuns.{PutsEnd}
-use Rattle.dispatch_room_serving.specs.Journals.{EndsAfter, KeptFile, failed_by, held_by}
+use Rattle.dispatch_room_serving.specs.Journals.{EndsAfter, failed_by, held_by}
 use Rattle.dispatch_room_serving.specs.ServedRoom.{ServesRoom}
-use Rattle.dispatch_room_serving.specs.declared.journal_files.OpenedList.{OpenedList}
+use Rattle.dispatch_room_serving.specs.declared.journal_files.SystemFile.{SystemFile}
 use Rattle.dispatch_room_serving.specs.declared.journal_files.WrittenFile.{WrittenFile}
 use Rattle.dispatch_room_serving.specs.declared.journals.Journal.{Journal}
 use Rattle.dispatch_room_serving.specs.declared.list_places.Finding.{Finding}
 use Rattle.dispatch_room_serving.specs.declared.list_places.Finding.TheVariants.{There, Truncated}
 use Rattle.dispatch_room_serving.specs.declared.served_room.Terms.{Terms}
 use Rattle.dispatch_room_tasks.specs.OpenedRoom.{IsUnopened}
+use Rattle.dispatch_room_tcp.specs.Hosts.{Origin}
 
 -- where a service stands before and after a part: the database, the calls that came, what they were
 -- written, and the moments that were given
@@ -34,44 +38,54 @@ abbrev pub EndsAs : Bool → Result Done Failure → Result Done Failure → Typ
 EndsAs has_journal served result = (result ≡ served)
     ⊎ (IsOk served × (has_journal ≡ true) × (result ≡ Err failure.Journal))
 
--- how a part is observed: whether there is a journal, and then whether each message lasts before
--- the room acts on it, and whether questions are kept too
-pub record Watch : Type 0 where
+-- How a part is observed: whether there is a journal, and then whether each message lasts before
+-- the room acts on it, whether questions are kept too, and what is known of what its file holds.
+pub record Watch (F : Type 0) : Type 0 where
   pub has_journal : Bool
   pub is_synced : Bool
   pub keeps_questions : Bool
+  pub contents : F → Option (List ℕ)
 
--- the journal of a part, in a file of the system
-abbrev pub PartJournal : Type 0
-PartJournal = Journal (WrittenFile KeptFile × ListEnd)
+-- the journal of a part, in the file of a list
+abbrev pub PartJournal : Type 0 → Type 0
+PartJournal F = Journal (WrittenFile (SystemFile F) × ListEnd)
 
--- an end was put behind the list of such a journal
-abbrev pub puts_end : WrittenFile KeptFile × ListEnd → WrittenFile KeptFile × ListEnd → Type 0
-puts_end old new = PutsEnd old.1 new.1 None None
+-- by what is known of what a file holds
+module _ {F : Type 0} (contents : F → Option (List ℕ)) where
+  -- what is held by the file of a journal, as a list of the first version
+  abbrev pub held_in : WrittenFile (SystemFile F) × ListEnd → Option (List ℕ)
+  held_in out = option_map (plain_of sha256_digits) (contents out.0.file.file)
 
--- where there is a list, a journal goes on where that ends
-abbrev pub GoesOn : Option OpenedList → PartJournal → Type 0
-GoesOn list journal = IfSome list (λ list. journal.out.1 ≡ list.end)
+  -- an end was put behind the list of such a journal
+  abbrev pub puts_end : WrittenFile (SystemFile F) × ListEnd → WrittenFile (SystemFile F) × ListEnd
+      → Type 0
+  puts_end old new =
+      PutsEnd old.1 new.1 (contents old.0.file.file) (contents new.0.file.file)
+
+-- where there is a list, a journal goes on in its file where it ends
+abbrev pub GoesOn : {F : Type 0} → Option (F × ListEnd) → PartJournal F → Type 0
+GoesOn list journal =
+    IfSome list (λ list. (journal.out.0.file.file ≡ list.0) × (journal.out.1 ≡ list.1))
 
 -- the journal is as `watch` says, for a part that has this list or none
-pub record IsJournalOf (watch : Watch) (list : Option OpenedList) (journal : Option PartJournal)
-    : Type 0 where
+pub record IsJournalOf {F : Type 0} (watch : Watch F) (list : Option (F × ListEnd))
+    (journal : Option (PartJournal F)) : Type 0 where
   pub kept : is_some journal ≡ watch.has_journal
   pub synced : IfSome journal (λ it. it.is_synced ≡ watch.is_synced)
   pub of : IfSome journal (λ it. it.keeps_questions ≡ watch.keeps_questions)
   pub goes_on : IfSome journal (GoesOn list)
 
-module _ {S : Type 0} (g : Ghosts S) (watch : Watch) (terms : Terms) where
+module _ {S F : Type 0} (g : Ghosts S) (watch : Watch F) (terms : Terms) where
   -- A part was served, which is a start of the room's service, with a journal in this list or none,
   -- and ended so. If serving ended well, an end is put in the journal then, and not before, unless
-  -- its list was truncated. No contract can say what the list holds, nor what a look finds at its
-  -- place; but there is a look only where a part may end before all calls came.
-  pub record IsPart (list : Option OpenedList) (old new : Interval S)
+  -- its list was truncated. No contract can say what a look finds at the place of the list; but
+  -- there is a look only where a part may end before all calls came.
+  pub record IsPart (list : Option (F × ListEnd)) (old new : Interval S)
       (result : Result Done Failure) : Type 0 where
     -- the journal as the part begins, as serving ended, and as the part ended
-    pub journal : Option PartJournal
-    pub later : Option PartJournal
-    pub last : Option PartJournal
+    pub journal : Option (PartJournal F)
+    pub later : Option (PartJournal F)
+    pub last : Option (PartJournal F)
     pub observed : IsJournalOf watch list journal
     pub served : Result Done Failure
     pub ends : EndsAs watch.has_journal served result
@@ -83,7 +97,7 @@ module _ {S : Type 0} (g : Ghosts S) (watch : Watch) (terms : Terms) where
     pub found : Finding
     pub once : terms.renews ≡ false → found ≡ There
     pub ended : watch.has_journal ≡ true → found ≢ Truncated
-        → EndsAfter puts_end later last served result
+        → EndsAfter (puts_end watch.contents) later last served result
     pub cut : found ≡ Truncated → (result ≡ served) × (last ≡ later)
     pub is : ServesRoom g watch.has_journal room_text message_text answer_text terms.history
         old.conn (λ store. record {
@@ -91,7 +105,7 @@ module _ {S : Type 0} (g : Ghosts S) (watch : Watch) (terms : Terms) where
           written = old.written;
           stage = record {
             given = old.given;
-            kept = held_by (λ _. None) journal;
+            kept = held_by (held_in watch.contents) journal;
             has_failed = false;
             store = store;
           };
@@ -101,55 +115,56 @@ module _ {S : Type 0} (g : Ghosts S) (watch : Watch) (terms : Terms) where
           written = new.written;
           stage = record {
             given = new.given;
-            kept = held_by (λ _. None) later;
+            kept = held_by (held_in watch.contents) later;
             has_failed = failed_by later;
             store = store;
           };
         })
         (terms.renews && has_left) terms.connections (served, new.conn)
 
--- what is said of each list that is opened for a part, and of why none is
-pub record ListOrigin : Type 1 where
-  pub gives : OpenedList → Type 0
-  pub lacks : Failure → Type 0
+-- how a room is served: how its parts are observed, on which terms, and what is said of the lists
+-- that are opened for them
+pub record Manner (F : Type 0) : Type 1 where
+  pub watch : Watch F
+  pub terms : Terms
+  pub lists : Origin (F × ListEnd)
 
--- by what is said of the lists of the parts
-module _ {S : Type 0} (g : Ghosts S) (watch : Watch) (terms : Terms) (lists : ListOrigin) where
+module _ {S F : Type 0} (g : Ghosts S) (manner : Manner F) where
   -- these parts ended well, the last of them first: each began where the one before ended
   abbrev pub AreParts : List (Interval S) → Interval S → Interval S → Type 0
   AreParts [] first now = now ≡ first
   AreParts (at ∷ earlier) first now =
-      AreParts earlier first at × (list : Option OpenedList) × IfSome list lists.gives
-      × (done : Done) × IsPart g watch terms list at now (Ok done)
+      AreParts earlier first at × (list : Option (F × ListEnd)) × IfSome list manner.lists.holds
+      × (done : Done) × IsPart g manner.watch manner.terms list at now (Ok done)
 
   -- before a part there were others only where a part may end before all calls came
   pub record PartsBefore (first at : Interval S) : Type 0 where
     pub earlier : List (Interval S)
     pub are : AreParts earlier first at
-    pub only : terms.renews ≡ false → earlier ≡ []
+    pub only : manner.terms.renews ≡ false → earlier ≡ []
 
   -- a part ended so, after others
   pub record EndsPart (first last : Interval S) (result : Result Done Failure) : Type 0 where
     pub at : Interval S
     pub before : PartsBefore first at
-    pub list : Option OpenedList
-    pub listed : IfSome list lists.gives
-    pub is : IsPart g watch terms list at last result
+    pub list : Option (F × ListEnd)
+    pub listed : IfSome list manner.lists.holds
+    pub is : IsPart g manner.watch manner.terms list at last result
 
   -- The last part ended so. Where a part may end before all calls came, another follows each that
   -- ended well: so none that did is the last, but the last that a number of 64 bits can count.
   pub record EndsLast (first last : Interval S) (result : Result Done Failure) : Type 0 where
     pub part : EndsPart first last result
-    pub followed : terms.renews ≡ true → IsOk result
+    pub followed : manner.terms.renews ≡ true → IsOk result
         → length part.before.earlier ≡ 18446744073709551614
 
   -- no list was opened for a further part
   pub record HasNoList (first last : Interval S) (result : Result Done Failure) : Type 0 where
-    pub renews : terms.renews ≡ true
+    pub renews : manner.terms.renews ≡ true
     pub before : PartsBefore first last
     pub fault : Failure
     pub result_is : result ≡ Err fault
-    pub why : lists.lacks fault
+    pub why : manner.lists.lacks fault
 
   -- the room was served in parts, and so that ended
   abbrev pub ServesParts : Interval S → Interval S → Result Done Failure → Type 0

@@ -1,12 +1,13 @@
 //! What a command runs on.
-ghost use Rattle.std.specs.Prelude.{◌≡◌, ◌≢◌, ◌||◌, ◌==◌, List, None, Option, false, option_map};
-ghost use Rattle.std.specs.Prelude.{IfErr, IfOk, IfSome, OnOk};
+ghost use Rattle.std.specs.Prelude.{◌≡◌, ◌≢◌, ◌||◌, ◌==◌, ℕ, List, None, Option, false, IfErr};
+ghost use Rattle.std.specs.Prelude.{IfOk, IfSome, OnOk, refl};
 ghost use Rattle.std.specs.Duration.{as_nanos};
 ghost use Rattle.std.specs.IoError.{error_kind};
 ghost use Rattle.dispatch_room_cli.specs.declared.exit_status.Failure.TheVariants as failure;
 ghost use Rattle.dispatch_room_disk.specs.FileSteps.{Does};
 ghost use Rattle.dispatch_room_disk.specs.ReplacingSteps.{Step};
-ghost use Rattle.dispatch_room_journal.specs.ReadSteps.{most_rows};
+ghost use Rattle.dispatch_room_journal.specs.ReadSteps.{ends_well, most_rows};
+ghost use Rattle.dispatch_room_tcp.specs.HeardRooms.{IsHeard};
 ghost use Rattle.dispatch_room_tcp.specs.Hosts.{IsDoneAt, IsUndoneAt, IsUnlisted, IsUnread};
 ghost use Rattle.dispatch_room_tcp.specs.Hosts.{Surroundings, opens, unknown};
 
@@ -16,7 +17,8 @@ use dispatch_room_disk::restored_files::Replacing;
 use dispatch_room_disk::room_files::{self, RoomFile, RoomTask};
 use dispatch_room_disk::systems::System;
 use dispatch_room_journal::list_source::ListSource;
-use dispatch_room_serving::journal_files::{self, OpenedList};
+use dispatch_room_serving::journal_files::{self, Lasting, OpenedList};
+use dispatch_room_serving::list_places::Placed;
 use dispatch_room_sockets::client;
 use dispatch_room_sockets::socket_readers::SocketReader;
 use dispatch_room_sockets::socket_writers::SocketWriter;
@@ -25,7 +27,7 @@ use room_http_messages::sources::Source;
 use room_http_messages::standard_wires::Wire;
 use std::alloc::Global;
 use std::fs::{self, File};
-use std::io::{self, ErrorKind, Stdin, Write};
+use std::io::{self, ErrorKind, IsTerminal, Stdin, Write};
 use std::net::TcpStream;
 use std::random::RandomSource;
 use std::time::Duration;
@@ -53,8 +55,11 @@ pub trait Machine: Copy {
     /// Standard input.
     type Input: Source + Drop;
 
+    /// The file of a list that is kept.
+    type File: Lasting + Placed + Drop;
+
     // What there is around it.
-    ghost surroundings: { Self → Surroundings };
+    ghost surroundings: { Self → Surroundings Self.File };
 
     // What those calls have done as they are given.
     ghost begun: { Self → Option (List Step) };
@@ -81,8 +86,12 @@ pub trait Machine: Copy {
 
     /// Opens the file of a journal at a path, and reports on `err` that a record was cut
     /// off at its end.
-    fn open_journal<E: Write>(self, path: &str, err: &mut E) -> Result<OpenedList, Failure>
-        ensures list { IfOk result ((surroundings self).list path.now) }
+    fn open_journal<E: Write>(
+        self,
+        path: &str,
+        err: &mut E,
+    ) -> Result<OpenedList<Self::File>, Failure>
+        ensures list { IfOk result ((surroundings self).list path.now).holds }
         ensures fault { IfErr result (IsUnlisted (surroundings self) path.now) };
 
     /// Opens the list at a path, to be read. Explains why where it can't be.
@@ -92,11 +101,13 @@ pub trait Machine: Copy {
         ensures sound { IfOk result (λ list. Self.List.has_failed list ≡ false) }
         ensures fault { IfErr result (IsUnread (surroundings self) path.now) };
 
-    /// Leaves the list at a path: whether a read of it failed is known from here on. Where more
-    /// rows stand in it than are counted, one did.
+    /// Leaves the list at a path: whether a read of it failed is known from here on, and whether
+    /// it ended well. Where more rows stand in it than are counted, a read failed.
     fn leave_list(self, path: &str, list: &ListSource<Self::List>)
-        ensures { (surroundings self).read_failed path.now
-            (Self.List.has_failed list.now.reader || list.now.passed == most_rows) };
+        ensures failed { (surroundings self).read_failed path.now
+            (Self.List.has_failed list.now.reader || list.now.passed == most_rows) }
+        ensures ended { (surroundings self).ended_well path.now
+            (ends_well list.now.reel.mode) };
 
     /// Gives the calls by which a copy is put in the place of a file.
     fn calls(self) -> Self::Calls
@@ -109,9 +120,9 @@ pub trait Machine: Copy {
 
     /// Fills a buffer with random bytes. Explains why where there are none.
     fn fill_random(self, bytes: &mut [u8]) -> Result<(), Failure>
-        ensures random { OnOk result ((surroundings self).random bytes.new) }
+        ensures random { OnOk result ((surroundings self).random.holds bytes.new) }
         ensures fault { IfErr result (λ fault.
-            (fault ≡ failure.Storage) × (surroundings self).unrandom fault) };
+            (fault ≡ failure.Storage) × (surroundings self).random.lacks fault) };
 
     /// Gives standard input, to be read from its beginning.
     fn input(self) -> Self::Input
@@ -119,13 +130,23 @@ pub trait Machine: Copy {
         ensures sound { Self.Input.has_failed result ≡ false }
         ensures unread { Self.Input.has_ended result ≡ false };
 
+    /// Whether standard output is a terminal.
+    fn has_terminal(self) -> bool
+        ensures { (surroundings self).terminal result };
+
     /// The two sides of a connection to an address, on which all that is said ends within a time.
-    /// None, with an explanation, where it is not made within that.
+    /// None, with an explanation, where it is not made within that. What is heard on them where
+    /// something is asked is heard at the address.
     fn call(self, address: &str, patience: Duration) -> Option<(Self::Reader, Self::Writer)>
-        ensures called { (surroundings self).called address.now (as_nanos patience)
-            (option_map (λ sides. Self.Reader.left sides.0) result) }
+        ensures heard { (asked heard : List ℕ) (most : ℕ) → IsHeard Self.Reader.left
+            Self.Reader.has_failed Self.Writer.held Self.Writer.has_failed result asked most heard
+            → (surroundings self).heard address.now (as_nanos patience) asked most heard }
         ensures reader { IfSome result (λ sides. Self.Reader.has_failed sides.0 ≡ false) }
         ensures writer { IfSome result (λ sides. Self.Writer.has_failed sides.1 ≡ false) };
+
+    // What is known around it of what the file of a list holds, and of what of that lasts.
+    ghost files: { (machine : Self) → ((surroundings machine).contents ≡ Self.File.Write.contents)
+        × ((surroundings machine).lasting ≡ Self.File.lasting) };
 }
 
 /// What a command runs on: the system, who explains failures on its standard error, and memory.
@@ -146,6 +167,8 @@ impl<'a> Machine for Host<'a> {
     type Writer = CallWriter<'a>;
 
     type Input = Wire<Stdin>;
+
+    type File = File;
 
     ghost surroundings = { λ _. unknown };
 
@@ -171,7 +194,7 @@ impl<'a> Machine for Host<'a> {
         }
     }
 
-    fn open_journal<E: Write>(self, path: &str, err: &mut E) -> Result<OpenedList, Failure> {
+    fn open_journal<E: Write>(self, path: &str, err: &mut E) -> Result<OpenedList<File>, Failure> {
         journal_files::open_journal(self.rt, self.explainer, self.alloc, path, err)
     }
 
@@ -206,6 +229,10 @@ impl<'a> Machine for Host<'a> {
         Wire::new(self.rt.stdin())
     }
 
+    fn has_terminal(self) -> bool {
+        self.rt.stdout().is_terminal()
+    }
+
     // Beside what each machine ensures: how long both sides wait.
     fn call(self, address: &str, patience: Duration) -> Option<(CallReader<'a>, CallWriter<'a>)>
         ensures reader { IfSome result (λ sides. sides.0.failed ≡ false) }
@@ -215,6 +242,8 @@ impl<'a> Machine for Host<'a> {
     {
         client::call(self.rt, self.explainer, address, patience)
     }
+
+    ghost files = { λ _. (refl, refl) };
 }
 
 impl<'a> Host<'a> {

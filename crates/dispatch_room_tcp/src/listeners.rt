@@ -1,7 +1,6 @@
 //! What listens at an address: it gives the connections of those who call, and lets their peers go.
-ghost use Rattle.std.specs.Prelude.{◌≡◌, ℕ, List, [], ◌∷◌, Bool, None, Option, IfErr, IfSome};
-ghost use Rattle.std.specs.Prelude.{◌↔◌, ◌⊎◌, IsTrue, OnErr, OnOk, false, is_some, option_map};
-ghost use Rattle.std.specs.Prelude.{true};
+ghost use Rattle.std.specs.Prelude.{◌≡◌, ℕ, List, [], ◌∷◌, Bool, None, Option, IfErr, IfSome, ◌↔◌};
+ghost use Rattle.std.specs.Prelude.{◌⊎◌, IsTrue, OnErr, OnOk, false, is_some, option_map, true};
 ghost use Rattle.std.specs.Net.Socket.{socket_ip, socket_port};
 ghost use Rattle.dispatch_room_cli.specs.declared.exit_status.Failure.TheVariants.{Network};
 ghost use Rattle.room_http_messages.specs.Streams.{Grows};

@@ -13,7 +13,7 @@ ghost use Rattle.dispatch_room_tcp.specs.ServedFiles.{IsDoorOf, IsFirstList, IsL
 ghost use Rattle.dispatch_room_tcp.specs.ServedFiles.{IsServed, IsServedAt, IsServedBy};
 ghost use Rattle.dispatch_room_tcp.specs.ServedFiles.{IsUnlistedFor, OpensNone, PrintsServing};
 ghost use Rattle.dispatch_room_tcp.specs.ServedFiles.{Serves, ServesNone, ended, is_endless};
-ghost use Rattle.dispatch_room_tcp.specs.ServedFiles.{is_synced_by, keeps_questions_by, lists_for};
+ghost use Rattle.dispatch_room_tcp.specs.ServedFiles.{is_synced_by, keeps_questions_by, manner_of};
 ghost use Rattle.dispatch_room_tcp.specs.ServedFiles.{terms_of, watch_of};
 ghost use Rattle.dispatch_room_tcp.specs.ServedParts.{EndsAs, GoesOn, IsJournalOf, IsPart};
 ghost use Rattle.dispatch_room_tcp.specs.ServedParts.{OpensNoPart, ServesParts};
@@ -27,9 +27,9 @@ use dispatch_room_cli::failure_causes::Explainer;
 use dispatch_room_cli::tasks::Service;
 use dispatch_room_disk::room_files::{RoomFile, RoomTask};
 use dispatch_room_serving::callers::Callers;
-use dispatch_room_serving::journal_files::{JournalFile, OpenedList, SystemFile};
+use dispatch_room_serving::journal_files::{JournalFile, Lasting, OpenedList, SystemFile};
 use dispatch_room_serving::journals::{Journal, Keeper};
-use dispatch_room_serving::list_places::{Finding, ListPlace, standing};
+use dispatch_room_serving::list_places::{Finding, ListPlace, Placed, standing};
 use dispatch_room_serving::log_observers::LogAndJournal;
 use dispatch_room_serving::logs::Log;
 use dispatch_room_serving::served_room::{ServedPart, Terms, serve_in};
@@ -38,7 +38,6 @@ use dispatch_room_tasks::opened_room::TaskResult;
 use room_http::clocks::{Clock, MachineClock};
 use sqlite::{Alter, Connection};
 use std::alloc::Global;
-use std::fs::File;
 use std::io::Write;
 use std::time::{self, Duration};
 
@@ -92,7 +91,7 @@ fn is_endless(service: &Service<'_>) -> bool
 fn serve_at_door<M: Machine, O: Write, E: Write>(
     file: &str,
     run: &ServiceRun<'_, M>,
-    journal: Option<OpenedList>,
+    journal: Option<OpenedList<M::File>>,
     out: &mut O,
     err: &mut E,
 ) -> Result<Done, Failure>
@@ -118,7 +117,7 @@ fn door_of<'a, M>(file: &'a str, run: &ServiceRun<'a, M>) -> TcpDoor<'a>
 fn serve_at_address<M: Machine, O: Write, E: Write>(
     file: &str,
     run: &ServiceRun<'_, M>,
-    journal: Option<OpenedList>,
+    journal: Option<OpenedList<M::File>>,
     out: &mut O,
     err: &mut E,
 ) -> Result<Done, Failure>
@@ -148,20 +147,18 @@ fn address_of<'a, M>(run: &ServiceRun<'a, M>) -> TcpAddress<'a>
 fn serve_at<M: Machine, L: Listener, O: Write, E: Write>(
     file: &str,
     run: &ServiceRun<'_, M>,
-    journal: Option<OpenedList>,
+    journal: Option<OpenedList<M::File>>,
     listener: L,
     out: &mut O,
     err: &mut E,
 ) -> Result<Done, Failure>
     ensures done { IfOk result (λ done. IsServedAt (M.surroundings run.now.machine)
         (O.contents out.old) (O.contents out.new) done L.heard L.written (L.is_listening listener)
-        (watch_of (is_some journal) run.now.service.now) (terms_of run.now.service.now)
-        (lists_for (M.surroundings run.now.machine) run.now.service.now journal) listener
+        (manner_of (M.surroundings run.now.machine) run.now.service.now journal) listener
         file.now) }
     ensures undone { IfErr result (λ fault. FailsAt (M.surroundings run.now.machine)
         (O.contents out.old) (O.contents out.new) fault L.heard L.written (L.is_listening listener)
-        (watch_of (is_some journal) run.now.service.now) (terms_of run.now.service.now)
-        (lists_for (M.surroundings run.now.machine) run.now.service.now journal) listener
+        (manner_of (M.surroundings run.now.machine) run.now.service.now journal) listener
         file.now) }
 {
     let serving = Serving {
@@ -181,7 +178,7 @@ fn journal_file<M: Machine, E: Write>(
     machine: M,
     service: &Service<'_>,
     err: &mut E,
-) -> Result<Option<OpenedList>, Failure>
+) -> Result<Option<OpenedList<M::File>>, Failure>
     ensures list { IfOk result (IsFirstList (M.surroundings machine) service.now) }
     ensures fault { IfErr result (IsUnlistedFor (M.surroundings machine) service.now.journal) }
 {
@@ -203,9 +200,9 @@ pub struct Served<L> {
 
 // The room is served to the callers of a listener.
 #[derive(Drop)]
-struct Serving<'a, M, L, E> {
+struct Serving<'a, M: Machine, L, E> {
     run: &'a ServiceRun<'a, M>,
-    list: Option<OpenedList>,
+    list: Option<OpenedList<M::File>>,
     listener: L,
     err: &'a mut E,
 }
@@ -214,15 +211,11 @@ impl<'a, M: Machine, L: Listener, E: Write> RoomTask for Serving<'a, M, L, E> {
     type Done = Served<L>;
 
     ghost says = { λ work. Serves L.heard L.written (L.is_listening work.listener)
-        (watch_of (is_some work.list) work.run.now.service.now)
-        (terms_of work.run.now.service.now)
-        (lists_for (M.surroundings work.run.now.machine) work.run.now.service.now work.list)
+        (manner_of (M.surroundings work.run.now.machine) work.run.now.service.now work.list)
         work.listener };
 
     ghost refuses = { λ work. ServesNone L.heard L.written (L.is_listening work.listener)
-        (watch_of (is_some work.list) work.run.now.service.now)
-        (terms_of work.run.now.service.now)
-        (lists_for (M.surroundings work.run.now.machine) work.run.now.service.now work.list)
+        (manner_of (M.surroundings work.run.now.machine) work.run.now.service.now work.list)
         work.listener };
 
     fn run<S: Alter + Drop, O: Write>(
@@ -245,20 +238,18 @@ impl<'a, M: Machine, L: Listener, E: Write> RoomTask for Serving<'a, M, L, E> {
 fn serve_listened<M: Machine, S: Alter + Drop, L: Listener, O: Write, E: Write>(
     conn: Connection<S>,
     run: &ServiceRun<'_, M>,
-    list: Option<OpenedList>,
+    list: Option<OpenedList<M::File>>,
     listener: L,
     out: &mut O,
     err: &mut E,
 ) -> TaskResult<Served<L>, S>
     requires outside { conn.in_transaction ≡ false }
     ensures served { IfOk result (λ worked. IsServed L.heard L.written S.Store conn worked.1
-        (watch_of (is_some list) run.now.service.now) (terms_of run.now.service.now)
-        (lists_for (M.surroundings run.now.machine) run.now.service.now list) listener worked.0) }
+        (manner_of (M.surroundings run.now.machine) run.now.service.now list) listener worked.0) }
     ensures printed { IfOk result (λ worked. PrintsServing (L.is_listening listener)
         (O.contents out.old) (O.contents out.new) (ended worked.0)) }
     ensures fault { IfErr result (OpensNone L.heard L.written S.Store conn
-        (watch_of (is_some list) run.now.service.now) (terms_of run.now.service.now)
-        (lists_for (M.surroundings run.now.machine) run.now.service.now list) listener) }
+        (manner_of (M.surroundings run.now.machine) run.now.service.now list) listener) }
     ensures unopened { OnErr result ((O.contents out.new ≡ O.contents out.old)
         ⊎ PrintsStart (L.is_listening listener) (O.contents out.old) (O.contents out.new)) }
 {
@@ -286,15 +277,14 @@ fn given_back<L: Drop>(done: Result<Done, Failure>, listener: L) -> Result<Serve
 fn serve_parts<M: Machine, S: Alter + Drop, P: Callers, C: Clock, E: Write>(
     conn: Connection<S>,
     run: &ServiceRun<'_, M>,
-    list: Option<OpenedList>,
+    list: Option<OpenedList<M::File>>,
     callers: &mut P,
     clock: &mut C,
     err: &mut E,
 ) -> TaskResult<Done, S>
     requires outside { conn.in_transaction ≡ false }
     ensures served { IfOk result (λ worked. ServesParts S.Store
-        (watch_of (is_some list) run.now.service.now) (terms_of run.now.service.now)
-        (lists_for (M.surroundings run.now.machine) run.now.service.now list)
+        (manner_of (M.surroundings run.now.machine) run.now.service.now list)
         (record {
           conn = conn;
           heard = P.heard callers.old;
@@ -311,8 +301,7 @@ fn serve_parts<M: Machine, S: Alter + Drop, P: Callers, C: Clock, E: Write>(
     ensures prints { IfOk result (λ worked.
         Prints (P.prints callers.old) (P.prints callers.new) worked.0) }
     ensures fault { IfErr result (OpensNoPart S.Store
-        (watch_of (is_some list) run.now.service.now) (terms_of run.now.service.now)
-        (lists_for (M.surroundings run.now.machine) run.now.service.now list)
+        (manner_of (M.surroundings run.now.machine) run.now.service.now list)
         (record {
           conn = conn;
           heard = P.heard callers.old;
@@ -322,45 +311,44 @@ fn serve_parts<M: Machine, S: Alter + Drop, P: Callers, C: Clock, E: Write>(
     ensures unopened { OnErr result ((P.prints callers.new ≡ P.prints callers.old)
         ⊎ MayCall (P.prints callers.old) (P.prints callers.new)) }
 {
-    let (first, left) = serve_part(conn, run, &list, callers, clock, err)?;
+    let has_journal = list.is_some();
+    let (first, left) = serve_part(conn, run, list, callers, clock, err)?;
     if !terms_of(run.service).renews {
         return Ok((first, left));
     }
     let mut done = first;
     let mut conn = left;
-    let mut list = list;
     for _part in 1..u64::MAX {
         if done.is_err() {
             return Ok((done, conn));
         }
-        list = match next_list(run, list, err) {
+        let list = match next_list(run, has_journal, err) {
             Ok(next) => next,
             Err(fault) => return Ok((Err(fault), conn)),
         };
-        let (next, left) = serve_part(conn, run, &list, callers, clock, err)?;
+        let (next, left) = serve_part(conn, run, list, callers, clock, err)?;
         done = next;
         conn = left;
     }
     Ok((done, conn))
 }
 
-// Closes the list of a part, if it has one, and opens that of the next.
+// Opens the list of the next part, where the first has one.
 fn next_list<M: Machine, E: Write>(
     run: &ServiceRun<'_, M>,
-    list: Option<OpenedList>,
+    has_journal: bool,
     err: &mut E,
-) -> Result<Option<OpenedList>, Failure>
+) -> Result<Option<OpenedList<M::File>>, Failure>
     requires journal { is_some run.now.service.now.journal ≡ true }
-    ensures listed { IfOk result (λ next. is_some next ≡ is_some list) }
+    ensures listed { IfOk result (λ next. is_some next ≡ has_journal) }
     ensures list { IfOk result (λ next. IfSome next
         (IsListOf (M.surroundings run.now.machine) run.now.service.now.journal)) }
     ensures fault { IfErr result
         (IsUnlistedFor (M.surroundings run.now.machine) run.now.service.now.journal) }
 {
-    let Some(last) = list else {
+    if !has_journal {
         return Ok(None);
-    };
-    drop(last);
+    }
     journal_file(run.machine, run.service, err)
 }
 
@@ -370,7 +358,7 @@ fn next_list<M: Machine, E: Write>(
 fn serve_part<M: Machine, S: Alter + Drop, P: Callers, C: Clock, E: Write>(
     conn: Connection<S>,
     run: &ServiceRun<'_, M>,
-    list: &Option<OpenedList>,
+    list: Option<OpenedList<M::File>>,
     callers: &mut P,
     clock: &mut C,
     err: &mut E,
@@ -378,7 +366,8 @@ fn serve_part<M: Machine, S: Alter + Drop, P: Callers, C: Clock, E: Write>(
     requires outside { conn.in_transaction ≡ false }
     ensures outside { IfOk result (λ worked. worked.1.in_transaction ≡ false) }
     ensures served { IfOk result (λ worked. IsPart S.Store
-        (watch_of (is_some list.now) run.now.service.now) (terms_of run.now.service.now) list.now
+        (watch_of (M.surroundings run.now.machine).contents (is_some list) run.now.service.now)
+        (terms_of run.now.service.now) list
         (record {
           conn = conn;
           heard = P.heard callers.old;
@@ -402,8 +391,9 @@ fn serve_part<M: Machine, S: Alter + Drop, P: Callers, C: Clock, E: Write>(
     let terms = terms_of(service);
     let mut part = ServedPart {
         terms,
-        place: place_of(run, list, terms.renews),
+        place: place_of(run, &list, terms.renews),
     };
+    let has_journal = list.is_some();
     let mut log_and_journal = observer_of(host, service, list, err);
     let (done, conn) = serve_in(
         host.alloc,
@@ -414,7 +404,7 @@ fn serve_part<M: Machine, S: Alter + Drop, P: Callers, C: Clock, E: Write>(
         &mut part,
     )?;
     let left = standing(&mut part.place);
-    let done = end_part(list, left, &mut log_and_journal, done);
+    let done = end_part(has_journal, left, &mut log_and_journal, done);
     drop(log_and_journal);
     if done.is_ok() {
         leave(host.alloc, part.place, left, err);
@@ -426,38 +416,36 @@ fn serve_part<M: Machine, S: Alter + Drop, P: Callers, C: Clock, E: Write>(
 // that was not truncated.
 #[tactic(auto, using(crate::proofs::PartLemmas::ends_as))]
 fn end_part<E: Write, T: time::Clock, W: Keeper>(
-    list: &Option<OpenedList>,
+    has_journal: bool,
     left: Finding,
     log_and_journal: &mut LogAndJournal<'_, E, T, W>,
     served: Result<Done, Failure>,
 ) -> Result<Done, Failure>
-    ensures part { EndsAs (is_some list.now) served result }
-    ensures ended { is_some list.now ≡ true → left ≢ Truncated
+    ensures part { EndsAs has_journal served result }
+    ensures ended { has_journal ≡ true → left ≢ Truncated
         → EndsAfter W.ends log_and_journal.old.journal log_and_journal.new.journal served result }
     ensures cut { left ≡ Truncated
         → (result ≡ served) × (log_and_journal.new ≡ log_and_journal.old) }
 {
     match left {
         Finding::Truncated => served,
-        Finding::There | Finding::Elsewhere => match list {
-            Some(_) => log_and_journal.end_after(served),
-            None => served,
-        },
+        Finding::There | Finding::Elsewhere if has_journal => log_and_journal.end_after(served),
+        Finding::There | Finding::Elsewhere => served,
     }
 }
 
 // The place of the list of a service that may be served in parts, if the system says which file
 // stands there.
-fn place_of<'a, M>(
+fn place_of<'a, M: Machine>(
     run: &ServiceRun<'a, M>,
-    list: &Option<OpenedList>,
+    list: &Option<OpenedList<M::File>>,
     renews: bool,
 ) -> Option<ListPlace<'a>>
     ensures { renews ≡ false → result ≡ None }
 {
     match (list, run.service.journal) {
         (Some(list), Some(journal)) if renews => {
-            ListPlace::new(run.host.rt, journal.list, &list.file).ok()
+            list.file().place(run.host.rt, journal.list).ok()
         }
         _ => None,
     }
@@ -491,13 +479,13 @@ fn terms_of(service: &Service<'_>) -> Terms
 }
 
 // Who observes a part of a service: its log, and its journal if there is a list for it.
-fn observer_of<'a, E: Write>(
+fn observer_of<'a, F: Lasting, E: Write>(
     host: Host<'a>,
     service: &Service<'a>,
-    list: &'a Option<OpenedList>,
+    list: Option<OpenedList<F>>,
     err: &'a mut E,
-) -> LogAndJournal<'a, E, HostRuntime, JournalFile<SystemFile<'a, &'a File>>>
-    ensures journal { IsJournalOf (watch_of (is_some list.now) service.now) list.now
+) -> LogAndJournal<'a, E, HostRuntime, JournalFile<SystemFile<'a, F>>>
+    ensures journal { IsJournalOf (watch_of F.contents (is_some list) service.now) list
         result.journal }
     ensures fresh { failed_by result.journal ≡ false }
     ensures log { result.log.goes_on ≡ service.now.log }
@@ -524,17 +512,17 @@ fn log_of<'a, E: Write>(
 }
 
 // The journal of a service, in its file.
-fn journal_of<'a>(
+fn journal_of<'a, F: Lasting>(
     service: &Service<'a>,
     explainer: Explainer<'a>,
-    list: &'a Option<OpenedList>,
-) -> Option<Journal<JournalFile<SystemFile<'a, &'a File>>>>
-    ensures kept { is_some result ≡ is_some list.now }
+    list: Option<OpenedList<F>>,
+) -> Option<Journal<JournalFile<SystemFile<'a, F>>>>
+    ensures kept { is_some result ≡ is_some list }
     ensures synced { IfSome result (λ journal.
         journal.is_synced ≡ is_synced_by service.now.journal) }
     ensures of { IfSome result (λ journal.
         journal.keeps_questions ≡ keeps_questions_by service.now.journal) }
-    ensures goes_on { IfSome result (GoesOn list.now) }
+    ensures goes_on { IfSome result (GoesOn list) }
     ensures fresh { failed_by result ≡ false }
 {
     let (path, is_synced, keeps_questions) = match service.journal {
@@ -543,8 +531,8 @@ fn journal_of<'a>(
     };
     match list {
         Some(list) => {
-            let file = JournalFile::new(SystemFile::new(&list.file, explainer, path), list.end);
-            Some(Journal::new(file, is_synced, keeps_questions))
+            let (file, end) = list.into_file(explainer, path);
+            Some(Journal::new(JournalFile::new(file, end), is_synced, keeps_questions))
         }
         None => None,
     }

@@ -8,11 +8,14 @@ ghost use Rattle.room_tables_schema.specs.Schema.{room_schema};
 ghost use Rattle.room_tables_schema.specs.Versions.{HasTables};
 ghost use Rattle.room_store.specs.StoredRoom.{IsKept, IsReady, IsRoom};
 ghost use Rattle.room_store_writes.specs.Transactions.{Leaves};
-ghost use Rattle.room_store_file.specs.OpenedFile.{IsOldRoom, KeepsFile, MayBeIndexed};
+ghost use Rattle.room_store_file.specs.OpenedFile.{HidesVersion, IsOldRoom, KeepsFile};
+ghost use Rattle.room_store_file.specs.OpenedFile.{MayBeIndexed};
+ghost use Rattle.room_store_file.specs.OpeningCauses.{FailsToOpen};
 ghost use Rattle.room_store_check_tables.specs.HeldRooms.{HoldsRoom, WritesNothing};
 ghost use Rattle.room_store_file.specs.declared.opened_file.OpenFault.TheVariants.{
   NotARoom,
   OtherVersion,
+  Storage,
 };
 ghost use Rattle.room_tables_schema.specs.FileConnections.{IsClean};
 
@@ -49,6 +52,9 @@ impl<S: Alter> Store<S> {
         ensures no_room { IfErr result (λ e. IsClean S.Store e.1 → e.0 ≡ NotARoom
             → HasTables (state S.Store conn).now.schema
             → ¬ HoldsRoom (state S.Store conn).now.trees) }
+        ensures why { IfErr result (λ e. IsClean S.Store e.1 → e.0 ≡ Storage
+            → HidesVersion (state S.Store conn) (state S.Store e.1)
+            ⊎ FailsToOpen S.Store conn e.1) }
         ensures same_fault { IfErr result (λ e. IsClean S.Store e.1
             → Leaves (state S.Store conn) (state S.Store e.1)) }
         ensures untouched { IfErr result (λ e. (e.0 ≡ OtherVersion) ⊎ (e.0 ≡ NotARoom)

@@ -11,23 +11,23 @@ returns-in_err-opened-in-Some-clause-undone g c =
 
 pub returns-in_ok-opened-in-Some-clause-done : goal.returns-in_ok-opened-in-Some-clause-done
 returns-in_ok-opened-in-Some-clause-done g c =
-    let chain = c.in_ok-opened-in-Some.ensures.chain in
-    rw c.in-Some.is
+    let files = g.met.M.Machine.files c.args.machine in
+    rw (c.in-Some.is, files.0, files.1)
     (once_done c.in_file-in-Some.result _ _ c.in_file-in-Some.ensures.done
     (λ is. (
       c.args.text.now,
       c.requires.text,
-      (chain.0, (c.in_ok-opened-in-Some.opened, c.in_ok-opened-in-Some.ensures.list, chain.1), rw chain.1 at is),
+      (c.in_ok-opened-in-Some.opened, c.in_ok-opened-in-Some.ensures.chain, is),
     )))
 
 pub returns-in_ok-opened-in-Some-clause-undone : goal.returns-in_ok-opened-in-Some-clause-undone
 returns-in_ok-opened-in-Some-clause-undone g c =
-    let chain = c.in_ok-opened-in-Some.ensures.chain in
-    rw c.in-Some.is
+    let files = g.met.M.Machine.files c.args.machine in
+    rw (c.in-Some.is, files.0, files.1)
     (IfErr-weaker c.in_file-in-Some.result _ _
     (λ fault is. inr (
       c.args.text.now,
       c.requires.text,
-      (chain.0, (c.in_ok-opened-in-Some.opened, c.in_ok-opened-in-Some.ensures.list, chain.1), rw chain.1 at is),
+      (c.in_ok-opened-in-Some.opened, c.in_ok-opened-in-Some.ensures.chain, is),
     ))
     c.in_file-in-Some.ensures.undone)

@@ -15,31 +15,25 @@ returns-in_err-opened-clause-undone g c =
 
 pub returns-clause-done : goal.returns-clause-done
 returns-clause-done g c =
-    let chain = c.in_ok-opened.ensures.chain in
-    IfOk-weaker c.in_file.result _ _
+    let files = g.met.M.Machine.files c.args.machine in
+    rw (files.0, files.1)
+    (IfOk-weaker c.in_file.result _ _
     (λ done is. (
       _,
       c.in_ok-lines.ensures.fleet,
-      (
-        chain.0,
-        (c.in_ok-opened.opened, c.in_ok-opened.ensures.list, chain.1),
-        rw (c.as_slice.ensures.value, chain.1) at is,
-      ),
+      (c.in_ok-opened.opened, c.in_ok-opened.ensures.chain, rw c.as_slice.ensures.value at is),
     ))
-    c.in_file.ensures.done
+    c.in_file.ensures.done)
 
 pub returns-clause-undone : goal.returns-clause-undone
 returns-clause-undone g c =
-    let chain = c.in_ok-opened.ensures.chain in
-    IfErr-weaker c.in_file.result _ _
+    let files = g.met.M.Machine.files c.args.machine in
+    rw (files.0, files.1)
+    (IfErr-weaker c.in_file.result _ _
     (λ fault is.
     inr (inr (
       _,
       c.in_ok-lines.ensures.fleet,
-      (
-        chain.0,
-        (c.in_ok-opened.opened, c.in_ok-opened.ensures.list, chain.1),
-        rw (c.as_slice.ensures.value, chain.1) at is,
-      ),
+      (c.in_ok-opened.opened, c.in_ok-opened.ensures.chain, rw c.as_slice.ensures.value at is),
     )))
-    c.in_file.ensures.undone
+    c.in_file.ensures.undone)

@@ -4,8 +4,6 @@ use Rattle.std.proofs.lemmas.Result.{IfErr-weaker}
 use Rattle.dispatch_room_disk.specs.FileSteps.{Does, StopsFor}
 use Rattle.dispatch_room_disk.specs.ReplacingSteps.{IsFaultOf, Step}
 use Rattle.dispatch_room_cli.specs.declared.exit_status.Failure.{Failure}
-use Rattle.dispatch_room_tcp.specs.Hosts.{Surroundings}
-use Rattle.dispatch_room_commands.specs.DoneTasks.{IsReplacedInPart}
 use Rattle.dispatch_room_commands.proofs.restore.restore.Goals as goal
 
 -- where nothing was done, no step was
@@ -14,10 +12,10 @@ none_done None = tt
 none_done (Some steps) = sym (append-nil steps)
 
 -- where one of the steps failed, those before it were done
-in_part : (around : Surroundings) (steps : List Step) (begun now : Option (List Step)) (fault : Failure)
-    → ((first : List Step) → Does first begun now → around.replaced first)
-    → StopsFor IsFaultOf steps begun now fault → IsReplacedInPart around steps fault
-in_part around steps begun now fault says stops = record {
+in_part : (replaced : List Step → Type 0) (steps : List Step) (begun now : Option (List Step)) (fault : Failure)
+    → ((first : List Step) → Does first begun now → replaced first)
+    → StopsFor IsFaultOf (λ first. Does first begun now) steps fault → StopsFor IsFaultOf replaced steps fault
+in_part replaced steps begun now fault says stops = record {
   first = stops.first;
   failed = stops.failed;
   rest = stops.rest;

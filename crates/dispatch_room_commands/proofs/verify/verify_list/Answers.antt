@@ -11,7 +11,11 @@ returns-in_err-open_list-clause-undone g c =
 pub returns-clause-done : goal.returns-clause-done
 returns-clause-done g c =
     IfOk-weaker c.verify_in-done.result _ _
-    (λ done is. (_, c.in_ok-open_list.ensures.bytes, (_, rw c.new-list.ensures.left at is)))
+    (λ done is. (
+      _,
+      c.in_ok-open_list.ensures.bytes,
+      (_, c.leave_list.ensures.ended, rw c.new-list.ensures.left at is),
+    ))
     c.verify_in-done.ensures.done
 
 pub returns-clause-undone : goal.returns-clause-undone
@@ -20,6 +24,6 @@ returns-clause-undone g c =
     (λ fault is. inr (
       _,
       c.in_ok-open_list.ensures.bytes,
-      (_, c.leave_list.ensures, rw c.new-list.ensures.left at is),
+      (_, c.leave_list.ensures.failed, rw c.new-list.ensures.left at is),
     ))
     c.verify_in-done.ensures.undone

@@ -1,4 +1,4 @@
-use Rattle.std.proofs.Common.{◌∙◌, ◌<◌, arith, length, refl, rules, sym, [], ◌∷◌, ◌++◌}
+use Rattle.std.proofs.Common.{◌∙◌, ◌≡◌, ◌<◌, arith, length, refl, rules, sym, [], ◌∷◌, ◌++◌}
 use Rattle.dispatch_room_serving.proofs.ConnectionLaws.{attended_more, ends_after, kept_ending}
 use Rattle.dispatch_room_serving.proofs.ConnectionLaws.{served_none}
 use Rattle.dispatch_room_serving.proofs.connections.serve_each.Goals as goal
@@ -36,4 +36,16 @@ loop-connection-preserved g c =
       served = c.serve_next.ensures.attended.longer c.in_default.is _ _ c.loop-connection.invariant.served;
       prints = c.serve_next.ensures.prints ∙ c.loop-connection.invariant.prints;
       none = search rules;
+    }
+
+pub returns-clause-served : goal.returns-clause-served
+returns-clause-served g c =
+    let before = c.loop-connection.invariant.served in
+    let all : length before.calls ≡ c.args.part.now.terms.connections =
+    omega (arith, before.counted, c.loop-connection-test.false, c.loop-connection.auto._connection-end) in
+    record {
+      calls = before.calls;
+      attended = before.attended;
+      ends = (refl, omega (arith, all), λ renews. all, before.go_on);
+      kept = before.kept;
     }

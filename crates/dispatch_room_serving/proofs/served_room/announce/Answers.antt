@@ -1,9 +1,15 @@
 use Rattle.std.proofs.Common.{◌≡◌, ◌∙◌, ap, inl, inr, refl, sym, if◌then◌else◌, ℕ, List, [], Bool}
-use Rattle.std.proofs.Common.{true, false}
+use Rattle.std.proofs.Common.{true, false, ◌⊎◌}
 use Rattle.hex.specs.Hex.{encode_lower}
+use Rattle.dispatch_room_cli.specs.ExitStatus.{refused}
+use Rattle.dispatch_room_cli.specs.declared.exit_status.Failure.{Failure}
+use Rattle.dispatch_room_cli.specs.declared.exit_status.Failure.TheVariants.{Journal, Memory}
+use Rattle.dispatch_room_cli.specs.declared.exit_status.Failure.TheVariants.{Storage}
 use Rattle.room_http_messages.proofs.StreamLemmas.{Appends-none}
+use Rattle.room_model.specs.Rooms.{IsUnavailable}
 use Rattle.room_model.specs.declared.digests.Head.{Head}
 use Rattle.room_model.specs.declared.digests.Version.TheVariants.{Second}
+use Rattle.room_types.specs.declared.refusal_statuses.Refusal.{Refusal}
 use Rattle.dispatch_room_serving.proofs.ConnectionLaws.{looks_same}
 use Rattle.dispatch_room_serving.proofs.served_room.announce.Goals as goal
 
@@ -101,3 +107,24 @@ returns-in-Err-begins-clause-announces g c =
         kept.2,
       ),
     )
+
+-- a store that can't be read refuses for memory or for storage
+unread : (refusal : Refusal) (fault : Failure) → fault ≡ refused refusal → IsUnavailable refusal
+    → (fault ≡ Journal) ⊎ (fault ≡ Memory) ⊎ (fault ≡ Storage)
+unread refusal fault same (inl is) = inr (inl (same ∙ ap refused is))
+unread refusal fault same (inr is) = inr (inr (same ∙ ap refused is))
+
+pub returns-in-Err-clause-announces : goal.returns-in-Err-clause-announces
+returns-in-Err-clause-announces g c = (
+  (
+    sym c.wants_digest.ensures ∙ c.if-not-wants_digest.false,
+    unread c.in-Err.refusal c.refused.result c.refused.ensures c.in-Err.ensures.unavailable,
+  ),
+  record {
+    zone = ap (λ plan. plan.zone) c.digest_of_room.ensures.plan;
+    trusted = c.digest_of_room.ensures.trusted;
+    same = c.digest_of_room.ensures.same;
+    left = c.digest_of_room.ensures.left;
+  },
+  inl refl,
+)

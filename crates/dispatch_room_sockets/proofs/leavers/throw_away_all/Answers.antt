@@ -16,6 +16,7 @@ loop-leaver-init g c =
       in_time = none_yet c.args.now _ _ count;
       came = refl;
       heard = refl;
+      waits = refl;
       bound = omega arith;
       capacity = refl;
     }
@@ -35,6 +36,7 @@ loop-leaver-preserved g c =
             (λ rests. (w.stays.ensures.rests rests).1) w.stays.ensures.due;
         came = w.stays.ensures.came ∙ i.came;
         heard = w.stays.ensures.heard ∙ i.heard;
+        waits = w.stays.ensures.waits ∙ i.waits;
         bound =
             omega (
               arith,
@@ -52,6 +54,7 @@ loop-leaver-preserved g c =
             (none_rested c.args.now _ _ _ w.stays.ensures.rests w.if-stays.false);
         came = w.stays.ensures.came ∙ i.came;
         heard = w.stays.ensures.heard ∙ i.heard;
+        waits = w.stays.ensures.waits ∙ i.waits;
         bound = omega (arith, i.bound, c.pop_front.ensures.len, ap (λ r. length (option_to_list r)) w.in-Some.is);
         capacity = c.pop_front.ensures.capacity ∙ i.capacity;
       })
@@ -71,6 +74,7 @@ returns g c =
       rest = seen.1;
       came = i.came;
       heard = i.heard;
+      waits = i.waits;
       bound = i.bound;
       capacity = i.capacity;
     }

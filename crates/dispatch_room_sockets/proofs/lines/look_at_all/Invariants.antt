@@ -9,6 +9,7 @@ invariant-loop-kept g l = record {
       l.initial.ready.items l.ready.items (g.E.Entrance.heard l.initial.entrance)
       (g.E.Entrance.heard l.entrance);
   came : g.E.Entrance.came l.entrance ≡ g.E.Entrance.came l.initial.entrance;
+  waits : g.E.Entrance.waits l.entrance ≡ g.E.Entrance.waits l.initial.entrance;
   bound : deque_len l.line + deque_len l.ready
       ≤ deque_len l.initial.line + deque_len l.initial.ready;
   line : deque_capacity l.line ≡ deque_capacity l.initial.line;

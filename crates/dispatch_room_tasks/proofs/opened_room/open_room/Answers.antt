@@ -75,6 +75,7 @@ returns-in-Err-clause-fault g c =
       untouched = c.in-Err.ensures.untouched;
       version = c.in-Err.ensures.old_room;
       no_room = c.in-Err.ensures.no_room;
+      why = c.in-Err.ensures.why;
       survives = c.in-Err.ensures.survives_fault;
     })
 

@@ -33,5 +33,6 @@ returns-in-Err-clause-fault g c = record {
   untouched = c.in-Err.ensures.untouched;
   version = c.in-Err.ensures.old_room;
   no_room = c.in-Err.ensures.no_room;
+  why = c.in-Err.ensures.why;
   survives = c.open_in.ensures.survives;
 }

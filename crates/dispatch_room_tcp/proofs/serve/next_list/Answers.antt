@@ -1,11 +1,11 @@
-use Rattle.std.proofs.Common.{◌∙◌}
+use Rattle.std.proofs.Common.{sym, ◌∙◌}
 use Rattle.std.proofs.lemmas.Result.{IfOk-weaker}
 use Rattle.dispatch_room_tcp.proofs.serve.next_list.Goals as goal
 
 pub returns-clause-listed : goal.returns-clause-listed
 returns-clause-listed g c =
-    rw c.in-Some.is
-    (IfOk-weaker c.journal_file.result _ _ (λ next is. is.asked ∙ c.requires.journal) c.journal_file.ensures.list)
+    IfOk-weaker c.journal_file.result _ _
+    (λ next is. is.asked ∙ c.requires.journal ∙ sym c.if-not-has_journal.false) c.journal_file.ensures.list
 
 pub returns-clause-list : goal.returns-clause-list
 returns-clause-list g c = IfOk-weaker c.journal_file.result _ _ (λ next is. is.is) c.journal_file.ensures.list

@@ -9,8 +9,8 @@ use Rattle.dispatch_room_tcp.proofs.serve.serve_parts.Goals as goal
 pub loop-part-init : goal.loop-part-init
 loop-part-init g c = record {
   outside = c.in_ok-first.ensures.outside;
-  listed = refl;
-  served = λ first is. (first_part _ _ _ _ _ (first_opened _ _) first _ _ is, refl);
+  listed = c.is_some-has_journal.ensures;
+  served = λ first is. (first_part _ _ _ (first_opened _ _) first _ _ is, refl);
   few = omega arith;
   prints = c.in_ok-first.ensures.prints;
 }
@@ -22,10 +22,10 @@ loop-part-preserved g c =
     let listed = c.in-Ok.ensures.listed ∙ c.loop-part.invariant.listed in
     record {
       outside = c.in_ok-next.ensures.outside;
-      listed = listed;
+      listed = c.loop-part.invariant.listed;
       served = λ first is.
           let before = c.loop-part.invariant.served first is in
-          let next = next_before _ _ _ _ first _ _ renews well before.0 in (
+          let next = next_before _ _ first _ _ renews well before.0 in (
             record {
               at = _;
               before = next.0;
@@ -51,17 +51,17 @@ next_list-requires g c = record {
 pub returns-in_err-first-clause-fault : goal.returns-in_err-first-clause-fault
 returns-in_err-first-clause-fault g c =
     handed_on c.from_residual.result _ c.from_residual.ensures.1
-    (λ fault is. record { at = _; before = first_before _ _ _ _ _; unopened = rw is c.in_err-first.ensures.fault })
+    (λ fault is. record { at = _; before = first_before _ _ _; unopened = rw is c.in_err-first.ensures.fault })
 
 pub returns-then-not-terms_of-clause-served : goal.returns-then-not-terms_of-clause-served
 returns-then-not-terms_of-clause-served g c =
-    inl (ends_once _ _ _ _ _ (first_opened _ _) _ _ _
+    inl (ends_once _ _ _ (first_opened _ _) _ _ _
     (sym (ap (λ terms. terms.renews) c.terms_of.ensures) ∙ not_true _ c.if-not-terms_of.true)
     c.in_ok-first.ensures.served)
 
 pub returns-then-is_err-clause-served : goal.returns-then-is_err-clause-served
 returns-then-is_err-clause-served g c =
-    inl (ends_badly _ _ _ _ _ _ _ (sym c.is_err.ensures.value ∙ c.if-is_err.true)
+    inl (ends_badly _ _ _ _ _ (sym c.is_err.ensures.value ∙ c.if-is_err.true)
     (c.loop-part.invariant.served _ c.in_ok-first.ensures.served).0)
 
 pub returns-in-Err-clause-served : goal.returns-in-Err-clause-served
@@ -70,7 +70,7 @@ returns-in-Err-clause-served g c =
     let well = sym c.is_err.ensures.value ∙ c.if-is_err.false in
     inr (record {
       renews = renews;
-      before = (next_before _ _ _ _ _ _ _ renews well
+      before = (next_before _ _ _ _ _ renews well
           (c.loop-part.invariant.served _ c.in_ok-first.ensures.served).0).0;
       fault = c.in-Err.fault;
       result_is = refl;
@@ -84,7 +84,7 @@ returns-in_err-next-clause-fault g c =
     handed_on c.from_residual-in_err-next.result _ c.from_residual-in_err-next.ensures.1
     (λ fault is. record {
       at = _;
-      before = (next_before _ _ _ _ _ _ _ renews well
+      before = (next_before _ _ _ _ _ renews well
           (c.loop-part.invariant.served _ c.in_ok-first.ensures.served).0).0;
       unopened = rw is c.in_err-next.ensures.fault;
     })

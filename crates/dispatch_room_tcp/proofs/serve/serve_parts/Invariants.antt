@@ -1,6 +1,6 @@
 use Rattle.std.specs.Prelude.{◌≡◌, ◌≤◌, ◌+◌, false, is_some, length}
 use Rattle.dispatch_room_serving.specs.Callers.{Prints}
-use Rattle.dispatch_room_tcp.specs.ServedFiles.{lists_for, terms_of, watch_of}
+use Rattle.dispatch_room_tcp.specs.ServedFiles.{manner_of, terms_of, watch_of}
 use Rattle.dispatch_room_tcp.specs.ServedParts.{EndsPart, Interval, IsPart}
 use Rattle.dispatch_room_tcp.proofs.serve.serve_parts.Given as goal
 
@@ -8,10 +8,11 @@ use Rattle.dispatch_room_tcp.proofs.serve.serve_parts.Given as goal
 abbrev pub invariant-loop-part : goal.invariant-loop-part
 invariant-loop-part g l = record {
   outside : l.conn.in_transaction ≡ false;
-  listed : is_some l.list ≡ is_some l.initial.list;
+  listed : l.has_journal ≡ is_some l.fn.list;
   served : (first : Interval g.row.S.Denot)
-      → IsPart g.S.Store (watch_of (is_some l.initial.list) l.run.service.now) (terms_of l.run.service.now)
-      l.initial.list first
+      → IsPart g.S.Store
+      (watch_of (g.M.Machine.surroundings l.run.machine).contents (is_some l.fn.list) l.run.service.now)
+      (terms_of l.run.service.now) l.fn.list first
       (record {
         conn = l.initial.conn;
         heard = g.P.Callers.heard l.initial.callers;
@@ -19,8 +20,8 @@ invariant-loop-part g l = record {
         given = g.C.Clock.given l.initial.clock;
       })
       l.initial.done
-      → (part : EndsPart g.S.Store (watch_of (is_some l.initial.list) l.run.service.now) (terms_of l.run.service.now)
-      (lists_for (g.M.Machine.surroundings l.run.machine) l.run.service.now l.initial.list) first
+      → (part : EndsPart g.S.Store
+      (manner_of (g.M.Machine.surroundings l.run.machine) l.run.service.now l.fn.list) first
       (record {
         conn = l.conn;
         heard = g.P.Callers.heard l.callers;

@@ -1,4 +1,4 @@
-use Rattle.std.proofs.Common.{ap, arith}
+use Rattle.std.proofs.Common.{ap, arith, refl}
 use Rattle.dispatch_room_sockets.proofs.HistoryLaws.{given_after, popped_given}
 use Rattle.dispatch_room_sockets.proofs.RoundLaws.{rounds_given}
 use Rattle.dispatch_room_sockets.proofs.TurnLaws.{given_in_turn}
@@ -11,6 +11,14 @@ returns-clause-given g c =
 
 pub returns-clause-rounds : goal.returns-clause-rounds
 returns-clause-rounds g c = rw c.pop_front.ensures.items at c.hear.ensures.rounds
+
+pub returns-clause-hears : goal.returns-clause-hears
+returns-clause-hears g c = record {
+  heard = c.hear.new.self;
+  same = c.hear.ensures.stay;
+  around = c.hear.ensures.around;
+  gave = rw c.pop_front.ensures.items refl;
+}
 
 pub returns-clause-in_turn : goal.returns-clause-in_turn
 returns-clause-in_turn g c =

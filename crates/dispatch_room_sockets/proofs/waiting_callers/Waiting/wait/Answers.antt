@@ -1,14 +1,28 @@
-use Rattle.dispatch_room_sockets.proofs.RoundLaws.{no_round, one_round}
+use Rattle.std.proofs.Common.{sym}
+use Rattle.dispatch_room_sockets.proofs.RoundLaws.{round_of}
 use Rattle.dispatch_room_sockets.proofs.waiting_callers.Waiting.wait.Goals as goal
 
 pub returns-in-Some : goal.returns-in-Some
 returns-in-Some g c = record {
-  rounds =
-      one_round _ _ _ _ c.look.ensures.round
-      (rw (c.wait.ensures.came, c.wait.ensures.heard) c.throw_away.ensures.same);
+  before = c.now-now.result;
+  shown = c.now-now.ensures;
+  in_time = rw c.look.ensures.leavers c.throw_away.ensures.in_time;
+  rest = rw c.look.ensures.leavers c.throw_away.ensures.rest;
+  after = c.wait.result;
+  noted = rw (c.look.ensures.waits, sym c.throw_away.ensures.waits) c.wait.ensures.waits;
+  round =
+      rw c.in-Some.is
+      (round_of _ _ _ _ c.look.ensures.round
+      (rw (c.wait.ensures.came, c.wait.ensures.heard) c.throw_away.ensures.same));
 }
 
 pub returns-in_default : goal.returns-in_default
 returns-in_default g c = record {
-  rounds = no_round _ _ (rw (c.wait.ensures.came, c.wait.ensures.heard) c.throw_away.ensures.same);
+  before = c.now-now.result;
+  shown = c.now-now.ensures;
+  in_time = c.throw_away.ensures.in_time;
+  rest = c.throw_away.ensures.rest;
+  after = c.wait.result;
+  noted = rw (sym c.throw_away.ensures.waits) c.wait.ensures.waits;
+  round = rw c.in_default.is (rw (c.wait.ensures.came, c.wait.ensures.heard) c.throw_away.ensures.same);
 }
