@@ -26,16 +26,10 @@ where_failed (Ok x) P failed holds = absurd (cc)
 where_failed (Err e) P failed holds = holds
 
 -- a flag that notes a failure
-module _ {T E : Type 0} where
-  pub flag_failed : (old new : Bool) (r : Result T E) → new ≡ (old || is_err r) → OnErr r (new ≡ true)
-  flag_failed old new (Ok x) is = tt
-  flag_failed true new (Err e) is = is
-  flag_failed false new (Err e) is = is
-
-  pub flag_sound : (old new : Bool) (r : Result T E) → new ≡ (old || is_err r) → old ≡ false
-      → OnOk r (new ≡ false)
-  flag_sound old new (Ok x) is sound = rw sound at is
-  flag_sound old new (Err e) is sound = tt
+pub flag_sound : {T E : Type 0} (old new : Bool) (r : Result T E) → new ≡ (old || is_err r)
+    → old ≡ false → OnOk r (new ≡ false)
+flag_sound old new (Ok x) is sound = rw sound at is
+flag_sound old new (Err e) is sound = tt
 
 line_short : (left line rest : List ℕ) → (left ≡ line ++ 10 ∷ rest) ⊎ ((left ≡ line) × (rest ≡ []))
     → length line ≤ length left

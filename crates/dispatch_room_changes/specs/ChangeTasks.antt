@@ -14,6 +14,7 @@ use Rattle.dispatch_room_journal.specs.declared.list_ends.ListEnd.{ListEnd}
 use Rattle.dispatch_room_lists.specs.RoomChanges.{Makes}
 use Rattle.dispatch_room_lists.specs.declared.room_changes.RoomChange.{RoomChange}
 use Rattle.dispatch_room_serving.specs.declared.journal_files.SystemFile.{SystemFile}
+use Rattle.dispatch_room_tcp.specs.ServedParts.{shown_in}
 use Rattle.dispatch_room_tasks.specs.Creation as created
 use Rattle.dispatch_room_tasks.specs.ListedTerminals.{HasListed}
 use Rattle.dispatch_room_tasks.specs.Enrolment as imported
@@ -36,17 +37,17 @@ Enrols lines = λ S g old new before after done.
     × IfOk done (imported.PrintsFates lines before after)
 
 -- The list of a room, in the file that was opened for it. It goes on where that does, and no write
--- to it failed.
+-- to it and no sync failed.
 abbrev pub IsOpenedAs : {F : Type 0} → F × ListEnd → FleetList (SystemFile F) → Type 0
 IsOpenedAs opened list =
     (list.out.file.file ≡ opened.0) × (list.end ≡ opened.1) × (list.out.failed ≡ false)
 
--- The same once the fleet lasts in a list that was opened, and then the room's digest is kept.
+-- A fleet is enrolled once it lasts in a list that was opened, and then the room's digest is kept.
 abbrev pub EnrolsKept : {F : Type 0} → (F → Option (List ℕ)) → (F → Option (List ℕ)) → F × ListEnd
     → List FleetLine → List ℕ → Saying Done
 EnrolsKept {F} contents lasting opened lines text = λ S g old new before after done.
     (from to : FleetList (SystemFile F)) × IsOpenedAs opened from
-    × ImportsKeptIn g (λ it. contents it.file) (λ it. lasting it.file) old new from to lines text
+    × ImportsKeptIn g (shown_in contents) (shown_in lasting) old new from to lines text
     before after done
 
 -- or memory fails, or no room is opened, and nothing is printed
@@ -67,7 +68,7 @@ abbrev pub ChangesKept : {F : Type 0} → (F → Option (List ℕ)) → (F → O
     → RoomChange → List ℕ → Saying (Unit {0})
 ChangesKept {F} contents lasting opened change text = λ S g old new before after done.
     ((from to : FleetList (SystemFile F)) × IsOpenedAs opened from
-    × MakesKeptIn g (λ it. contents it.file) (λ it. lasting it.file) old new from to change text
+    × MakesKeptIn g (shown_in contents) (shown_in lasting) old new from to change text
     done) × (after ≡ before)
 
 -- or no room is opened for it, or none is opened again once the text was kept; and nothing is
@@ -76,7 +77,7 @@ abbrev pub LosesKeptRoom : {F : Type 0} → (F → Option (List ℕ)) → (F →
     → F × ListEnd → RoomChange → List ℕ → Refusing
 LosesKeptRoom {F} contents lasting opened change text = λ S g conn before after fault.
     ((from : FleetList (SystemFile F)) × IsOpenedAs opened from
-    × OpensNoneKept g (λ it. contents it.file) (λ it. lasting it.file) conn from change text fault)
+    × OpensNoneKept g (shown_in contents) (shown_in lasting) conn from change text fault)
     × (after ≡ before)
 
 -- or the file holds no room, for this, and nothing is printed

@@ -78,7 +78,7 @@ abbrev pub IsPlain : {F : Type 0} → Surroundings F → List ℕ → Type 0
 IsPlain {F} around path =
     (opened : F × ListEnd) × (around.list path).holds opened × (opened.1 ≡ Plain)
 
--- no chain was opened at a path, for this: there is no list, or it is none
+-- no chain was opened at a path, for this: no list was opened, or it is no chain
 abbrev pub LacksChain : {F : Type 0} → Surroundings F → List ℕ → Failure → Type 0
 LacksChain around path fault =
     IsUnlisted around path fault ⊎ ((fault ≡ failure.Journal) × IsPlain around path)
@@ -215,7 +215,7 @@ module _ {F : Type 0} (around : Surroundings F) (before after : Option (List ℕ
   FailsInit file plan = HasNoText around plan before after fault
       ⊎ ((text : List ℕ) × around.text plan text × FailsInitOf file text)
 
-  -- this became of a room's file that did not get a plan; or it got it, and the output failed
+  -- a room did not get this plan; or it got it, and the output failed
   abbrev pub FailsReplanBy : ChangedFile → PlanFile → Type 0
   FailsReplanBy place plan = FailsChange place (change.Plan plan)
 
@@ -239,7 +239,7 @@ module _ {F : Type 0} (around : Surroundings F) (before after : Option (List ℕ
   FailsImport file fleet = HasNoText around fleet before after fault
       ⊎ ((text : List ℕ) × around.text fleet text × FailsImportOf file text)
 
-  -- the same if it was to be kept in a list first; or that list can't be opened
+  -- the same if it was to be kept in a list first; or there is no chain at the list's path
   abbrev pub FailsKeptImportOf : List ℕ → List ℕ → List ℕ → Type 0
   FailsKeptImportOf file list text = (GivesNoFleet text fault × (after ≡ before))
       ⊎ HasNoList around list before after fault

@@ -94,7 +94,7 @@ module _ {F : Type 0} (contents lasting : F → Option (List ℕ)) where
   abbrev pub IsLasting : FleetList F → Type 0
   IsLasting list = lasting list.out.file ≡ contents list.out.file
 
-  -- A head was put behind it, and then the lines of a fleet as rows, and all of it lasts.
+  -- A head was put behind it, and then the lines of a text as rows, and all of it lasts.
   pub record KeepsFleet (old new : FleetList F) (head : Head) (text : List ℕ) : Type 0 where
     pub headed : FleetList F
     pub begins : PutsHead old headed head

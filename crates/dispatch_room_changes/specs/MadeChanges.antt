@@ -49,7 +49,7 @@ module _ {S : Type 0} (g : Ghosts S) where
       pub remakes : Remakes g begun again change came
       pub ends : EndsKept g contents lasting again new kept to came done
 
-    -- the same in the room of a database, or nothing was kept, and nothing changed
+    -- the same in the room of a database; or not all of the text was kept, and nothing changed
     pub record MakesKeptIn (old new : Held S) (from to : FleetList F) (change : RoomChange)
         (text : List ℕ) (done : Result (Unit {0}) Failure) : Type 0 where
       pub opened : Store S
@@ -59,7 +59,7 @@ module _ {S : Type 0} (g : Ghosts S) where
           ⊎ KeepsAndMakes opened closed from to change text done
       pub conn : closed.conn ≡ new
 
-    -- or no room was opened, or, once the text was kept, none was opened again
+    -- the text was kept, and then no room was opened again
     pub record LosesKept (old : Held S) (from : FleetList F) (change : RoomChange) (text : List ℕ)
         (fault : Failure) : Type 0 where
       pub opened : Store S
@@ -69,6 +69,7 @@ module _ {S : Type 0} (g : Ghosts S) where
       pub keeps : KeepsText opened begun from to text
       pub loses : LosesRoom g begun change fault
 
+    -- or no room was opened, or, once the text was kept, none was opened again
     abbrev pub OpensNoneKept : Held S → FleetList F → RoomChange → List ℕ → Failure → Type 0
     OpensNoneKept old from change text fault =
         IsUnopened g old fault ⊎ LosesKept old from change text fault

@@ -1,4 +1,4 @@
-//! Who may read a file that a command names.
+//! Who may read or write a file that a command names.
 
 use std::fs;
 use std::os::unix::fs::PermissionsExt;

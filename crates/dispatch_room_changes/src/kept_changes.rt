@@ -30,11 +30,11 @@ pub struct ChangedFile<'a> {
 /// the disk, between the digest of the room before the change and that of the room after it. Where
 /// the text can't be kept, nothing is changed; where only the last digest can't be, the change
 /// stays, and the next start keeps that digest.
-pub fn make_in_file<M: Machine, O: Write, E: Write>(
+pub fn make_in_file<'a, M: Machine, O: Write, E: Write>(
     machine: M,
-    place: ChangedFile<'_>,
-    change: &RoomChange,
-    text: &[u8],
+    place: ChangedFile<'a>,
+    change: &'a RoomChange,
+    text: &'a [u8],
     out: &mut O,
     err: &mut E,
 ) -> Result<(), Failure>
@@ -45,25 +45,6 @@ pub fn make_in_file<M: Machine, O: Write, E: Write>(
         (O.contents out.new) fault place.entry change.now) }
 {
     let explainer = machine.host().explainer;
-    make_by(machine, explainer, place, change, text, out, err)
-}
-
-// Makes a change in the room of a file, where `explainer` explains why it can't be made.
-fn make_by<M: Machine, O: Write, E: Write>(
-    machine: M,
-    explainer: Explainer<'_>,
-    place: ChangedFile<'_>,
-    change: &RoomChange,
-    text: &[u8],
-    out: &mut O,
-    err: &mut E,
-) -> Result<(), Failure>
-    requires text { IsTextOf change.now text.now }
-    ensures done { OnOk result (IsMade (M.surroundings machine) (O.contents out.old)
-        (O.contents out.new) place.entry change.now) }
-    ensures undone { IfErr result (λ fault. IsUnmade (M.surroundings machine) (O.contents out.old)
-        (O.contents out.new) fault place.entry change.now) }
-{
     let file = RoomFile::Kept(place.file);
     match place.list {
         None => {
@@ -86,12 +67,12 @@ fn make_by<M: Machine, O: Write, E: Write>(
 
 // A change is made, and nothing is printed yet.
 #[derive(Clone, Copy)]
-struct Making<'a> {
+struct Making<'a, 'b> {
     explainer: Explainer<'a>,
-    change: &'a RoomChange,
+    change: &'b RoomChange,
 }
 
-impl<'a> RoomTask for Making<'a> {
+impl<'a, 'b> RoomTask for Making<'a, 'b> {
     type Done = ();
 
     ghost says = { λ work. Changes work.change.now };
@@ -110,15 +91,15 @@ impl<'a> RoomTask for Making<'a> {
 
 // A change is kept in a list, and made, and nothing is printed yet.
 #[derive(Drop)]
-struct KeptMaking<'a, F: Lasting> {
+struct KeptMaking<'a, 'b, F: Lasting> {
     explainer: Explainer<'a>,
-    change: &'a RoomChange,
-    text: &'a [u8],
-    path: &'a str,
+    change: &'b RoomChange,
+    text: &'b [u8],
+    path: &'b str,
     opened: OpenedList<F>,
 }
 
-impl<'a, F: Lasting + Drop> RoomTask for KeptMaking<'a, F> {
+impl<'a, 'b, F: Lasting + Drop> RoomTask for KeptMaking<'a, 'b, F> {
     type Done = ();
 
     ghost says = { λ work.

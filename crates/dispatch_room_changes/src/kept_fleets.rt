@@ -1,22 +1,20 @@
-//! The list of a room, in which a fleet is kept before it is enrolled.
-ghost use Rattle.std.specs.Prelude.{◌≡◌, ◌≤◌, ◌<◌, ◌⊎◌, ◌∷◌, ◌++◌, ◌||◌, [], IfOk, List, OnErr};
-ghost use Rattle.std.specs.Prelude.{OnOk, Some, is_err, length, slice_get, take, true, false, ℕ};
+//! The list of a room, in which the text of a change is kept before it is made: mostly a fleet's.
+ghost use Rattle.std.specs.Prelude.{◌≡◌, ◌≤◌, ◌<◌, ◌⊎◌, ◌∷◌, ◌++◌, ◌||◌, [], List, OnErr, OnOk};
+ghost use Rattle.std.specs.Prelude.{Some, is_err, length, slice_get, take, true, false, ℕ};
 ghost use Rattle.dispatch_room_journal.specs.Entries.{IsDigest};
-ghost use Rattle.dispatch_room_journal.specs.JournalRecords.{room_text};
 ghost use Rattle.dispatch_room_journal.specs.RowRuns.{PutsRow};
 ghost use Rattle.dispatch_room_journal.specs.TextParts.{Lacks};
 ghost use Rattle.dispatch_room_changes.specs.KeptImports.{AreLinesOf, KeepsFleet, KeepsHead};
 ghost use Rattle.dispatch_room_changes.specs.KeptImports.{LacksRow, LacksRows, PutsHead, PutsRows};
 
 use dispatch_room_journal::entry_texts::EntryText;
-use dispatch_room_journal::entry_writer::put_room;
 use dispatch_room_journal::list_ends::{ListEnd, put_entry, put_row};
 use dispatch_room_journal::row_runs::ROW_ROOM;
 use dispatch_room_serving::journal_files::{Lasting, WrittenFile};
 use room_http::observers::Unkept;
 use room_model::digests::Head;
 
-/// The list of a room, to which a fleet is appended.
+/// The list of a room, to which the text of a change is appended.
 #[derive(Drop)]
 pub struct FleetList<F> {
     pub out: WrittenFile<F>,
@@ -80,42 +78,23 @@ fn make_last<F: Lasting>(list: &mut FleetList<F>) -> Result<(), Unkept>
     ensures failed { list.new.out.failed ≡ (list.old.out.failed || is_err result) }
     ensures lasts { OnOk result (F.lasting list.new.out.file ≡ F.contents list.new.out.file) }
 {
-    if list.out.file.make_last() {
+    if list.out.make_last() {
         Ok(())
     } else {
-        list.out.failed = true;
         Err(Unkept)
     }
 }
 
-// Keeps the digest of a room. It always fits an entry; otherwise the list would be given up.
+// Keeps the digest of a room.
 fn keep_head<F: Lasting>(list: &mut FleetList<F>, head: &Head) -> Result<(), Unkept>
     requires sound { list.old.out.failed ≡ false }
     requires digest { IsDigest head.now.digits }
     ensures failed { list.new.out.failed ≡ is_err result }
     ensures kept { OnOk result (PutsHead F.contents F.lasting list.old list.new head.now) }
 {
-    let entry = match head_entry(head) {
-        Ok(entry) => entry,
-        Err(unkept) => {
-            list.out.failed = true;
-            return Err(unkept);
-        }
-    };
+    let entry = EntryText::room(head);
     match put_entry(&mut list.out, &mut list.end, entry.bytes()) {
         Ok(()) => Ok(()),
-        Err(_) => Err(Unkept),
-    }
-}
-
-// The entry of a list that says the digest of a room.
-fn head_entry(head: &Head) -> Result<EntryText, Unkept>
-    requires { IsDigest head.now.digits }
-    ensures { IfOk result (λ entry. entry.text.items ≡ room_text head.now) }
-{
-    let mut entry = EntryText::new();
-    match put_room(&mut entry, head) {
-        Ok(()) => Ok(entry),
         Err(_) => Err(Unkept),
     }
 }

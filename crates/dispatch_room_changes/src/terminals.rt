@@ -31,7 +31,7 @@ use sqlite::{Alter, Connection};
 use std::alloc::Global;
 use std::io::Write;
 
-/// Lists who has a terminal, or changes the terminals of one.
+/// Lists who has a terminal, or gives one user a new token, or takes a user's terminals away.
 pub fn terminals<M: Machine, O: Write, E: Write>(
     machine: M,
     place: ChangedFile<'_>,

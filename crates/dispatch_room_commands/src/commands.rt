@@ -75,9 +75,9 @@ impl<'a> Asks<'a> for &'a [String] {
 }
 
 /// Does what the words of a command line ask for, the program's name first. Results are printed to
-/// `out`; to `err` why it fails, a warning where others can read the room's file, and the log of
-/// what is served. On a terminal, and where the words ask for it, a failure is explained before it
-/// is named. Returns the exit status: 0 done, or help asked for; 1 refused input; 2 usage; 3
+/// `out`; to `err` why it fails, a warning where others can read or write the room's file, and
+/// the log of what is served. On a terminal, and where the words ask for it, a failure is explained
+/// before it is named. Returns the exit status: 0 done, or help asked for; 1 refused input; 2 usage; 3
 /// storage; 4 network; 5 memory; 6 journal.
 pub fn command<'a, W: Asks<'a>, O: Write, E: Write>(
     rt: &HostRuntime,

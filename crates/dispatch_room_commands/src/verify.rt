@@ -37,7 +37,7 @@ pub fn verify_list<M: Machine, O: Write>(
     done
 }
 
-// Prints what a list holds.
+// Looks a list through, and prints what it holds.
 fn verify_in<R: Source, O: Write>(
     alloc: Global,
     list: &mut ListSource<R>,

@@ -1,6 +1,6 @@
 -- Lemmas on what is written one after another, and on how long an entry is.
-use Rattle.std.proofs.Common.{◌≡◌, ◌∙◌, refl, sym, ap, subst, arith, ℕ, ◌+◌, ◌≤◌, List, ◌++◌, ◌∷◌}
-use Rattle.std.proofs.Common.{[], length, append_assoc, length-append, codes, decimal, Bool, Option}
+use Rattle.std.proofs.Common.{◌≡◌, ◌∙◌, refl, sym, ap, arith, ℕ, ◌+◌, ◌<◌, ◌≤◌, List, ◌++◌, ◌∷◌, []}
+use Rattle.std.proofs.Common.{length, append_assoc, length-append, codes, decimal, Bool, Option}
 use Rattle.std.proofs.Common.{Result, Ok, Err}
 use Rattle.std.proofs.lemmas.Fmt.{length-decimal-le}
 use Rattle.room_http_messages.specs.Streams.{WritesAll}
@@ -46,6 +46,13 @@ message_short at size is =
       length-decimal-le 4 size (omega arith) (omega (arith, is)) (omega (arith, is)),
     )
 
+-- there is room for a message's line with its end, its bytes, and one byte more
+pub message_fits : (at : ℕ) (bytes : List ℕ) → IsEntry (message at bytes)
+    → length (line_text (Message at (length bytes)) ++ 10 ∷ []) + length bytes < ENTRY_ROOM
+message_fits at bytes is =
+    let line = line_text (Message at (length bytes)) in
+    omega (arith, is, message_short at (length bytes) is, length-append line (10 ∷ []))
+
 -- there is room for each entry
 pub entry_fits : (e : Entry) → IsEntry e → length (text_of e) ≤ ENTRY_ROOM
 entry_fits (room digest) is =
@@ -53,11 +60,12 @@ entry_fits (room digest) is =
 entry_fits (answer status) is =
     omega (arith, line_short (Answer status) is, length-append (line_text (Answer status)) (10 ∷ []))
 entry_fits (message at bytes) is =
+    let line = line_text (Message at (length bytes)) in
     omega (
       arith,
-      is,
-      message_short at (length bytes) is,
-      length-append (line_text (Message at (length bytes))) (10 ∷ (bytes ++ 10 ∷ [])),
+      message_fits at bytes is,
+      length-append line (10 ∷ []),
+      length-append line (10 ∷ (bytes ++ 10 ∷ [])),
       length-append bytes (10 ∷ []),
     )
 
@@ -90,18 +98,3 @@ module _ {W E : Type 0} (held : W → Option (List ℕ)) (failed : W → Bool) w
         all = tt;
         part = (cut.0, cut.1 ++ ys, ap (λ t. t ++ ys) cut.2 ∙ append_assoc cut.0 cut.1 ys, cut.3, cut.4);
       }
-
-  -- a line is written, and then the rest of an entry
-  pub line-cut : (a b : W) (l : EntryLine) (rest : List ℕ) (e : E)
-      → WritesAll held failed a b (line_text l ++ 10 ∷ []) (Err e)
-      → WritesAll held failed a b (line_text l ++ 10 ∷ rest) (Err e)
-  line-cut a b l rest e first =
-      subst (λ (t : List ℕ). WritesAll held failed a b t (Err e)) (append_assoc (line_text l) (10 ∷ []) rest)
-      (WritesAll-cut a b (line_text l ++ 10 ∷ []) rest e first)
-
-  pub line-more : (a b c : W) (l : EntryLine) (rest : List ℕ) (r : Result (Unit {0}) E)
-      → WritesAll {E = E} held failed a b (line_text l ++ 10 ∷ []) (Ok tt)
-      → WritesAll held failed b c rest r → WritesAll held failed a c (line_text l ++ 10 ∷ rest) r
-  line-more a b c l rest r first second =
-      subst (λ (t : List ℕ). WritesAll held failed a c t r) (append_assoc (line_text l) (10 ∷ []) rest)
-      (WritesAll-more a b c (line_text l ++ 10 ∷ []) rest r first second)

@@ -1,8 +1,7 @@
 //! The status of an answer, found in its bytes.
 ghost use Rattle.std.specs.Prelude.{◌≡◌, ◌≤◌, decimal, length, MatchOption};
 ghost use Rattle.dispatch_room_journal.specs.Entries.{IsEntry, answer};
-ghost use Rattle.dispatch_room_journal.specs.TextParts.{IsNumber};
-ghost use Rattle.dispatch_room_journal.specs.JournalRecords.{status_in};
+ghost use Rattle.dispatch_room_journal.specs.JournalRecords.{LacksStatus, status_in};
 
 use crate::entry_lines::{GREATEST_STATUS, LEAST_STATUS};
 use crate::journal_numbers::number;
@@ -19,9 +18,8 @@ pub fn status_in(bytes: &[u8]) -> &[u8]
 
 /// The status in an answer's first line; none where that has no number from 100 to 999.
 pub fn status_of(bytes: &[u8]) -> Option<u16>
-    ensures { MatchOption result
-        (¬ (IsNumber LEAST_STATUS GREATEST_STATUS (status_in bytes.now)))
-        (λ status. IsEntry (answer status) × (status_in bytes.now ≡ decimal status)) }
+    ensures { MatchOption result (LacksStatus bytes.now) (λ status.
+        IsEntry (answer status) × (status_in bytes.now ≡ decimal status)) }
 {
     match number(status_in(bytes), LEAST_STATUS, GREATEST_STATUS) {
         Some(status) => Some(status as u16),

@@ -12,8 +12,8 @@
 //!
 //! A line `room 1 ..` gives the digest of all rows but that of the zone.
 //!
-//! `put_room`, `put_message` and `put_answer` write entries, and `read_entry` reads them again in
-//! the memory of one message.
+//! An `EntryText` is the text of an entry, and `read_entry` reads entries again in the memory of one
+//! message.
 //!
 //! A replay plays the messages of a journal, at their moments, to a room that stands where the
 //! journal begins, and compares their answers with those that it has.
@@ -47,7 +47,6 @@ pub mod entry_lines;
 pub mod entry_prefixes;
 pub mod entry_reader;
 pub mod entry_texts;
-pub mod entry_writer;
 pub mod journal_digests;
 pub mod journal_inbox;
 pub mod journal_messages;

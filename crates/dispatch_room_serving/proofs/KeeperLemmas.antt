@@ -1,9 +1,10 @@
 -- Lemmas on entries that are kept.
-use Rattle.std.proofs.Common.{◌≡◌, ◌∙◌, refl, sym, ap, arith, ◌≤◌, ℕ, List, [], ◌∷◌, ◌++◌, length}
+use Rattle.std.proofs.Common.{◌≡◌, ◌∙◌, refl, sym, ap, arith, ℕ, List, [], ◌∷◌, ◌++◌, length}
 use Rattle.std.proofs.Common.{length-append}
-use Rattle.std.specs.Prelude.{OnOk}
+use Rattle.std.specs.Prelude.{OnErr, OnOk, is_err, ◌||◌}
+use Rattle.std.proofs.lemmas.Result.{on_err_weaker}
 use Rattle.std.proofs.Common.{append-nil, Bool, true, false, if◌then◌else◌, Option, None, Some}
-use Rattle.std.proofs.Common.{Result, Ok, Err, subst}
+use Rattle.std.proofs.Common.{Result, Ok, Err, inl, inr, subst, ◌⊎◌}
 use Rattle.std.specs.Io.KnownBytes.{Appends}
 use Rattle.room_http.specs.KeptMessages.{KeepsAll, came_of}
 use Rattle.room_http.specs.declared.arrivals.Arrived.{Arrived}
@@ -14,7 +15,7 @@ use Rattle.dispatch_room_journal.specs.Entries.{Entry, IsEntry, answer, head_wor
 use Rattle.dispatch_room_journal.specs.Entries.{line_text, message, rest_of, room, text_of}
 use Rattle.dispatch_room_journal.proofs.WritingLemmas.{entry_fits}
 use Rattle.dispatch_room_journal.specs.Chains.{IsBody, is_no_entry}
-use Rattle.dispatch_room_serving.specs.Journals.{PutsKept, known_by, known_where}
+use Rattle.dispatch_room_serving.specs.Journals.{HasCause, PutsKept, known_by, known_where}
 use Rattle.dispatch_room_serving.specs.declared.journals.Journal.{Journal}
 use Rattle.dispatch_room_serving.specs.KeptChanges.{is_kept, kept_of}
 
@@ -23,6 +24,30 @@ pub keeps_whole : {E : Type 0} (a b : Option (List ℕ)) (bytes : List ℕ) (res
     → Appends a b bytes → KeepsAll a b bytes result
 keeps_whole a b bytes (Ok done) grows = grows
 keeps_whole a b bytes (Err e) grows = (bytes, ([], sym (append-nil bytes)), grows)
+
+-- a flag that notes a failure
+pub or_failed : (old new : Bool) → new ≡ (old || true) → new ≡ true
+or_failed true new is = is
+or_failed false new is = is
+
+pub flag_failed : {T E : Type 0} (old new : Bool) (r : Result T E) → new ≡ (old || is_err r)
+    → OnErr r (new ≡ true)
+flag_failed old new (Ok x) is = tt
+flag_failed old new (Err e) is = or_failed old new is
+
+-- where its keeper is why something was not kept, the journal has that cause
+pub of_keeper : {W E : Type 0} (has_failed : W → Bool) (old new : Journal W) (out : W)
+    (kept result : Result (Unit {0}) E) → result ≡ kept → new.out ≡ out
+    → OnErr kept (has_failed out ≡ true) → OnErr result (HasCause has_failed old new)
+of_keeper has_failed old new out kept result same is cause =
+    rw (same, is) (on_err_weaker kept (λ failed. inr failed) cause)
+
+pub of_keeper_or : {W E : Type 0} (has_failed : W → Bool) (old new : Journal W) (out : W) (other : Type 0)
+    (kept result : Result (Unit {0}) E) → result ≡ kept → new.out ≡ out
+    → OnErr kept ((has_failed out ≡ true) ⊎ other) → OnErr result (HasCause has_failed old new ⊎ other)
+of_keeper_or has_failed old new out other kept result same is cause =
+    rw (same, is)
+    (on_err_weaker kept (λ why. elim why [ inl failed ↦ inl (inr failed) | inr it ↦ inr it ]) cause)
 
 -- what has arrived and is kept is kept wholly, and of what is not nothing is
 pub keeps_it : {E : Type 0} (keeps : Bool) (arrived : Arrived) (a b : Option (List ℕ))

@@ -4,8 +4,14 @@ use Rattle.std.specs.Prelude.{option_and_then, Err, IsErr, IsNone, Ok, Result}
 use Rattle.dispatch_room_cli.specs.declared.exit_status.Done.{Done}
 use Rattle.dispatch_room_cli.specs.declared.exit_status.Failure.{Failure}
 use Rattle.dispatch_room_cli.specs.declared.exit_status.Failure.TheVariants as failure
+use Rattle.std.specs.Option.{option_map}
+use Rattle.dispatch_room_journal.specs.Chains.{sha256_digits}
+use Rattle.dispatch_room_journal.specs.PlainTexts.{plain_of}
+use Rattle.dispatch_room_journal.specs.RowRuns.{PutsEnd}
 use Rattle.dispatch_room_journal.specs.WholeEntries.{FailsIn}
 use Rattle.dispatch_room_journal.specs.declared.entry_reader.EntryFault.{EntryFault}
+use Rattle.dispatch_room_journal.specs.declared.list_ends.ListEnd.{ListEnd}
+use Rattle.dispatch_room_serving.specs.declared.journal_files.WrittenFile.{WrittenFile}
 use Rattle.dispatch_room_serving.specs.declared.journals.Journal.{Journal}
 
 -- What a journal holds is known as the list of all that came only where questions are kept too.
@@ -19,6 +25,16 @@ known_by held journal = known_where journal.keeps_questions (held journal.out)
 -- what a journal holds, where there is one
 abbrev pub held_by : {W : Type 0} → (W → Option (List ℕ)) → Option (Journal W) → Option (List ℕ)
 held_by held journal = option_and_then (known_by held) journal
+
+-- by what is known of what a file holds
+module _ {F : Type 0} (contents : F → Option (List ℕ)) where
+  -- what is held by the file of a journal, as a list of the first version
+  abbrev pub held_in : WrittenFile F × ListEnd → Option (List ℕ)
+  held_in out = option_map (plain_of sha256_digits) (contents out.0.file)
+
+  -- an end was put behind the list of such a journal
+  abbrev pub puts_end : WrittenFile F × ListEnd → WrittenFile F × ListEnd → Type 0
+  puts_end old new = PutsEnd old.1 new.1 (contents old.0.file) (contents new.0.file)
 
 -- that it ended well was kept, where there is a journal
 abbrev pub EndsBy : {W : Type 0} → (W → W → Type 0) → Option (Journal W) → Option (Journal W)
@@ -66,6 +82,10 @@ pub record FailsForGood {W E : Type 0} (old new : Journal W)
   pub for_good : old.has_failed ≡ true → (new.out ≡ old.out) × IsErr result
   pub is_synced : new.is_synced ≡ old.is_synced
   pub keeps_questions : new.keeps_questions ≡ old.keeps_questions
+
+-- Why something was not kept: the journal had failed before, or what keeps its entries has.
+abbrev pub HasCause : {W : Type 0} → (W → Bool) → Journal W → Journal W → Type 0
+HasCause has_failed old new = (old.has_failed ≡ true) ⊎ (has_failed new.out ≡ true)
 
 -- Why it is not known how much of a text is whole records: memory fails, or the text is no
 -- list of such, or a read failed.

@@ -1,15 +1,15 @@
 //! The file of a journal: a record that a crash cut off is removed, and entries are appended to the
 //! rest.
-ghost use Rattle.std.specs.Prelude.{◌≡◌, ◌⊎◌, ◌≤◌, ℕ, List, Bool, false, if◌then◌else◌, is_ok};
-ghost use Rattle.std.specs.Prelude.{is_some, length, nat_lt, refl, IfErr, IfOk, IsErrAnd, IsTrue};
+ghost use Rattle.std.specs.Prelude.{◌≡◌, ◌||◌, ◌⊎◌, ℕ, List, Bool, false, if◌then◌else◌};
+ghost use Rattle.std.specs.Prelude.{is_some, nat_lt, not, refl, IfErr, IsErrAnd, IsTrue};
 ghost use Rattle.std.specs.Prelude.{MatchResult, None, Ok, OnOk, Option, Some};
-ghost use Rattle.std.specs.Io.KnownBytes.{Appends, WriteAppends};
-ghost use Rattle.std.specs.Option.{option_map};
+ghost use Rattle.std.specs.Io.KnownBytes.{Appends};
 ghost use Rattle.dispatch_room_cli.specs.declared.exit_status.Failure.TheVariants as failure;
-ghost use Rattle.dispatch_room_journal.specs.Chains.{opening, sha256_digits};
-ghost use Rattle.dispatch_room_journal.specs.PlainTexts.{StandsKnown, plain_of};
-ghost use Rattle.dispatch_room_journal.specs.RowRuns.{PutsEnd, PutsEntry};
+ghost use Rattle.dispatch_room_journal.specs.Chains.{opening};
+ghost use Rattle.dispatch_room_journal.specs.PlainTexts.{StandsKnown};
+ghost use Rattle.dispatch_room_journal.specs.RowRuns.{PutsEntry};
 ghost use Rattle.dispatch_room_journal.specs.declared.list_ends.ListEnd.{ListEnd};
+ghost use Rattle.dispatch_room_serving.specs.Journals.{held_in, puts_end};
 ghost use Rattle.dispatch_room_serving.specs.OpenedLists.{IsListFault};
 ghost use Rattle.dispatch_room_serving.specs.declared.journal_files.WrittenFile.{WrittenFile};
 
@@ -156,7 +156,7 @@ fn begin_chain<F: Lasting>(out: &mut WrittenFile<F>) -> Result<(), Failure>
     ensures lasts { OnOk result (F.lasting out.new.file ≡ F.contents out.new.file) }
     ensures fault { IfErr result (λ fault. fault ≡ failure.Journal) }
 {
-    if put_opening(out).is_err() || !out.file.make_last() {
+    if put_opening(out).is_err() || !out.make_last() {
         return Err(Failure::Journal);
     }
     Ok(())
@@ -251,14 +251,6 @@ pub trait Lasting: Write {
         ensures held { Self.contents self.new ≡ Self.contents self.old }
         ensures lasts { OnOk result (lasting self.new ≡ Self.contents self.new) };
 
-    /// Makes all that was written last, and returns whether it could.
-    fn make_last(&mut self) -> bool
-        ensures held { Self.contents self.new ≡ Self.contents self.old }
-        ensures lasts { IsTrue result → lasting self.new ≡ Self.contents self.new }
-    {
-        self.sync().is_ok()
-    }
-
     ghost known: { (file : Self) → is_some (Self.contents file) ≡ is_known };
 }
 
@@ -345,15 +337,15 @@ impl<'a, F: Lasting> Lasting for SystemFile<'a, F> {
     ghost known = { λ system. F.known system.file };
 }
 
-/// A file that is written to, and whether a write failed.
+/// A file that is written to, and whether a write or a sync failed.
 #[derive(Drop)]
 pub struct WrittenFile<F> {
     pub file: F,
-    pub failed: bool,
+    failed: bool,
 }
 
 impl<F> WrittenFile<F> {
-    /// A file to which no write failed.
+    /// A file to which nothing failed.
     pub fn new(file: F) -> WrittenFile<F>
         ensures { result ≡ record { file = file; failed = false } }
     {
@@ -361,6 +353,19 @@ impl<F> WrittenFile<F> {
             file,
             failed: false,
         }
+    }
+}
+
+impl<F: Lasting> WrittenFile<F> {
+    /// Makes all that was written last, and returns whether it could.
+    pub fn make_last(&mut self) -> bool
+        ensures held { F.contents self.new.file ≡ F.contents self.old.file }
+        ensures failed { self.new.failed ≡ (self.old.failed || not result) }
+        ensures lasts { IsTrue result → F.lasting self.new.file ≡ F.contents self.new.file }
+    {
+        let lasts = self.file.sync().is_ok();
+        self.failed = self.failed || !lasts;
+        lasts
     }
 }
 
@@ -386,14 +391,14 @@ impl<F: Lasting> Sink for WrittenFile<F> {
 }
 
 /// The file of a journal, to which entries are appended in the form of its list. Once one could not
-/// be written, none is.
+/// be written, or made to last, none is.
 #[derive(Drop)]
 pub struct JournalFile<F: Lasting> {
     out: WrittenFile<F>,
     end: ListEnd,
 }
 
-// Where no write failed, the list goes on at the file's end.
+// Where no write and no sync failed, the list goes on at the file's end.
 impl<F: Lasting> Model for JournalFile<F> {
     ghost Value = { WrittenFile F × ListEnd };
 
@@ -418,16 +423,16 @@ impl<F: Lasting> JournalFile<F> {
 
 // The entries and rows are those that the list holds, in whichever form.
 impl<F: Lasting> Keeper for JournalFile<F> {
-    ghost held = { λ journal. option_map (plain_of sha256_digits) (F.contents journal.0.file) };
+    ghost held = { held_in F.contents };
 
-    ghost lasting = { λ journal. option_map (plain_of sha256_digits) (F.lasting journal.0.file) };
+    ghost lasting = { held_in F.lasting };
 
     ghost has_failed = { λ journal. journal.0.failed };
 
     ghost puts = { λ old new entry. PutsEntry old.1 new.1 (F.contents old.0.file)
         (F.contents new.0.file) entry };
 
-    ghost ends = { λ old new. PutsEnd old.1 new.1 (F.contents old.0.file) (F.contents new.0.file) };
+    ghost ends = { puts_end F.contents };
 
     fn keep(&mut self, entry: &[u8]) -> Result<(), Unkept> {
         if self.out.failed {
@@ -450,6 +455,6 @@ impl<F: Lasting> Keeper for JournalFile<F> {
     }
 
     fn sync(&mut self) -> bool {
-        self.out.file.make_last()
+        self.out.make_last()
     }
 }

@@ -1,17 +1,18 @@
 //! A journal of what is served: each message before the room acts on it, and its answer's status
 //! before the answer is written.
-ghost use Rattle.std.specs.Prelude.{◌≡◌, ◌&&◌, ◌||◌, ℕ, List, [], Bool, false, is_err, Option};
-ghost use Rattle.std.specs.Prelude.{IsTrue, OnOk, ⊤};
+ghost use Rattle.std.specs.Prelude.{◌≡◌, ◌&&◌, ◌||◌, ◌⊎◌, ℕ, List, [], Bool, false, is_err, not};
+ghost use Rattle.std.specs.Prelude.{IsTrue, OnErr, OnOk, Option, true, ⊤};
 ghost use Rattle.room_http.specs.Arrivals.{IsBounded};
 ghost use Rattle.room_http.specs.KeptMessages.{KeepsAll, came_of, response_of};
 ghost use Rattle.dispatch_room_journal.specs.Entries.{Entry, IsDigest, IsEntry, message, text_of};
-ghost use Rattle.dispatch_room_journal.specs.JournalRecords.{answer_text, message_text, room_text};
-ghost use Rattle.dispatch_room_serving.specs.Journals.{FailsForGood, Lasts, PutsKept, known_by};
+ghost use Rattle.dispatch_room_journal.specs.JournalRecords.{LacksStatus, answer_text};
+ghost use Rattle.dispatch_room_journal.specs.JournalRecords.{message_text, room_text};
+ghost use Rattle.dispatch_room_serving.specs.Journals.{FailsForGood, HasCause, Lasts, PutsKept};
+ghost use Rattle.dispatch_room_serving.specs.Journals.{known_by};
 ghost use Rattle.dispatch_room_serving.specs.KeptChanges.{asks_only, is_kept, kept_of};
 
 use dispatch_room_journal::answer_statuses::status_of;
 use dispatch_room_journal::entry_texts::EntryText;
-use dispatch_room_journal::entry_writer::{put_answer, put_message, put_room};
 use room_http::arrivals::Arrived;
 use room_http::observers::{Asked, Observer, Unkept};
 use room_model::digests::Head;
@@ -25,7 +26,7 @@ pub trait Keeper {
     // The text of what of them it keeps wherever the machine stops, where that is known.
     ghost lasting: { Self → Option (List ℕ) };
 
-    // Whether something could not be written to it.
+    // Whether something could not be written to it, or made to last.
     ghost has_failed: { Self → Bool };
 
     // What it is before and after it kept an entry.
@@ -53,7 +54,7 @@ pub trait Keeper {
         ensures put { (first : Self) (entry : List ℕ) → puts first self.old entry
             → puts first self.new entry }
         ensures ended { (first : Self) → ends first self.old → ends first self.new }
-        ensures failed { has_failed self.new ≡ has_failed self.old }
+        ensures failed { has_failed self.new ≡ (has_failed self.old || not result) }
         ensures lasts { IsTrue result → lasting self.new ≡ held self.new };
 }
 
@@ -110,6 +111,7 @@ impl<W: Keeper> Journal<W> {
             (Lasts self.old.is_synced (W.lasting self.new.out) (W.held self.new.out)) }
         ensures failed { self.new.has_failed ≡ (self.old.has_failed || is_err result) }
         ensures for_good { FailsForGood self.old self.new result }
+        ensures cause { OnErr result (HasCause W.has_failed self.old self.new) }
     {
         if self.has_failed {
             return Err(Unkept);
@@ -127,6 +129,7 @@ impl<W: Keeper> Journal<W> {
             (Lasts self.old.is_synced (W.lasting self.new.out) (W.held self.new.out)) }
         ensures failed { self.new.has_failed ≡ (self.old.has_failed || is_err result) }
         ensures for_good { FailsForGood self.old self.new result }
+        ensures cause { OnErr result (HasCause W.has_failed self.old self.new) }
     {
         if self.has_failed {
             return Err(Unkept);
@@ -174,6 +177,7 @@ impl<W: Keeper> Observer for Journal<W> {
             (W.lasting self.new.out) (W.held self.new.out)) }
         ensures failed { self.new.has_failed ≡ (self.old.has_failed || is_err result) }
         ensures for_good { FailsForGood self.old self.new result }
+        ensures cause { OnErr result (HasCause W.has_failed self.old self.new) }
     {
         if self.has_failed {
             return Err(Unkept);
@@ -197,6 +201,8 @@ impl<W: Keeper> Observer for Journal<W> {
             self.old.out self.new.out (response_of answer_text arrived.now answer.now)) }
         ensures failed { self.new.has_failed ≡ (self.old.has_failed || is_err result) }
         ensures for_good { FailsForGood self.old self.new result }
+        ensures cause { OnErr result
+            (HasCause W.has_failed self.old self.new ⊎ LacksStatus answer.now) }
     {
         if self.has_failed {
             return Err(Unkept);
@@ -227,12 +233,9 @@ fn keep_room<W: Keeper>(out: &mut W, is_synced: bool, head: &Head) -> Result<(),
     ensures kept { KeepsAll (W.held out.old) (W.held out.new) (room_text head.now) result }
     ensures put { OnOk result (W.puts out.old out.new (room_text head.now)) }
     ensures lasts { OnOk result (Lasts is_synced (W.lasting out.new) (W.held out.new)) }
+    ensures cause { OnErr result (W.has_failed out.new ≡ true) }
 {
-    let mut entry = EntryText::new();
-    match put_room(&mut entry, head) {
-        Ok(()) => keep_entry(out, is_synced, &entry),
-        Err(_) => Err(Unkept),
-    }
+    keep_entry(out, is_synced, &EntryText::room(head))
 }
 
 // Keeps a message, and makes it last if `is_synced`.
@@ -246,26 +249,20 @@ fn keep_message<W: Keeper>(
     ensures kept { KeepsAll (W.held out.old) (W.held out.new) (message_text at bytes.now) result }
     ensures put { OnOk result (W.puts out.old out.new (message_text at bytes.now)) }
     ensures lasts { OnOk result (Lasts is_synced (W.lasting out.new) (W.held out.new)) }
+    ensures cause { OnErr result (W.has_failed out.new ≡ true) }
 {
-    let mut entry = EntryText::new();
-    match put_message(&mut entry, at, bytes) {
-        Ok(()) => keep_entry(out, is_synced, &entry),
-        Err(_) => Err(Unkept),
-    }
+    keep_entry(out, is_synced, &EntryText::message(at, bytes))
 }
 
 // Keeps an answer's status.
 fn keep_answer<W: Keeper>(out: &mut W, answer: &[u8]) -> Result<(), Unkept>
     ensures kept { KeepsAll (W.held out.old) (W.held out.new) (answer_text answer.now) result }
     ensures put { OnOk result (W.puts out.old out.new (answer_text answer.now)) }
+    ensures cause { OnErr result ((W.has_failed out.new ≡ true) ⊎ LacksStatus answer.now) }
 {
-    let Some(status) = status_of(answer) else {
-        return Err(Unkept);
-    };
-    let mut entry = EntryText::new();
-    match put_answer(&mut entry, status) {
-        Ok(()) => out.keep(entry.bytes()),
-        Err(_) => Err(Unkept),
+    match status_of(answer) {
+        Some(status) => out.keep(EntryText::answer(status).bytes()),
+        None => Err(Unkept),
     }
 }
 
@@ -275,6 +272,7 @@ fn keep_entry<W: Keeper>(out: &mut W, is_synced: bool, entry: &EntryText) -> Res
     ensures kept { KeepsAll (W.held out.old) (W.held out.new) entry.now.text.items result }
     ensures put { OnOk result (W.puts out.old out.new entry.now.text.items) }
     ensures lasts { OnOk result (Lasts is_synced (W.lasting out.new) (W.held out.new)) }
+    ensures cause { OnErr result (W.has_failed out.new ≡ true) }
 {
     match out.keep(entry.bytes()) {
         Ok(()) => make_last(out, is_synced),
@@ -287,6 +285,7 @@ fn keep_end<W: Keeper>(out: &mut W, is_synced: bool) -> Result<(), Unkept>
     ensures kept { KeepsAll (W.held out.old) (W.held out.new) [] result }
     ensures ended { OnOk result (W.ends out.old out.new) }
     ensures lasts { OnOk result (Lasts is_synced (W.lasting out.new) (W.held out.new)) }
+    ensures cause { OnErr result (W.has_failed out.new ≡ true) }
 {
     match out.end() {
         Ok(()) => make_last(out, is_synced),
@@ -301,6 +300,7 @@ fn make_last<W: Keeper>(out: &mut W, is_synced: bool) -> Result<(), Unkept>
         → W.puts first out.new entry }
     ensures ended { (first : W) → W.ends first out.old → W.ends first out.new }
     ensures lasts { OnOk result (Lasts is_synced (W.lasting out.new) (W.held out.new)) }
+    ensures cause { OnErr result (W.has_failed out.new ≡ true) }
 {
     if !is_synced {
         return Ok(());

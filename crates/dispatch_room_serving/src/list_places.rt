@@ -1,5 +1,5 @@
 //! The place of a list that is kept: whether it still stands there.
-ghost use Rattle.std.specs.Prelude.{◌≡◌, ◌≢◌, false, true, IfOk, None};
+ghost use Rattle.std.specs.Prelude.{◌≡◌, ◌≢◌, false, true, IfOk, None, OnErr, ⊤};
 ghost use Rattle.dispatch_room_serving.specs.ListPlaces.{finding_of, has_left};
 ghost use Rattle.dispatch_room_serving.specs.declared.list_places.Finding.TheVariants.{There};
 
@@ -37,12 +37,19 @@ pub struct ListPlace<'a> {
 
 /// A file of the system that stands at a place.
 pub trait Placed {
-    /// The place at which it was opened.
+    // That the system doesn't say which file it is.
+    ghost is_hidden: { Self → Type 0 };
+
+    /// The place at which it was opened, if the system says which file it is.
     fn place<'a>(&self, rt: &'a HostRuntime, path: &'a str) -> Result<ListPlace<'a>, Error>
-        ensures { IfOk result (λ place. place.has_left ≡ false) };
+        ensures placed { IfOk result (λ place. place.has_left ≡ false) }
+        ensures hidden { OnErr result (is_hidden self.now) };
 }
 
+// No contract can say when the system says it.
 impl Placed for File {
+    ghost is_hidden = { λ _. ⊤ };
+
     fn place<'a>(&self, rt: &'a HostRuntime, path: &'a str) -> Result<ListPlace<'a>, Error> {
         let found = self.metadata()?;
         Ok(ListPlace {

@@ -9,7 +9,8 @@ use Rattle.dispatch_room_tcp.specs.Hosts.{Surroundings}
 use Rattle.dispatch_room_tcp.specs.ServedFiles.{FailsBy, FailsServe, IsFirstList, IsServe}
 use Rattle.dispatch_room_tcp.specs.ServedFiles.{IsServedBy, is_endless}
 
-module _ {F : Type 0} (around : Surroundings F) (before after : Option (List ℕ)) (result : Result Done Failure) (file : List ℕ)
+module _ {F : Type 0} (around : Surroundings F) (before after : Option (List ℕ)) (result : Result Done Failure)
+    (file : List ℕ)
     (service : Service) (endless : Bool) (list : Option (F × ListEnd)) (is : is_endless service ≡ endless)
     (first : IsFirstList around service list) where
   pub served : IfOk result (λ done. IsServedBy around before after done endless list file service)

@@ -12,8 +12,7 @@ use Rattle.dispatch_room_cli.specs.declared.tasks.Journal.{Journal}
 use Rattle.dispatch_room_cli.specs.declared.tasks.Service.{Service}
 use Rattle.dispatch_room_journal.specs.declared.list_ends.ListEnd.{ListEnd}
 use Rattle.dispatch_room_tcp.specs.Hosts.{IsDoneAt, IsUndoneAt, IsUnlisted, Origin, Surroundings}
-use Rattle.dispatch_room_tcp.specs.ServedParts.{Interval, Manner, OpensNoPart}
-use Rattle.dispatch_room_tcp.specs.ServedParts.{ServesParts, Watch}
+use Rattle.dispatch_room_tcp.specs.ServedParts.{Interval, Manner, OpensNoPart, ServesParts, Watch}
 use Rattle.dispatch_room_tcp.specs.declared.serve.Served.{Served}
 use Rattle.dispatch_room_serving.specs.Callers.{Opening, PrintsStart}
 use Rattle.dispatch_room_serving.specs.declared.served_room.Terms.{Terms}
@@ -176,9 +175,9 @@ module _ {F : Type 0} (around : Surroundings F) (before after : Option (List ℕ
       before after served
       × (done ≡ served.done)
 
-  -- The room of a file was served, with a log as it was asked for, and a journal in this list or
-  -- none: at the door of a service, where it goes on until it is stopped, or at its address to as
-  -- many connections as was asked for, one after another.
+  -- The room of a file was served, with a journal in this list or none: at the door of a service,
+  -- where it goes on until it is stopped, or at its address to as many connections as was asked
+  -- for, one after another.
   abbrev pub IsServedBy : Bool → Option (F × ListEnd) → List ℕ → Service → Type 0
   IsServedBy true list file service =
       (door : TcpDoor) × IsDoorOf service door

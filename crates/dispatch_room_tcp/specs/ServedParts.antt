@@ -2,19 +2,15 @@
 -- the one before left in the same database.
 use Rattle.std.specs.Prelude.{◌≡◌, ◌⊎◌, ℕ, List, [], ◌∷◌, Bool, true, false, IfSome, IsOk, Option}
 use Rattle.std.specs.Prelude.{Result, Ok, Err, ◌≢◌, ◌&&◌, is_some, length}
-use Rattle.std.specs.Option.{option_map}
 use Rattle.sqlite.specs.Held.{Held}
 use Rattle.sqlite_trees.specs.declared.store.Store.{Ghosts}
 use Rattle.dispatch_room_cli.specs.declared.exit_status.Done.{Done}
 use Rattle.dispatch_room_cli.specs.declared.exit_status.Failure.{Failure}
 use Rattle.dispatch_room_cli.specs.declared.exit_status.Failure.TheVariants as failure
-use Rattle.dispatch_room_journal.specs.Chains.{sha256_digits}
-use Rattle.dispatch_room_journal.specs.PlainTexts.{plain_of}
 use Rattle.dispatch_room_journal.specs.JournalRecords.{answer_text, message_text, room_text}
 use Rattle.dispatch_room_journal.specs.declared.list_ends.ListEnd.{ListEnd}
 use Rattle.dispatch_room_serving.specs.Callers.{Opening}
-use Rattle.dispatch_room_journal.specs.RowRuns.{PutsEnd}
-use Rattle.dispatch_room_serving.specs.Journals.{EndsAfter, failed_by, held_by}
+use Rattle.dispatch_room_serving.specs.Journals.{EndsAfter, failed_by, held_by, held_in, puts_end}
 use Rattle.dispatch_room_serving.specs.ServedRoom.{ServesRoom}
 use Rattle.dispatch_room_serving.specs.declared.journal_files.SystemFile.{SystemFile}
 use Rattle.dispatch_room_serving.specs.declared.journal_files.WrittenFile.{WrittenFile}
@@ -50,17 +46,9 @@ pub record Watch (F : Type 0) : Type 0 where
 abbrev pub PartJournal : Type 0 → Type 0
 PartJournal F = Journal (WrittenFile (SystemFile F) × ListEnd)
 
--- by what is known of what a file holds
-module _ {F : Type 0} (contents : F → Option (List ℕ)) where
-  -- what is held by the file of a journal, as a list of the first version
-  abbrev pub held_in : WrittenFile (SystemFile F) × ListEnd → Option (List ℕ)
-  held_in out = option_map (plain_of sha256_digits) (contents out.0.file.file)
-
-  -- an end was put behind the list of such a journal
-  abbrev pub puts_end : WrittenFile (SystemFile F) × ListEnd → WrittenFile (SystemFile F) × ListEnd
-      → Type 0
-  puts_end old new =
-      PutsEnd old.1 new.1 (contents old.0.file.file) (contents new.0.file.file)
+-- what a file of the system holds, by what is known of files
+abbrev pub shown_in : {F : Type 0} → (F → Option (List ℕ)) → SystemFile F → Option (List ℕ)
+shown_in contents system = contents system.file
 
 -- where there is a list, a journal goes on in its file where it ends
 abbrev pub GoesOn : {F : Type 0} → Option (F × ListEnd) → PartJournal F → Type 0
@@ -97,7 +85,7 @@ module _ {S F : Type 0} (g : Ghosts S) (watch : Watch F) (terms : Terms) where
     pub found : Finding
     pub once : terms.renews ≡ false → found ≡ There
     pub ended : watch.has_journal ≡ true → found ≢ Truncated
-        → EndsAfter (puts_end watch.contents) later last served result
+        → EndsAfter (puts_end (shown_in watch.contents)) later last served result
     pub cut : found ≡ Truncated → (result ≡ served) × (last ≡ later)
     pub is : ServesRoom g watch.has_journal room_text message_text answer_text terms.history
         old.conn (λ store. record {
@@ -105,7 +93,7 @@ module _ {S F : Type 0} (g : Ghosts S) (watch : Watch F) (terms : Terms) where
           written = old.written;
           stage = record {
             given = old.given;
-            kept = held_by (held_in watch.contents) journal;
+            kept = held_by (held_in (shown_in watch.contents)) journal;
             has_failed = false;
             store = store;
           };
@@ -115,7 +103,7 @@ module _ {S F : Type 0} (g : Ghosts S) (watch : Watch F) (terms : Terms) where
           written = new.written;
           stage = record {
             given = new.given;
-            kept = held_by (held_in watch.contents) later;
+            kept = held_by (held_in (shown_in watch.contents)) later;
             has_failed = failed_by later;
             store = store;
           };

@@ -2,7 +2,7 @@
 //! all who call, until it is stopped. In the second case it may be served in parts, each with a
 //! list of its own.
 ghost use Rattle.std.specs.Prelude.{◌≡◌, ◌≢◌, ◌⊎◌, ◌*◌, Option, None, false, true, is_some, IfErr};
-ghost use Rattle.std.specs.Prelude.{IfOk, IfSome, OnErr};
+ghost use Rattle.std.specs.Prelude.{IfOk, IfSome, IsNone, OnErr};
 ghost use Rattle.std.specs.Duration.{as_nanos};
 ghost use Rattle.dispatch_room_tasks.specs.OpenedRoom.{IsUnopened};
 ghost use Rattle.dispatch_room_serving.specs.Callers.{MayCall, Prints, PrintsStart};
@@ -434,14 +434,16 @@ fn end_part<E: Write, T: time::Clock, W: Keeper>(
     }
 }
 
-// The place of the list of a service that may be served in parts, if the system says which file
-// stands there.
+// The place of the list of a service, if it may be served in parts: none where the system doesn't
+// say which file the list is.
 fn place_of<'a, M: Machine>(
     run: &ServiceRun<'a, M>,
     list: &Option<OpenedList<M::File>>,
     renews: bool,
 ) -> Option<ListPlace<'a>>
-    ensures { renews ≡ false → result ≡ None }
+    ensures unlooked { renews ≡ false → result ≡ None }
+    ensures hidden { renews ≡ true → IsNone result → IfSome list.now (λ list.
+        IsNone run.now.service.now.journal ⊎ M.File.is_hidden list.0) }
 {
     match (list, run.service.journal) {
         (Some(list), Some(journal)) if renews => {

@@ -1,6 +1,7 @@
 use Rattle.std.proofs.Common.{inl}
 use Rattle.std.proofs.lemmas.Result.{on_err_weaker, on_ok_weaker}
-use Rattle.dispatch_room_changes.proofs.KeptLemmas.{flag_failed, flag_sound}
+use Rattle.dispatch_room_serving.proofs.KeeperLemmas.{flag_failed}
+use Rattle.dispatch_room_changes.proofs.KeptLemmas.{flag_sound}
 use Rattle.dispatch_room_changes.proofs.kept_fleets.keep_fleet.Goals as goal
 
 pub returns-in-Ok-keep_rows-clause-sound : goal.returns-in-Ok-keep_rows-clause-sound

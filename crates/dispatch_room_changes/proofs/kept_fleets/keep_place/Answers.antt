@@ -1,4 +1,4 @@
-use Rattle.dispatch_room_changes.proofs.KeptLemmas.{flag_failed}
+use Rattle.dispatch_room_serving.proofs.KeeperLemmas.{flag_failed}
 use Rattle.dispatch_room_changes.proofs.kept_fleets.keep_place.Goals as goal
 
 pub returns-in-Ok-clause-unkept : goal.returns-in-Ok-clause-unkept

@@ -1,11 +1,14 @@
-use Rattle.std.proofs.Common.{◌∙◌, ◌++◌, ap}
-use Rattle.dispatch_room_journal.specs.Entries.{answer, text_of}
+use Rattle.std.proofs.Common.{inl, ◌∙◌}
+use Rattle.std.proofs.lemmas.Result.{on_err_weaker}
+use Rattle.dispatch_room_journal.specs.Entries.{answer}
+use Rattle.dispatch_room_serving.proofs.KeeperLemmas.{flag_failed}
 use Rattle.dispatch_room_serving.proofs.journals.keep_answer.Goals as goal
 
 pub keep-requires : goal.keep-requires
-keep-requires g c =
-    let e = answer c.in-Some.status in
-    let put = (rw c.in-Ok.is at c.put_answer.ensures.all) in
-    record {
-      is_one = (e, c.in-Some.ensures.0, c.bytes.ensures ∙ put.0 ∙ ap (λ t. t ++ text_of e) c.new-entry.ensures.text);
-    }
+keep-requires g c = record {
+  is_one = (answer c.in-Some.status, c.in-Some.ensures.0, c.bytes.ensures ∙ c.answer.ensures);
+}
+
+pub returns-in-Some-clause-cause : goal.returns-in-Some-clause-cause
+returns-in-Some-clause-cause g c =
+    on_err_weaker c.keep.result (λ failed. inl failed) (flag_failed _ _ c.keep.result c.keep.ensures.failed)

@@ -20,7 +20,8 @@ returns-clause-served g c =
       once =
           λ once.
           c.standing-left.ensures.unlooked
-          (c.serve_in.ensures.none (c.place_of.ensures (ap (λ it. it.renews) c.terms_of-terms.ensures ∙ once)));
+          (c.serve_in.ensures.none
+          (c.place_of.ensures.unlooked (ap (λ it. it.renews) c.terms_of-terms.ensures ∙ once)));
       ended = rw (contents, ← c.is_some-has_journal.ensures) c.end_part-done.ensures.ended;
       cut = λ is. let cut = c.end_part-done.ensures.cut is in (cut.0, ap (λ it. it.journal) cut.1);
       is =

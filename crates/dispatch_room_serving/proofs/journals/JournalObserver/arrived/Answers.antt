@@ -2,8 +2,8 @@ use Rattle.std.proofs.Common.{◌≡◌, ◌∙◌, ap, sym}
 use Rattle.dispatch_room_journal.specs.JournalRecords.{message_text}
 use Rattle.dispatch_room_serving.specs.KeptChanges.{is_kept}
 use Rattle.dispatch_room_serving.specs.declared.journals.Journal.{Journal}
-use Rattle.dispatch_room_serving.proofs.KeeperLemmas.{keeps_it, keeps_none, known_of, puts_it}
-use Rattle.dispatch_room_serving.proofs.KeeperLemmas.{puts_none}
+use Rattle.dispatch_room_serving.proofs.KeeperLemmas.{keeps_it, keeps_none, known_of, of_keeper}
+use Rattle.dispatch_room_serving.proofs.KeeperLemmas.{puts_it, puts_none}
 use Rattle.dispatch_room_serving.proofs.journals.JournalObserver.arrived.Goals as goal
 use Rattle.dispatch_room_serving.proofs.journals.JournalObserver.arrived.Goals.{in-Message}
 use Rattle.dispatch_room_serving.proofs.journals.JournalObserver.arrived.Goals.{in_default-2}
@@ -40,3 +40,12 @@ returns-clause-put g c = rw (c.noted.ensures.out, c.noted.ensures.same_result) (
   | in_default w ↦ rw (w.self-is, w.kept-is)
       (puts_none g.W.Keeper.puts _ _ _ (ap (λ it. is_kept c.args.self.now.keeps_questions it) w.in_default.is))
 ])
+
+pub returns-clause-cause : goal.returns-clause-cause
+returns-clause-cause g c =
+    of_keeper g.W.Keeper.has_failed c.args.self.now c.noted.new.self c.match-arrived.self.out c.match-arrived.kept
+    c.noted.result c.noted.ensures.same_result c.noted.ensures.out (elim c.match-arrived.branch [
+      | in-Message w ↦ rw (w.self-is, w.kept-is) w.keep_message-kept.ensures.cause
+      | in_default-2 w ↦ rw (w.self-is, w.kept-is) tt
+      | in_default w ↦ rw (w.self-is, w.kept-is) tt
+    ])

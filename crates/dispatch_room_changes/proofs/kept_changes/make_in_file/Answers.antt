@@ -1,7 +1,7 @@
 use Rattle.std.proofs.Common.{inl, inr, refl}
 use Rattle.std.proofs.lemmas.Result.{IfErr-weaker}
 use Rattle.dispatch_room_disk.proofs.WorkLemmas.{handed_on, once_done}
-use Rattle.dispatch_room_changes.proofs.kept_changes.make_by.Goals as goal
+use Rattle.dispatch_room_changes.proofs.kept_changes.make_in_file.Goals as goal
 
 pub returns-in_err-opened-in-Some-clause-undone : goal.returns-in_err-opened-in-Some-clause-undone
 returns-in_err-opened-in-Some-clause-undone g c =
