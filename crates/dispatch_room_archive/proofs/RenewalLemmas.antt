@@ -1,19 +1,17 @@
 -- A room that begins by what another one left is that one renewed.
-use Rattle.std.proofs.Common.{IfNone, IfSome, List, None, Option, Some, [], ap, false, inr, is_some}
-use Rattle.std.proofs.Common.{refl, subst, sym, ℕ, ℤ, ◌+◌, ◌<◌, ◌∙◌, ◌≡◌, ◌≤◌, ◌∷◌}
+use Rattle.std.proofs.Common.{IfNone, IfSome, List, None, Option, Some, ap, false, inr, is_some}
+use Rattle.std.proofs.Common.{refl, subst, sym, ℕ, ℤ, ◌+◌, ◌<◌, ◌∙◌, ◌≡◌, ◌≤◌}
 use Rattle.std.specs.Prelude.{Err, IfOk, IsSome, Ok, Result}
-use Rattle.std.proofs.lemmas.Cmp.{nat_list_cmp_total}
-use Rattle.std.proofs.lemmas.Map.Lookups.{exact_bytes}
 use Rattle.std.specs.Ordering.{nat_cmp}
 use Rattle.jiff_tz.specs.declared.timezone.TimeZone.{TimeZone}
 use Rattle.sqlite_trees.specs.Tree.{Trees}
 use Rattle.room_place.specs.Plans.{Layout, has_division}
 use Rattle.room_place.specs.declared.plans.Area.{Area}
-use Rattle.room_types.specs.KeyedRows.{IsKeyed, put_row, row_at}
+use Rattle.room_types.specs.KeyedRows.{row_at}
 use Rattle.room_types.specs.Keys.{division_key}
 use Rattle.room_types.specs.declared.changes.Change.{Change}
 use Rattle.room_types.specs.declared.fleet.Terminal.{Terminal}
-use Rattle.room_model.specs.FleetRows.{AreTerminals, terminal_key, token_cmp}
+use Rattle.room_model.specs.FleetRows.{AreTerminals}
 use Rattle.room_model.specs.Room.{Room, apply}
 use Rattle.room_model.specs.RoomSlices.{room_of}
 use Rattle.room_model.specs.RoomAgreements.{IsWellFormed}
@@ -29,7 +27,7 @@ use Rattle.room_store_check_tables.specs.declared.whole_file.Configuration.{Conf
 use Rattle.room_store_check_tables.specs.declared.whole_file.ReadFile.{ReadFile}
 use Rattle.room_store_file.specs.ExaminedFile.{HoldsAll, IsSummaryOf}
 use Rattle.room_store_writes.specs.Configurations.{config_of}
-use Rattle.room_store_writes.specs.NewRoom.{StandsWith, in_order, new_room, put_all}
+use Rattle.room_store_writes.specs.NewRoom.{StandsWith, in_order, new_room}
 use Rattle.room_tables.specs.RoomsInTables.{Stands}
 use Rattle.dispatch_room_cli.specs.declared.exit_status.Failure.{Failure}
 use Rattle.dispatch_room_archive.specs.Renewal.{IsLeftBy, IsLeftSince, IsMomentOf, IsNoStart}

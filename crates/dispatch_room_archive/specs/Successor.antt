@@ -1,8 +1,7 @@
 -- A new room made of an old one, which is kept as an archive: all that is going on, all that
 -- happened since a moment, and the last of each vehicle's reports and of each position's calls.
 use Rattle.std.specs.List.{list_any}
-use Rattle.std.specs.Prelude.{Bool, None, Option, Some, false, filter, is_some, nat_le, nat_lt, not}
-use Rattle.std.specs.Prelude.{ℕ, ◌&&◌, ◌==◌, ◌||◌}
+use Rattle.std.specs.Prelude.{Bool, filter, is_some, nat_le, nat_lt, not, ℕ, ◌&&◌, ◌==◌, ◌||◌}
 use Rattle.room_types.specs.KeyedRows.{keep}
 use Rattle.room_types.specs.Codes.{is_active, is_normal}
 use Rattle.room_types.specs.Texts.{Callsign}

@@ -1,8 +1,6 @@
 //! The requests of a board sent to a room, and its answers received.
-ghost use Rattle.std.specs.Prelude.{◌≡◌, ◌<◌, ◌≤◌, ◌+◌, ℕ, List, Option, IfErr, IfOk, OnOk, false};
-ghost use Rattle.std.specs.Prelude.{true, length};
+ghost use Rattle.std.specs.Prelude.{◌≡◌, ◌<◌, ◌≤◌, ◌+◌, ℕ, List, Option, IfOk, false, true, length};
 ghost use Rattle.std.specs.Io.KnownBytes.{Consumes, IsAtEnd};
-ghost use Rattle.room_http_messages.specs.Streams.{WritesAll};
 ghost use Rattle.dispatch_room_board.specs.Requests.{Sends, requests};
 
 use crate::requests::{Asker, requests};

@@ -1,6 +1,5 @@
 //! The turns of the vehicles that were sent to an incident, read and shown.
 ghost use Rattle.std.specs.Prelude.{◌≡◌};
-ghost use Rattle.dispatch_room_board.specs.BoardCells.{text_of};
 ghost use Rattle.dispatch_room_board.specs.Histories.{IsTurnLine, ended_by, turn_table};
 
 use crate::board_cells::{BoardCell, after, since};

@@ -1,9 +1,9 @@
 -- What is kept, and why it is not.
-use Rattle.std.proofs.Common.{Bool, Err, Ok, Result, ap, arith, false, inl, inr, length, refl, sym}
-use Rattle.std.proofs.Common.{true, ◌<◌, ◌≤◌, List, [], ℕ, ◌++◌, ◌∙◌, ◌∷◌, ◌≡◌, ◌⊎◌}
+use Rattle.std.proofs.Common.{Err, Ok, Result, ap, arith, false, inl, inr, length, sym, true, ◌<◌}
+use Rattle.std.proofs.Common.{◌≤◌, List, [], ℕ, ◌++◌, ◌∙◌, ◌∷◌, ◌≡◌, ◌⊎◌}
 use Rattle.std.proofs.lemmas.List.{append-nil, length-append}
 use Rattle.std.specs.List.{flat_map}
-use Rattle.std.specs.Prelude.{OnErr, OnOk, is_err, ◌||◌}
+use Rattle.std.specs.Prelude.{OnErr, is_err}
 use Rattle.dispatch_room_changes.proofs.LineLemmas.{AreTaken}
 use Rattle.dispatch_room_changes.specs.ChangeTasks.{IsOpenedAs}
 use Rattle.dispatch_room_changes.specs.KeptImports.{HasLongLine, LacksRow, LacksRows}
@@ -11,11 +11,11 @@ use Rattle.dispatch_room_journal.specs.TextParts.{Lacks}
 use Rattle.dispatch_room_journal.specs.declared.row_runs.TheConstants.{ROW_ROOM}
 use Rattle.dispatch_room_journal.specs.declared.list_ends.ListEnd.{ListEnd}
 use Rattle.dispatch_room_serving.specs.declared.journal_files.SystemFile.{SystemFile}
-use Rattle.dispatch_room_changes.specs.declared.kept_fleets.FleetList.{FleetList}
+use Rattle.dispatch_room_changes.specs.declared.change_lists.ChangeList.{ChangeList}
 
 -- a list that is made of what was opened is opened as that
 pub opened_as : {F : Type 0} (opened : F × ListEnd) (file : SystemFile F) (end : ListEnd)
-    (list : FleetList (SystemFile F)) → file.file ≡ opened.0 → end ≡ opened.1
+    (list : ChangeList (SystemFile F)) → file.file ≡ opened.0 → end ≡ opened.1
     → list ≡ record { out = record { file = file; failed = false }; end = end } → IsOpenedAs opened list
 opened_as opened file end list of at is =
     (ap (λ it. it.out.file.file) is ∙ of, ap (λ it. it.end) is ∙ at, ap (λ it. it.out.failed) is)
@@ -25,11 +25,10 @@ pub where_failed : {T E : Type 0} (r : Result T E) (P : Type 0) → is_err r ≡
 where_failed (Ok x) P failed holds = absurd (cc)
 where_failed (Err e) P failed holds = holds
 
--- a flag that notes a failure
-pub flag_sound : {T E : Type 0} (old new : Bool) (r : Result T E) → new ≡ (old || is_err r)
-    → old ≡ false → OnOk r (new ≡ false)
-flag_sound old new (Ok x) is sound = rw sound at is
-flag_sound old new (Err e) is sound = tt
+-- what holds holds where a call fails
+pub where_fails : {T E : Type 0} (r : Result T E) (P : Type 0) → P → OnErr r P
+where_fails (Ok x) P holds = tt
+where_fails (Err e) P holds = holds
 
 line_short : (left line rest : List ℕ) → (left ≡ line ++ 10 ∷ rest) ⊎ ((left ≡ line) × (rest ≡ []))
     → length line ≤ length left
@@ -65,7 +64,7 @@ long_line text left line rest lines taken next one long =
     ]
 
 -- where a line could not be kept, the lines of its text were not all kept
-pub lacks_more : {F : Type 0} (list : FleetList F) (text left line rest : List ℕ)
+pub lacks_more : {F : Type 0} (list : ChangeList F) (text left line rest : List ℕ)
     (lines : List (List ℕ)) → AreTaken text left lines
     → (left ≡ line ++ 10 ∷ rest) ⊎ ((left ≡ line) × (rest ≡ [])) → Lacks 10 line
     → LacksRow list line → LacksRows list text

@@ -9,12 +9,12 @@ use Rattle.dispatch_room_csv.specs.declared.plan_file.PlanFile.{PlanFile}
 use Rattle.dispatch_room_tasks.specs.OpenedRoom.{HoldsNone, IsUnopened}
 use Rattle.dispatch_room_changes.specs.MadeChanges.{MakesKeptIn, OpensNoneKept}
 use Rattle.dispatch_room_changes.specs.KeptImports.{ImportsKeptIn}
-use Rattle.dispatch_room_changes.specs.declared.kept_fleets.FleetList.{FleetList}
+use Rattle.dispatch_room_changes.specs.declared.change_lists.ChangeList.{ChangeList}
 use Rattle.dispatch_room_journal.specs.declared.list_ends.ListEnd.{ListEnd}
 use Rattle.dispatch_room_lists.specs.RoomChanges.{Makes}
 use Rattle.dispatch_room_lists.specs.declared.room_changes.RoomChange.{RoomChange}
+use Rattle.dispatch_room_serving.specs.Journals.{shown_in}
 use Rattle.dispatch_room_serving.specs.declared.journal_files.SystemFile.{SystemFile}
-use Rattle.dispatch_room_tcp.specs.ServedParts.{shown_in}
 use Rattle.dispatch_room_tasks.specs.Creation as created
 use Rattle.dispatch_room_tasks.specs.ListedTerminals.{HasListed}
 use Rattle.dispatch_room_tasks.specs.Enrolment as imported
@@ -38,7 +38,7 @@ Enrols lines = λ S g old new before after done.
 
 -- The list of a room, in the file that was opened for it. It goes on where that does, and no write
 -- to it and no sync failed.
-abbrev pub IsOpenedAs : {F : Type 0} → F × ListEnd → FleetList (SystemFile F) → Type 0
+abbrev pub IsOpenedAs : {F : Type 0} → F × ListEnd → ChangeList (SystemFile F) → Type 0
 IsOpenedAs opened list =
     (list.out.file.file ≡ opened.0) × (list.end ≡ opened.1) × (list.out.failed ≡ false)
 
@@ -46,7 +46,7 @@ IsOpenedAs opened list =
 abbrev pub EnrolsKept : {F : Type 0} → (F → Option (List ℕ)) → (F → Option (List ℕ)) → F × ListEnd
     → List FleetLine → List ℕ → Saying Done
 EnrolsKept {F} contents lasting opened lines text = λ S g old new before after done.
-    (from to : FleetList (SystemFile F)) × IsOpenedAs opened from
+    (from to : ChangeList (SystemFile F)) × IsOpenedAs opened from
     × ImportsKeptIn g (shown_in contents) (shown_in lasting) old new from to lines text
     before after done
 
@@ -67,7 +67,7 @@ Changes change = λ S g old new before after done. Makes g old new change done �
 abbrev pub ChangesKept : {F : Type 0} → (F → Option (List ℕ)) → (F → Option (List ℕ)) → F × ListEnd
     → RoomChange → List ℕ → Saying (Unit {0})
 ChangesKept {F} contents lasting opened change text = λ S g old new before after done.
-    ((from to : FleetList (SystemFile F)) × IsOpenedAs opened from
+    ((from to : ChangeList (SystemFile F)) × IsOpenedAs opened from
     × MakesKeptIn g (shown_in contents) (shown_in lasting) old new from to change text
     done) × (after ≡ before)
 
@@ -76,7 +76,7 @@ ChangesKept {F} contents lasting opened change text = λ S g old new before afte
 abbrev pub LosesKeptRoom : {F : Type 0} → (F → Option (List ℕ)) → (F → Option (List ℕ))
     → F × ListEnd → RoomChange → List ℕ → Refusing
 LosesKeptRoom {F} contents lasting opened change text = λ S g conn before after fault.
-    ((from : FleetList (SystemFile F)) × IsOpenedAs opened from
+    ((from : ChangeList (SystemFile F)) × IsOpenedAs opened from
     × OpensNoneKept g (shown_in contents) (shown_in lasting) conn from change text fault)
     × (after ≡ before)
 

@@ -24,7 +24,7 @@ use Rattle.dispatch_room_journal.specs.TextParts.{Lacks}
 use Rattle.dispatch_room_journal.specs.declared.list_ends.ListEnd.{ListEnd}
 use Rattle.dispatch_room_journal.specs.declared.list_ends.ListEnd.TheVariants.{Plain}
 use Rattle.dispatch_room_journal.specs.declared.row_runs.TheConstants.{ROW_ROOM}
-use Rattle.dispatch_room_changes.specs.declared.kept_fleets.FleetList.{FleetList}
+use Rattle.dispatch_room_changes.specs.declared.change_lists.ChangeList.{ChangeList}
 use Rattle.dispatch_room_tasks.specs.Enrolment.{HasImported, PrintsFates}
 use Rattle.dispatch_room_tasks.specs.OpenedRoom.{OpensRoom}
 use Rattle.dispatch_room_lists.specs.StoodRooms.{Stays, digits_in}
@@ -55,24 +55,24 @@ pub record HasLongLine (text : List ℕ) : Type 0 where
 
 module _ {F : Type 0} where
   -- a line was not kept as a row: the list failed, or it is no chain, or the line is too long
-  abbrev pub LacksRow : FleetList F → List ℕ → Type 0
+  abbrev pub LacksRow : ChangeList F → List ℕ → Type 0
   LacksRow list line = (list.out.failed ≡ true) ⊎ (list.end ≡ Plain) ⊎ (ROW_ROOM < length line)
 
   -- the lines of a text were not all kept as rows: the same, or one of them is too long
-  abbrev pub LacksRows : FleetList F → List ℕ → Type 0
+  abbrev pub LacksRows : ChangeList F → List ℕ → Type 0
   LacksRows list text = (list.out.failed ≡ true) ⊎ (list.end ≡ Plain) ⊎ HasLongLine text
 
   -- the room can't be read, for memory or storage, and the list stays as it is
-  abbrev pub IsUnshown : FleetList F → FleetList F → Failure → Type 0
+  abbrev pub IsUnshown : ChangeList F → ChangeList F → Failure → Type 0
   IsUnshown from to fault = ((fault ≡ Memory) ⊎ (fault ≡ Storage)) × (to ≡ from)
 
   -- why the digest of a room was not kept: it can't be read, or the list failed
-  abbrev pub IsUnplaced : FleetList F → FleetList F → Failure → Type 0
+  abbrev pub IsUnplaced : ChangeList F → ChangeList F → Failure → Type 0
   IsUnplaced from to fault =
       IsUnshown from to fault ⊎ ((fault ≡ Journal) × (to.out.failed ≡ true))
 
   -- why a text was not kept behind the digest of a room
-  abbrev pub IsUnkept : FleetList F → FleetList F → List ℕ → Failure → Type 0
+  abbrev pub IsUnkept : ChangeList F → ChangeList F → List ℕ → Failure → Type 0
   IsUnkept from to text fault = IsUnshown from to fault ⊎ ((fault ≡ Journal) × LacksRows to text)
 
 -- How a change ends that came to this, once the room's digest was kept, or was not: a change that
@@ -85,18 +85,18 @@ ended (Err first) (Err fault) = Err first
 -- ---- what is kept, by what a file holds, and what of that lasts
 module _ {F : Type 0} (contents lasting : F → Option (List ℕ)) where
   -- a head was put behind it, and nothing else
-  abbrev pub PutsHead : FleetList F → FleetList F → Head → Type 0
+  abbrev pub PutsHead : ChangeList F → ChangeList F → Head → Type 0
   PutsHead old new head = PutsKnown {E = WriteFailed} old.end new.end (contents old.out.file)
       (contents new.out.file) (room_text head) (Ok tt)
       × PutsEntry old.end new.end (contents old.out.file) (contents new.out.file) (room_text head)
 
   -- all that it holds lasts
-  abbrev pub IsLasting : FleetList F → Type 0
+  abbrev pub IsLasting : ChangeList F → Type 0
   IsLasting list = lasting list.out.file ≡ contents list.out.file
 
   -- A head was put behind it, and then the lines of a text as rows, and all of it lasts.
-  pub record KeepsFleet (old new : FleetList F) (head : Head) (text : List ℕ) : Type 0 where
-    pub headed : FleetList F
+  pub record KeepsLines (old new : ChangeList F) (head : Head) (text : List ℕ) : Type 0 where
+    pub headed : ChangeList F
     pub begins : PutsHead old headed head
     pub lines : List (List ℕ)
     pub are : AreLinesOf text lines
@@ -104,7 +104,7 @@ module _ {F : Type 0} (contents lasting : F → Option (List ℕ)) where
     pub lasts : IsLasting new
 
   -- a head was put behind it, and lasts
-  pub record KeepsHead (old new : FleetList F) (head : Head) : Type 0 where
+  pub record KeepsHead (old new : ChangeList F) (head : Head) : Type 0 where
     pub begins : PutsHead old new head
     pub lasts : IsLasting new
 
@@ -127,7 +127,7 @@ module _ {S : Type 0} (g : Ghosts S) where
 
   module _ {F : Type 0} (contents lasting : F → Option (List ℕ)) where
     -- nothing was enrolled: memory, storage or the list fails
-    pub record EnrolsNothing (old new : Store S) (from to : FleetList F) (text : List ℕ)
+    pub record EnrolsNothing (old new : Store S) (from to : ChangeList F) (text : List ℕ)
         (before after : Option (List ℕ)) (done : Result Done Failure) : Type 0 where
       pub stays : Stays g old new
       pub unprinted : after ≡ before
@@ -136,14 +136,14 @@ module _ {S : Type 0} (g : Ghosts S) where
       pub why : IsUnkept from to text fault
 
     -- the room's digest is kept, or not for this
-    abbrev pub PlacesRoom : Store S → Store S → FleetList F → FleetList F
+    abbrev pub PlacesRoom : Store S → Store S → ChangeList F → ChangeList F
         → Result (Unit {0}) Failure → Type 0
     PlacesRoom old new from to kept = MatchResult kept
         (λ _. (head : Head) × ShowsHead old new head × KeepsHead contents lasting from to head)
         (IsUnplaced from to)
 
     -- The room's digest is kept after a change that ended so, whether it was made or not.
-    pub record EndsKept {T : Type 0} (old new : Store S) (from to : FleetList F)
+    pub record EndsKept {T : Type 0} (old new : Store S) (from to : ChangeList F)
         (came done : Result T Failure) : Type 0 where
       pub stays : Stays g old new
       pub kept : Result (Unit {0}) Failure
@@ -151,27 +151,27 @@ module _ {S : Type 0} (g : Ghosts S) where
       pub is : done ≡ ended came kept
 
     -- The fleet was kept, and then it was enrolled.
-    pub record KeepsAndEnrols (old new : Store S) (from to : FleetList F) (lines : List FleetLine)
+    pub record KeepsAndEnrols (old new : Store S) (from to : ChangeList F) (lines : List FleetLine)
         (text : List ℕ) (before after : Option (List ℕ)) (done : Result Done Failure) : Type 0 where
       pub begun : Store S
       pub head : Head
       pub shows : ShowsHead old begun head
-      pub kept : FleetList F
-      pub keeps : KeepsFleet contents lasting from kept head text
+      pub kept : ChangeList F
+      pub keeps : KeepsLines contents lasting from kept head text
       pub enrolled : Store S
       pub came : Result Done Failure
       pub imports : Imports begun enrolled lines before after came
       pub ends : EndsKept enrolled new kept to came done
 
     -- Nothing was enrolled; or the fleet was, once it lasted in the list.
-    abbrev pub ImportsKept : Store S → Store S → FleetList F → FleetList F → List FleetLine → List ℕ
+    abbrev pub ImportsKept : Store S → Store S → ChangeList F → ChangeList F → List FleetLine → List ℕ
         → Option (List ℕ) → Option (List ℕ) → Result Done Failure → Type 0
     ImportsKept old new from to lines text before after done =
         EnrolsNothing old new from to text before after done
         ⊎ KeepsAndEnrols old new from to lines text before after done
 
     -- the same in the room of a database
-    pub record ImportsKeptIn (old new : Held S) (from to : FleetList F) (lines : List FleetLine)
+    pub record ImportsKeptIn (old new : Held S) (from to : ChangeList F) (lines : List FleetLine)
         (text : List ℕ) (before after : Option (List ℕ)) (done : Result Done Failure) : Type 0 where
       pub opened : Store S
       pub closed : Store S

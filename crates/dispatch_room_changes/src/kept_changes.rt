@@ -5,7 +5,7 @@ ghost use Rattle.dispatch_room_changes.specs.ChangeTasks.{Changes, ChangesKept, 
 ghost use Rattle.dispatch_room_changes.specs.ChangeTasks.{LosesKeptRoom};
 ghost use Rattle.dispatch_room_lists.specs.RoomChanges.{IsTextOf};
 
-use crate::kept_fleets::FleetList;
+use crate::change_lists::ChangeList;
 use crate::kept_import::opened_list;
 use crate::made_changes::make_kept_in;
 use dispatch_room_cli::exit_status::Failure;
@@ -122,7 +122,7 @@ impl<'a, 'b, F: Lasting + Drop> RoomTask for KeptMaking<'a, 'b, F> {
             opened,
         } = self;
         let (file, end) = opened.into_file(explainer, path);
-        let mut list = FleetList::new(file, end);
+        let mut list = ChangeList::new(file, end);
         make_kept_in(alloc, explainer, conn, &mut list, change, text)
     }
 }

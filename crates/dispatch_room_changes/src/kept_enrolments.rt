@@ -9,7 +9,7 @@ ghost use Rattle.dispatch_room_changes.specs.KeptImports.{EndsKept, ImportsKept,
 ghost use Rattle.dispatch_room_changes.specs.KeptImports.{PlacesRoom, ShowsHead};
 ghost use Rattle.dispatch_room_lists.specs.StoodRooms.{Stays};
 
-use crate::kept_fleets::{FleetList, keep_fleet, keep_place};
+use crate::change_lists::{ChangeList, keep_lines, keep_place};
 use dispatch_room_cli::exit_status::{Done, Failure, refused};
 use dispatch_room_cli::failure_causes::Explainer;
 use dispatch_room_csv::fleet_file::FleetLine;
@@ -40,7 +40,7 @@ pub struct Fleet<'a> {
 pub fn import_in<S: Alter + Drop, F: Lasting, O: Write>(
     alloc: Global,
     conn: Connection<S>,
-    list: &mut FleetList<F>,
+    list: &mut ChangeList<F>,
     fleet: &Fleet<'_>,
     out: &mut O,
 ) -> TaskResult<Done, S>
@@ -65,7 +65,7 @@ pub fn import_in<S: Alter + Drop, F: Lasting, O: Write>(
 fn keep_and_enrol<S: Alter, F: Lasting, O: Write>(
     alloc: Global,
     room: &mut Store<S>,
-    list: &mut FleetList<F>,
+    list: &mut ChangeList<F>,
     fleet: &Fleet<'_>,
     rows: &[FleetRow],
     out: &mut O,
@@ -81,7 +81,7 @@ fn keep_and_enrol<S: Alter, F: Lasting, O: Write>(
         Ok(head) => head,
         Err(fault) => return Err(fault),
     };
-    if keep_fleet(list, &head, fleet.sheet.text).is_err() {
+    if keep_lines(list, &head, fleet.sheet.text).is_err() {
         return Err(Failure::Journal);
     }
     let came = enrol(alloc, room, fleet.sheet, fleet.lines, rows, out);
@@ -93,7 +93,7 @@ fn keep_and_enrol<S: Alter, F: Lasting, O: Write>(
 pub fn end_kept<S: Alter, F: Lasting, T: Drop>(
     explainer: Explainer<'_>,
     room: &mut Store<S>,
-    list: &mut FleetList<F>,
+    list: &mut ChangeList<F>,
     came: Result<T, Failure>,
 ) -> Result<T, Failure>
     requires ready { IsReady S.Store room.old }
@@ -116,7 +116,7 @@ pub fn end_kept<S: Alter, F: Lasting, T: Drop>(
 // Keeps the digest of a room, which stays as it is.
 fn keep_end<S: Alter, F: Lasting>(
     room: &mut Store<S>,
-    list: &mut FleetList<F>,
+    list: &mut ChangeList<F>,
 ) -> Result<(), Failure>
     requires ready { IsReady S.Store room.old }
     requires sound { list.old.out.failed ≡ false }

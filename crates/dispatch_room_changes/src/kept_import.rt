@@ -5,9 +5,9 @@ ghost use Rattle.dispatch_room_changes.specs.DoneChanges.{IsChain, IsKeptImport,
 ghost use Rattle.dispatch_room_changes.specs.DoneChanges.{LacksChain};
 ghost use Rattle.dispatch_room_changes.specs.ChangeTasks.{EnrolsKept, EnrolsNone};
 
+use crate::change_lists::ChangeList;
 use crate::import::lines_in;
 use crate::kept_enrolments::{Fleet, import_in};
-use crate::kept_fleets::FleetList;
 use dispatch_room_cli::exit_status::{Done, Failure};
 use dispatch_room_csv::sheets::Sheet;
 use dispatch_room_disk::room_files::{RoomFile, RoomTask};
@@ -121,7 +121,7 @@ impl<'a, F: Lasting + Drop> RoomTask for KeptEnrolment<'a, F> {
             opened,
         } = self;
         let (file, end) = opened.into_file(fleet.explainer, path);
-        let mut list = FleetList::new(file, end);
+        let mut list = ChangeList::new(file, end);
         import_in(alloc, conn, &mut list, &fleet, out)
     }
 }

@@ -3,12 +3,12 @@
 //! which that is kept before.
 #![tactic(auto)]
 
+mod change_lists;
 pub mod files;
 pub mod import;
 pub mod init;
 pub mod kept_changes;
 mod kept_enrolments;
-mod kept_fleets;
 pub mod kept_import;
 mod made_changes;
 pub mod replan;

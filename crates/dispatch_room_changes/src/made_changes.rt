@@ -6,8 +6,8 @@ ghost use Rattle.dispatch_room_changes.specs.MadeChanges.{EndsMade, KeepsText, M
 ghost use Rattle.dispatch_room_changes.specs.MadeChanges.{OpensNoneKept};
 ghost use Rattle.dispatch_room_lists.specs.StoodRooms.{Stays};
 
+use crate::change_lists::{ChangeList, keep_lines};
 use crate::kept_enrolments::{end_kept, head_of};
-use crate::kept_fleets::{FleetList, keep_fleet};
 use dispatch_room_cli::exit_status::Failure;
 use dispatch_room_cli::failure_causes::Explainer;
 use dispatch_room_lists::room_changes::{Remade, RoomChange, remake};
@@ -23,7 +23,7 @@ pub fn make_kept_in<S: Alter + Drop, F: Lasting>(
     alloc: Global,
     explainer: Explainer<'_>,
     conn: Connection<S>,
-    list: &mut FleetList<F>,
+    list: &mut ChangeList<F>,
     change: &RoomChange,
     text: &[u8],
 ) -> TaskResult<(), S>
@@ -47,7 +47,7 @@ pub fn make_kept_in<S: Alter + Drop, F: Lasting>(
 fn end_made<S: Alter, F: Lasting>(
     explainer: Explainer<'_>,
     remade: Remade<S>,
-    list: &mut FleetList<F>,
+    list: &mut ChangeList<F>,
 ) -> (Result<(), Failure>, Connection<S>)
     requires ready { IsReady S.Store remade.room }
     requires sound { list.old.out.failed ≡ false }
@@ -66,7 +66,7 @@ fn end_made<S: Alter, F: Lasting>(
 // Keeps the digest of a room, and then a text, so that all of it lasts. The room stays as it is.
 fn keep_text<S: Alter, F: Lasting>(
     room: &mut Store<S>,
-    list: &mut FleetList<F>,
+    list: &mut ChangeList<F>,
     text: &[u8],
 ) -> Result<(), Failure>
     requires ready { IsReady S.Store room.old }
@@ -78,11 +78,8 @@ fn keep_text<S: Alter, F: Lasting>(
         list.new text.now) }
     ensures fault { IfErr result (IsUnkept list.old list.new text.now) }
 {
-    let head = match head_of(room) {
-        Ok(head) => head,
-        Err(fault) => return Err(fault),
-    };
-    match keep_fleet(list, &head, text) {
+    let head = head_of(room)?;
+    match keep_lines(list, &head, text) {
         Ok(()) => Ok(()),
         Err(_) => Err(Failure::Journal),
     }

@@ -49,16 +49,12 @@ fn planned_in(sheet: Sheet<'_>) -> Result<Vec<Terminal>, Failure>
     ensures given { IfOk result (λ listed. AreOfPlan sheet.entry.text.now listed.items) }
     ensures none { IfErr result (GivesNoPlan sheet.entry.text.now) }
 {
-    match plan_in(sheet) {
-        Ok(file) => {
-            let PlanFile {
-                plan: _plan,
-                terminals,
-            } = file;
-            Ok(terminals)
-        }
-        Err(fault) => Err(fault),
-    }
+    let file = plan_in(sheet)?;
+    let PlanFile {
+        plan: _plan,
+        terminals,
+    } = file;
+    Ok(terminals)
 }
 
 // The crews of a fleet of which no row is bad.

@@ -1,12 +1,12 @@
 -- What clap has after arguments and commands were added in turn.
-use Rattle.std.proofs.Common.{Bool, List, [], ap, append-nil, append_assoc, arith, false, get_or}
-use Rattle.std.proofs.Common.{length, map, refl, subst, rules, sym, take, true, ℕ, ◌+◌, ◌++◌, ◌<◌}
-use Rattle.std.proofs.Common.{◌∙◌, ◌∷◌, ◌≡◌, ◌||◌}
-use Rattle.std.specs.Prelude.{fold, ⊤}
+use Rattle.std.proofs.Common.{Bool, List, [], ap, append-nil, append_assoc, false, get_or, length}
+use Rattle.std.proofs.Common.{map, refl, subst, rules, sym, take, true, ℕ, ◌+◌, ◌++◌, ◌<◌, ◌∙◌, ◌∷◌}
+use Rattle.std.proofs.Common.{◌≡◌, ◌||◌}
+use Rattle.std.specs.Prelude.{fold}
 use Rattle.std.proofs.lemmas.List.{map-append, map_more}
 use Rattle.clap.specs.Words.{AddsArg, AddsInTurn, AddsSubcommand}
 use Rattle.clap.specs.Walk.{Rule, rule_of}
-use Rattle.clap.specs.Simple.{App, Shape, app_of, new_app, shape_of, with_subcommand}
+use Rattle.clap.specs.Simple.{App, app_of, new_app, shape_of, with_subcommand}
 use Rattle.clap.specs.declared.builder.arg.Arg.{Arg}
 use Rattle.clap.specs.declared.builder.command.Command.{Command}
 use Rattle.clap.specs.declared.builder.command.Command.TheViews.{out-Command}

@@ -1,6 +1,6 @@
 -- The last name of a path.
-use Rattle.std.proofs.Common.{List, ap, arith, drop, eqb, get_or, length, refl, sym, take}
-use Rattle.std.proofs.Common.{take-append-drop, inl, inr, ℕ, ◌++◌, ◌<◌, ◌∙◌, ◌∷◌, ◌≡◌, ◌≢◌}
+use Rattle.std.proofs.Common.{List, ap, arith, eqb, refl, sym, take, take-append-drop, inl, inr, ℕ}
+use Rattle.std.proofs.Common.{◌++◌, ◌∙◌, ◌∷◌}
 use Rattle.std.specs.Str.{NoCharPasses}
 use Rattle.std.specs.Str.Pattern.{RFindsChar, SplitsAroundMatch}
 use Rattle.std.proofs.lemmas.Str.Pattern.{NoCharPasses-char, drop_at_char}

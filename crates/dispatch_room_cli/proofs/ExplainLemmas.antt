@@ -1,7 +1,6 @@
 -- The words before the option that explains a failure.
 use Rattle.std.proofs.Common.{Bool, List, Some, [], ap, arith, codes, get_or, length, map, refl}
-use Rattle.std.proofs.Common.{subst, suc, sym, zero, false, true, ℕ, ◌+◌, ◌<◌, ◌∙◌, ◌∷◌, ◌≡◌, ◌≢◌}
-use Rattle.std.proofs.Common.{◌≤◌}
+use Rattle.std.proofs.Common.{suc, sym, zero, false, true, ℕ, ◌+◌, ◌<◌, ◌∙◌, ◌∷◌, ◌≡◌, ◌≢◌, ◌≤◌}
 use Rattle.std.specs.Prelude.{slice_get}
 use Rattle.std.specs.Str.{bytes_eq}
 use Rattle.std.proofs.lemmas.Slice.Eq.{bytes_eq-Decides}

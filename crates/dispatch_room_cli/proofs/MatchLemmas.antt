@@ -3,7 +3,7 @@ use Rattle.std.proofs.Common.{Err, List, MatchOption, None, Ok, Option, Result, 
 use Rattle.std.proofs.Common.{arith, codes, inl, inr, option_map, refl, subst, sym, ℕ, ◌^◌, ◌<◌}
 use Rattle.std.proofs.Common.{◌∙◌, ◌≡◌, ◌≤◌}
 use Rattle.std.specs.Prelude.{IfOk, MatchResult, SomeIff, ok_or, unwrap_or}
-use Rattle.std.specs.Str.Parse.{IsNumeral, ParsesUnsigned, digits_value, without_leading_plus}
+use Rattle.std.specs.Str.Parse.{ParsesUnsigned, digits_value, without_leading_plus}
 use Rattle.clap.specs.Matches.{ReadsOne, found_of, one_text}
 use Rattle.clap.specs.Simple.{App, HasMatchesOf, app_of, is_simple, subcommand_of}
 use Rattle.clap.specs.Simple.{subcommand_rows_of}

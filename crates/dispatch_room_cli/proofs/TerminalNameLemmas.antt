@@ -1,7 +1,6 @@
 -- Texts that name those who have a terminal, and those that name nobody.
-use Rattle.std.proofs.Common.{Err, List, MatchOption, Ok, Result, [], ap, arith, codes, decimal}
-use Rattle.std.proofs.Common.{get_or, suc, sym, true, zero, ℕ, ◌++◌, ◌<◌, ◌^◌, ◌∙◌, ◌∷◌, ◌≡◌, ◌≢◌}
-use Rattle.std.proofs.Common.{◌≤◌}
+use Rattle.std.proofs.Common.{Err, List, MatchOption, Ok, Result, ap, arith, codes, decimal, get_or}
+use Rattle.std.proofs.Common.{suc, sym, zero, ℕ, ◌++◌, ◌<◌, ◌^◌, ◌∙◌, ◌∷◌, ◌≡◌, ◌≢◌, ◌≤◌}
 use Rattle.std.specs.Result.{result_ok}
 use Rattle.std.specs.Str.Parse.{ParsesUnsigned, digits_value, AllDigits}
 use Rattle.std.specs.Str.Pattern.{FindsTextPrefix, StripsPrefix}

@@ -1,8 +1,8 @@
 -- What a task of the command line comes to, where it is done.
 use Rattle.std.specs.Global.{Global}
 use Rattle.std.specs.Io.KnownBytes.{Appends}
-use Rattle.std.specs.Prelude.{Bool, Err, IfOk, List, MatchResult, None, Ok, Option, Result, Some}
-use Rattle.std.specs.Prelude.{Vec, [], codes, ◌++◌, ◌∷◌}
+use Rattle.std.specs.Prelude.{Bool, Err, IfOk, List, MatchOption, MatchResult, None, Ok, Option}
+use Rattle.std.specs.Prelude.{Result, Some, Vec, [], codes}
 use Rattle.std.specs.Option.{option_map}
 use Rattle.std.specs.Prelude.{is_some, true, ℕ, ◌*◌, ◌≡◌, ◌⊎◌}
 use Rattle.clap.specs.Words.{kind_of}
@@ -48,6 +48,7 @@ use Rattle.dispatch_room_changes.specs.DoneChanges.{FailsImport, FailsInit, Fail
 use Rattle.dispatch_room_changes.specs.DoneChanges.{FailsReplan, FailsSetting, FailsTerminals}
 use Rattle.dispatch_room_changes.specs.DoneChanges.{IsImport, IsInit, IsKeptImport, IsReplan}
 use Rattle.dispatch_room_changes.specs.DoneChanges.{IsSetting, IsTerminals}
+use Rattle.dispatch_room_changes.specs.declared.kept_changes.ChangedFile.{ChangedFile}
 
 -- what all of a list says, by what is known of its bytes
 abbrev pub said_by : Option (List ℕ) → Option (List ℕ)
@@ -132,12 +133,16 @@ module _ {F : Type 0} (around : Surroundings F) (before after : Option (List ℕ
     pub read : IsDoneAt (around.kept file) (LeavesRows day) None None left
     pub made : IsDoneAt (around.new successor) (Begins left) before after done
 
+  -- a fleet was imported, and kept in the list of the file before, if there is one
+  abbrev pub IsImportOf : ChangedFile → List ℕ → Type 0
+  IsImportOf place fleet = MatchOption place.list
+      (IsImport around before after done place.file.now fleet)
+      (λ list. IsKeptImport around before after done place.file.now fleet list.now)
+
   -- what was asked for was done
   abbrev pub IsTask : Task → Type 0
   IsTask (Init file plan) = IsInit around before after done file.now plan.now
-  IsTask (Import file fleet None) = IsImport around before after done file.now fleet.now
-  IsTask (Import file fleet (Some list)) =
-      IsKeptImport around before after done file.now fleet.now list.now
+  IsTask (Import file fleet list) = IsImportOf (record { file = file; list = list }) fleet.now
   IsTask (Replan file plan list) =
       IsReplan around before after done (record { file = file; list = list }) plan.now
   IsTask (Migrate file) = IsMigrate file.now
@@ -188,7 +193,7 @@ module _ {F : Type 0} (around : Surroundings F) (before after : Option (List ℕ
   -- is one, and one of these steps failed for this, and those before it were done.
   abbrev pub FailsRestore : List ℕ → List ℕ → Type 0
   FailsRestore copy file = (FailsCheck copy × around.replaced [])
-      ⊎ ((done : Done) × IsDoneAt (around.kept copy) Examines before after done
+      ⊎ ((done : Done) × IsCheck around before after done copy
       × ((there : Bool)
       × StopsFor IsFaultOf around.replaced (replacing copy file there) fault))
 
@@ -246,12 +251,17 @@ module _ {F : Type 0} (around : Surroundings F) (before after : Option (List ℕ
       ⊎ ((left : Successor) × IsDoneAt (around.kept file) (LeavesRows day) None None left
       × IsUndoneAt (around.new successor) (Begins left) BeginsNone before after fault)
 
+  -- none was imported, and this became of the list of the file, if there is one
+  abbrev pub FailsImportOf : ChangedFile → List ℕ → Type 0
+  FailsImportOf place fleet = MatchOption place.list
+      (FailsImport around before after fault place.file.now fleet)
+      (λ list. FailsKeptImport around before after fault place.file.now fleet list.now)
+
   -- what was asked for was not done
   abbrev pub FailsTask : Task → Type 0
   FailsTask (Init file plan) = FailsInit around before after fault file.now plan.now
-  FailsTask (Import file fleet None) = FailsImport around before after fault file.now fleet.now
-  FailsTask (Import file fleet (Some list)) =
-      FailsKeptImport around before after fault file.now fleet.now list.now
+  FailsTask (Import file fleet list) =
+      FailsImportOf (record { file = file; list = list }) fleet.now
   FailsTask (Replan file plan list) =
       FailsReplan around before after fault (record { file = file; list = list }) plan.now
   FailsTask (Migrate file) = FailsMigrate file.now

@@ -1,11 +1,13 @@
 //! The commands over a room's file: what they write, and the exit status.
-ghost use Rattle.std.specs.Prelude.{◌≡◌, MatchBool, MatchResult, Result, map, string_bytes, true};
+ghost use Rattle.std.specs.Prelude.{◌≡◌, IfErr, IfOk, MatchBool, MatchResult, Result, map};
+ghost use Rattle.std.specs.Prelude.{string_bytes, true};
 ghost use Rattle.clap.specs.Words.{kind_of};
 ghost use Rattle.clap.specs.declared.error.Error.{Error as Mistake};
 ghost use Rattle.clap.specs.declared.error.ErrorKind.TheVariants.{OutOfMemory};
 ghost use Rattle.dispatch_room_commands.specs.CommandEnds.{IsHelpDone, IsWordsOutput};
 ghost use Rattle.dispatch_room_commands.specs.CommandEnds.{IsWordsStatus, is_mistake};
-ghost use Rattle.dispatch_room_commands.specs.DoneTasks.{FailsTask, IsAskedBy, IsExit, IsTask};
+ghost use Rattle.dispatch_room_commands.specs.DoneTasks.{FailsImportOf, FailsTask, IsAskedBy};
+ghost use Rattle.dispatch_room_commands.specs.DoneTasks.{IsExit, IsImportOf, IsTask};
 ghost use Rattle.dispatch_room_tcp.specs.Hosts.{unknown};
 ghost use Rattle.dispatch_room_cli.specs.ExplainedFailures.{Explains};
 ghost use Rattle.dispatch_room_cli.specs.declared.tasks.Task.{Task as Asked};
@@ -77,8 +79,8 @@ impl<'a> Asks<'a> for &'a [String] {
 /// Does what the words of a command line ask for, the program's name first. Results are printed to
 /// `out`; to `err` why it fails, a warning where others can read or write the room's file, and
 /// the log of what is served. On a terminal, and where the words ask for it, a failure is explained
-/// before it is named. Returns the exit status: 0 done, or help asked for; 1 refused input; 2 usage; 3
-/// storage; 4 network; 5 memory; 6 journal.
+/// before it is named. Returns the exit status: 0 done, or help asked for; 1 refused input; 2 usage;
+/// 3 storage; 4 network; 5 memory; 6 journal.
 pub fn command<'a, W: Asks<'a>, O: Write, E: Write>(
     rt: &HostRuntime,
     alloc: Global,
@@ -160,16 +162,9 @@ fn perform<M: Machine, O: Write, E: Write>(
 {
     match *task {
         Task::Init { file, plan } => init(machine, file, plan, out),
-        Task::Import {
-            file,
-            fleet,
-            list: None,
-        } => import(machine, file, fleet, out),
-        Task::Import {
-            file,
-            fleet,
-            list: Some(list),
-        } => import_kept(machine, file, fleet, list, out, err),
+        Task::Import { file, fleet, list } => {
+            import_fleet(machine, ChangedFile { file, list }, fleet, out, err)
+        }
         Task::Replan { file, plan, list } => {
             replan(machine, ChangedFile { file, list }, plan, out, err)
         }
@@ -202,6 +197,25 @@ fn perform<M: Machine, O: Write, E: Write>(
         Task::SetTerminals { file, csv, list } => {
             set_terminals(machine, ChangedFile { file, list }, csv, out, err)
         }
+    }
+}
+
+// Imports a fleet, which is kept in the room's list before, where there is one.
+fn import_fleet<M: Machine, O: Write, E: Write>(
+    machine: M,
+    place: ChangedFile<'_>,
+    fleet: &str,
+    out: &mut O,
+    err: &mut E,
+) -> Result<Done, Failure>
+    ensures done { IfOk result (λ done. IsImportOf (M.surroundings machine)
+        (O.contents out.old) (O.contents out.new) done place.entry fleet.now) }
+    ensures undone { IfErr result (λ fault. FailsImportOf (M.surroundings machine)
+        (O.contents out.old) (O.contents out.new) fault place.entry fleet.now) }
+{
+    match place.list {
+        Some(list) => import_kept(machine, place.file, fleet, list, out, err),
+        None => import(machine, place.file, fleet, out),
     }
 }
 

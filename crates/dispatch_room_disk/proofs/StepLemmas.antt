@@ -5,7 +5,7 @@ use Rattle.std.proofs.Common.{map, refl, subst, take, ◌+◌, ◌<◌}
 use Rattle.std.proofs.lemmas.List.{map-append, take-append-drop, take_more}
 use Rattle.std.specs.List.{AllByRecursion}
 use Rattle.std.specs.Result.{IsErrAnd}
-use Rattle.dispatch_room_disk.specs.FileSteps.{Does, Follows, FollowsFor, Stops, StopsFor}
+use Rattle.dispatch_room_disk.specs.FileSteps.{Does, Follows, FollowsFor, Stops}
 
 pub both : {S : Type 0} (first rest : List S) (a b c : Option (List S)) → Does first a b → Does rest b c
     → Does (first ++ rest) a c

@@ -1,5 +1,5 @@
 -- What the faults of a room's file are to the program.
-use Rattle.std.specs.Prelude.{⊤, Err, Ok, Result, ◌⊎◌, ◌≡◌, ◌≢◌}
+use Rattle.std.specs.Prelude.{Err, Ok, Result, ◌⊎◌, ◌≡◌, ◌≢◌}
 use Rattle.std.specs.IoError.{error_kind}
 use Rattle.std.specs.declared.io.ErrorKind.{ErrorKind}
 use Rattle.std.specs.declared.io.ErrorKind.TheVariants as io

@@ -1,6 +1,6 @@
 -- The files of the system that a room has, as any disk's: the kit's files of the system, of which
 -- nothing is known as they are opened.
-use Rattle.std.specs.Prelude.{ℕ, [], false, true}
+use Rattle.std.specs.Prelude.{[], false, true}
 use Rattle.sqlite_disk.specs.Events.{Model, replay}
 use Rattle.sqlite_disk.specs.History.{MayLeave}
 use Rattle.sqlite_disk.specs.Modelled.{start_of}

@@ -1,27 +1,25 @@
 -- Lemmas on what is left to be given, before a step and after it.
-use Rattle.std.proofs.Common.{◌≡◌, ◌≢◌, ◌∙◌, ◌⊎◌, inl, inr, refl, sym, ap, subst, arith, ℕ, zero}
-use Rattle.std.proofs.Common.{suc, ◌+◌, ◌-◌, ◌*◌, ◌<◌, ◌≤◌, List, [], ◌∷◌, ◌++◌, length}
-use Rattle.std.proofs.Common.{length-append, take, drop, append_assoc, append-nil, Bool, true}
-use Rattle.std.proofs.Common.{false, ◌||◌, cond, Option, Some, None, Result, Ok, Err}
+use Rattle.std.proofs.Common.{◌≡◌, ◌≢◌, ◌∙◌, inl, inr, refl, sym, ap, arith, ℕ, zero, suc, ◌+◌, ◌-◌}
+use Rattle.std.proofs.Common.{◌*◌, ◌<◌, ◌≤◌, List, [], ◌∷◌, ◌++◌, length, length-append, take}
+use Rattle.std.proofs.Common.{append_assoc, append-nil, Bool, true, false, ◌||◌, cond, Option, Some}
+use Rattle.std.proofs.Common.{None, Ok}
 use Rattle.std.specs.Io.KnownBytes.{Consumes, IsAtEnd, Keeps, prepend_known}
 use Rattle.std.proofs.lemmas.Bool.{false≢true, ne_eqb}
 use Rattle.std.proofs.lemmas.List.{nil_from_length}
 use Rattle.std.proofs.Math.Bool.{or-true}
 use Rattle.std.specs.Prelude.{◌==◌, set}
 use Rattle.dispatch_room_journal.specs.declared.record_inbox.TheConstants.{RECORD_ROOM}
-use Rattle.dispatch_room_journal.specs.declared.record_fronts.Link.{Link}
 use Rattle.dispatch_room_journal.specs.declared.read_progress.Mode.{Mode}
 use Rattle.dispatch_room_journal.specs.declared.read_progress.Mode.TheVariants.{Fresh, Plain, Chain}
 use Rattle.dispatch_room_journal.specs.declared.read_progress.Mode.TheVariants.{Done}
-use Rattle.dispatch_room_journal.specs.declared.read_progress.Reach.{Reach}
 use Rattle.dispatch_room_journal.specs.declared.read_progress.Reach.TheVariants.{Full, Leg}
 use Rattle.dispatch_room_journal.specs.declared.read_progress.Step.{Step}
 use Rattle.dispatch_room_journal.specs.declared.read_progress.Step.TheVariants.{Ended, More, Moved}
 use Rattle.dispatch_room_journal.specs.declared.read_progress.Step.TheVariants.{Passed, Wrong}
 use Rattle.dispatch_room_journal.specs.ReadSteps.{Advances, EndIs, Nearer, Nears, PassesRows}
 use Rattle.dispatch_room_journal.specs.ReadSteps.{StepIs, done_of, effort, last_of, left_in}
-use Rattle.dispatch_room_journal.specs.ReadSteps.{left_of, most_rows, reach_of, rest_of, rows_by}
-use Rattle.dispatch_room_journal.specs.ReadSteps.{rows_next, weight}
+use Rattle.dispatch_room_journal.specs.ReadSteps.{most_rows, reach_of, rest_of, rows_by, rows_next}
+use Rattle.dispatch_room_journal.specs.ReadSteps.{weight}
 
 module _ (mode : Mode) (kept : List ℕ) (new_mode : Mode) (new_vouched : ℕ) (new_kept : List ℕ) where
   -- without a read

@@ -1,19 +1,18 @@
 -- Lemmas on a chain that is read again.
-use Rattle.std.proofs.Common.{◌≡◌, ◌∙◌, refl, sym, ap, subst, arith, ℕ, ◌+◌, ◌-◌, ◌*◌, ◌/◌, ◌%◌}
-use Rattle.std.proofs.Common.{◌<◌, ◌≤◌, List, [], ◌∷◌, ◌++◌, length, length-append, take, drop}
-use Rattle.std.proofs.Common.{append_assoc, append-nil, Bool, true, false}
+use Rattle.std.proofs.Common.{◌≡◌, ◌∙◌, refl, sym, ap, arith, ℕ, ◌+◌, ◌-◌, ◌*◌, ◌/◌, ◌%◌, ◌≤◌, List}
+use Rattle.std.proofs.Common.{[], ◌∷◌, ◌++◌, length, length-append, take, drop, append_assoc, Bool}
+use Rattle.std.proofs.Common.{true, false}
 use Rattle.std.proofs.lemmas.List.{drop-drop, take_at, drop_at}
 use Rattle.std.proofs.lemmas.Slice.Eq.{bytes_eq-Decides}
 use Rattle.std.specs.List.{flat_map}
 use Rattle.std.specs.Str.{bytes_eq}
-use Rattle.dispatch_room_journal.specs.declared.journal_inbox.TheConstants.{ENTRY_ROOM}
 use Rattle.dispatch_room_journal.specs.declared.record_headers.TheConstants.{HEADER}
 use Rattle.dispatch_room_journal.specs.declared.record_fronts.Front.TheVariants.{Whole}
 use Rattle.dispatch_room_journal.specs.declared.read_progress.Reach.TheVariants.{Full}
 use Rattle.dispatch_room_journal.specs.Chains.{IsBody, chain_text, first_check, header, is_end}
-use Rattle.dispatch_room_journal.specs.Chains.{next_check, opening, record_text, said_by, size_text}
-use Rattle.dispatch_room_journal.specs.RecordFronts.{after, body_in, comes_next, front_of}
-use Rattle.dispatch_room_journal.specs.RecordFronts.{number_in, says, sized_front, whole_front}
+use Rattle.dispatch_room_journal.specs.Chains.{next_check, record_text, said_by}
+use Rattle.dispatch_room_journal.specs.RecordFronts.{after, body_in, comes_next, front_of, says}
+use Rattle.dispatch_room_journal.specs.RecordFronts.{sized_front, whole_front}
 use Rattle.dispatch_room_journal.specs.ChainLaws.{AreBodies, IsReadAgain}
 use Rattle.dispatch_room_journal.proofs.FrontLemmas.{front_sized, sized_whole, whole_is}
 use Rattle.dispatch_room_journal.proofs.SaysLemmas.{says_none, says_whole}

@@ -1,7 +1,7 @@
 -- Lemmas on where the whole entries of a journal end.
 use Rattle.std.proofs.Common.{◌≡◌, ◌∙◌, ap, sym, refl, arith, ℕ, ◌+◌, List, [], ◌∷◌, ◌++◌, length}
 use Rattle.std.proofs.Common.{drop, min, append-nil, append_assoc, length-append, All, Option, Some}
-use Rattle.std.proofs.Common.{None, Result, Ok, Err}
+use Rattle.std.proofs.Common.{None}
 use Rattle.std.specs.Io.KnownBytes.{prepend_known, Keeps}
 use Rattle.std.proofs.lemmas.List.Elements.{All-nil, All-push}
 use Rattle.dispatch_room_journal.specs.declared.entry_prefixes.EntryLayout.{EntryLayout}

@@ -1,7 +1,6 @@
 -- Lemmas on a record that is one entry.
 use Rattle.std.proofs.Common.{◌≡◌, ◌∙◌, refl, sym, ap, arith, ℕ, List, [], ◌∷◌, ◌++◌, length}
-use Rattle.std.proofs.Common.{length-append, drop, append-nil, Bool, true, false, inl, inr, ◌⊎◌}
-use Rattle.std.proofs.Common.{◌↔◌, IsTrue}
+use Rattle.std.proofs.Common.{length-append, drop, append-nil, true, false, inl, inr, ◌↔◌, IsTrue}
 use Rattle.std.proofs.lemmas.Bool.{false≢true}
 use Rattle.dispatch_room_journal.specs.declared.entry_prefixes.EntryLayout.{EntryLayout}
 use Rattle.room_model.specs.declared.digests.Head.{Head}

@@ -1,7 +1,7 @@
 -- Lemmas on whether a list begins as a chain does.
 use Rattle.std.proofs.Common.{◌≡◌, ◌≢◌, ◌∙◌, refl, sym, ap, arith, ℕ, ◌+◌, ◌≤◌, ◌<◌, List, [], ◌++◌}
 use Rattle.std.proofs.Common.{length, length-append, length-drop, take, drop, take-append-drop}
-use Rattle.std.proofs.Common.{append_assoc, Bool, true, false, Option, Some, None}
+use Rattle.std.proofs.Common.{append_assoc, true, false, Option, Some, None}
 use Rattle.std.specs.Io.KnownBytes.{Keeps, prepend_known}
 use Rattle.std.proofs.lemmas.Bool.{false≢true}
 use Rattle.std.proofs.lemmas.List.{take-append-le, take_at}

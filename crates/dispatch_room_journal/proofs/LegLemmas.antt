@@ -7,7 +7,7 @@ use Rattle.dispatch_room_journal.specs.declared.read_progress.Reach.{Reach}
 use Rattle.dispatch_room_journal.specs.declared.read_progress.Reach.TheVariants.{Full, Leg}
 use Rattle.dispatch_room_journal.specs.Chains.{IsBody, chain_text, is_end, is_no_entry, is_row}
 use Rattle.dispatch_room_journal.specs.Chains.{last_check, next_check, record_text, said_by}
-use Rattle.dispatch_room_journal.specs.RecordFronts.{after, body_in, comes_next, says, stops_at}
+use Rattle.dispatch_room_journal.specs.RecordFronts.{comes_next, says, stops_at}
 use Rattle.dispatch_room_journal.specs.ChainLaws.{AreBodies}
 use Rattle.dispatch_room_journal.specs.PlainTexts.{last_ended}
 use Rattle.dispatch_room_journal.specs.RowRuns.{IsRow}

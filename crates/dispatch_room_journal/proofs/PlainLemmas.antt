@@ -1,11 +1,11 @@
 -- Lemmas on the entries and rows of a list, as records are put behind it.
 use Rattle.std.proofs.Common.{◌≡◌, ◌∙◌, refl, sym, ap, arith, ℕ, zero, suc, ◌+◌, ◌*◌, ◌<◌, ◌≤◌}
-use Rattle.std.proofs.Common.{List, [], ◌∷◌, ◌++◌, length, length-append, length-drop, take, drop}
-use Rattle.std.proofs.Common.{append_assoc, append-nil, Bool, true, false, ◌⊎◌, inl, inr, Option}
-use Rattle.std.proofs.Common.{Some, None, Result, Ok, Err, OnOk, OnErr, is_err, ◌||◌}
+use Rattle.std.proofs.Common.{List, [], ◌∷◌, ◌++◌, length, length-append, length-drop, append_assoc}
+use Rattle.std.proofs.Common.{append-nil, Bool, true, false, ◌⊎◌, inl, inr, Option, Some, None}
+use Rattle.std.proofs.Common.{Result, Ok, Err, OnOk, OnErr, is_err, ◌||◌}
 use Rattle.std.specs.Io.KnownBytes.{Appends}
 use Rattle.std.proofs.lemmas.Bool.{false≢true}
-use Rattle.std.proofs.lemmas.List.{take-append-le, drop-append-le}
+use Rattle.std.proofs.lemmas.List.{take-append-le}
 use Rattle.std.specs.List.{flat_map}
 use Rattle.std.specs.Str.{bytes_eq}
 use Rattle.hex.proofs.HexLemmas.{length-encode_with}
@@ -18,7 +18,6 @@ use Rattle.dispatch_room_journal.specs.declared.record_fronts.Front.{Front}
 use Rattle.dispatch_room_journal.specs.declared.record_fronts.Front.TheVariants.{Empty, Short}
 use Rattle.dispatch_room_journal.specs.declared.record_fronts.Front.TheVariants.{Wrong, Whole}
 use Rattle.dispatch_room_journal.specs.declared.record_fronts.Link.{Link}
-use Rattle.dispatch_room_journal.specs.declared.list_ends.ListEnd.{ListEnd}
 use Rattle.dispatch_room_journal.specs.declared.list_ends.ListEnd.TheVariants.{Plain, Chain}
 use Rattle.dispatch_room_journal.specs.Chains.{IsBody, chain_text, first_check, header, is_end}
 use Rattle.dispatch_room_journal.specs.Chains.{is_no_entry, is_row, last_check, next_check, opening}

@@ -1,12 +1,10 @@
 -- Lemmas on steps in a list.
-use Rattle.std.proofs.Common.{◌≡◌, ◌∙◌, inl, inr, refl, sym, ap, subst, arith, ℕ, ◌+◌, ◌-◌, ◌*◌}
-use Rattle.std.proofs.Common.{cond, ◌||◌, ◌<◌, ◌≤◌, List, [], ◌∷◌, ◌++◌, length, length-append}
-use Rattle.std.proofs.Common.{length-drop, length-take-le, take, drop, append_assoc, append-nil}
-use Rattle.std.proofs.Common.{take-append-drop, Bool, true, false}
+use Rattle.std.proofs.Common.{◌≡◌, ◌∙◌, inl, inr, refl, sym, ap, arith, ℕ, ◌+◌, ◌-◌, cond, ◌||◌}
+use Rattle.std.proofs.Common.{◌<◌, ◌≤◌, List, [], ◌∷◌, ◌++◌, length, length-drop, take, drop}
+use Rattle.std.proofs.Common.{append_assoc, append-nil, take-append-drop, Bool, true, false}
 use Rattle.std.proofs.lemmas.Bool.{false≢true, or_right}
 use Rattle.std.proofs.lemmas.List.{take-append-le, drop-append-le, drop-drop}
 use Rattle.std.proofs.Math.Seq.{take-add}
-use Rattle.std.specs.Str.{bytes_eq}
 use Rattle.dispatch_room_journal.specs.declared.record_inbox.TheConstants.{RECORD_ROOM}
 use Rattle.dispatch_room_journal.specs.declared.record_headers.TheConstants.{HEADER}
 use Rattle.dispatch_room_journal.specs.declared.record_fronts.Front.{Front}
@@ -19,8 +17,8 @@ use Rattle.dispatch_room_journal.specs.declared.read_progress.Step.TheVariants.{
 use Rattle.dispatch_room_journal.specs.declared.read_progress.Reach.{Reach}
 use Rattle.dispatch_room_journal.specs.declared.read_progress.Reach.TheVariants.{Full, Leg}
 use Rattle.dispatch_room_journal.specs.Chains.{is_end, is_no_entry, is_row, said_by, sha256_digits}
-use Rattle.dispatch_room_journal.specs.RecordFronts.{Stays, after, body_in, comes_next, front_of}
-use Rattle.dispatch_room_journal.specs.RecordFronts.{says, stops_at}
+use Rattle.dispatch_room_journal.specs.RecordFronts.{Stays, body_in, comes_next, front_of, says}
+use Rattle.dispatch_room_journal.specs.RecordFronts.{stops_at}
 use Rattle.dispatch_room_journal.specs.ReadSteps.{StepIs, effort, last_of, left_of, rest_of}
 use Rattle.dispatch_room_journal.specs.ReadSteps.{rows_at, rows_next}
 use Rattle.dispatch_room_journal.proofs.FrontLemmas.{body_stays}

@@ -1,7 +1,7 @@
 -- Lemmas on a record that is written behind its line.
-use Rattle.std.proofs.Common.{◌≡◌, subst, ℕ, List, ◌++◌, Bool, Option, Result, Ok, Err}
+use Rattle.std.proofs.Common.{◌≡◌, subst, ℕ, List, ◌++◌, Bool, Option, Result, Ok}
 use Rattle.room_http_messages.specs.Streams.{WritesAll}
-use Rattle.dispatch_room_journal.proofs.WritingLemmas.{WritesAll-more, WritesAll-cut}
+use Rattle.dispatch_room_journal.proofs.WritingLemmas.{WritesAll-more}
 
 module _ {W E : Type 0} (held : W → Option (List ℕ)) (failed : W → Bool) where
   pub wrote : (a b c : W) (line other body : List ℕ) (r : Result (Unit {0}) E) → line ≡ other

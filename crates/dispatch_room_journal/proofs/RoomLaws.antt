@@ -5,7 +5,6 @@ use Rattle.std.specs.Prelude.{All}
 use Rattle.std.proofs.lemmas.List.{append_cancel_left}
 use Rattle.std.proofs.lemmas.List.Elements.{All-head, All-tail}
 use Rattle.room_types.specs.declared.fleet.Terminal.{Terminal}
-use Rattle.room_types.specs.declared.refusal_statuses.Refusal.{Refusal}
 use Rattle.room_model.specs.Room.{Room}
 use Rattle.room_http.specs.declared.settings.Setting.{Setting}
 use Rattle.room_http_messages.specs.Messages.{WholeMessage, HasMessage}
@@ -24,7 +23,7 @@ use Rattle.dispatch_room_journal.proofs.TextLemmas.{head as first_byte}
 use Rattle.dispatch_room_journal.specs.ReplayedTurns.{Play, Turn, compared, answered, caught_up}
 use Rattle.dispatch_room_journal.specs.ReplayedTurns.{tried, left_out, answers_of, entries_of}
 use Rattle.dispatch_room_journal.specs.ReplayedTurns.{IsTurn, IsReplayed}
-use Rattle.dispatch_room_journal.specs.Replays.{Answers, DigitsOf, IsReplay}
+use Rattle.dispatch_room_journal.specs.Replays.{DigitsOf, IsReplay}
 use Rattle.dispatch_room_journal.specs.ReplayLaws.{IsTheRoom, answers_to_messages}
 use Rattle.dispatch_room_journal.proofs.ReplayLawLemmas.{same_play}
 

@@ -1,11 +1,10 @@
 -- Lemmas on rows that are taken from a list, and on what stands behind them.
 use Rattle.std.proofs.Common.{◌≡◌, ◌≢◌, ◌∙◌, refl, sym, ap, subst, arith, ℕ, ◌+◌, ◌<◌, ◌≤◌, List}
-use Rattle.std.proofs.Common.{[], ◌∷◌, ◌++◌, length, drop, append_assoc, append-nil, Bool, true}
-use Rattle.std.proofs.Common.{false, Option, Some, None}
+use Rattle.std.proofs.Common.{[], ◌∷◌, ◌++◌, length, drop, append_assoc, append-nil, true, false}
+use Rattle.std.proofs.Common.{Option, Some, None}
 use Rattle.std.proofs.lemmas.Bool.{false≢true}
 use Rattle.std.specs.List.{flat_map}
 use Rattle.std.specs.Io.KnownBytes.{prepend_known, IsAtEnd, Keeps}
-use Rattle.room_model.specs.declared.digests.Head.{Head}
 use Rattle.dispatch_room_journal.specs.declared.record_headers.TheConstants.{HEADER}
 use Rattle.dispatch_room_journal.specs.declared.record_fronts.Front.{Front}
 use Rattle.dispatch_room_journal.specs.declared.record_fronts.Front.TheVariants.{Short, Whole}
@@ -14,9 +13,8 @@ use Rattle.dispatch_room_journal.specs.declared.record_fronts.Link.{Link}
 use Rattle.dispatch_room_journal.specs.declared.row_runs.Behind.{Behind}
 use Rattle.dispatch_room_journal.specs.declared.row_runs.Behind.TheVariants.{End, Other, Room}
 use Rattle.dispatch_room_journal.specs.declared.row_runs.Behind.TheVariants.{Unread}
-use Rattle.dispatch_room_journal.specs.Entries.{IsEntry, room, text_of}
-use Rattle.dispatch_room_journal.specs.Chains.{is_end, is_row, next_check, record_text, row_line}
-use Rattle.dispatch_room_journal.specs.Chains.{sha256_digits}
+use Rattle.dispatch_room_journal.specs.Entries.{room, text_of}
+use Rattle.dispatch_room_journal.specs.Chains.{is_end, is_row, next_check, row_line, sha256_digits}
 use Rattle.dispatch_room_journal.specs.RecordFronts.{Stays, after, body_in, front_of}
 use Rattle.dispatch_room_journal.specs.RecordRuns.{Runs}
 use Rattle.dispatch_room_journal.specs.RowRuns.{BehindIs, GoesOnWith, HeadIs, IsRow, TakesKnown}

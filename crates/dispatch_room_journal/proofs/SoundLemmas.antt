@@ -1,10 +1,10 @@
 -- Lemmas on what a chain says: what its records do.
 use Rattle.std.proofs.Common.{◌≡◌, ◌≢◌, ◌∙◌, refl, sym, ap, subst, arith, ℕ, zero, suc, ◌+◌, ◌-◌}
-use Rattle.std.proofs.Common.{◌<◌, ◌≤◌, List, [], ◌∷◌, ◌++◌, length, length-append, length-drop}
-use Rattle.std.proofs.Common.{length-take-le, take, drop, append_assoc, append-nil}
-use Rattle.std.proofs.Common.{take-append-drop, Bool, true, false, if◌then◌else◌, nat_lt}
-use Rattle.std.proofs.lemmas.Bool.{false≢true, le-ltb, ltb-false}
-use Rattle.std.proofs.lemmas.List.{take-append-le, drop-append-le, drop-drop, take_at, drop_at}
+use Rattle.std.proofs.Common.{◌≤◌, List, [], ◌∷◌, ◌++◌, length, length-drop, length-take-le, take}
+use Rattle.std.proofs.Common.{drop, append_assoc, take-append-drop, Bool, true, false}
+use Rattle.std.proofs.Common.{if◌then◌else◌, nat_lt}
+use Rattle.std.proofs.lemmas.Bool.{le-ltb, ltb-false}
+use Rattle.std.proofs.lemmas.List.{drop-drop}
 use Rattle.std.proofs.lemmas.Slice.Eq.{bytes_eq-Decides}
 use Rattle.std.specs.List.{flat_map}
 use Rattle.std.specs.Str.{bytes_eq}
@@ -18,8 +18,8 @@ use Rattle.dispatch_room_journal.specs.Chains.{IsBody, chain_text, first_check, 
 use Rattle.dispatch_room_journal.specs.Chains.{next_check, opening, record_text, said_by}
 use Rattle.dispatch_room_journal.specs.RecordFronts.{after, body_in, comes_next, front_of}
 use Rattle.dispatch_room_journal.specs.RecordFronts.{list_says, number_in, said_in, said_with, says}
-use Rattle.dispatch_room_journal.specs.RecordFronts.{sized_front, whole_front}
-use Rattle.dispatch_room_journal.specs.ChainLaws.{AreBodies, IsReadAgain, IsWritten, says_rest}
+use Rattle.dispatch_room_journal.specs.RecordFronts.{sized_front}
+use Rattle.dispatch_room_journal.specs.ChainLaws.{AreBodies, IsWritten, says_rest}
 use Rattle.dispatch_room_journal.proofs.SaysLemmas.{list_chain}
 
 -- what a choice came to shows how it was made

@@ -1,17 +1,13 @@
 -- Lemmas on what a list holds.
-use Rattle.std.proofs.Common.{◌≡◌, ◌∙◌, ap, sym, refl, arith, inl, inr, ◌⊎◌, ℕ, ◌+◌, ◌<◌, List, []}
-use Rattle.std.proofs.Common.{◌∷◌, ◌++◌, length, min, append-nil, append_assoc, length-append, Bool}
-use Rattle.std.proofs.Common.{true, Option, Some, None, Result, Ok, Err}
-use Rattle.dispatch_room_journal.specs.declared.entry_prefixes.EntryLayout.{EntryLayout}
-use Rattle.dispatch_room_journal.specs.declared.entry_lines.EntryLine.{EntryLine}
+use Rattle.std.proofs.Common.{◌≡◌, ◌∙◌, ap, sym, refl, inl, ℕ, ◌+◌, List, [], ◌∷◌, ◌++◌, append-nil}
+use Rattle.std.proofs.Common.{append_assoc, Bool, true, Option, Some, Err}
 use Rattle.dispatch_room_journal.specs.declared.entry_reader.EntryFault.{EntryFault}
 use Rattle.dispatch_room_journal.specs.declared.entry_reader.EntryFault.TheVariants.{Cut, Foreign}
 use Rattle.dispatch_room_journal.specs.declared.entry_reader.EntryFault.TheVariants.{Read}
-use Rattle.dispatch_room_journal.specs.WholeEntries.{most_bytes}
-use Rattle.dispatch_room_journal.specs.Entries.{Entry, IsForeign, IsPart, line_of}
+use Rattle.dispatch_room_journal.specs.Entries.{Entry, line_of}
 use Rattle.dispatch_room_journal.specs.EntryReadings.{FirstIs, SaysOf}
 use Rattle.dispatch_room_journal.specs.declared.list_tallies.Span.{Span}
-use Rattle.dispatch_room_journal.specs.ListTallies.{EndsAs, SpanIs, Tallies, moments_by, moments_of}
+use Rattle.dispatch_room_journal.specs.ListTallies.{EndsAs, SpanIs, moments_by, moments_of}
 
 pub moments-push : (entries : List Entry) (e : Entry)
     → moments_of (entries ++ e ∷ []) ≡ moments_of entries ++ moments_by (line_of e)

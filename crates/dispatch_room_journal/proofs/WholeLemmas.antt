@@ -1,8 +1,8 @@
 -- Lemmas on the whole records of a chain that is read.
 use Rattle.std.proofs.Common.{◌≡◌, ◌∙◌, refl, sym, ap, subst, arith, ℕ, ◌+◌, ◌*◌, ◌≤◌, List, []}
-use Rattle.std.proofs.Common.{◌∷◌, ◌++◌, length, length-append, length-drop, length-take-le, take}
-use Rattle.std.proofs.Common.{drop, min, append_assoc, append-nil, All, Bool, true, false, Option}
-use Rattle.std.proofs.Common.{Some, None, ◌⊎◌, inl, inr}
+use Rattle.std.proofs.Common.{◌∷◌, ◌++◌, length, length-append, length-drop, length-take-le, drop}
+use Rattle.std.proofs.Common.{min, append_assoc, append-nil, Bool, true, false, Option, Some, None}
+use Rattle.std.proofs.Common.{◌⊎◌, inl, inr}
 use Rattle.std.specs.Io.KnownBytes.{prepend_known, Consumes, IsAtEnd, Keeps}
 use Rattle.dispatch_room_journal.specs.WholeEntries.{most_bytes}
 use Rattle.dispatch_room_journal.specs.declared.record_headers.TheConstants.{HEADER}

@@ -1,8 +1,7 @@
 -- What a list holds in plain: the entries and rows of its whole records, whatever follows them; and
 -- how a list goes on.
-use Rattle.std.specs.Prelude.{◌≡◌, ◌⊎◌, ◌<◌, ◌≤◌, ⊤, ℕ, zero, suc, List, [], ◌∷◌, ◌++◌, length}
-use Rattle.std.specs.Prelude.{take, drop, Bool, true, false, if◌then◌else◌, Option, None, Some}
-use Rattle.std.specs.Prelude.{Result, OnErr, OnOk}
+use Rattle.std.specs.Prelude.{◌≡◌, ◌≤◌, ⊤, ℕ, zero, suc, List, [], ◌∷◌, ◌++◌, length, take, drop}
+use Rattle.std.specs.Prelude.{Bool, false, if◌then◌else◌, Option, None, Some, Result, OnErr, OnOk}
 use Rattle.std.specs.Str.{bytes_eq}
 use Rattle.dispatch_room_journal.specs.declared.record_fronts.Front.{Front}
 use Rattle.dispatch_room_journal.specs.declared.record_fronts.Front.TheVariants.{Empty, Short}

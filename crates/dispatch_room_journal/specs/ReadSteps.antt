@@ -1,11 +1,10 @@
 -- How far a list was read, and what is left to be given of what it says.
 use Rattle.std.specs.Prelude.{◌≡◌, ◌⊎◌, ⊤, ℕ, zero, suc, ◌+◌, ◌-◌, ◌*◌, ◌<◌, ◌≤◌, List, [], ◌∷◌}
-use Rattle.std.specs.Prelude.{◌++◌, length, take, drop, Bool, true, false, cond, is_err, ◌||◌}
+use Rattle.std.specs.Prelude.{◌++◌, length, take, drop, Bool, false, cond, is_err, ◌||◌}
 use Rattle.std.specs.Prelude.{if◌then◌else◌, Option, MatchResult, Result, Ok, Err, None, Some}
 use Rattle.std.specs.Option.{option_map}
 use Rattle.std.specs.Io.KnownBytes.{Consumes, IsAtEnd, Keeps}
 use Rattle.dispatch_room_journal.specs.declared.record_inbox.TheConstants.{RECORD_ROOM}
-use Rattle.dispatch_room_journal.specs.declared.record_fronts.Link.{Link}
 use Rattle.dispatch_room_journal.specs.declared.read_progress.Mode.{Mode}
 use Rattle.dispatch_room_journal.specs.declared.read_progress.Mode.TheVariants.{Fresh, Plain, Chain}
 use Rattle.dispatch_room_journal.specs.declared.read_progress.Mode.TheVariants.{Done}

@@ -1,8 +1,7 @@
 -- Where the whole records of a list end.
 use Rattle.std.specs.Prelude.{◌≡◌, ◌≢◌, ◌⊎◌, ◌≤◌, ◌<◌, ◌*◌, ◌+◌, ℕ, List, [], ◌∷◌, ◌++◌, length}
-use Rattle.std.specs.Prelude.{min, take, All, Bool, true, false, Option}
+use Rattle.std.specs.Prelude.{min, Bool, true, false, Option}
 use Rattle.std.specs.Io.KnownBytes.{Consumes, IsAtEnd, Keeps}
-use Rattle.std.specs.Str.{bytes_eq}
 use Rattle.dispatch_room_journal.specs.Entries.{Entry, IsEntry, text_of}
 use Rattle.dispatch_room_journal.specs.WholeEntries.{most_bytes}
 use Rattle.dispatch_room_journal.specs.declared.entry_reader.EntryFault.{EntryFault}

@@ -12,8 +12,8 @@
 //!
 //! A line `room 1 ..` gives the digest of all rows but that of the zone.
 //!
-//! An `EntryText` is the text of an entry, and `read_entry` reads entries again in the memory of one
-//! message.
+//! An `EntryText` is the text of an entry, and `read_entry` reads entries again in the memory of
+//! one message.
 //!
 //! A replay plays the messages of a journal, at their moments, to a room that stands where the
 //! journal begins, and compares their answers with those that it has.

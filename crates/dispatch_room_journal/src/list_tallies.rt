@@ -1,5 +1,5 @@
 //! What a list holds.
-ghost use Rattle.std.specs.Prelude.{◌≡◌, ◌+◌, ◌++◌, ℕ, List, [], None, min};
+ghost use Rattle.std.specs.Prelude.{◌≡◌, ◌+◌, ◌++◌, ℕ, List, None, min};
 
 use crate::entry_lines::EntryLine;
 use crate::entry_reader::EntryFault;

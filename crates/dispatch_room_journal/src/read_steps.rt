@@ -3,8 +3,8 @@ ghost use Rattle.std.specs.Prelude.{◌≡◌, ◌≤◌, ◌<◌, ◌+◌, ◌-
 ghost use Rattle.std.specs.Prelude.{true, false};
 ghost use Rattle.dispatch_room_journal.specs.Chains.{is_end, is_no_entry};
 ghost use Rattle.dispatch_room_journal.specs.RecordFronts.{body_in};
-ghost use Rattle.dispatch_room_journal.specs.ReadSteps.{EndIs, StepIs, last_of, left_of, reach_of};
-ghost use Rattle.dispatch_room_journal.specs.ReadSteps.{rest_of, rows_by, rows_next};
+ghost use Rattle.dispatch_room_journal.specs.ReadSteps.{EndIs, StepIs, left_of, reach_of, rows_by};
+ghost use Rattle.dispatch_room_journal.specs.ReadSteps.{rows_next};
 ghost use Rattle.dispatch_room_journal.specs.declared.record_headers.TheConstants.{HEADER};
 ghost use Rattle.dispatch_room_journal.specs.declared.read_progress.Mode.TheVariants.{Chain, Fresh};
 ghost use Rattle.dispatch_room_journal.specs.declared.read_progress.Mode.TheVariants.{Plain};

@@ -1,5 +1,5 @@
 //! Where the whole entries of a journal end.
-ghost use Rattle.std.specs.Prelude.{◌≡◌, ℕ, List, [], false, Option, Some, MatchResult};
+ghost use Rattle.std.specs.Prelude.{◌≡◌, ℕ, List, [], false, Some, MatchResult};
 ghost use Rattle.dispatch_room_journal.specs.WholeEntries.{EndsWhole, FailsIn};
 
 use crate::entry_reader::{EntryFault, read_entry};

@@ -1,7 +1,7 @@
 //! Where the whole records of a chain end.
 ghost use Rattle.std.specs.Prelude.{◌≡◌, ◌↔◌, ◌≤◌, ◌<◌, ℕ, List, [], false, length, is_err, take};
 ghost use Rattle.std.specs.Prelude.{IsTrue, Some, MatchResult};
-ghost use Rattle.std.specs.Io.KnownBytes.{IsAtEnd, Keeps, prepend_known};
+ghost use Rattle.std.specs.Io.KnownBytes.{Keeps, prepend_known};
 ghost use Rattle.dispatch_room_journal.specs.declared.entry_reader.EntryFault.TheVariants.{Read};
 ghost use Rattle.std.specs.Str.{bytes_eq};
 ghost use Rattle.dispatch_room_journal.specs.Chains.{opening};

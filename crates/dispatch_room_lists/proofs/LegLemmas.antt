@@ -1,8 +1,7 @@
 -- The legs of a list that is replayed, one after another.
 use Rattle.std.proofs.Common.{Bool, List, [], Ok, Option, Result, ap, arith, false, inl, inr}
-use Rattle.std.proofs.Common.{length, refl, subst, sym, ℕ, true}
-use Rattle.std.specs.Bool.{⊤}
-use Rattle.std.proofs.Common.{Err, IfOk, ◌+◌, ◌<◌, ◌∙◌, ◌∷◌, ◌≡◌, ◌⊎◌}
+use Rattle.std.proofs.Common.{length, refl, subst, sym, ℕ, true, Err, IfOk, ◌+◌, ◌<◌, ◌∙◌, ◌∷◌, ◌≡◌}
+use Rattle.std.proofs.Common.{◌⊎◌}
 use Rattle.std.proofs.lemmas.Result.{IfOk-weaker}
 use Rattle.std.specs.Io.KnownBytes.{prepend_known}
 use Rattle.sqlite.specs.Held.{Held}
@@ -15,7 +14,6 @@ use Rattle.dispatch_room_cli.specs.declared.exit_status.Failure.{Failure}
 use Rattle.dispatch_room_cli.specs.declared.tasks.Replay.{Replay as How}
 use Rattle.dispatch_room_journal.specs.declared.list_source.ListSource.{ListSource}
 use Rattle.dispatch_room_journal.specs.Legs.{TakesIn}
-use Rattle.dispatch_room_journal.specs.declared.replay_faults.ReplayFault.{ReplayFault}
 use Rattle.dispatch_room_journal.specs.declared.replay_faults.Stopped.{Stopped}
 use Rattle.dispatch_room_journal.specs.declared.replayed_journal.Replayed.{Replayed}
 use Rattle.dispatch_room_journal.specs.declared.row_runs.Behind.{Behind}

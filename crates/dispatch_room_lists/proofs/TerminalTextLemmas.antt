@@ -19,7 +19,7 @@ use Rattle.std.proofs.lemmas.Str.Ascii.{IsAscii-from_all, IsAscii-nil}
 use Rattle.std.proofs.lemmas.Str.Parse.{digit_at}
 use Rattle.std.proofs.lemmas.Str.Pattern.{IsSplitOnceResult, split_after, split_parts}
 use borrow.Author.Tests.{ltb-true}
-use Rattle.room_types.specs.Texts.{is_callsign, is_callsign_letter, is_token, is_token_letter}
+use Rattle.room_types.specs.Texts.{is_callsign_letter, is_token, is_token_letter}
 use Rattle.room_types.specs.declared.asks.Who.{Who}
 use Rattle.room_types.specs.declared.asks.Who.TheVariants.{Crew, Desk, Position}
 use Rattle.room_types.specs.declared.fleet.Terminal.{Terminal}

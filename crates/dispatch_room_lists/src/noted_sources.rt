@@ -50,14 +50,10 @@ impl<R: Source> Source for NotedSource<R> {
     ghost has_ended = { λ reader. R.has_ended reader };
 
     fn read(&mut self, buf: &mut [u8]) -> Result<usize, ReadFailed> {
-        match self.reader.read(buf) {
-            Ok(count) => {
-                if count == 0 && !buf.is_empty() {
-                    self.has_ended = true;
-                }
-                Ok(count)
-            }
-            Err(failed) => Err(failed),
+        let count = self.reader.read(buf)?;
+        if count == 0 && !buf.is_empty() {
+            self.has_ended = true;
         }
+        Ok(count)
     }
 }

@@ -1,6 +1,5 @@
 //! How a replay ends: a last record that is cut off may be left out, and the digest of the room may
 //! be printed.
-ghost use Rattle.std.specs.Prelude.{◌≡◌};
 ghost use Rattle.room_store.specs.StoredRoom.{IsReady};
 ghost use Rattle.dispatch_room_lists.specs.ReplayEnds.{Concludes, IsLeftOut};
 

@@ -1,7 +1,6 @@
 -- A question changes nothing: so what is kept without them leads to the same room.
 use Rattle.std.proofs.Common.{◌≡◌, ◌∙◌, refl, sym, ap, subst, ℕ, List, [], ◌∷◌, Bool, true, false}
-use Rattle.std.proofs.Common.{not, bytes_eq, codes, ◌||◌, if◌then◌else◌, Option, Some, None, Result}
-use Rattle.std.proofs.Common.{Ok, Err}
+use Rattle.std.proofs.Common.{codes, if◌then◌else◌, Option, Some, None, Result, Ok, Err}
 use Rattle.std.specs.Prelude.{IfSome, MatchBool}
 use Rattle.std.proofs.lemmas.Bool.{not-false}
 use Rattle.std.proofs.lemmas.Slice.Eq.{bytes_eq-Decides}
@@ -19,7 +18,7 @@ use Rattle.room_model.specs.Step.{is_question}
 use Rattle.room_model.proofs.Questions.{question_stays}
 use Rattle.room_http_messages.specs.Messages.{WholeMessage, terminal_of}
 use Rattle.room_http_requests.specs.RequestTable.{allow_of, is_of, path_of, request_by, role_of}
-use Rattle.room_http_requests.specs.Router.{by_method, is_allowed, known_by, routed, target_of}
+use Rattle.room_http_requests.specs.Router.{by_method, is_allowed, known_by, routed}
 use Rattle.room_http_requests.specs.declared.request_table.Request.{Request}
 use Rattle.room_http_requests.specs.declared.request_table.Request.TheVariants as request
 use Rattle.room_http_requests.specs.declared.request_table.Target.{Target}
@@ -27,7 +26,7 @@ use Rattle.room_http_requests.specs.declared.request_table.Target.TheVariants as
 use Rattle.room_http.specs.Arrivals.{message, refused}
 use Rattle.room_http.specs.KeptMessages.{AreReplies}
 use Rattle.room_http.specs.MessageEvents.{AsksAs, AsksAt, AsksBy, AsksFor, IsAskFor, named}
-use Rattle.room_http.specs.Dialogues.{Finds, IsReplyTo, Timed}
+use Rattle.room_http.specs.Dialogues.{IsReplyTo, Timed}
 use Rattle.room_http.specs.declared.settings.Setting.{Setting}
 use Rattle.dispatch_room_journal.proofs.RoomLaws.{the_room_law}
 use Rattle.dispatch_room_serving.specs.KeptChanges.{ChangesAreTheRoom, QuestionsChangeNothing}

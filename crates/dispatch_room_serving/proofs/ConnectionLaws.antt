@@ -26,7 +26,6 @@ use Rattle.room_http.proofs.PromiseLaws.{promises_kept}
 use Rattle.room_http.proofs.RunLemmas.{room_split, run_join}
 use Rattle.dispatch_room_cli.specs.declared.exit_status.Failure.{Failure}
 use Rattle.room_http_messages.specs.Streams.{Grows}
-use Rattle.dispatch_room_serving.specs.Callers.{Opening}
 use Rattle.dispatch_room_serving.specs.Connections.{AreAttended, AreJoined, AreKept, AreNext}
 use Rattle.dispatch_room_serving.specs.Connections.{AreServed, AttendsNext, Conversation, EndsAs}
 use Rattle.dispatch_room_serving.specs.Connections.{GoOn, GoesOn, HasServed, IsNext, Service, Stage}

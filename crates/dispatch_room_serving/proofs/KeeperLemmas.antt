@@ -35,6 +35,11 @@ pub flag_failed : {T E : Type 0} (old new : Bool) (r : Result T E) → new ≡ (
 flag_failed old new (Ok x) is = tt
 flag_failed old new (Err e) is = or_failed old new is
 
+pub flag_sound : {T E : Type 0} (old new : Bool) (r : Result T E) → new ≡ (old || is_err r)
+    → old ≡ false → OnOk r (new ≡ false)
+flag_sound old new (Ok x) is sound = rw sound at is
+flag_sound old new (Err e) is sound = tt
+
 -- where its keeper is why something was not kept, the journal has that cause
 pub of_keeper : {W E : Type 0} (has_failed : W → Bool) (old new : Journal W) (out : W)
     (kept result : Result (Unit {0}) E) → result ≡ kept → new.out ≡ out

@@ -1,6 +1,5 @@
 -- A list that a room's service kept is replayed to the room at its end.
-use Rattle.std.proofs.Common.{◌≡◌, subst, sym, ℕ, List, [], ◌∷◌, Bool, None, Result, Some}
-use Rattle.std.specs.Prelude.{MatchResult}
+use Rattle.std.proofs.Common.{subst, sym, ℕ, List, [], ◌∷◌, None, Some}
 use Rattle.std.proofs.lemmas.Result.{MatchResult-weaker}
 use Rattle.jiff.specs.Placed.{IsPosixZone}
 use Rattle.sqlite_trees.specs.declared.store.Store.{Ghosts}

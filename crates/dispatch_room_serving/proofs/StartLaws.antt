@@ -1,14 +1,11 @@
 -- Starts of a room's service, one after another, are one run.
-use Rattle.std.proofs.Common.{◌≡◌, ◌∙◌, ◌≤◌, ap, append-nil, append_assoc, arith, inl, inr, refl}
-use Rattle.std.proofs.Common.{subst, sym, ℕ, List, [], ◌∷◌, ◌++◌, Bool, Option, Some, None, Result}
-use Rattle.std.proofs.Common.{Ok, Err}
-use Rattle.std.proofs.lemmas.List.Elements.{All-contains_itself, All-head, All-nil, All-pop}
-use Rattle.std.proofs.lemmas.List.Elements.{All-same, All-tail}
-use Rattle.std.specs.Prelude.{All, ◌⊎◌, IfSome, IsTrue, ⊤}
+use Rattle.std.proofs.Common.{◌≡◌, ◌∙◌, ◌≤◌, ap, append-nil, inl, inr, refl, subst, sym, ℕ, List}
+use Rattle.std.proofs.Common.{[], ◌∷◌, ◌++◌, Bool, Option, Some, None, Result, Ok, Err}
+use Rattle.std.proofs.lemmas.List.Elements.{All-head, All-nil, All-pop, All-same, All-tail}
+use Rattle.std.specs.Prelude.{All, ◌⊎◌, IsTrue}
 use Rattle.jiff.specs.Placed.{IsPosixZone}
 use Rattle.sqlite.specs.Held.{Held, state}
 use Rattle.sqlite.specs.State.{HasCleanDisk}
-use Rattle.sqlite_trees.specs.Tree.{Trees}
 use Rattle.sqlite_trees.specs.declared.store.Store.{Ghosts}
 use Rattle.room_types.specs.declared.fleet.Terminal.{Terminal}
 use Rattle.room_model.specs.Room.{Room}
@@ -19,9 +16,8 @@ use Rattle.room_types.specs.declared.numbers.TheConstants.{LAST_MOMENT}
 use Rattle.room_http.specs.declared.settings.Setting.{Setting}
 use Rattle.room_http.specs.Course.{AreFirstIn, AreOf, Course}
 use Rattle.room_http.specs.Runs.{AreAnswered, Exchange, IsRun, arrivals_of, room_by}
-use Rattle.room_http.specs.ServedRuns.{Served}
 use Rattle.room_http.specs.Session.{Finish, ServeIs, Sides}
-use Rattle.room_http.specs.Dialogues.{IsUnserved, LeavesNext, Stays, Timed, replied}
+use Rattle.room_http.specs.Dialogues.{LeavesNext, Timed, replied}
 use Rattle.room_http.specs.declared.session.ServeEnd.{ServeEnd}
 use Rattle.room_http.specs.declared.session.ServeEnd.TheVariants.{Closed, Cut, ReadFault}
 use Rattle.room_http.specs.declared.session.ServeEnd.TheVariants.{WriteFault, ClockFault, Unkept}
@@ -35,14 +31,14 @@ use Rattle.room_store_writes.specs.Configurations.{config_of}
 use Rattle.room_tables.specs.RoomsInTables.{Stands}
 use Rattle.dispatch_room_cli.specs.declared.exit_status.Done.{Done}
 use Rattle.dispatch_room_cli.specs.declared.exit_status.Failure.{Failure}
-use Rattle.dispatch_room_tasks.specs.OpenedRoom.{IsOpened, OpensRoom}
+use Rattle.dispatch_room_tasks.specs.OpenedRoom.{OpensRoom}
 use Rattle.dispatch_room_serving.specs.Connections.{AreJoined, AreNext, AreServed, Conversation}
 use Rattle.dispatch_room_serving.specs.Connections.{EndsAs, GoOnBefore, GoesOn, IsNext, IsServed}
 use Rattle.dispatch_room_serving.specs.Connections.{Service, Stage, connected, stage_after}
-use Rattle.dispatch_room_serving.specs.Connections.{stage_before, together}
-use Rattle.dispatch_room_serving.specs.ServedRoom.{KeepsHead, Looks, ServesRoom}
-use Rattle.dispatch_room_serving.specs.Starts.{AreDone, AreOneRun, AreStarts, Exchanged, Follows}
-use Rattle.dispatch_room_serving.specs.Starts.{IsDone, IsStart, IsTrusted, IsUnwritten, OfLast}
+use Rattle.dispatch_room_serving.specs.Connections.{together}
+use Rattle.dispatch_room_serving.specs.ServedRoom.{KeepsHead, ServesRoom}
+use Rattle.dispatch_room_serving.specs.Starts.{AreDone, AreStarts, Exchanged, Follows, IsDone}
+use Rattle.dispatch_room_serving.specs.Starts.{IsStart, IsTrusted, IsUnwritten, OfLast}
 use Rattle.dispatch_room_serving.specs.Starts.{ServedIsAStart, ServingIsAStart, Start}
 use Rattle.dispatch_room_serving.specs.Starts.{StartsAreOneRun, all_of, connections, left_by}
 use Rattle.dispatch_room_serving.specs.Starts.{whole_of}

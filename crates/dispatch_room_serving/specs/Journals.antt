@@ -11,6 +11,7 @@ use Rattle.dispatch_room_journal.specs.RowRuns.{PutsEnd}
 use Rattle.dispatch_room_journal.specs.WholeEntries.{FailsIn}
 use Rattle.dispatch_room_journal.specs.declared.entry_reader.EntryFault.{EntryFault}
 use Rattle.dispatch_room_journal.specs.declared.list_ends.ListEnd.{ListEnd}
+use Rattle.dispatch_room_serving.specs.declared.journal_files.SystemFile.{SystemFile}
 use Rattle.dispatch_room_serving.specs.declared.journal_files.WrittenFile.{WrittenFile}
 use Rattle.dispatch_room_serving.specs.declared.journals.Journal.{Journal}
 
@@ -25,6 +26,10 @@ known_by held journal = known_where journal.keeps_questions (held journal.out)
 -- what a journal holds, where there is one
 abbrev pub held_by : {W : Type 0} → (W → Option (List ℕ)) → Option (Journal W) → Option (List ℕ)
 held_by held journal = option_and_then (known_by held) journal
+
+-- what a file of the system holds, by what is known of files
+abbrev pub shown_in : {F : Type 0} → (F → Option (List ℕ)) → SystemFile F → Option (List ℕ)
+shown_in contents system = contents system.file
 
 -- by what is known of what a file holds
 module _ {F : Type 0} (contents : F → Option (List ℕ)) where

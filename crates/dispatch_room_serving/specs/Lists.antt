@@ -1,6 +1,6 @@
 -- The list that a room's service keeps over all its starts, and that it can be replayed.
 use Rattle.std.specs.Prelude.{◌≡◌, ◌⊎◌, ◌≤◌, ℕ, List, [], ◌∷◌, ◌++◌, length, All, Bool, MatchResult}
-use Rattle.std.specs.Prelude.{None, Option, Result, true, Some}
+use Rattle.std.specs.Prelude.{None, Result, true, Some}
 use Rattle.std.specs.List.{flat_map}
 use Rattle.jiff.specs.Placed.{IsPosixZone}
 use Rattle.sqlite.specs.Held.{Held, state}

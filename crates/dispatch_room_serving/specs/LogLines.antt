@@ -1,6 +1,6 @@
 -- The parts of a line in the log.
-use Rattle.std.specs.Prelude.{ℕ, List, [], ◌∷◌, ◌++◌, map, codes, decimal, ◌==◌, if◌then◌else◌}
-use Rattle.std.specs.Prelude.{Option, Some, None}
+use Rattle.std.specs.Prelude.{ℕ, List, ◌++◌, map, codes, decimal, ◌==◌, if◌then◌else◌, Option, Some}
+use Rattle.std.specs.Prelude.{None}
 use Rattle.std.specs.List.{before_first}
 use Rattle.std.specs.Char.{is_ascii_graphic}
 use Rattle.room_types.specs.declared.asks.Who.{Who}

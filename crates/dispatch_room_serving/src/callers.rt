@@ -1,5 +1,5 @@
 //! The callers of a room: a source of connections, one after another.
-ghost use Rattle.std.specs.Prelude.{◌≡◌, ℕ, List, [], ◌∷◌, Option, Some, IfErr, IfSome, false};
+ghost use Rattle.std.specs.Prelude.{◌≡◌, ℕ, List, [], ◌∷◌, Option, IfErr, IfSome, false};
 ghost use Rattle.std.specs.Prelude.{option_map};
 ghost use Rattle.dispatch_room_cli.specs.declared.exit_status.Failure.TheVariants.{Network};
 ghost use Rattle.room_http_messages.specs.Streams.{Grows};

@@ -1,8 +1,8 @@
 //! The file of a journal: a record that a crash cut off is removed, and entries are appended to the
 //! rest.
-ghost use Rattle.std.specs.Prelude.{◌≡◌, ◌||◌, ◌⊎◌, ℕ, List, Bool, false, if◌then◌else◌};
-ghost use Rattle.std.specs.Prelude.{is_some, nat_lt, not, refl, IfErr, IsErrAnd, IsTrue};
-ghost use Rattle.std.specs.Prelude.{MatchResult, None, Ok, OnOk, Option, Some};
+ghost use Rattle.std.specs.Prelude.{◌≡◌, ◌||◌, ◌⊎◌, ℕ, List, Bool, false, if◌then◌else◌, is_some};
+ghost use Rattle.std.specs.Prelude.{nat_lt, not, refl, IfErr, IsErrAnd, IsTrue, MatchResult, None};
+ghost use Rattle.std.specs.Prelude.{Ok, OnErr, OnOk, Option, Some, true};
 ghost use Rattle.std.specs.Io.KnownBytes.{Appends};
 ghost use Rattle.dispatch_room_cli.specs.declared.exit_status.Failure.TheVariants as failure;
 ghost use Rattle.dispatch_room_journal.specs.Chains.{opening};
@@ -148,13 +148,14 @@ impl<'a> FoundList<'a> {
     }
 }
 
-// Writes the line with which a chain begins, and makes it last.
+// Writes the line with which a chain begins, and makes it last. It fails only if its file does.
 fn begin_chain<F: Lasting>(out: &mut WrittenFile<F>) -> Result<(), Failure>
     requires sound { out.old.failed ≡ false }
     ensures begun { OnOk result
         (Appends (F.contents out.old.file) (F.contents out.new.file) opening) }
     ensures lasts { OnOk result (F.lasting out.new.file ≡ F.contents out.new.file) }
     ensures fault { IfErr result (λ fault. fault ≡ failure.Journal) }
+    ensures cause { OnErr result (out.new.failed ≡ true) }
 {
     if put_opening(out).is_err() || !out.make_last() {
         return Err(Failure::Journal);

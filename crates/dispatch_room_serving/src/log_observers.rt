@@ -55,12 +55,10 @@ impl<'a, E: Write, T: Clock, W: Keeper> LogAndJournal<'a, E, T, W> {
     pub fn end_after(&mut self, served: Result<Done, Failure>) -> Result<Done, Failure>
         ensures { EndsAfter W.ends self.old.journal self.new.journal served result }
     {
-        match served {
-            Ok(done) => match self.end() {
-                Ok(()) => Ok(done),
-                Err(_) => Err(Failure::Journal),
-            },
-            Err(fault) => Err(fault),
+        let done = served?;
+        match self.end() {
+            Ok(()) => Ok(done),
+            Err(_) => Err(Failure::Journal),
         }
     }
 }

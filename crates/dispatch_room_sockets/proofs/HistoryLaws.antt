@@ -1,8 +1,7 @@
 -- What becomes of all who came, as they are admitted, looked at, given and taken back.
-use Rattle.std.proofs.Common.{◌≡◌, ◌∙◌, sym, ap, refl, arith, rules, append_assoc, append-nil, ℕ}
-use Rattle.std.proofs.Common.{◌+◌, ◌<◌, ◌==◌, List, [], ◌∷◌, ◌++◌, Bool, true, false, map, filter}
-use Rattle.std.proofs.Common.{length, All, Option, None, Some, if◌then◌else◌, nat_lt}
-use Rattle.std.proofs.Common.{option_to_list}
+use Rattle.std.proofs.Common.{◌≡◌, ◌∙◌, sym, ap, refl, arith, append_assoc, append-nil, ℕ, ◌+◌, ◌<◌}
+use Rattle.std.proofs.Common.{◌==◌, List, [], ◌∷◌, ◌++◌, Bool, true, false, map, filter, length}
+use Rattle.std.proofs.Common.{All, Option, None, Some, if◌then◌else◌, nat_lt, option_to_list}
 use Rattle.std.proofs.lemmas.List.{map-append}
 use Rattle.std.proofs.lemmas.List.Elements.{All-cons, All-head, All-nil, All-tail}
 use Rattle.std.specs.Duration.{as_nanos}
@@ -14,8 +13,8 @@ use Rattle.dispatch_room_sockets.specs.declared.kept_callers.Kept.{Kept}
 use Rattle.dispatch_room_sockets.specs.declared.kept_callers.Verdict.{Verdict}
 use Rattle.dispatch_room_sockets.specs.declared.kept_callers.Verdict.TheVariants.{Closed, Served}
 use Rattle.dispatch_room_sockets.specs.declared.kept_callers.Verdict.TheVariants.{Waits}
-use Rattle.dispatch_room_sockets.specs.CallerHistories.{AreInTime, ComesBack, GivesNext, GoesOn}
-use Rattle.dispatch_room_sockets.specs.CallerHistories.{History, Stands, numbers, tally}
+use Rattle.dispatch_room_sockets.specs.CallerHistories.{AreInTime, ComesBack, GivesNext, History}
+use Rattle.dispatch_room_sockets.specs.CallerHistories.{Stands, numbers, tally}
 use Rattle.dispatch_room_sockets.specs.Sweeps.{IsAdmitted, IsNoted, IsSwept, Looked, closed_of}
 use Rattle.dispatch_room_sockets.specs.Sweeps.{judged, numbered, served_of, waiting_of}
 use Rattle.dispatch_room_sockets.specs.Verdicts.{is_closed, is_over, is_served, verdict_on, waits}

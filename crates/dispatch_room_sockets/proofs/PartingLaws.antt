@@ -1,7 +1,6 @@
 -- What was done to part from a peer, step after step.
-use Rattle.std.proofs.Common.{◌≡◌, ◌∙◌, ap, arith, append_assoc, length, length-append, inr, ℕ, ◌+◌}
-use Rattle.std.proofs.Common.{◌≤◌, List, ◌∷◌, ◌++◌, true, Option, None, Some, refl}
-use Rattle.std.specs.Io.KnownBytes.{Consumes}
+use Rattle.std.proofs.Common.{◌≡◌, ◌∙◌, ap, arith, append_assoc, length-append, inr, ℕ, ◌+◌, ◌≤◌}
+use Rattle.std.proofs.Common.{List, ◌∷◌, ◌++◌, true, Option, None, Some, refl}
 use Rattle.std.proofs.KnownBytes.{Consumes-trans}
 use Rattle.std.specs.declared.time.Duration.{Duration}
 use Rattle.dispatch_room_sockets.specs.LingeringClose.{Does, IsDrained, IsParted, Step, shut}

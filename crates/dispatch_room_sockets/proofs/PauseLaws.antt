@@ -1,6 +1,6 @@
 -- The least of what limits a pause, one limit after another.
 use Rattle.std.proofs.Common.{◌≡◌, sym, ap, arith, refl, ℕ, ◌-◌, ◌≤◌, List, [], ◌∷◌, ◌++◌, Bool}
-use Rattle.std.proofs.Common.{true, false, All, length, map, min, nat_lt}
+use Rattle.std.proofs.Common.{true, false, length, map, min, nat_lt}
 use Rattle.std.specs.Prelude.{flat_map}
 use Rattle.std.proofs.lemmas.List.Elements.{All-cons, All-head, All-nil, All-tail}
 use Rattle.std.specs.Duration.{as_nanos}

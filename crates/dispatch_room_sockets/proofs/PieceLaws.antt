@@ -1,11 +1,8 @@
 -- The pieces of a stream, joined.
-use Rattle.std.proofs.Common.{◌≡◌, ◌∙◌, sym, ap, append_assoc, ℕ, List, [], ◌∷◌, ◌++◌, true, false}
-use Rattle.std.proofs.Common.{All}
+use Rattle.std.proofs.Common.{◌≡◌, ◌∙◌, ap, append_assoc, ℕ, List, [], ◌∷◌, ◌++◌, false}
 use Rattle.std.proofs.lemmas.List.Elements.{All-head, All-tail}
-use Rattle.httparse.specs.Grammar.{RequestHead, print_request, ReadsRequest}
-use Rattle.room_http_messages.specs.Messages.{EndsWith, HasHead, HasMessage, Splits, WholeMessage}
-use Rattle.room_http_messages.specs.Messages.{closes}
-use Rattle.room_http_messages.specs.declared.read_faults.Unread.{Unread}
+use Rattle.httparse.specs.Grammar.{RequestHead, print_request}
+use Rattle.room_http_messages.specs.Messages.{HasHead, HasMessage, Splits, WholeMessage, closes}
 use Rattle.room_http_messages.proofs.LawLemmas.{one_reading_law}
 use Rattle.dispatch_room_sockets.specs.Pieces.{AreJoined, StayOpen}
 

@@ -1,15 +1,13 @@
 -- A look at all who are kept, one after another.
 use Rattle.std.proofs.Common.{◌≡◌, ◌∙◌, sym, ap, refl, arith, append_assoc, append-nil}
-use Rattle.std.proofs.Common.{length-append, ℕ, ◌+◌, ◌-◌, ◌<◌, List, [], ◌∷◌, ◌++◌, Bool, true}
-use Rattle.std.proofs.Common.{false, map, filter, length, All, Option, None, Some, if◌then◌else◌}
+use Rattle.std.proofs.Common.{length-append, ℕ, ◌+◌, ◌-◌, List, [], ◌∷◌, ◌++◌, Bool, true, false}
+use Rattle.std.proofs.Common.{map, filter, length, All, Option, None, Some, if◌then◌else◌}
 use Rattle.std.proofs.lemmas.List.{map-append}
 use Rattle.std.proofs.lemmas.List.Elements.{All-push, All-nil, filter-append}
 use Rattle.std.specs.declared.time.Duration.{Duration}
 use Rattle.dispatch_room_sockets.specs.declared.kept_callers.Heard.{Heard}
 use Rattle.dispatch_room_sockets.specs.declared.kept_callers.Kept.{Kept}
 use Rattle.dispatch_room_sockets.specs.declared.kept_callers.Verdict.{Verdict}
-use Rattle.dispatch_room_sockets.specs.declared.kept_callers.Verdict.TheVariants.{Closed, Served}
-use Rattle.dispatch_room_sockets.specs.declared.kept_callers.Verdict.TheVariants.{Waits}
 use Rattle.room_http_messages.specs.Streams.{Grows}
 use Rattle.dispatch_room_sockets.specs.Sweeps.{IsAdmitted, IsLookedAt, IsNoted, IsSwept, Looked}
 use Rattle.dispatch_room_sockets.specs.Sweeps.{judged, numbered, served_of, waiting_of}

@@ -1,5 +1,5 @@
 -- A room whose terminals were changed is the same room.
-use Rattle.std.proofs.Common.{List, None, Option, rules, sym, ◌≡◌}
+use Rattle.std.proofs.Common.{List, None, Option, ◌≡◌}
 use Rattle.sqlite_trees.specs.Tree.{Trees}
 use Rattle.room_place.specs.Plans.{Layout}
 use Rattle.room_types.specs.Texts.{Token}

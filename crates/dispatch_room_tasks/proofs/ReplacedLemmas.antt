@@ -1,14 +1,14 @@
 -- The terminals of a list take the place of those of all that it names, and fit the room.
 use Rattle.std.proofs.Common.{Bool, List, None, Option, Some, [], ap, arith, cond, false, filter}
-use Rattle.std.proofs.Common.{inl, inr, is_eq, is_some, length, not, option_map, refl, subst, sym}
-use Rattle.std.proofs.Common.{take, true, ℕ, ◌&&◌, ◌++◌, ◌<◌, ◌∙◌, ◌∷◌, ◌≡◌, ◌||◌, ◌⊎◌, true≢false}
+use Rattle.std.proofs.Common.{inl, inr, is_some, length, not, option_map, refl, subst, sym, take}
+use Rattle.std.proofs.Common.{true, ◌&&◌, ◌++◌, ◌<◌, ◌∙◌, ◌∷◌, ◌≡◌, ◌||◌, ◌⊎◌, true≢false}
 use Rattle.std.proofs.Math.Seq.{get_or-append_seam, take-append_seam}
 use Rattle.std.proofs.lemmas.Bool.{eqb-true, or_left, or_parts, or_right}
 use Rattle.std.proofs.lemmas.List.{append_assoc, append-nil, length-append}
 use Rattle.std.proofs.lemmas.List.Folds.{list_any-append}
 use Rattle.std.specs.List.{list_any}
 use Rattle.sqlite_trees.specs.Tree.{Trees}
-use Rattle.room_place.specs.Plans.{Layout, has_division}
+use Rattle.room_place.specs.Plans.{Layout}
 use Rattle.room_tables_schema.proofs.Comparisons.{is_Equal}
 use Rattle.room_types.proofs.KeyedLaws.{keyed_filter, keyed_put, row_filter}
 use Rattle.room_types.specs.KeyedRows.{IsKeyed, keep, put_row, row_at}

@@ -14,8 +14,7 @@ use Rattle.room_place.specs.declared.plans.Area.{Area}
 use Rattle.room_place.specs.declared.plans.PlanFault.TheVariants.{Count, Number, Rectangle, Zone}
 use Rattle.room_types.proofs.KeyedLaws.{keyed_put}
 use Rattle.room_types.specs.KeyedRows.{IsKeyed, put_row, row_at}
-use Rattle.room_types.specs.Keys.{callsign_cmp, division_key, incident_key, numbered_cmp, pair_cmp}
-use Rattle.room_types.specs.Keys.{point_key, report_key, turn_key, vehicle_key}
+use Rattle.room_types.specs.Keys.{division_key}
 use Rattle.room_types.specs.declared.changes.Change.TheVariants.{PutDivision}
 use Rattle.room_types.specs.declared.fleet.Terminal.{Terminal}
 use Rattle.room_types.specs.declared.tables.Call.{Call}
@@ -36,7 +35,6 @@ use Rattle.room_store_writes.specs.Configurations.{config_of}
 use Rattle.room_store_writes.specs.NewRoom.{new_division}
 use Rattle.dispatch_room_csv.specs.declared.plan_file.PlanFile.{PlanFile}
 use Rattle.dispatch_room_tasks.proofs.ReplacedLemmas.{replaced_fit}
-use Rattle.dispatch_room_tasks.specs.ReplacedTerminals.{AreFree}
 use Rattle.dispatch_room_tasks.specs.ReplannedRoom.{HasNewPlan, Replans, additions, first_lacking}
 use Rattle.dispatch_room_tasks.specs.ReplannedRoom.{replanned}
 

@@ -24,7 +24,6 @@ use Rattle.dispatch_room_cli.specs.declared.exit_status.Failure.TheVariants as f
 use Rattle.dispatch_room_csv.specs.declared.plan_file.PlanFile.{PlanFile}
 use Rattle.dispatch_room_tasks.specs.ReplacedTerminals as terminals
 use Rattle.dispatch_room_tasks.specs.ReplacedTerminals.{AreFree, ExplainsRow, replaced_by}
-use Rattle.dispatch_room_tasks.specs.declared.replacement_faults.ReplaceFault.{ReplaceFault}
 use Rattle.dispatch_room_tasks.specs.declared.replanning_faults.ReplanFault.{ReplanFault}
 use Rattle.dispatch_room_tasks.specs.declared.replanning_faults.ReplanFault.TheVariants.{Division}
 use Rattle.dispatch_room_tasks.specs.declared.replanning_faults.ReplanFault.TheVariants.{Terminals}

@@ -1,9 +1,7 @@
 //! Which row of a list of terminals is refused first, where these replace those of all that it
 //! names.
-ghost use Rattle.std.specs.List.{list_any};
 ghost use Rattle.std.specs.Prelude.{◌≡◌, length, MatchOption};
 ghost use Rattle.room_tables_schema.specs.DatabaseFaults.{fault_of};
-ghost use Rattle.room_store_writes.specs.TerminalHolders.{is_token_of};
 ghost use Rattle.dispatch_room_tasks.specs.declared.replacement_faults.ReplaceFault.TheVariants as why;
 ghost use Rattle.dispatch_room_tasks.specs.ReplacedTerminals.{AreFree, IsFirstFault, failure_of};
 ghost use Rattle.dispatch_room_tasks.specs.ReplacedTerminals.{is_kept, is_listed, is_second};

@@ -1,8 +1,7 @@
 //! What becomes of a room's terminals where a list replaces those of all that it names. The
 //! contracts are the laws; the functions do nothing.
-ghost use Rattle.std.specs.Prelude.{◌≡◌, length, List, Some, false, true};
-ghost use Rattle.room_types.specs.KeyedRows.{IsKeyed};
-ghost use Rattle.room_model.specs.FleetRows.{AreTerminals, terminal_at, terminal_key, token_cmp};
+ghost use Rattle.std.specs.Prelude.{◌≡◌, length, List, Some, false};
+ghost use Rattle.room_model.specs.FleetRows.{AreTerminals, terminal_at};
 ghost use Rattle.room_model.specs.Room.{Room};
 ghost use Rattle.room_types.specs.Texts.{Token};
 ghost use Rattle.room_types.specs.declared.asks.Who.{Who};

@@ -1,5 +1,4 @@
 //! Whether a room agrees with another plan, and why it doesn't get it.
-ghost use Rattle.std.specs.List.{list_any};
 ghost use Rattle.std.specs.Prelude.{◌≡◌};
 ghost use Rattle.room_place.specs.Plans.{has_division};
 ghost use Rattle.room_tables_schema.specs.DatabaseFaults.{fault_of};

@@ -11,6 +11,7 @@ use Rattle.dispatch_room_journal.specs.JournalRecords.{answer_text, message_text
 use Rattle.dispatch_room_journal.specs.declared.list_ends.ListEnd.{ListEnd}
 use Rattle.dispatch_room_serving.specs.Callers.{Opening}
 use Rattle.dispatch_room_serving.specs.Journals.{EndsAfter, failed_by, held_by, held_in, puts_end}
+use Rattle.dispatch_room_serving.specs.Journals.{shown_in}
 use Rattle.dispatch_room_serving.specs.ServedRoom.{ServesRoom}
 use Rattle.dispatch_room_serving.specs.declared.journal_files.SystemFile.{SystemFile}
 use Rattle.dispatch_room_serving.specs.declared.journal_files.WrittenFile.{WrittenFile}
@@ -45,10 +46,6 @@ pub record Watch (F : Type 0) : Type 0 where
 -- the journal of a part, in the file of a list
 abbrev pub PartJournal : Type 0 → Type 0
 PartJournal F = Journal (WrittenFile (SystemFile F) × ListEnd)
-
--- what a file of the system holds, by what is known of files
-abbrev pub shown_in : {F : Type 0} → (F → Option (List ℕ)) → SystemFile F → Option (List ℕ)
-shown_in contents system = contents system.file
 
 -- where there is a list, a journal goes on in its file where it ends
 abbrev pub GoesOn : {F : Type 0} → Option (F × ListEnd) → PartJournal F → Type 0

@@ -1,20 +1,18 @@
 -- What may be proposed, by the points that are short of holders.
-use Rattle.std.specs.Prelude.{Bool, List, None, Option, Some, [], false, filter, is_some, length}
-use Rattle.std.specs.Prelude.{map, ℕ, ◌&&◌, ◌≡◌}
+use Rattle.std.specs.Prelude.{Bool, List, None, Option, Some, false, filter, is_some, length, map}
+use Rattle.std.specs.Prelude.{ℕ, ◌&&◌, ◌≡◌}
 use Rattle.room_place.specs.Places.{distance}
 use Rattle.room_types.specs.Codes.{same_kind}
 use Rattle.room_types.specs.KeyedRows.{row_at}
 use Rattle.room_types.specs.Keys.{pair_cmp, point_key}
 use Rattle.room_types.specs.declared.answers.Proposal.{Proposal}
 use Rattle.room_types.specs.declared.codes.Kind.{Kind}
-use Rattle.room_types.specs.declared.slices.DivisionRows.{DivisionRows}
 use Rattle.room_types.specs.declared.tables.Incident.{Incident}
 use Rattle.room_types.specs.declared.tables.Point.{Point}
 use Rattle.room_types.specs.declared.tables.Vehicle.{Vehicle}
 use Rattle.room_model.specs.Points.{breaks_post, is_short}
 use Rattle.room_model.specs.Queries.{holders, is_eligible}
 use Rattle.room_model.specs.Room.{Room}
-use Rattle.room_model.specs.RoomSlices.{unplanned}
 
 -- the point has no more holders than it needs
 abbrev pub is_point_short : ℕ → ℕ → Room → Point → Bool

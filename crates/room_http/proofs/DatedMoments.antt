@@ -1,6 +1,6 @@
 -- Each moment before the year 10000 has a date.
-use Rattle.std.proofs.Common.{◌≡◌, ◌∙◌, sym, ap, refl, arith, ℕ, zero, suc, ◌+◌, ◌-◌, ◌*◌, ◌/◌, ◌%◌}
-use Rattle.std.proofs.Common.{◌<◌, ◌≤◌, ◌⊎◌, inl, inr}
+use Rattle.std.proofs.Common.{◌≡◌, ◌∙◌, ap, refl, arith, ℕ, zero, suc, ◌+◌, ◌-◌, ◌/◌, ◌%◌, ◌<◌, ◌≤◌}
+use Rattle.std.proofs.Common.{inl, inr}
 use Rattle.std.proofs.lemmas.Bool.{cases_order}
 use Rattle.std.proofs.lemmas.Bool.Decides.{nat_tests}
 use Rattle.httpdate.specs.Calendar.{IsCivilDate, days_from_civil, days_in_month, days_in_year}
@@ -10,7 +10,7 @@ use Rattle.httpdate.specs.declared.date.HttpDate.{HttpDate}
 use Rattle.httpdate.proofs.CalendarLemmas.{days_of_months_all, days_of_months_more}
 use Rattle.httpdate.proofs.CalendarLemmas.{days_of_years_closed}
 use Rattle.room_http.specs.ReplyLaws.{IsAlwaysThere}
-use Rattle.room_http.specs.ReplyMessages.{IsDateOf, reply_bytes}
+use Rattle.room_http.specs.ReplyMessages.{reply_bytes}
 
 -- the calendar's day that so many days come before
 record DayAt (n : ℕ) : Type 0 where

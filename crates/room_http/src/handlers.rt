@@ -22,13 +22,10 @@ impl Handler {
         ensures setting { IfOk result (λ handler. handler.setting ≡ setting) }
         ensures refused { IfErr result (λ refusal. refusal ≡ Memory) }
     {
-        match Routes::new(alloc) {
-            Ok(routes) => Ok(Handler {
-                alloc,
-                routes,
-                setting,
-            }),
-            Err(refusal) => Err(refusal),
-        }
+        Ok(Handler {
+            alloc,
+            routes: Routes::new(alloc)?,
+            setting,
+        })
     }
 }

@@ -1,7 +1,7 @@
 //! What answers say, as JSON that is sent value by value.
 #![tactic(auto, unfolding(crate::specs::Objects::Sends))]
 
-ghost use Rattle.std.specs.Prelude.{ℕ, OnOk, Option, Some, None};
+ghost use Rattle.std.specs.Prelude.{OnOk, Option, Some, None};
 ghost use Rattle.serde_json.specs.Data.{Data, boolean, number, string};
 ghost use Rattle.serde_json.specs.Find.{of_integer};
 ghost use Rattle.room_http.specs.JsonShapes.{whole, or_null, list_of};

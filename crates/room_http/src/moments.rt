@@ -1,5 +1,5 @@
 //! The moment at which something is answered.
-ghost use Rattle.std.specs.Prelude.{◌≡◌, ◌≤◌, [], ◌∷◌, MatchOption};
+ghost use Rattle.std.specs.Prelude.{◌≤◌, [], ◌∷◌, MatchOption};
 ghost use Rattle.std.specs.Io.KnownBytes.{Appends};
 ghost use Rattle.room_types.specs.declared.numbers.TheConstants.{LAST_MOMENT};
 ghost use Rattle.room_http.specs.ClockMoments.{HasNoMoment};

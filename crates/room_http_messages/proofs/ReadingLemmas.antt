@@ -1,8 +1,8 @@
 -- Lemmas on reads.
-use Rattle.std.proofs.Common.{◌≡◌, ◌∙◌, ap, refl, sym, arith, ℕ, ◌+◌, ◌-◌, ◌<◌, ◌≤◌, List, [], ◌∷◌}
-use Rattle.std.proofs.Common.{◌++◌, length, append-nil, append_assoc, subst, drop, take, Bool, true}
-use Rattle.std.proofs.Common.{false, Option, Some, None, Result, Ok, Err}
-use Rattle.std.specs.Io.KnownBytes.{prepend_known, Keeps, Consumes, IsAtEnd}
+use Rattle.std.proofs.Common.{◌≡◌, ◌∙◌, ap, refl, sym, arith, ℕ, ◌+◌, ◌-◌, ◌<◌, ◌≤◌, List, ◌++◌}
+use Rattle.std.proofs.Common.{length, append-nil, append_assoc, subst, drop, take, Bool, Option}
+use Rattle.std.proofs.Common.{Some, None, Result, Ok, Err}
+use Rattle.std.specs.Io.KnownBytes.{prepend_known, Keeps, Consumes}
 use Rattle.std.proofs.lemmas.List.{drop-append-le}
 use Rattle.httparse.specs.Grammar.{print_request}
 use Rattle.room_http_messages.specs.declared.read_faults.Unread.{Unread}
@@ -11,7 +11,7 @@ use Rattle.room_http_messages.specs.declared.read_faults.Unread.TheVariants.{Rea
 use Rattle.room_http_messages.specs.declared.limits.TheConstants.{INBOX_ROOM}
 use Rattle.room_http_messages.specs.declared.messages.Layout.{Layout}
 use Rattle.room_http_messages.specs.Messages.{WholeMessage, HasMessage, IsPart}
-use Rattle.room_http_messages.specs.Readings.{StopsAs, SaysOf, FirstIs}
+use Rattle.room_http_messages.specs.Readings.{SaysOf, FirstIs}
 use Rattle.room_http_messages.specs.Streams.{CountsBy, Reads}
 use Rattle.room_http_messages.proofs.StreamLemmas.{Keeps-refl, Keeps-trans}
 

@@ -1,6 +1,6 @@
 //! The fields of a body: an object of JSON, and the values under its names.
-ghost use Rattle.std.specs.Prelude.{◌≡◌, ◌≤◌, IfOk, MatchResult, Some, None, ◌⊎◌};
-ghost use Rattle.serde_json.specs.Data.{object, no_members};
+ghost use Rattle.std.specs.Prelude.{◌≡◌, MatchResult, Some, None, ◌⊎◌};
+ghost use Rattle.serde_json.specs.Data.{object};
 ghost use Rattle.serde_json.specs.View.{view};
 ghost use Rattle.room_types.specs.declared.refusal_statuses.Refusal.TheVariants.{BadBody, Memory};
 ghost use Rattle.room_http_requests.specs.BodyFields.{button_at, callsign_at, fields_of};

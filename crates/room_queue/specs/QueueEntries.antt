@@ -13,7 +13,6 @@ use Rattle.room_model.specs.Moments.{age}
 use Rattle.room_model.specs.Queries.{point_of}
 use Rattle.room_model.specs.Queue.{exception, overdue, shift_over, slow_turn, unanswered, uncovered}
 use Rattle.room_model.specs.Queue.{unread_turn}
-use Rattle.room_model.specs.Room.{Room}
 use Rattle.room_model.specs.RoomSlices.{unplanned}
 use Rattle.room_queue.specs.ServedIncidents.{is_served}
 use Rattle.room_queue.specs.declared.served_incidents.Served.{Served}

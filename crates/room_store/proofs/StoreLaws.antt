@@ -1,6 +1,6 @@
 -- A store's room, before and after an event.
-use Rattle.std.proofs.Common.{Bool, Err, IsTrue, List, Ok, Result, [], ap, false, inl, inr, subst}
-use Rattle.std.proofs.Common.{sym, true, ◌∙◌, ◌∷◌, ◌≡◌}
+use Rattle.std.proofs.Common.{Err, IsTrue, List, Ok, Result, [], ap, false, inl, inr, subst, sym}
+use Rattle.std.proofs.Common.{true, ◌∙◌, ◌∷◌, ◌≡◌}
 use Rattle.std.specs.Prelude.{OnErr, OnOk}
 use Rattle.sqlite.specs.Effect.{Database}
 use Rattle.sqlite.specs.Held.{state}

@@ -1,12 +1,12 @@
 -- What a request reads beside the fleet.
 use Rattle.std.specs.Prelude.{ℕ, ◌≡◌}
 use Rattle.room_types.specs.declared.asks.Ask.{Ask}
-use Rattle.room_types.specs.declared.slices.DivisionRows.{DivisionRows}
 use Rattle.room_model.specs.Room.{Room}
 use Rattle.room_model.specs.WorkingRows.{working}
+use Rattle.room_store_cache.specs.declared.beside_fleet.BesideFleet.{BesideFleet}
 
 -- beside the fleet's, the rows are those that a request of a division reads of the room at a moment
-pub record IsBesideFleet (d : ℕ) (a : Ask) (at : ℕ) (room : Room) (x : DivisionRows) : Type 0 where
+pub record IsBesideFleet (d : ℕ) (a : Ask) (at : ℕ) (room : Room) (x : BesideFleet) : Type 0 where
   pub incidents : x.incidents ≡ (working d a at room).incidents
   pub calls : x.calls ≡ (working d a at room).calls
   pub turns : x.turns ≡ (working d a at room).turns

@@ -9,6 +9,7 @@ ghost use Rattle.room_store_cache.specs.BesideFleet.{IsBesideFleet};
 ghost use Rattle.room_store_cache.specs.EntryLemmas.{exact_pair};
 ghost use Rattle.room_store_cache.specs.IncidentViews.{AreIncidentViewsOf, IsIncidentViewOf};
 
+use crate::beside_fleet::BesideFleet;
 use crate::cached_rows::{put, put_if};
 use crate::entries::{Entries, Entry};
 use room_place::plans::DivisionNumber;
@@ -16,7 +17,6 @@ use room_tables_schema::database_faults::Fault;
 use room_types::changes::Change;
 use room_types::numbers::Number;
 use room_types::rows::Rows;
-use room_types::slices::DivisionRows;
 use room_types::tables::{Incident, Turn};
 use std::alloc::Global;
 
@@ -37,7 +37,7 @@ pub type IncidentViews = Entries<IncidentView>;
 
 impl Entries<IncidentView> {
     /// Keeps the incidents that a queue shows, with their turns, where they are few.
-    pub fn fill_shown(&mut self, alloc: Global, division: DivisionNumber, rows: &DivisionRows)
+    pub fn fill_shown(&mut self, alloc: Global, division: DivisionNumber, rows: &BesideFleet)
         ensures { (room : Room) (at : ℕ) → IsInOrder room
             → IsBesideFleet division Queue at room rows.now
             → AreIncidentViewsOf self.old.kept.items room
@@ -58,7 +58,7 @@ impl Entries<IncidentView> {
         alloc: Global,
         division: DivisionNumber,
         number: Number,
-        rows: &DivisionRows,
+        rows: &BesideFleet,
     )
         ensures { (room : Room) (ask : Ask) (at : ℕ) → IsInOrder room
             → reads_number division ask room number ≡ true
@@ -119,7 +119,7 @@ fn incident_view_of(
     alloc: Global,
     division: DivisionNumber,
     number: Number,
-    rows: &DivisionRows,
+    rows: &BesideFleet,
 ) -> Result<IncidentView, Fault>
     ensures incident_view { IfOk result (λ incident_view. (room : Room) (ask : Ask) (at : ℕ)
         → IsInOrder room → reads_number division ask room number ≡ true

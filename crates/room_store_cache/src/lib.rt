@@ -3,6 +3,7 @@
 //! request reads of it and of the tables is in `room_store_reads`.
 #![tactic(auto)]
 
+pub mod beside_fleet;
 pub mod cache;
 pub mod cached_rows;
 pub mod entries;

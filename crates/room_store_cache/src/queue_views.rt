@@ -8,13 +8,13 @@ ghost use Rattle.room_store_cache.specs.EntryLemmas.{exact_number};
 ghost use Rattle.room_store_cache.specs.QueueViews.{AreQueueViewsOf, IsQueueViewOf};
 ghost use Rattle.room_store_cache.specs.QueueViews.{is_own_exception, is_waiting};
 
+use crate::beside_fleet::BesideFleet;
 use crate::cached_rows::{own_rows, put_if};
 use crate::entries::{Entries, Entry};
 use room_place::plans::DivisionNumber;
 use room_tables_schema::database_faults::Fault;
 use room_types::changes::Change;
 use room_types::rows::Rows;
-use room_types::slices::DivisionRows;
 use room_types::tables::{Incident, Report};
 use std::alloc::Global;
 
@@ -31,7 +31,7 @@ pub type QueueViews = Entries<QueueView>;
 
 impl Entries<QueueView> {
     /// Keeps what waits in a division, out of the rows that its queue reads, where it isn't known.
-    pub fn fill(&mut self, alloc: Global, division: DivisionNumber, rows: &DivisionRows)
+    pub fn fill(&mut self, alloc: Global, division: DivisionNumber, rows: &BesideFleet)
         ensures { (room : Room) (at : ℕ)
             → IsBesideFleet division Queue at room rows.now
             → AreQueueViewsOf self.old.kept.items room → AreQueueViewsOf self.new.kept.items room }
@@ -77,7 +77,7 @@ impl Entry for QueueView {
 fn queue_view_of(
     alloc: Global,
     division: DivisionNumber,
-    rows: &DivisionRows,
+    rows: &BesideFleet,
 ) -> Result<QueueView, Fault>
     ensures queue_view { IfOk result (λ queue_view. (room : Room) (at : ℕ)
         → IsBesideFleet division Queue at room rows.now

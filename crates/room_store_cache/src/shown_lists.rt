@@ -7,6 +7,7 @@ ghost use Rattle.room_store_cache.specs.BesideFleet.{IsBesideFleet};
 ghost use Rattle.room_store_cache.specs.EntryLemmas.{exact_number};
 ghost use Rattle.room_store_cache.specs.ShownLists.{AreShownListsOf, IsShownListOf, has, is_among};
 
+use crate::beside_fleet::BesideFleet;
 use crate::cached_rows::{own_rows, put_if};
 use crate::entries::{Entries, Entry};
 use room_place::plans::DivisionNumber;
@@ -14,7 +15,6 @@ use room_tables_schema::database_faults::Fault;
 use room_types::changes::Change;
 use room_types::numbers::Number;
 use room_types::rows::Rows;
-use room_types::slices::DivisionRows;
 use room_types::tables::{Call, Incident, Turn};
 use std::alloc::Global;
 
@@ -56,7 +56,7 @@ impl ShownList {
 impl Entries<ShownList> {
     /// Keeps the incidents that a division's list shows, out of the rows that it reads, where they
     /// aren't all known.
-    pub fn fill(&mut self, alloc: Global, division: DivisionNumber, rows: &DivisionRows)
+    pub fn fill(&mut self, alloc: Global, division: DivisionNumber, rows: &BesideFleet)
         ensures { (room : Room) (at : ℕ) → IsInOrder room
             → IsBesideFleet division Incidents at room rows.now
             → AreShownListsOf self.old.kept.items room → AreShownListsOf self.new.kept.items room }
@@ -102,7 +102,7 @@ impl Entry for ShownList {
 }
 
 // What a list shows, out of the rows that it reads. The one fault is `Memory`.
-fn list_of(alloc: Global, division: DivisionNumber, rows: &DivisionRows) -> Result<ShownList, Fault>
+fn list_of(alloc: Global, division: DivisionNumber, rows: &BesideFleet) -> Result<ShownList, Fault>
     ensures list { IfOk result (λ list. (room : Room) (at : ℕ) → IsInOrder room
         → IsBesideFleet division Incidents at room rows.now
         → IsShownListOf list room) }

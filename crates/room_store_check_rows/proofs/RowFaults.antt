@@ -1,20 +1,16 @@
 -- What the search reports of the rows holds of them.
 use Rattle.std.specs.Bool.{Decides}
-use Rattle.std.specs.List.{list_all, list_any}
-use Rattle.std.specs.Option.{option_or}
-use Rattle.std.specs.Ordering.{nat_cmp}
-use Rattle.std.specs.Prelude.{IfSome, is_none, is_some, nat_le, not, option_map, ◌&&◌, ◌==◌, ◌||◌}
+use Rattle.std.specs.List.{list_all}
+use Rattle.std.specs.Prelude.{is_none, is_some, nat_le, not, ◌&&◌, ◌==◌, ◌||◌}
 use Rattle.std.proofs.Common.{Bool, List, None, Option, Some, [], ap, arith, eq-eqb, false, inl}
-use Rattle.std.proofs.Common.{inr, refl, subst, sym, true, ℕ, ◌<◌, ◌∙◌, ◌∷◌, ◌≡◌, ◌≤◌, ◌⊎◌}
+use Rattle.std.proofs.Common.{inr, refl, subst, sym, true, ℕ, ◌<◌, ◌∷◌, ◌≡◌}
 use Rattle.std.proofs.lemmas.Bool.Decides.{Decides-and, Decides-or, nat_tests}
 use Rattle.std.proofs.lemmas.Bool.{false≢true, or_parts}
 use Rattle.room_place.specs.Choice.{Among}
-use Rattle.room_place.specs.Plans.{Layout, has_division, is_division}
+use Rattle.room_place.specs.Plans.{Layout, has_division}
 use Rattle.room_place.specs.declared.plans.Area.{Area}
 use Rattle.room_types.specs.Codes.{is_busy, is_merged}
-use Rattle.room_types.specs.Keys.{assignment_key, call_key, incident_key, loan_key, offer_key}
-use Rattle.room_types.specs.Keys.{point_key, report_key, turn_key, vehicle_key, division_key}
-use Rattle.room_types.specs.Slices.{assignment_at, division_at, incident_at, turn_at, vehicle_at}
+use Rattle.room_types.specs.Slices.{assignment_at, incident_at, vehicle_at}
 use Rattle.room_types.specs.Texts.{Callsign}
 use Rattle.room_types.specs.declared.slices.DivisionRows.{DivisionRows}
 use Rattle.room_types.specs.declared.tables.Assignment.{Assignment}
@@ -28,46 +24,38 @@ use Rattle.room_types.specs.declared.tables.Vehicle.{Vehicle}
 use Rattle.room_types.proofs.SentLaws.{itself}
 use Rattle.room_model.specs.Room.{IsInOrder, Room}
 use Rattle.room_model.specs.RoomSlices.{room_of}
-use Rattle.room_model.specs.RoomAgreements.{AssignmentAgrees, IsWellFormed, LoanAgrees, OfferAgrees}
 use Rattle.room_model.specs.RoomAgreements.{OpenAgrees}
 use Rattle.room_model.proofs.Tests.{or_right}
-use Rattle.room_store_check_rows.specs.FirstFaults.{area_disagreement, assignment_fault}
-use Rattle.room_store_check_rows.specs.FirstFaults.{call_disagreement, call_fault}
-use Rattle.room_store_check_rows.specs.FirstFaults.{division_disagreement, first_disagreement}
-use Rattle.room_store_check_rows.specs.FirstFaults.{first_of, incident_disagreement, loan_fault}
+use Rattle.room_store_check_rows.specs.FirstFaults.{assignment_fault, call_fault}
+use Rattle.room_store_check_rows.specs.FirstFaults.{first_disagreement, first_of, loan_fault}
 use Rattle.room_store_check_rows.specs.FirstFaults.{offer_fault, open_fault, opening_fault}
-use Rattle.room_store_check_rows.specs.FirstFaults.{order_fault, point_disagreement, report_fault}
-use Rattle.room_store_check_rows.specs.FirstFaults.{rows_disagreement, turn_fault, unless}
-use Rattle.room_store_check_rows.specs.FirstFaults.{vehicle_fault}
-use Rattle.room_store_check_rows.specs.RowTests.{assignment_fits, call_fits, divisions_fit}
-use Rattle.room_store_check_rows.specs.RowTests.{fleet_fits, has_last_report, has_open_turn}
-use Rattle.room_store_check_rows.specs.RowTests.{has_post, has_row, has_vehicle, incident_fits}
-use Rattle.room_store_check_rows.specs.RowTests.{is_as_assigned, is_given, is_in_turn, is_numbered}
-use Rattle.room_store_check_rows.specs.RowTests.{is_of, is_open, is_opened, is_over, loan_at}
-use Rattle.room_store_check_rows.specs.RowTests.{loan_fits, offer_at, offer_fits, open_fits}
-use Rattle.room_store_check_rows.specs.RowTests.{report_fits, rows_fit, turn_fits, vehicle_fits}
-use Rattle.room_store_check_rows.specs.Disagreements.{HasRow, IsCallFault, IsIncidentFault, IsOddly}
-use Rattle.room_store_check_rows.specs.Disagreements.{IsOfNone, IsOpen, Detects, IsReportFault}
-use Rattle.room_store_check_rows.specs.Disagreements.{IsTurnFault, IsVehicleFault, IsWrong}
-use Rattle.room_store_check_rows.specs.Disagreements.{WasGiven}
+use Rattle.room_store_check_rows.specs.FirstFaults.{order_fault, report_fault, rows_disagreement}
+use Rattle.room_store_check_rows.specs.FirstFaults.{turn_fault, unless, vehicle_fault}
+use Rattle.room_store_check_rows.specs.RowTests.{assignment_fits, call_fits, has_last_report}
+use Rattle.room_store_check_rows.specs.RowTests.{has_open_turn, has_post, has_row, has_vehicle}
+use Rattle.room_store_check_rows.specs.RowTests.{incident_fits, is_as_assigned, is_in_turn}
+use Rattle.room_store_check_rows.specs.RowTests.{is_numbered, is_of, is_open, is_opened, is_over}
+use Rattle.room_store_check_rows.specs.RowTests.{loan_at, loan_fits, offer_at, offer_fits}
+use Rattle.room_store_check_rows.specs.RowTests.{open_fits, report_fits, rows_fit, turn_fits}
+use Rattle.room_store_check_rows.specs.RowTests.{vehicle_fits}
+use Rattle.room_store_check_rows.specs.Disagreements.{IsCallFault, IsOddly, IsOfNone, IsOpen}
+use Rattle.room_store_check_rows.specs.Disagreements.{Detects, IsReportFault, IsTurnFault}
+use Rattle.room_store_check_rows.specs.Disagreements.{IsVehicleFault, IsWrong, WasGiven}
 use Rattle.room_store_check_rows.specs.declared.disagreements.CallFault.TheVariants as call
 use Rattle.room_store_check_rows.specs.declared.disagreements.Disagreement.TheVariants as wrong
 use Rattle.room_store_check_rows.specs.declared.disagreements.Disagreement.{Disagreement}
 use Rattle.room_store_check_rows.specs.declared.disagreements.IncidentFault.TheVariants as incident
 use Rattle.room_store_check_rows.specs.declared.disagreements.ReportFault.TheVariants as report
 use Rattle.room_store_check_rows.specs.declared.disagreements.TurnFault.TheVariants as turn
-use Rattle.room_store_check_rows.specs.declared.disagreements.TurnFault.{TurnFault}
 use Rattle.room_store_check_rows.specs.declared.disagreements.VehicleFault.TheVariants as vehicle
-use Rattle.room_store_check_rows.specs.declared.disagreements.VehicleFault.{VehicleFault}
 use Rattle.room_store_check_rows.proofs.AtEachKey.{opened_decides}
 use Rattle.room_store_check_rows.proofs.FaultLaws.{Finds, find_first, find_like, find_more, find_or}
 use Rattle.room_store_check_rows.proofs.FaultLaws.{find_unless, detects, not_so, regrouped}
 use Rattle.room_store_check_rows.proofs.RoomLaws.{in_range, well_formed_decides}
 use Rattle.room_store_check_rows.proofs.RowLaws.{as_assigned_decides, assignment_decides, at_most}
-use Rattle.room_store_check_rows.proofs.RowLaws.{call_decides, incident_decides, loan_decides}
-use Rattle.room_store_check_rows.proofs.RowLaws.{none_sent, numbered_decides, offer_decides}
-use Rattle.room_store_check_rows.proofs.RowLaws.{open_decides, over_decides, post_decides}
-use Rattle.room_store_check_rows.proofs.RowLaws.{vehicle_decides, active_decides}
+use Rattle.room_store_check_rows.proofs.RowLaws.{incident_decides, loan_decides, none_sent}
+use Rattle.room_store_check_rows.proofs.RowLaws.{numbered_decides, offer_decides, open_decides}
+use Rattle.room_store_check_rows.proofs.RowLaws.{over_decides, post_decides, active_decides}
 
 pub absent : {X : Type 0} (o : Option X) → is_some o ≡ false → o ≡ None
 absent None e = refl

@@ -1,22 +1,19 @@
 -- What the search reports of terminals holds of them.
 use Rattle.std.specs.BTreeSet.{BTreeSet, IsFromIterResult, btree_set_len, contains}
 use Rattle.std.specs.Bool.{Decides}
-use Rattle.std.specs.List.{list_all, list_any}
 use Rattle.std.specs.Option.{option_or}
 use Rattle.std.specs.Ordering.{is_eq}
 use Rattle.std.specs.declared.cmp.Ordering.TheVariants.{Equal}
-use Rattle.std.specs.Prelude.{cond, is_some, not, ◌&&◌, ◌==◌, ◌||◌}
-use Rattle.std.proofs.Common.{Bool, List, None, Option, Some, [], ap, eq-eqb, false, inl, inr}
-use Rattle.std.proofs.Common.{length, refl, subst, sym, true, ◌∙◌, ◌∷◌, ◌≡◌, ◌⊎◌}
+use Rattle.std.specs.Prelude.{cond, is_some, not, ◌==◌, ◌||◌}
+use Rattle.std.proofs.Common.{Bool, List, None, Option, Some, [], ap, false, inl, inr, length, refl}
+use Rattle.std.proofs.Common.{subst, sym, true, ◌∙◌, ◌∷◌, ◌≡◌}
 use Rattle.std.proofs.lemmas.Bool.{false≢true}
 use Rattle.std.proofs.lemmas.Cmp.{tied_itself}
 use Rattle.room_place.specs.Choice.{Among}
-use Rattle.room_place.specs.Plans.{has_division}
 use Rattle.room_place.specs.declared.plans.Area.{Area}
 use Rattle.room_types.specs.KeyedRows.{IsKeyed, row_at}
-use Rattle.room_types.specs.Keys.{callsign_cmp, same_callsign, vehicle_key}
-use Rattle.room_types.specs.KeyLemmas.{callsigns_total, exact_callsigns}
-use Rattle.room_types.specs.Slices.{vehicle_at}
+use Rattle.room_types.specs.Keys.{callsign_cmp, vehicle_key}
+use Rattle.room_types.specs.KeyLemmas.{callsigns_total}
 use Rattle.room_types.specs.Texts.{Callsign}
 use Rattle.room_types.specs.declared.asks.Who.TheVariants.{Crew, Desk, Position}
 use Rattle.room_types.specs.declared.asks.Who.{Who}
@@ -27,11 +24,9 @@ use Rattle.room_model.specs.FleetRows.{AreTerminals, is_crew, terminal_key, toke
 use Rattle.room_model.specs.Room.{Room}
 use Rattle.room_model.specs.RoomSlices.{room_of}
 use Rattle.room_model.proofs.Tests.{or_right}
-use Rattle.room_store_check_rows.specs.TerminalCrews.{crew_again, crew_of, crews_fit, crews_of}
-use Rattle.room_store_check_rows.specs.TerminalCrews.{has_subject, second_crew, subject_fault}
-use Rattle.room_store_check_rows.specs.TerminalCrews.{terminals_fault, two_crews, uncrewed}
-use Rattle.room_store_check_rows.specs.FirstFaults.{first_of}
-use Rattle.room_store_check_rows.specs.RowTests.{has_vehicle}
+use Rattle.room_store_check_rows.specs.TerminalCrews.{crew_again, crews_fit, crews_of, has_subject}
+use Rattle.room_store_check_rows.specs.TerminalCrews.{second_crew, subject_fault, terminals_fault}
+use Rattle.room_store_check_rows.specs.TerminalCrews.{two_crews}
 use Rattle.room_store_check_rows.specs.Misfits.{DetectsOf, HasTerminal, HasTwoCrews, IsMisfit}
 use Rattle.room_store_check_rows.specs.declared.disagreements.TerminalFault.TheVariants as wrong
 use Rattle.room_store_check_rows.specs.declared.disagreements.TerminalFault.{TerminalFault}

@@ -2,26 +2,19 @@
 use Rattle.std.proofs.Common.{IsTrue, List, [], ap, arith, inl, inr, refl, subst, sym, ◌⊎◌, ◌∙◌}
 use Rattle.std.proofs.Common.{◌∷◌, ◌≡◌}
 use Rattle.sqlite.specs.Effect.{Database}
-use Rattle.sqlite.specs.State.{HasCleanDisk, State, Survives}
+use Rattle.sqlite.specs.State.{HasCleanDisk, State}
 use Rattle.sqlite_schema.specs.declared.schema.Schema.{Schema}
 use Rattle.sqlite_schema.specs.declared.schema.Table.{Table}
 use Rattle.sqlite_catalog.specs.Change.{KeepsRows}
 use Rattle.sqlite_trees.specs.Tree.{Trees}
-use Rattle.sqlite.proofs.StateLemmas.{survives_then}
 use Rattle.room_tables_schema.proofs.Standing.{holds_still}
-use Rattle.room_place.specs.Plans.{Layout}
-use Rattle.room_types.specs.declared.fleet.Terminal.{Terminal}
-use Rattle.room_model.specs.FleetRows.{AreTerminals}
 use Rattle.room_model.specs.Room.{Room}
-use Rattle.room_model.specs.RoomAgreements.{IsWellFormed}
 use Rattle.room_tables_schema.specs.Schema.{room_schema, room_tables, tables_schema}
-use Rattle.room_tables_rows.proofs.OneRoom.{one_config, one_room}
 use Rattle.room_tables.specs.RoomsInTables.{Configuration, Stands}
-use Rattle.room_store_writes.specs.Configurations.{config_of}
 use Rattle.room_store_writes.specs.Transactions.{Leaves}
-use Rattle.room_store_file.specs.OpenedFile.{Becomes, KeepsAllRows, KeepsFile, MayBeIndexed}
-use Rattle.room_store_file.specs.OpenedFile.{MayBeMoved, MayBecome, Moves, Opens, Takes, schema_of}
-use Rattle.room_store_check_tables.specs.HeldRooms.{HoldsRoom, WritesNothing}
+use Rattle.room_store_file.specs.OpenedFile.{KeepsAllRows, KeepsFile, MayBeIndexed, MayBeMoved}
+use Rattle.room_store_file.specs.OpenedFile.{MayBecome, Moves, Opens, Takes, schema_of}
+use Rattle.room_store_check_tables.specs.HeldRooms.{WritesNothing}
 use Rattle.room_store_file.specs.declared.room_in_tables.Tables.{Tables}
 use Rattle.room_store_file.specs.declared.room_in_tables.Tables.TheVariants.{First, FirstUnindexed}
 use Rattle.room_store_file.specs.declared.room_in_tables.Tables.TheVariants.{Unindexed, Whole}

@@ -2,7 +2,7 @@
 use Rattle.std.proofs.Common.{◌≡◌, not, Bool, true, false, Err, Ok, Result, List, inl, sym, subst}
 use Rattle.std.proofs.Common.{ap, ◌∙◌}
 use Rattle.sqlite.specs.Effect.{Database}
-use Rattle.sqlite.specs.Held.{Held, state}
+use Rattle.sqlite.specs.Held.{Held}
 use Rattle.sqlite.specs.State.{IsUnchanged, State}
 use Rattle.sqlite_trees.specs.declared.store.Store.{Ghosts}
 use Rattle.room_types.specs.declared.changes.Change.{Change}

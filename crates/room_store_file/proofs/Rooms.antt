@@ -32,7 +32,7 @@ use Rattle.room_tables_rows.specs.ReportSql.{report_row}
 use Rattle.room_tables_rows.specs.TerminalSql.{crew_of, terminal_row}
 use Rattle.room_tables_rows.specs.TurnSql.{turn_row}
 use Rattle.room_tables_rows.specs.VehicleSql.{vehicle_row}
-use Rattle.room_tables_rows.specs.RoomsInTables.{Configuration, numbered}
+use Rattle.room_tables_rows.specs.RoomsInTables.{numbered}
 use Rattle.room_store_file.specs.DigestTexts.{digest_text, table_text, tables_in, tables_of}
 use Rattle.room_store_file.proofs.DecodableTexts.{IsStored, each_decodable, table_decodable}
 

@@ -10,7 +10,6 @@ use Rattle.room_model.specs.declared.digests.Version.TheVariants.{First, Second}
 use Rattle.room_tables_schema.specs.Schema.{room_schema}
 use Rattle.room_tables_schema.specs.Statements.{Selects}
 use Rattle.room_tables_schema.specs.TableTrees.{Holds}
-use Rattle.room_tables_rows.specs.MetaSql.{meta_row}
 use Rattle.room_tables_rows.specs.RoomsInTables.{Configuration, Stands, StandsFor, numbered, places}
 use Rattle.room_tables_rows.specs.Tables.{IsHeld}
 use Rattle.room_tables_rows.proofs.AreasTable.{all_areas_means, areas_held}

@@ -20,7 +20,7 @@ use Rattle.room_tables_rows.specs.MetaSql.{meta_row}
 use Rattle.room_tables_rows.specs.OfferSql.{offer_row}
 use Rattle.room_tables_rows.specs.PointSql.{point_row}
 use Rattle.room_tables_rows.specs.ReportSql.{report_row}
-use Rattle.room_tables_rows.specs.RoomsInTables.{Configuration, numbered}
+use Rattle.room_tables_rows.specs.RoomsInTables.{numbered}
 use Rattle.room_tables_rows.specs.TerminalSql.{terminal_row}
 use Rattle.room_tables_rows.specs.TurnSql.{turn_row}
 use Rattle.room_tables_rows.specs.VehicleSql.{vehicle_row}

@@ -3,8 +3,8 @@ ghost use Rattle.std.specs.Prelude.{◌≡◌, ◌↔◌, false, IsTrue, IfErr, 
 ghost use Rattle.hex.specs.Hex.{encode_lower};
 ghost use Rattle.sqlite.specs.Held.{state};
 ghost use Rattle.sqlite.specs.State.{Survives};
-ghost use Rattle.room_model.specs.Room.{Room, apply};
-ghost use Rattle.room_tables.specs.RoomsInTables.{Configuration, Stands};
+ghost use Rattle.room_model.specs.Room.{apply};
+ghost use Rattle.room_tables.specs.RoomsInTables.{Stands};
 ghost use Rattle.room_tables_schema.specs.FileConnections.{HasRoomSchema, MayWrite, IsClean};
 ghost use Rattle.room_tables_schema.specs.DatabaseFaults.{fault_of};
 ghost use Rattle.room_tables_schema.specs.Outcomes.{CommitsNothing};

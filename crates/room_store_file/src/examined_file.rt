@@ -73,14 +73,10 @@ pub fn examine<S: Alter>(alloc: Global, conn: &mut Connection<S>) -> Result<(Pla
     ensures nothing { WritesNothing (state S.Store conn.old) (state S.Store conn.new) }
     ensures ended { conn.new.in_transaction ≡ false }
 {
-    match read_room(alloc, conn) {
-        Ok((whole, summary)) => {
-            let ReadFile { config, rows } = whole;
-            drop(rows);
-            Ok((config.plan, summary))
-        }
-        Err(wrong) => Err(wrong),
-    }
+    let (whole, summary) = read_room(alloc, conn)?;
+    let ReadFile { config, rows } = whole;
+    drop(rows);
+    Ok((config.plan, summary))
 }
 
 /// All of the room that the file holds, and how much it is; or what is wrong with it first. The
@@ -160,10 +156,8 @@ fn judge(alloc: Global, whole: ReadFile) -> Result<(ReadFile, Summary), Wrong>
     ensures wrong { IfErr result
         (Weighs whole.config.plan.areas whole.rows whole.config.terminals.items) }
 {
-    match weigh(alloc, &whole) {
-        Ok(summary) => Ok((whole, summary)),
-        Err(wrong) => Err(wrong),
-    }
+    let summary = weigh(alloc, &whole)?;
+    Ok((whole, summary))
 }
 
 fn weigh(alloc: Global, whole: &ReadFile) -> Result<Summary, Wrong>

@@ -4,7 +4,7 @@ use Rattle.std.specs.Prelude.{◌==◌}
 use Rattle.room_types.specs.Keys.{owns_report}
 use Rattle.room_types.specs.Texts.{Callsign}
 use Rattle.room_types.specs.declared.asks.Ask.{Ask}
-use Rattle.room_types.specs.declared.slices.DivisionRows.{DivisionRows}
+use Rattle.room_store_cache.specs.declared.beside_fleet.BesideFleet.{BesideFleet}
 use Rattle.room_model.specs.Room.{Room}
 use Rattle.room_model.specs.WorkingRows.{names_turn, reads_calls, reads_incident, reads_number}
 use Rattle.room_model.specs.WorkingRows.{reads_report}
@@ -35,7 +35,7 @@ all_nothing (incidents.One n) y z is = absurd (cc)
 all_nothing (incidents.Two n m) y z is = absurd (cc)
 
 -- a request that reads nothing but the fleet reads nothing beside it
-pub are_of_fleet : (d : ℕ) (a : Ask) (at : ℕ) (room : Room) (x : DivisionRows) (reads : Reads)
+pub are_of_fleet : (d : ℕ) (a : Ask) (at : ℕ) (room : Room) (x : BesideFleet) (reads : Reads)
     → IsOfFleet x → Selects d a reads
     → is_of_fleet reads.incidents reads.reports reads.last_turn ≡ true → IsBesideFleet d a at room x
 are_of_fleet d a at room x reads only selects is =

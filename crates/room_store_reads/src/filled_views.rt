@@ -10,8 +10,8 @@ ghost use Rattle.room_store_reads.specs.RequestReads.{Selects};
 
 use crate::request_reads::{Incidents, Reads, Reports};
 use room_place::plans::DivisionNumber;
+use room_store_cache::beside_fleet::BesideFleet;
 use room_store_cache::cache::Cache;
-use room_types::slices::DivisionRows;
 use std::alloc::Global;
 
 /// Keeps what a queue or a list shows, or the one incident that was named, where it isn't known.
@@ -20,7 +20,7 @@ pub(crate) fn fill_views(
     cache: &mut Cache,
     division: DivisionNumber,
     reads: &Reads,
-    rows: &DivisionRows,
+    rows: &BesideFleet,
 )
     ensures queue_views { (room : Room) (ask : AskModel) (at : ℕ) → Selects division ask reads.now
         → IsBesideFleet division ask at room rows.now

@@ -13,7 +13,8 @@ ghost use Rattle.room_store_cache.specs.BesideFleet.{IsBesideFleet};
 ghost use Rattle.room_store_cache.specs.Cache.{AreRowsOf};
 ghost use Rattle.room_store_cache.specs.IncidentNumbers.{contains};
 ghost use Rattle.room_store_reads.specs.KnownParts.{IsKnownPart};
-ghost use Rattle.room_store_reads.specs.Partitions.{AreKnown, IsOfFleet, IsWork, is_turn};
+ghost use Rattle.room_store_reads.specs.Partitions.{AreFleetParts, AreKnown, IsOfFleet, IsWork};
+ghost use Rattle.room_store_reads.specs.Partitions.{is_turn};
 ghost use Rattle.room_store_reads.specs.RequestReads.{Selects, is_read, is_report};
 
 use crate::filled_views::fill_views;
@@ -23,6 +24,7 @@ use crate::partitions::load_parts;
 use crate::request_reads::{Reads, Reports};
 use crate::selections::{load_one, owned_row, part_of};
 use room_place::plans::DivisionNumber;
+use room_store_cache::beside_fleet::BesideFleet;
 use room_store_cache::cache::Cache;
 use room_store_cache::cached_rows::own_rows;
 use room_store_cache::fleets::FleetRows;
@@ -32,7 +34,9 @@ use room_types::codes::Outcome;
 use room_types::numbers::{Moment, Number};
 use room_types::rows::{Part, Rows};
 use room_types::slices::{DivisionRows, Slice};
-use room_types::tables::{Call, Incident, Report, Turn, Vehicle};
+use room_types::tables::{
+    Assignment, Call, Division, Incident, Loan, Offer, Point, Report, Turn, Vehicle,
+};
 use sqlite::{Alter, Connection};
 use std::alloc::Global;
 
@@ -45,7 +49,7 @@ pub fn load_beside_fleet<S: Alter>(
     reads: &Reads,
     at: Moment,
     cache: &mut Cache,
-) -> Result<DivisionRows<'static>, Fault>
+) -> Result<BesideFleet, Fault>
     requires room { HasRoomSchema S.Store conn.old }
     requires open { StandsOpen S.Store conn.old }
     ensures rows { Finds S.Store conn.old conn.new result (λ room x. (ask : AskModel)
@@ -54,18 +58,16 @@ pub fn load_beside_fleet<S: Alter>(
     ensures fleet { cache.new.fleet ≡ cache.old.fleet }
     ensures reads { ReadsOnly S.Store conn.old conn.new result }
 {
-    let none = no_rows(alloc);
     if reads.is_of_fleet() {
-        return Ok(none);
+        return Ok(no_rows(alloc));
     }
     let incidents = load_incidents(alloc, conn, division, &reads.incidents, at, cache)?;
     let work = load_work(alloc, conn, division, reads, cache, &incidents)?;
-    let rows = DivisionRows {
+    let rows = BesideFleet {
         incidents,
         calls: work.calls,
         turns: work.turns,
         reports: work.reports,
-        ..none
     };
     fill_views(alloc, cache, division, reads, &rows);
     Ok(rows)
@@ -79,22 +81,26 @@ pub fn working_slice<'a>(
     division: DivisionNumber,
     reads: &Reads,
     fleet: &'a FleetRows,
-    beside: DivisionRows<'a>,
+    beside: BesideFleet,
 ) -> Result<Slice<'a>, Fault>
     ensures division { IfOk result (λ x. x.division ≡ division) }
     ensures rows { IfOk result (λ x. (room : Room) (ask : AskModel) (at : ℕ) → IsInOrder room
         → AreRowsOf fleet.now room → Selects division ask reads.now
-        → IsBesideFleet division ask at room beside.entry
+        → IsBesideFleet division ask at room beside
         → room_of room.plan x.rows ≡ working division ask at room) }
 {
+    let parts = fleet_parts(alloc, division, reads, fleet)?;
     let rows = DivisionRows {
-        divisions: part_of(alloc, &fleet.divisions, division, &reads.divisions)?,
-        vehicles: part_of(alloc, &fleet.vehicles, division, &reads.vehicles)?,
-        assignments: part_of(alloc, &fleet.assignments, division, &reads.assignments)?,
-        points: part_of(alloc, &fleet.points, division, &reads.points)?,
-        loans: part_of(alloc, &fleet.loans, division, &reads.loans)?,
-        offers: part_of(alloc, &fleet.offers, division, &reads.offers)?,
-        ..beside
+        divisions: parts.divisions,
+        incidents: beside.incidents,
+        calls: beside.calls,
+        vehicles: parts.vehicles,
+        turns: beside.turns,
+        assignments: parts.assignments,
+        points: parts.points,
+        loans: parts.loans,
+        offers: parts.offers,
+        reports: beside.reports,
     };
     match Slice::build(division, rows) {
         Some(slice) => Ok(slice),
@@ -102,20 +108,46 @@ pub fn working_slice<'a>(
     }
 }
 
-// No rows. It takes no memory.
-fn no_rows(alloc: Global) -> DivisionRows<'static>
+// Of a division, the rows of the fleet that a request reads.
+#[derive(Drop)]
+struct FleetParts<'a> {
+    divisions: Part<'a, Division>,
+    vehicles: Part<'a, Vehicle>,
+    assignments: Part<'a, Assignment>,
+    points: Part<'a, Point>,
+    loans: Part<'a, Loan>,
+    offers: Part<'a, Offer>,
+}
+
+// Of a division, the rows of the fleet that a request reads. One that is named is lent.
+fn fleet_parts<'a>(
+    alloc: Global,
+    division: DivisionNumber,
+    reads: &Reads,
+    fleet: &'a FleetRows,
+) -> Result<FleetParts<'a>, Fault>
+    ensures { IfOk result (λ x. (room : Room) (ask : AskModel) (at : ℕ) → IsInOrder room
+        → AreRowsOf fleet.now room → Selects division ask reads.now
+        → AreFleetParts division ask at room x) }
+{
+    Ok(FleetParts {
+        divisions: part_of(alloc, &fleet.divisions, division, &reads.divisions)?,
+        vehicles: part_of(alloc, &fleet.vehicles, division, &reads.vehicles)?,
+        assignments: part_of(alloc, &fleet.assignments, division, &reads.assignments)?,
+        points: part_of(alloc, &fleet.points, division, &reads.points)?,
+        loans: part_of(alloc, &fleet.loans, division, &reads.loans)?,
+        offers: part_of(alloc, &fleet.offers, division, &reads.offers)?,
+    })
+}
+
+// No rows beside the fleet. It takes no memory.
+fn no_rows(alloc: Global) -> BesideFleet
     ensures { IsOfFleet result }
 {
-    DivisionRows {
-        divisions: Part::none(),
+    BesideFleet {
         incidents: Rows::new(alloc),
         calls: Rows::new(alloc),
-        vehicles: Part::none(),
         turns: Rows::new(alloc),
-        assignments: Part::none(),
-        points: Part::none(),
-        loans: Part::none(),
-        offers: Part::none(),
         reports: Rows::new(alloc),
     }
 }

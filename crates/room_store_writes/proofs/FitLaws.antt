@@ -1,12 +1,10 @@
 -- What is found at a token once the terminals of one who were changed, and that they fit the room.
 use Rattle.std.proofs.Common.{Bool, List, None, Option, Some, [], ap, cond, eq-eqb, false, inl, inr}
 use Rattle.std.proofs.Common.{is_eq, is_some, not, option_map, refl, subst, sym, true, true≢false}
-use Rattle.std.proofs.Common.{ℕ, ◌==◌, ◌||◌, ◌∙◌, ◌∷◌, ◌≡◌, ◌⊎◌}
+use Rattle.std.proofs.Common.{◌||◌, ◌∙◌, ◌∷◌, ◌≡◌, ◌⊎◌}
 use Rattle.std.proofs.lemmas.Bool.{eqb-true}
 use Rattle.std.proofs.lemmas.Cmp.{tied_itself}
 use Rattle.std.specs.List.{list_any}
-use Rattle.room_place.specs.Plans.{has_division}
-use Rattle.room_place.specs.declared.plans.Area.{Area}
 use Rattle.room_tables_schema.proofs.Comparisons.{is_Equal}
 use Rattle.room_types.proofs.KeyedLaws.{keyed_filter, keyed_put, row_below, row_filter}
 use Rattle.room_types.specs.KeyedRows.{IsBelowAll, IsKeyed, keep, row_at}
@@ -21,11 +19,10 @@ use Rattle.room_model.proofs.KeptCalls.{row_stays}
 use Rattle.room_model.proofs.VehicleRows.{put_here}
 use Rattle.room_model.specs.FleetRows.{AreTerminals, terminal_at, terminal_key, token_cmp}
 use Rattle.room_model.specs.Room.{Room}
-use Rattle.room_store_writes.specs.TerminalChanges.{fault_in, fault_to_take, unknown_fault}
+use Rattle.room_store_writes.specs.TerminalChanges.{fault_in, unknown_fault}
 use Rattle.room_store_writes.specs.TerminalHolders.{has_terminal, has_token, is_token_of, may_have}
 use Rattle.room_store_writes.specs.TerminalHolders.{same_who, terminals_by, with_token, without}
 use Rattle.room_store_writes.specs.declared.change_faults.ChangeFault.{ChangeFault}
-use Rattle.room_store_writes.specs.declared.change_faults.ChangeFault.TheVariants.{NoTerminal}
 use Rattle.room_store_writes.specs.declared.change_faults.ChangeFault.TheVariants.{TokenTaken}
 
 -- ---- one who, and another

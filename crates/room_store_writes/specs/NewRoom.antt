@@ -13,7 +13,6 @@ use Rattle.room_types.specs.declared.tables.Division.{Division}
 use Rattle.room_model.specs.FleetRows.{terminal_key, token_cmp}
 use Rattle.room_model.specs.Room.{Room, apply}
 use Rattle.room_tables_schema.specs.Schema.{room_schema}
-use Rattle.room_tables_schema.specs.declared.database_faults.Fault.{Fault}
 use Rattle.room_tables_schema.specs.declared.database_faults.Fault.TheVariants as fault
 use Rattle.room_tables.specs.RoomsInTables.{Stands, empty_room}
 use Rattle.room_store_writes.specs.Transactions.{IsSettled}

@@ -1,6 +1,5 @@
 -- Why terminals are not changed, and what a change of them makes of the tables.
-use Rattle.std.specs.Prelude.{List, None, Option, Some, cond, ◌≡◌, ◌⊎◌}
-use Rattle.sqlite.specs.State.{State}
+use Rattle.std.specs.Prelude.{List, None, Option, Some, cond, ◌≡◌}
 use Rattle.sqlite_trees.specs.Tree.{Trees}
 use Rattle.room_place.specs.declared.plans.Area.{Area}
 use Rattle.room_types.specs.Texts.{Token}

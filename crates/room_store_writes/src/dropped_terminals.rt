@@ -1,8 +1,7 @@
 //! The terminals of one desk, position or crew, dropped from their table.
-ghost use Rattle.std.specs.Prelude.{◌≡◌, ◌∷◌, [], Bool, OnOk, filter, not};
+ghost use Rattle.std.specs.Prelude.{◌≡◌, Bool, OnOk, filter, not};
 ghost use Rattle.sqlite.specs.Held.{state};
 ghost use Rattle.sqlite.specs.Values.{bound};
-ghost use Rattle.sqlite_value.specs.declared.value.Value.TheVariants.{Text};
 ghost use Rattle.room_tables_schema.specs.Outcomes.{WritesInside};
 ghost use Rattle.room_tables_schema.specs.TypedRows.{number};
 ghost use Rattle.room_tables_schema.specs.FileConnections.{MayWrite, IsClean};

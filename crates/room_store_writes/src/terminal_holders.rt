@@ -1,8 +1,7 @@
 //! Who may have a terminal, and whether a user or a token has one.
-ghost use Rattle.std.specs.List.{list_any};
 ghost use Rattle.std.specs.Prelude.{◌≡◌};
-ghost use Rattle.room_store_writes.specs.TerminalHolders.{has_terminal, has_token, is_token_of};
-ghost use Rattle.room_store_writes.specs.TerminalHolders.{may_have, same_who};
+ghost use Rattle.room_store_writes.specs.TerminalHolders.{has_terminal, has_token, may_have};
+ghost use Rattle.room_store_writes.specs.TerminalHolders.{same_who};
 
 use room_place::plans::Plan;
 use room_types::asks::Who;

@@ -1,4 +1,4 @@
-use Rattle.std.proofs.Common.{ap, arith, drop, subst, sym, true, ℕ, ◌+◌, ◌∙◌, ◌≡◌}
+use Rattle.std.proofs.Common.{ap, arith, drop, subst, sym, true, ◌+◌, ◌∙◌, ◌≡◌}
 use Rattle.std.specs.List.{list_all}
 use Rattle.room_types.specs.Keys.{incident_key, owns_incident, pair_cmp}
 use Rattle.dispatch_room_tasks.proofs.PutRows.{put_each}

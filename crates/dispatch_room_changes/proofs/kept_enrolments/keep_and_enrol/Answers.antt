@@ -22,7 +22,7 @@ returns-then-is_err g c =
       done_is = refl;
       why = inr (
         refl,
-        where_failed c.keep_fleet.result _ (sym c.is_err.ensures.value ∙ c.if-is_err.true) c.keep_fleet.ensures.unkept,
+        where_failed c.keep_lines.result _ (sym c.is_err.ensures.value ∙ c.if-is_err.true) c.keep_lines.ensures.unkept,
       );
     })
 
@@ -32,9 +32,9 @@ returns g c =
       begun = c.head_of.new.room;
       head = c.in-Ok.head;
       shows = c.in-Ok.ensures.head;
-      kept = c.keep_fleet.new.list;
+      kept = c.keep_lines.new.list;
       keeps =
-          where_well c.keep_fleet.result _ (sym c.is_err.ensures.value ∙ c.if-is_err.false) c.keep_fleet.ensures.kept;
+          where_well c.keep_lines.result _ (sym c.is_err.ensures.value ∙ c.if-is_err.false) c.keep_lines.ensures.kept;
       enrolled = c.enrol-came.new.room;
       came = c.enrol-came.result;
       imports = record {

@@ -1,4 +1,4 @@
-use Rattle.std.proofs.Common.{List, Some, ap, arith, codes, length, map, sym, ℕ, ◌∙◌, ◌≡◌, ◌≢◌, ◌≤◌}
+use Rattle.std.proofs.Common.{Some, ap, arith, codes, length, map, sym, ◌∙◌, ◌≡◌, ◌≤◌}
 use Rattle.std.specs.Prelude.{slice_get}
 use Rattle.std.specs.String.{string_bytes}
 use Rattle.std.proofs.lemmas.List.{length-map}

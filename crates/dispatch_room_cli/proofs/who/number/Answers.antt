@@ -1,4 +1,4 @@
-use Rattle.std.proofs.Common.{◌∙◌, rules}
+use Rattle.std.proofs.Common.{rules}
 use Rattle.dispatch_room_cli.proofs.TerminalNameLemmas.{number_absent, number_read}
 use Rattle.dispatch_room_cli.proofs.who.number.Goals as goal
 

@@ -74,14 +74,7 @@ returns-in-SetTerminals g c =
     rw c.in-SetTerminals.is
     (either_way c.set_terminals.result _ _ c.set_terminals.ensures.done c.set_terminals.ensures.undone)
 
-pub returns-in-Import-default-default-None : goal.returns-in-Import-default-default-None
-returns-in-Import-default-default-None g c =
-    let list = rw c.in-Import-default-default-None.is at c.in-Import-default-default-None.list-is in
-    rw c.in-Import-default-default-None.is
-    (rw list (either_way c.import.result _ _ c.import.ensures.done c.import.ensures.undone))
-
-pub returns-in-Import-default-default-Some : goal.returns-in-Import-default-default-Some
-returns-in-Import-default-default-Some g c =
-    let list = rw c.in-Import-default-default-Some.is at c.in-Import-default-default-Some.list-is in
-    rw c.in-Import-default-default-Some.is
-    (rw list (either_way c.import_kept.result _ _ c.import_kept.ensures.done c.import_kept.ensures.undone))
+pub returns-in-Import : goal.returns-in-Import
+returns-in-Import g c =
+    rw c.in-Import.is
+    (either_way c.import_fleet.result _ _ c.import_fleet.ensures.done c.import_fleet.ensures.undone)

@@ -1,5 +1,5 @@
 use Rattle.std.proofs.Common.{Err, IfErr, IsTrue, Ok, OnOk, Result, ap, subst₂, false, inl, inr}
-use Rattle.std.proofs.Common.{refl, rules, subst, sym, ℕ, ◌∙◌, ◌≡◌, ◌⊎◌}
+use Rattle.std.proofs.Common.{refl, rules, subst, sym, ℕ, ◌∙◌, ◌≡◌}
 use Rattle.std.proofs.lemmas.Result.{on_ok_weaker}
 use Rattle.sqlite_disk.specs.declared.Disk.{Ghosts}
 use Rattle.sqlite_disk.specs.declared.Files.{Files}

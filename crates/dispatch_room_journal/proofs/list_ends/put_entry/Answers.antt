@@ -1,4 +1,3 @@
-use Rattle.std.proofs.Common.{sym}
 use Rattle.dispatch_room_journal.proofs.PlainLemmas.{entry_comes, entry_put, failed_put, never_end}
 use Rattle.dispatch_room_journal.proofs.PlainLemmas.{plain_put, shown_entry}
 use Rattle.dispatch_room_journal.proofs.list_ends.put_entry.Goals as goal

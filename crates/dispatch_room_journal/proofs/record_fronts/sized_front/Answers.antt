@@ -1,4 +1,4 @@
-use Rattle.std.proofs.Common.{◌≡◌, ℕ, ◌+◌, ◌≤◌, List, sym, ◌∙◌, ◌++◌, arith, length, length-append}
+use Rattle.std.proofs.Common.{◌≡◌, ℕ, ◌+◌, ◌≤◌, List, ◌++◌, arith, length, length-append}
 use Rattle.dispatch_room_journal.specs.declared.record_headers.TheConstants.{HEADER}
 use Rattle.dispatch_room_journal.specs.Chains.{sha256_digits, next_check}
 use Rattle.dispatch_room_journal.specs.RecordFronts.{body_in, sized_front, whole_front}

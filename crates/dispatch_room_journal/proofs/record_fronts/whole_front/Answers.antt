@@ -1,7 +1,7 @@
-use Rattle.std.proofs.Common.{◌≡◌, sym, ap, take, ◌∙◌, Bool}
+use Rattle.std.proofs.Common.{sym, ap, take, ◌∙◌}
 use Rattle.std.specs.Str.{bytes_eq}
 use Rattle.dispatch_room_journal.specs.Chains.{header, next_check, sha256_digits}
-use Rattle.dispatch_room_journal.specs.RecordFronts.{body_in, comes_next}
+use Rattle.dispatch_room_journal.specs.RecordFronts.{comes_next}
 use Rattle.dispatch_room_journal.specs.declared.record_headers.TheConstants.{HEADER}
 use Rattle.dispatch_room_journal.proofs.FrontLemmas.{whole_again, whole_other, whole_next}
 use Rattle.dispatch_room_journal.proofs.record_fronts.whole_front.Goals as goal

@@ -1,4 +1,4 @@
-use Rattle.std.proofs.Common.{◌≡◌, ◌∙◌, refl, inl, subst}
+use Rattle.std.proofs.Common.{◌≡◌, refl, inl, subst}
 use Rattle.room_model.specs.declared.digests.Head.{Head}
 use Rattle.dispatch_room_journal.specs.Entries.{room}
 use Rattle.dispatch_room_journal.proofs.FaultLemmas.{unless_after}

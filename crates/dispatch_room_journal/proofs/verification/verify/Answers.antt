@@ -1,5 +1,5 @@
-use Rattle.std.proofs.Common.{◌≡◌, ◌∙◌, ap, sym, arith, refl, subst, ◌+◌, ◌++◌, ◌∷◌, [], List, ℕ}
-use Rattle.std.proofs.Common.{length, length-append, append-nil, min, inl, inr}
+use Rattle.std.proofs.Common.{◌∙◌, ap, sym, arith, refl, subst, ◌+◌, ◌++◌, ◌∷◌, [], List, ℕ}
+use Rattle.std.proofs.Common.{length-append, append-nil, min, inr}
 use Rattle.dispatch_room_journal.specs.WholeEntries.{most_bytes}
 use Rattle.dispatch_room_journal.specs.Entries.{texts_of}
 use Rattle.dispatch_room_journal.proofs.EndLemmas.{nothing_taken, taken_kept, taken_more}

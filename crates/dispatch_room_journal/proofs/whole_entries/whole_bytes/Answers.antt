@@ -1,5 +1,5 @@
-use Rattle.std.proofs.Common.{◌≡◌, ◌∙◌, ap, arith, refl, ◌+◌, ◌++◌, ◌∷◌, [], length-append, min}
-use Rattle.std.proofs.Common.{inl, inr, rules}
+use Rattle.std.proofs.Common.{◌∙◌, ap, arith, refl, ◌+◌, ◌++◌, ◌∷◌, [], length-append, min, inl}
+use Rattle.std.proofs.Common.{inr}
 use Rattle.dispatch_room_journal.specs.WholeEntries.{IsCutTo, most_bytes}
 use Rattle.dispatch_room_journal.specs.Entries.{texts_of}
 use Rattle.dispatch_room_journal.proofs.EndLemmas.{nothing_taken, taken_kept, taken_more}

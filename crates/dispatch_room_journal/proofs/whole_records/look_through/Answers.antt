@@ -1,8 +1,8 @@
-use Rattle.std.proofs.Common.{◌∙◌, ap, inr, subst, sym, take, List, ℕ}
+use Rattle.std.proofs.Common.{◌∙◌, ap, subst, sym, take, List, ℕ}
 use Rattle.std.specs.Str.{bytes_eq}
 use Rattle.dispatch_room_journal.specs.Chains.{opening}
 use Rattle.dispatch_room_journal.specs.WholeRecords.{IsForm}
-use Rattle.dispatch_room_journal.proofs.FormLemmas.{filled_is, full_plain, opened}
+use Rattle.dispatch_room_journal.proofs.FormLemmas.{filled_is, full_plain}
 use Rattle.dispatch_room_journal.proofs.WholeLemmas.{begins_kept, rest_kept}
 use Rattle.dispatch_room_journal.proofs.whole_records.look_through.Goals as goal
 

@@ -1,4 +1,4 @@
-use Rattle.std.proofs.Common.{◌≡◌, Err, None, Ok, refl, rules}
+use Rattle.std.proofs.Common.{◌≡◌, Err, Ok, refl, rules}
 use Rattle.dispatch_room_journal.proofs.FaultLemmas.{not_both}
 use Rattle.room_tables.proofs.ReadFailures.{holds_on}
 use Rattle.dispatch_room_lists.proofs.replayed_lists.replay_in.Goals as goal

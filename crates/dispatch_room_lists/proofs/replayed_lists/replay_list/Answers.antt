@@ -1,4 +1,4 @@
-use Rattle.std.proofs.Common.{None, inr, refl}
+use Rattle.std.proofs.Common.{inr, refl}
 use Rattle.room_tables.proofs.ReadFailures.{holds_on}
 use Rattle.dispatch_room_lists.proofs.replayed_lists.replay_list.Goals as goal
 

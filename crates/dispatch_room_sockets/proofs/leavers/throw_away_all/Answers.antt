@@ -1,6 +1,5 @@
 -- Who stays is behind the others.
-use Rattle.std.proofs.Common.{[], ap, arith, length, option_to_list, refl, ◌+◌, ◌++◌, ◌-◌, ◌∙◌, ◌∷◌}
-use Rattle.std.proofs.Common.{◌≡◌}
+use Rattle.std.proofs.Common.{ap, arith, length, option_to_list, refl, ◌+◌, ◌++◌, ◌-◌, ◌∙◌, ◌≡◌}
 use Rattle.dispatch_room_sockets.proofs.LeaverLaws.{all_seen, none_rested, none_yet, one_gone}
 use Rattle.dispatch_room_sockets.proofs.LeaverLaws.{one_stays, some_left}
 use Rattle.dispatch_room_sockets.proofs.leavers.throw_away_all.Goals.{in-Some+then-stays}

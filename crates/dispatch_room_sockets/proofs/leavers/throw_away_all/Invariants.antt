@@ -1,5 +1,4 @@
-use Rattle.std.proofs.Common.{◌≡◌, ◌-◌, ◌≤◌, ◌<◌, ◌++◌, List, All, length}
-use Rattle.std.specs.Duration.{as_nanos}
+use Rattle.std.proofs.Common.{◌≡◌, ◌-◌, ◌≤◌}
 use Rattle.std.specs.VecDeque.{deque_capacity, deque_len}
 use Rattle.dispatch_room_sockets.proofs.LeaverLaws.{AreInTime}
 use Rattle.dispatch_room_sockets.proofs.leavers.throw_away_all.Given as goal

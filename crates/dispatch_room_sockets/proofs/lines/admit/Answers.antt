@@ -1,5 +1,4 @@
-use Rattle.std.proofs.Common.{arith, ◌∙◌, ◌∷◌, [], ◌++◌, append_assoc, ap, length-append, rules}
-use Rattle.std.proofs.Common.{refl, append-nil, sym}
+use Rattle.std.proofs.Common.{arith, ◌∙◌}
 use Rattle.dispatch_room_sockets.proofs.SweepLaws.{admitted_more}
 use Rattle.dispatch_room_sockets.proofs.lines.admit.Goals as goal
 

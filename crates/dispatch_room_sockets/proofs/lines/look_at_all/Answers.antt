@@ -1,8 +1,8 @@
-use Rattle.std.proofs.Common.{Some, None, option_to_list, ap, ◌<◌, arith, ◌∙◌, ◌∷◌, [], ◌++◌, ◌≡◌}
-use Rattle.std.proofs.Common.{◌+◌, ◌-◌, length, rules, refl, sym, append-nil, true, false}
+use Rattle.std.proofs.Common.{option_to_list, ap, arith, ◌∙◌, ◌++◌, ◌≡◌, ◌+◌, ◌-◌, length, refl}
+use Rattle.std.proofs.Common.{sym, append-nil, true}
 use Rattle.dispatch_room_sockets.specs.declared.kept_callers.Verdict.TheVariants.{Closed, Served}
 use Rattle.dispatch_room_sockets.specs.declared.kept_callers.Verdict.TheVariants.{Waits}
-use Rattle.dispatch_room_sockets.proofs.SweepLaws.{IsSweptTo, swept_left, swept_more, swept_none}
+use Rattle.dispatch_room_sockets.proofs.SweepLaws.{swept_left, swept_more, swept_none}
 use Rattle.dispatch_room_sockets.proofs.lines.look_at_all.Goals.{in-Some+in-Waits}
 use Rattle.dispatch_room_sockets.proofs.lines.look_at_all.Goals.{in-Some+in-Served}
 use Rattle.dispatch_room_sockets.proofs.lines.look_at_all.Goals.{in-Some+in-Closed, in_default}

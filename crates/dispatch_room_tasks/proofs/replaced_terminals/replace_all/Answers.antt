@@ -1,6 +1,5 @@
 use Rattle.std.proofs.Common.{rules, subst, sym, ◌≡◌}
 use Rattle.std.proofs.lemmas.Result.{on_ok_weaker}
-use Rattle.sqlite_trees.specs.Tree.{Trees}
 use Rattle.room_store_writes.proofs.CommitLaws.{IsWhole, is_whole}
 use Rattle.dispatch_room_tasks.specs.ReplacedTerminals.{Replaces}
 use Rattle.dispatch_room_tasks.proofs.replaced_terminals.replace_all.Given.{Over}

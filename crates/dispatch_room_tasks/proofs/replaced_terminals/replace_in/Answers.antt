@@ -1,6 +1,5 @@
-use Rattle.std.proofs.Common.{arith, sym, ◌∙◌}
+use Rattle.std.proofs.Common.{arith}
 use Rattle.std.proofs.lemmas.Result.{on_ok_weaker}
-use Rattle.room_store_writes.specs.Configurations.{config_of}
 use Rattle.dispatch_room_tasks.proofs.ReplacedLemmas.{keeps_room}
 use Rattle.room_tables_schema.specs.FileConnections.{IsClean}
 use Rattle.dispatch_room_tasks.proofs.replaced_terminals.replace_in.Goals as goal

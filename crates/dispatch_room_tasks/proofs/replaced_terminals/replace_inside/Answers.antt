@@ -1,4 +1,4 @@
-use Rattle.std.proofs.Common.{ap, arith, subst, ◌∙◌}
+use Rattle.std.proofs.Common.{arith, subst, ◌∙◌}
 use Rattle.sqlite.specs.Held.{state}
 use Rattle.room_tables_schema.proofs.WriteLaws.{commits_more}
 use Rattle.room_tables.proofs.RoomReads.{kept}

@@ -1,6 +1,5 @@
 use Rattle.std.proofs.Common.{rules, subst, sym, ◌≡◌}
 use Rattle.std.proofs.lemmas.Result.{on_ok_weaker}
-use Rattle.sqlite_trees.specs.Tree.{Trees}
 use Rattle.room_store_writes.proofs.CommitLaws.{IsWhole, is_whole}
 use Rattle.dispatch_room_tasks.specs.ReplannedRoom.{Replans}
 use Rattle.dispatch_room_tasks.proofs.replanned_room.replan_all.Given.{Over}

@@ -1,4 +1,4 @@
-use Rattle.std.proofs.Common.{◌≡◌, ap, refl, inl, sym, rules, Err, List, Ok, Result, Vec, ℕ}
+use Rattle.std.proofs.Common.{◌≡◌, ap, refl, inl, rules, Err, List, Ok, Result, Vec, ℕ}
 use Rattle.std.specs.Prelude.{IfErr, IfOk, MatchResult, OnErr, OnOk}
 use Rattle.room_types.specs.declared.asks.Event.{Event}
 use Rattle.room_types.specs.declared.fleet.Terminal.{Terminal}

@@ -1,4 +1,4 @@
-use Rattle.std.proofs.Common.{◌≡◌, ap, refl, sym, Bool, Err, List, Ok, Result, ℕ, inl, rules}
+use Rattle.std.proofs.Common.{◌≡◌, ap, refl, Bool, Err, List, Ok, Result, ℕ, inl, rules}
 use Rattle.std.specs.Prelude.{IfOk, MatchResult, OnErr, OnOk}
 use Rattle.room_types.specs.declared.fleet.Terminal.{Terminal}
 use Rattle.room_types.specs.declared.refusal_statuses.Refusal.{Refusal}

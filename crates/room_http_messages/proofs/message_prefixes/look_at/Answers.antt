@@ -1,6 +1,4 @@
-use Rattle.std.proofs.Common.{◌≡◌, arith, refl, rules}
-use Rattle.httparse.specs.Spans.{span_bytes}
-use Rattle.room_http_messages.specs.Messages.{is_head}
+use Rattle.std.proofs.Common.{arith, refl, rules}
 use Rattle.room_http_messages.proofs.LookLemmas.{window_is, no_head_always, too_long_always}
 use Rattle.room_http_messages.proofs.LookLemmas.{part_of_head, found_in, by_rule_always}
 use Rattle.room_http_messages.proofs.LookLemmas.{part_of_body, whole}

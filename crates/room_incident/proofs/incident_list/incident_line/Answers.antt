@@ -1,7 +1,5 @@
 use Rattle.std.proofs.Common.{length, refl, ◌-◌, ◌∙◌, ◌≡◌}
-use Rattle.room_types.specs.declared.codes.Kind.{Kind}
 use Rattle.room_types.specs.declared.codes.Kind.TheVariants.{Ambulance, Car, Support}
-use Rattle.room_types.specs.Needs.{need_of}
 use Rattle.room_model.specs.Incidents.{lacking}
 use Rattle.room_model.specs.Queries.{calls_of, served}
 use Rattle.room_model.specs.RoomSlices.{room_of}

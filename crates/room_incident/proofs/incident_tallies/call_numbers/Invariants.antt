@@ -1,7 +1,6 @@
 use Rattle.std.proofs.Common.{drop, map, ◌++◌, ◌≡◌}
 use Rattle.std.specs.Prelude.{filter, ◌==◌}
 use Rattle.room_types.specs.declared.tables.Call.{Call}
-use Rattle.room_incident.specs.Tallies.{call_numbers}
 use Rattle.room_incident.proofs.incident_tallies.call_numbers.Given as goal
 
 abbrev pub invariant-loop-call : goal.invariant-loop-call

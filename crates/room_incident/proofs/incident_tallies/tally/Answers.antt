@@ -1,4 +1,4 @@
-use Rattle.std.proofs.Common.{ap, arith, length, map, refl, take, ◌∙◌}
+use Rattle.std.proofs.Common.{ap, arith, length, refl, take, ◌∙◌}
 use Rattle.std.proofs.lemmas.List.{length-map}
 use Rattle.std.proofs.lemmas.Simd.{splat_is_map}
 use Rattle.room_types.specs.Keys.{incident_key, pair_cmp}

@@ -1,4 +1,4 @@
-use Rattle.std.proofs.Common.{ap, arith, length, refl, ◌++◌, ◌∙◌, ◌≡◌, ◌≤◌}
+use Rattle.std.proofs.Common.{ap, length, ◌++◌, ◌∙◌, ◌≤◌}
 use Rattle.std.specs.Prelude.{filter_map}
 use Rattle.room_model.specs.Queue.{exception, slow_turn, unread_turn}
 use Rattle.room_model.specs.RoomSlices.{unplanned}

@@ -1,4 +1,4 @@
-use Rattle.std.proofs.Common.{arith, inl, inr, not, subst, sym, ◌∙◌}
+use Rattle.std.proofs.Common.{arith, inl, inr, subst, sym, ◌∙◌}
 use Rattle.std.proofs.lemmas.Bool.{false≢true}
 use Rattle.sqlite.specs.Effect.{Database}
 use Rattle.sqlite.specs.Held.{state}

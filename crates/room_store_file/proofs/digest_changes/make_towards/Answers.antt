@@ -1,8 +1,6 @@
-use Rattle.std.proofs.Common.{arith, ap, subst, sym, ◌∙◌}
+use Rattle.std.proofs.Common.{arith, ap, sym, ◌∙◌}
 use Rattle.hex.specs.Hex.{encode_lower}
-use Rattle.sqlite.specs.Effect.{Database}
 use Rattle.room_model.specs.Room.{apply}
-use Rattle.room_tables.specs.RoomsInTables.{Stands}
 use Rattle.room_tables_schema.proofs.WriteLaws.{commits_more}
 use Rattle.room_store_file.proofs.Inside.{made_seen, never_both, reads_commit}
 use Rattle.room_tables_schema.specs.FileConnections.{IsClean}

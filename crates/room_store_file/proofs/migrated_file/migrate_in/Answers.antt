@@ -1,4 +1,4 @@
-use Rattle.std.proofs.Common.{◌∙◌, arith, inl, inr, subst, sym, true≢false, ◌≡◌}
+use Rattle.std.proofs.Common.{◌∙◌, arith, inl, inr, subst, sym, true≢false}
 use Rattle.std.proofs.lemmas.Result.{IfErr-weaker}
 use Rattle.sqlite.specs.Effect.{Database}
 use Rattle.sqlite.specs.Held.{state}
@@ -12,7 +12,7 @@ use Rattle.room_store_check_tables.proofs.StreamLaws.{nothing_then}
 use Rattle.room_store_file.proofs.TakeLaws.{any_fault, both_errs, first_is_old, none_opened}
 use Rattle.room_store_file.proofs.TakeLaws.{survives_less}
 use Rattle.room_store_check_tables.proofs.Findings.{none_found, none_ok}
-use Rattle.room_store_file.specs.OpenedFile.{HoldsFirstRoom, IsNewRoom, IsOldRoom, MayBeMoved}
+use Rattle.room_store_file.specs.OpenedFile.{HoldsFirstRoom, IsOldRoom, MayBeMoved}
 use Rattle.room_tables_schema.specs.FileConnections.{IsClean}
 use Rattle.room_store_file.proofs.migrated_file.migrate_in.Goals as goal
 

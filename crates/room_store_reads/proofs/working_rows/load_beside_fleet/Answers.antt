@@ -1,9 +1,10 @@
-use Rattle.std.proofs.Common.{subst, sym, ◌∙◌, ◌≡◌}
+use Rattle.std.proofs.Common.{subst, sym, ◌∙◌}
 use Rattle.room_tables_schema.proofs.ReadLaws.{and, begins, but, clean_before, fails, looked}
 use Rattle.room_tables_schema.proofs.ReadLaws.{succeeds}
 use Rattle.room_store_cache.specs.BesideFleet.{IsBesideFleet}
 use Rattle.room_store_cache.specs.Cache.{AreRowsOf}
 use Rattle.room_store_cache.specs.RecentIncidents.{AreRecent}
+use Rattle.room_store_cache.specs.declared.beside_fleet.BesideFleet.{BesideFleet}
 use Rattle.room_store_cache.specs.declared.fleets.Fleet.{Fleet}
 use Rattle.room_store_cache.proofs.StillRooms.{still_open, still_room, still_stands}
 use Rattle.room_store_reads.specs.Partitions.{AreKnown}
@@ -18,7 +19,7 @@ load_work-requires g c =
 
 pub returns-then-is_of_fleet-clause-rows : goal.returns-then-is_of_fleet-clause-rows
 returns-then-is_of_fleet-clause-rows g c clean config room h a in_order are selects = (
-  are_of_fleet c.args.division a c.args.at room _ c.args.reads.now c.no_rows-none.ensures selects
+  are_of_fleet c.args.division a c.args.at room _ c.args.reads.now c.no_rows.ensures selects
       (sym c.is_of_fleet.ensures ∙ c.if-is_of_fleet.true),
   are,
 )
@@ -49,7 +50,7 @@ returns-clause-rows g c clean config room h a in_order are selects =
     let shown = c.in_ok-incidents.ensures.rows first config room h in_order are in
     let work = c.in_ok-work.ensures.rows clean config room (still_stands one first config room h) a at in_order known
     selects shown in
-    let rows = record c.no_rows-none.result {
+    let rows : BesideFleet = record {
       incidents = c.in_ok-incidents.incidents;
       calls = c.in_ok-work.work.calls;
       turns = c.in_ok-work.work.turns;

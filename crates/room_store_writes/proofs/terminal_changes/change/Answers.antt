@@ -1,6 +1,5 @@
 use Rattle.std.proofs.Common.{rules, subst, sym, ◌≡◌}
 use Rattle.std.proofs.lemmas.Result.{on_ok_weaker}
-use Rattle.sqlite_trees.specs.Tree.{Trees}
 use Rattle.room_store_writes.proofs.CommitLaws.{IsWhole, is_whole}
 use Rattle.room_store_writes.specs.TerminalChanges.{Gives}
 use Rattle.room_store_writes.proofs.terminal_changes.change.Given.{Over}

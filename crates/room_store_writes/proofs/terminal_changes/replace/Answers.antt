@@ -2,7 +2,6 @@ use Rattle.std.proofs.Common.{arith, refl, ◌∙◌}
 use Rattle.std.proofs.lemmas.Result.{on_ok_weaker}
 use Rattle.room_tables_schema.proofs.WriteLaws.{commits_more}
 use Rattle.room_store_writes.proofs.CommitLaws.{put_commits}
-use Rattle.room_store_writes.specs.TerminalChanges.{config_by}
 use Rattle.room_tables_schema.specs.FileConnections.{IsClean}
 use Rattle.room_store_writes.proofs.terminal_changes.replace.Goals as goal
 

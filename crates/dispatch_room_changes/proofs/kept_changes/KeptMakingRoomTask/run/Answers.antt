@@ -1,4 +1,4 @@
-use Rattle.std.proofs.Common.{ap, refl, ◌∙◌}
+use Rattle.std.proofs.Common.{refl}
 use Rattle.std.proofs.lemmas.Result.{IfErr-weaker, IfOk-weaker}
 use Rattle.dispatch_room_changes.proofs.KeptLemmas.{opened_as}
 use Rattle.dispatch_room_changes.proofs.kept_changes.KeptMakingRoomTask.run.Goals as goal

@@ -1,4 +1,4 @@
-use Rattle.std.proofs.Common.{[], ◌∷◌, ◌∙◌, ap, arith, length-append, ◌++◌}
+use Rattle.std.proofs.Common.{[], ◌∷◌, arith, length-append}
 use Rattle.dispatch_room_journal.specs.Entries.{line_text}
 use Rattle.dispatch_room_journal.proofs.WritingLemmas.{line_short}
 use Rattle.dispatch_room_journal.proofs.entry_texts.EntryText.line.Goals as goal

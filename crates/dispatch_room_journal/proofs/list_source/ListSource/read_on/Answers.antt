@@ -1,4 +1,3 @@
-use Rattle.std.proofs.Common.{◌∙◌}
 use Rattle.dispatch_room_journal.proofs.AdvanceLemmas.{kept_same}
 use Rattle.dispatch_room_journal.proofs.list_source.ListSource.read_on.Goals as goal
 

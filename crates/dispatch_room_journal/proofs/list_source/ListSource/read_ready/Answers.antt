@@ -1,5 +1,4 @@
-use Rattle.std.proofs.Common.{◌≡◌, ◌∙◌, sym, arith, ℕ, List, [], ◌∷◌, subst}
-use Rattle.std.specs.Io.KnownBytes.{Consumes}
+use Rattle.std.proofs.Common.{◌∙◌, sym, arith}
 use Rattle.dispatch_room_journal.proofs.AdvanceLemmas.{first_set}
 use Rattle.dispatch_room_journal.proofs.list_source.ListSource.read_ready.Goals as goal
 

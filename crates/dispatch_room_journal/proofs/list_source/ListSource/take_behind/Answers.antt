@@ -1,4 +1,4 @@
-use Rattle.std.proofs.Common.{◌∙◌, refl}
+use Rattle.std.proofs.Common.{refl}
 use Rattle.std.proofs.lemmas.Bool.{or_from, or_parts}
 use Rattle.dispatch_room_journal.proofs.AdvanceLemmas.{or_none}
 use Rattle.dispatch_room_journal.proofs.list_source.ListSource.take_behind.Goals as goal

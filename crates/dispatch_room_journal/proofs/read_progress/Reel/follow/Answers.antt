@@ -1,4 +1,4 @@
-use Rattle.std.proofs.Common.{◌≡◌, ◌∙◌, refl, sym, ap, arith, length, ◌++◌, cond, false, true}
+use Rattle.std.proofs.Common.{◌∙◌, refl, sym, ap, arith, length, ◌++◌, cond, false, true}
 use Rattle.dispatch_room_journal.specs.Chains.{is_row, sha256_digits}
 use Rattle.dispatch_room_journal.specs.RecordFronts.{body_in, stops_at}
 use Rattle.dispatch_room_journal.specs.declared.record_fronts.Front.TheVariants.{Short, Whole}

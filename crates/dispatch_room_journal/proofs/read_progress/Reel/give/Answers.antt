@@ -1,4 +1,4 @@
-use Rattle.std.proofs.Common.{◌≡◌, ◌∙◌, ◌-◌, ◌++◌, ◌≤◌, sym, ap, arith, length, drop, take, rules}
+use Rattle.std.proofs.Common.{◌∙◌, ◌-◌, ◌++◌, ◌≤◌, sym, ap, arith, drop, take, rules}
 use Rattle.std.proofs.lemmas.List.{take_at}
 use Rattle.dispatch_room_journal.specs.ReadSteps.{left_of}
 use Rattle.dispatch_room_journal.proofs.ReadStepLemmas.{given}

@@ -1,4 +1,4 @@
-use Rattle.std.proofs.Common.{◌≤◌, ap, length, arith, length-take}
+use Rattle.std.proofs.Common.{ap, length, arith, length-take}
 use Rattle.room_http_messages.proofs.InboxLemmas.{used-removed}
 use Rattle.dispatch_room_journal.proofs.record_inbox.RecordInbox.remove.Goals as goal
 

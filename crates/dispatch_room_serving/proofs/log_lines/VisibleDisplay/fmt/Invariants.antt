@@ -1,4 +1,4 @@
-use Rattle.std.proofs.Common.{map, take}
+use Rattle.std.proofs.Common.{take}
 use Rattle.std.specs.Fmt.{HasWritten, IsPlainFormatter}
 use Rattle.dispatch_room_serving.specs.LogLines.{visible}
 use Rattle.dispatch_room_serving.proofs.log_lines.VisibleDisplay.fmt.Given as goal

@@ -1,4 +1,4 @@
-use Rattle.std.proofs.Common.{◌≡◌, ◌∙◌, ◌&&◌, sym, ap, arith, ℕ, List, [], ◌∷◌, Bool, true, length}
+use Rattle.std.proofs.Common.{◌≡◌, ◌∙◌, ◌&&◌, sym, ap, arith, List, [], ◌∷◌, Bool, true, length}
 use Rattle.std.proofs.Common.{refl}
 use Rattle.std.specs.List.{list_all}
 use Rattle.dispatch_room_sockets.proofs.waiting_callers.Waiting.are_watched.Goals as goal

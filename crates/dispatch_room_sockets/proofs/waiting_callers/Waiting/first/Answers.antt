@@ -1,5 +1,5 @@
-use Rattle.std.proofs.Common.{◌≡◌, sym, ap, arith, refl, ℕ, ◌<◌, List, [], ◌∷◌, drop, get_or}
-use Rattle.std.proofs.Common.{length, Option, None, Some, IfSome, Bor}
+use Rattle.std.proofs.Common.{◌≡◌, sym, ap, arith, refl, ◌<◌, List, [], ◌∷◌, drop, get_or, length}
+use Rattle.std.proofs.Common.{Option, None, Some, IfSome, Bor}
 use Rattle.std.specs.Slice.{IsItemAt}
 use Rattle.dispatch_room_sockets.proofs.waiting_callers.Waiting.first.Goals as goal
 

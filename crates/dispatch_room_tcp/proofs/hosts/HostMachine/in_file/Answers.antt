@@ -1,4 +1,4 @@
-use Rattle.std.proofs.Common.{Err, IfErr, IfOk, List, Ok, Option, Result, inl, inr, ◌≡◌, ℕ}
+use Rattle.std.proofs.Common.{inl, inr}
 use Rattle.std.proofs.lemmas.Result.{IfErr-weaker, IfOk-weaker}
 use Rattle.dispatch_room_disk.specs.declared.room_files.RoomFile.{RoomFile}
 use Rattle.dispatch_room_disk.specs.declared.room_files.RoomFile.TheVariants.{Kept, New, Old}

@@ -1,5 +1,5 @@
 use Rattle.std.proofs.Common.{◌≡◌, ◌∙◌, ap, sym, refl, true, ◌||◌}
-use Rattle.std.specs.Prelude.{None, Some, not, option_map}
+use Rattle.std.specs.Prelude.{Some, not, option_map}
 use Rattle.room_http_requests.specs.RequestTable.{is_of_history}
 use Rattle.room_http_requests.specs.Router.{path_at}
 use Rattle.room_http_requests.proofs.RouteLemmas.{by_another, by_taken, no_history, no_parameter}

@@ -5,7 +5,6 @@ use Rattle.room_store.proofs.ActLaws.{acted, acted_survives, missed, reached}
 use Rattle.room_store.proofs.LookLaws.{left_failed, left_later, room_read, settled_read}
 use Rattle.room_store.proofs.LookLaws.{survives_more}
 use Rattle.room_model.specs.Digests.{IsMiss}
-use Rattle.room_store_writes.proofs.CommitLaws.{ok_then}
 use Rattle.room_store.proofs.Misses.{another_reported, miss_is, reaches_weaker}
 use Rattle.room_tables_schema.specs.FileConnections.{IsClean}
 use Rattle.room_store.proofs.store.Store.commit_towards.Goals as goal

@@ -1,6 +1,6 @@
 use Rattle.std.proofs.Common.{length, ◌≡◌}
 use Rattle.std.specs.List.{AllWithin}
-use Rattle.std.specs.Prelude.{All, map}
+use Rattle.std.specs.Prelude.{All}
 use Rattle.room_model.specs.Room.{IsInOrder, Room, apply_one}
 use Rattle.room_store_cache.proofs.entries.EntriesView.apply.Given as goal
 

@@ -1,7 +1,7 @@
 use Rattle.std.proofs.Common.{List, length, ℕ, ◌≡◌, false}
 use Rattle.dispatch_room_changes.specs.KeptImports.{PutsRows}
 use Rattle.dispatch_room_changes.proofs.LineLemmas.{AreTaken}
-use Rattle.dispatch_room_changes.proofs.kept_fleets.keep_rows.Given as goal
+use Rattle.dispatch_room_changes.proofs.change_lists.keep_rows.Given as goal
 
 abbrev pub invariant-lines : goal.invariant-lines
 invariant-lines g l = record {

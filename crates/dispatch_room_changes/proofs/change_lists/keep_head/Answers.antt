@@ -1,7 +1,7 @@
 use Rattle.std.proofs.Common.{◌∙◌}
 use Rattle.dispatch_room_journal.specs.Entries.{room}
 use Rattle.dispatch_room_serving.proofs.KeeperLemmas.{entry_body, entry_says}
-use Rattle.dispatch_room_changes.proofs.kept_fleets.keep_head.Goals as goal
+use Rattle.dispatch_room_changes.proofs.change_lists.keep_head.Goals as goal
 
 pub put_entry-requires-clause-is_one : goal.put_entry-requires-clause-is_one
 put_entry-requires-clause-is_one g c =

@@ -1,10 +1,10 @@
-//! The list of a room, in which the text of a change is kept before it is made: mostly a fleet's.
+//! The list of a room, in which the text of a change is kept before it is made.
 ghost use Rattle.std.specs.Prelude.{◌≡◌, ◌≤◌, ◌<◌, ◌⊎◌, ◌∷◌, ◌++◌, ◌||◌, [], List, OnErr, OnOk};
 ghost use Rattle.std.specs.Prelude.{Some, is_err, length, slice_get, take, true, false, ℕ};
 ghost use Rattle.dispatch_room_journal.specs.Entries.{IsDigest};
 ghost use Rattle.dispatch_room_journal.specs.RowRuns.{PutsRow};
 ghost use Rattle.dispatch_room_journal.specs.TextParts.{Lacks};
-ghost use Rattle.dispatch_room_changes.specs.KeptImports.{AreLinesOf, KeepsFleet, KeepsHead};
+ghost use Rattle.dispatch_room_changes.specs.KeptImports.{AreLinesOf, KeepsLines, KeepsHead};
 ghost use Rattle.dispatch_room_changes.specs.KeptImports.{LacksRow, LacksRows, PutsHead, PutsRows};
 
 use dispatch_room_journal::entry_texts::EntryText;
@@ -16,17 +16,17 @@ use room_model::digests::Head;
 
 /// The list of a room, to which the text of a change is appended.
 #[derive(Drop)]
-pub struct FleetList<F> {
+pub struct ChangeList<F> {
     pub out: WrittenFile<F>,
     pub end: ListEnd,
 }
 
-impl<F> FleetList<F> {
+impl<F> ChangeList<F> {
     /// A list that was opened, and goes on from here.
-    pub fn new(file: F, end: ListEnd) -> FleetList<F>
+    pub fn new(file: F, end: ListEnd) -> ChangeList<F>
         ensures { result ≡ record { out = record { file = file; failed = false }; end = end } }
     {
-        FleetList {
+        ChangeList {
             out: WrittenFile::new(file),
             end,
         }
@@ -36,43 +36,36 @@ impl<F> FleetList<F> {
 /// Keeps the digest of a room, and then the lines of a text, and makes all of it last. It fails if
 /// the list is no chain, if a line is longer than `ROW_ROOM` bytes, or if the list can't be
 /// written.
-pub fn keep_fleet<F: Lasting>(
-    list: &mut FleetList<F>,
+pub fn keep_lines<F: Lasting>(
+    list: &mut ChangeList<F>,
     head: &Head,
     text: &[u8],
 ) -> Result<(), Unkept>
     requires sound { list.old.out.failed ≡ false }
     requires digest { IsDigest head.now.digits }
     ensures sound { OnOk result (list.new.out.failed ≡ false) }
-    ensures kept { OnOk result (KeepsFleet F.contents F.lasting list.old list.new head.now
+    ensures kept { OnOk result (KeepsLines F.contents F.lasting list.old list.new head.now
         text.now) }
     ensures unkept { OnErr result (LacksRows list.new text.now) }
 {
-    match keep_head(list, head) {
-        Ok(()) => {}
-        Err(unkept) => return Err(unkept),
-    }
-    match keep_rows(list, text) {
-        Ok(()) => make_last(list),
-        Err(unkept) => Err(unkept),
-    }
+    keep_head(list, head)?;
+    keep_rows(list, text)?;
+    make_last(list)
 }
 
 /// Keeps the digest of a room, and makes it last.
-pub fn keep_place<F: Lasting>(list: &mut FleetList<F>, head: &Head) -> Result<(), Unkept>
+pub fn keep_place<F: Lasting>(list: &mut ChangeList<F>, head: &Head) -> Result<(), Unkept>
     requires sound { list.old.out.failed ≡ false }
     requires digest { IsDigest head.now.digits }
     ensures kept { OnOk result (KeepsHead F.contents F.lasting list.old list.new head.now) }
     ensures unkept { OnErr result (list.new.out.failed ≡ true) }
 {
-    match keep_head(list, head) {
-        Ok(()) => make_last(list),
-        Err(unkept) => Err(unkept),
-    }
+    keep_head(list, head)?;
+    make_last(list)
 }
 
 // Makes all that was kept last. If that fails, the list has failed.
-fn make_last<F: Lasting>(list: &mut FleetList<F>) -> Result<(), Unkept>
+fn make_last<F: Lasting>(list: &mut ChangeList<F>) -> Result<(), Unkept>
     ensures held { F.contents list.new.out.file ≡ F.contents list.old.out.file }
     ensures end { list.new.end ≡ list.old.end }
     ensures failed { list.new.out.failed ≡ (list.old.out.failed || is_err result) }
@@ -86,7 +79,7 @@ fn make_last<F: Lasting>(list: &mut FleetList<F>) -> Result<(), Unkept>
 }
 
 // Keeps the digest of a room.
-fn keep_head<F: Lasting>(list: &mut FleetList<F>, head: &Head) -> Result<(), Unkept>
+fn keep_head<F: Lasting>(list: &mut ChangeList<F>, head: &Head) -> Result<(), Unkept>
     requires sound { list.old.out.failed ≡ false }
     requires digest { IsDigest head.now.digits }
     ensures failed { list.new.out.failed ≡ is_err result }
@@ -100,7 +93,7 @@ fn keep_head<F: Lasting>(list: &mut FleetList<F>, head: &Head) -> Result<(), Unk
 }
 
 // Keeps each line of a text as a row.
-fn keep_rows<F: Lasting>(list: &mut FleetList<F>, text: &[u8]) -> Result<(), Unkept>
+fn keep_rows<F: Lasting>(list: &mut ChangeList<F>, text: &[u8]) -> Result<(), Unkept>
     requires sound { list.old.out.failed ≡ false }
     ensures sound { OnOk result (list.new.out.failed ≡ false) }
     ensures kept { OnOk result ((lines : List (List ℕ)) × AreLinesOf text.now lines
@@ -111,17 +104,14 @@ fn keep_rows<F: Lasting>(list: &mut FleetList<F>, text: &[u8]) -> Result<(), Unk
     let mut left = text;
     'lines: while !left.is_empty() {
         let (line, rest) = first_line(left);
-        match keep_row(list, line) {
-            Ok(()) => {}
-            Err(unkept) => return Err(unkept),
-        }
+        keep_row(list, line)?;
         left = rest;
     }
     Ok(())
 }
 
 // Keeps a line as a row, if the list is a chain and the line not too long.
-fn keep_row<F: Lasting>(list: &mut FleetList<F>, line: &[u8]) -> Result<(), Unkept>
+fn keep_row<F: Lasting>(list: &mut ChangeList<F>, line: &[u8]) -> Result<(), Unkept>
     requires sound { list.old.out.failed ≡ false }
     requires line { Lacks 10 line.now }
     ensures sound { OnOk result (list.new.out.failed ≡ false) }
