@@ -15,6 +15,7 @@ CREW = 'A1,1,1,TQ303804,crewofa1'
 QUEUE = message('deskone1', 'GET /queue')
 OPENING = b'list 2\n'
 HEAD = 71  # bytes of the line before a record: its size, and its check
+CUT = rb'\Ajournal: a record that was cut off is set aside as \S+\.cut\.\d+\n\Z'
 
 
 def ends(text):

@@ -57,7 +57,7 @@ def stop(at, how=BEFORE):
 
 SERVING = {'SERVING': 1}  # what fails is counted once the room is served
 WRITES = {'WRITES': 1}  # a fault or a stop may be at what is written to a journal, too
-NAMES = {'NAMES': 1}  # and where a file is moved or removed
+NAMES = {'NAMES': 1}  # and where a file is made, moved or removed
 NEVER_STOPPED = stop(0)
 
 

@@ -1,14 +1,16 @@
 """Copies without a stop, restores and the weekly new room, from outside: the digest of a file is the
 one that Python works out of its tables; the copy of a night has what was answered, however the list
 was cut; what can't be trusted is one line with its status; a restore that is stopped before any of
-its system calls leaves no file, or one of the two rooms whole; a night takes a fleet and another
-change of the list with the head behind it; and the units do as they say."""
+its system calls, and done again, leaves no file, or one of the two rooms whole, and what was there
+in its place or aside; a night takes a fleet and another change of the list with the head behind
+it; and the units do as they say."""
 # needs: python3 sqlite3 systemd gcc libc6-dev
 # builds: dispatch_room
 import hashlib
 import itertools
 import json
 import os
+import pathlib
 import re
 import shutil
 import subprocess
@@ -16,7 +18,7 @@ import sys
 import time
 
 from journals import ends, head_of, records
-from preloaded import NAMES, WRITES, Preloaded, stop
+from preloaded import LAST, NAMES, WRITES, Preloaded, stop
 from room import (PATIENT, PLAN, PROGRAM, TOP, TestCase, call, dump, fleet_of, free_port, made,
                   message, run, serving, sql, talk)
 
@@ -200,8 +202,9 @@ class Restores(CopiesTestCase):
             process.kill()
         self.check('the log has something', self.room.with_name('room.db-wal').stat().st_size > 0,
                    True)
-        wanted = dump(copy)
-        self.check('restored', run('restore', copy, self.room), run('check', copy))
+        wanted, (status, checked, _) = dump(copy), run('check', copy)
+        self.check('restored', run('restore', copy, self.room),
+                   (status, f'{checked}set aside: {self.room}.old\n', ''))
         self.check('its digest', run('digest', self.room)[1], f'digest {digest.of_file(copy)}\n')
         self.check('its rows', dump(self.room), wanted)
         self.check('the copy stays', dump(copy), wanted)
@@ -211,19 +214,21 @@ class Restores(CopiesTestCase):
 
     def test_where_none_is(self):
         copy, new = self.copy(), self.folder / 'new.db'
-        self.check('restored', run('restore', copy, new)[0], 0)
+        self.check('restored', run('restore', copy, new), run('check', copy))
         self.check('its rows', dump(new), dump(copy))
         self.check('nothing old', self.names('new.db.'), [])
 
     def test_a_log_alone(self):
-        """A log that lies where no file is goes to the old one's."""
+        """A log that lies where no file is goes to a name of its own."""
         copy, new = self.copy(), self.folder / 'new.db'
         with serving(self.room, 1) as (port, process):
             talk(port, call_of(1))
             process.wait(timeout=180)
-        shutil.copy(self.folder / 'room.db-wal', self.folder / 'new.db-wal')
+        log = (self.folder / 'room.db-wal').read_bytes()
+        (self.folder / 'new.db-wal').write_bytes(log)
         self.check('restored', run('restore', copy, new)[0], 0)
         self.check('its rows', dump(new), dump(copy))
+        self.check('the log', (self.folder / 'new.db.old-wal').read_bytes(), log)
 
     def test_a_rollback_journal(self):
         """A journal of another program beside the file is no hindrance."""
@@ -233,17 +238,58 @@ class Restores(CopiesTestCase):
         self.check('restored', run('restore', copy, self.room)[0], 0)
         self.check('its digest', run('digest', self.room)[0], 0)
 
-    def test_twice(self):
-        """What an earlier restore left makes room."""
+    def aside(self):
+        """What is set aside, by its names."""
+        return {it.name: it.read_bytes() for it in self.folder.glob('room.db.old*')}
+
+    def serials(self, name):
+        """The serials of a room's calls, by a copy of its file and log."""
+        for end in '', '-wal':
+            shutil.copy(self.folder / f'{name}{end}', self.folder / f'seen.db{end}')
+        return sql(self.folder / 'seen.db', 'SELECT serial FROM calls')
+
+    def test_again_and_again(self):
+        """What was set aside stays, each under a name of its own; and a room that is the copy's
+        already is not set aside."""
         copy = self.copy()
-        for serial in 1, 2:
+        (self.folder / 'room.db.old.3').write_bytes(b'of another')
+        for serial, end in enumerate(['', '.1', '.2', '.4'], 1):
             with serving(self.room, 1) as (port, process):
                 talk(port, call_of(serial))
                 process.wait(timeout=180)
-            was = sql(self.room, 'SELECT serial FROM calls')
-            self.check(f'{serial}', run('restore', copy, self.room)[0], 0)
-            self.check(f'{serial}: old', sql(self.folder / 'room.db.old',
-                                             'SELECT serial FROM calls'), was)
+            before = self.aside()
+            self.check(f'{serial}', run('restore', copy, self.room)[1].splitlines()[-1],
+                       f'set aside: {self.room}.old{end}')
+            self.check(f'{serial}: the room', dump(self.room), dump(copy))
+            self.check(f'{serial}: old', self.serials(f'room.db.old{end}'), f'{serial}\n')
+            now = self.aside()
+            self.check(f'{serial}: what was aside', {it: now[it] for it in before}, before)
+            self.check(f'{serial}: again', run('restore', copy, self.room)[1].splitlines()[-1],
+                       'in place already: nothing is set aside')
+            self.check(f'{serial}: nothing more', self.aside(), now)
+
+    def test_a_name_of_a_log(self):
+        """A name is not free where a log lies that would be its file's."""
+        copy = self.copy()
+        sql(self.room, "UPDATE vehicles SET east = east + 1 WHERE callsign = 'A1'")
+        (self.folder / 'room.db.old-wal').write_bytes(b'log')
+        self.check('restored', run('restore', copy, self.room)[1].splitlines()[-1],
+                   f'set aside: {self.room}.old.1')
+        self.check('the log', (self.folder / 'room.db.old-wal').read_bytes(), b'log')
+        self.check('no file', (self.folder / 'room.db.old').exists(), False)
+
+    def test_no_name(self):
+        """Where no name is free, nothing is changed."""
+        copy = self.copy()
+        sql(self.room, "UPDATE vehicles SET east = east + 1 WHERE callsign = 'A1'")
+        for name in ['room.db.old', *(f'room.db.old.{it}' for it in range(1, 1000))]:
+            (self.folder / name).touch()
+        before = self.room.read_bytes()
+        self.check('not restored', run('restore', copy, self.room)[::2], (3, 'storage\n'))
+        self.check('the room', self.room.read_bytes(), before)
+        (self.folder / 'room.db.old.999').unlink()
+        self.check('restored', run('restore', copy, self.room)[1].splitlines()[-1],
+                   f'set aside: {self.room}.old.999')
 
     def refused(self, what, words, wanted):
         before = {it: it.read_bytes() for it in self.folder.iterdir() if it.is_file()}
@@ -272,7 +318,8 @@ class Restores(CopiesTestCase):
 
 class Stopped(CopiesTestCase):
     """A restore over a crashed room that is stopped before any of its calls leaves no file, or the
-    crashed room, or the copy's; and then it is done again."""
+    crashed room, or the copy's; and then it is done again, and stopped again. The crashed room is
+    in its place or aside all the while, and nothing that is aside is changed."""
 
     def setUp(self):
         super().setUp()
@@ -282,36 +329,55 @@ class Stopped(CopiesTestCase):
         with serving(self.room, 2) as (port, process):
             talk(port, call_of(1))
             process.kill()
-        self.held = {it: (self.folder / it).read_bytes() for it in ('room.db', 'room.db-wal')}
+        self.held = {end: (self.folder / f'room.db{end}').read_bytes() for end in ('', '-wal')}
+
+    def begin(self):
+        """The crashed room, and one that was set aside before."""
+        shutil.rmtree(self.place, ignore_errors=True)
+        self.place.mkdir()
+        (self.place / 'room.db.old').write_bytes(b'of another')
+        for end, held in self.held.items():
+            (self.place / f'room.db{end}').write_bytes(held)
 
     def stopped(self, at):
         """The status of a restore that is stopped at a call."""
-        shutil.rmtree(self.place, ignore_errors=True)
-        self.place.mkdir()
-        for name, held in self.held.items():
-            (self.place / name).write_bytes(held)
         switches = stop(at) | WRITES | NAMES
-        return self.program.run(switches, 'restore', self.copied, self.place / 'room.db')[0]
+        before = self.aside()
+        status = self.program.run(switches, 'restore', self.copied, self.place / 'room.db')[0]
+        after = self.aside()
+        self.check(f'what was aside, {at}', {it: after.get(it) for it in before}, before)
+        places = [f'{self.place}/room.db', *(it for it in after if not it.endswith('-wal'))]
+        self.check(f'the crashed room, {at}', any(self.is_crashed(it) for it in places), True)
+        return status
+
+    def aside(self):
+        """What is set aside, by its names."""
+        return {str(it): it.read_bytes() for it in self.place.glob('room.db.old*')}
+
+    def is_crashed(self, name):
+        """Whether the crashed room has a name, with its log."""
+        files = {end: pathlib.Path(f'{name}{end}') for end in self.held}
+        return all(it.exists() and it.read_bytes() == self.held[end] for end, it in files.items())
 
     def test_stops(self):
         room = self.place / 'room.db'
-        copied, crashed = digest.of_file(self.copied), self.crashed()
+        self.begin()
+        copied, crashed = digest.of_file(self.copied), self.digest_of(room)
         seen = []
         for at in itertools.count(1):
+            self.begin()
             status = self.stopped(at)
             if status != 9:
                 break
             seen.append(self.digest_of(room))
+            for again in range(at, 0, -7):
+                self.stopped(again)
             self.check(f'again after {at}', run('restore', self.copied, room)[0], 0)
             self.check(f'the copy after {at}', self.digest_of(room), copied)
+            self.check(f'at last after {at}', self.stopped(LAST), 0)
         self.check('with no call left it is done', status, 0)
         self.check('in this order', [it for it, _ in itertools.groupby(seen)],
                    [crashed, 'none', copied])
-
-    def crashed(self):
-        """The digest of the room that crashed, as its file and log give it."""
-        self.stopped(1)
-        return self.digest_of(self.place / 'room.db')
 
     def digest_of(self, room):
         """A room's digest, of copies of its file and log; or none."""
@@ -609,6 +675,18 @@ class Weekly(CopiesTestCase):
         self.check('the archive', [dump(self.folder / it) for it in archives], [old])
         self.check('the list', len([it for it in self.names('room.2') if it.endswith('.list')]), 1)
         self.check('it is served', self.serve(call_of(3)), None)
+
+    def test_beside_an_old_room(self):
+        """What was set aside before stays."""
+        self.serve(call_of(1))
+        before = self.folder / 'room.db.old'
+        before.write_bytes(b'of another')
+        old = dump(self.room)
+        self.check('done', self.renew()[0], 0)
+        archives = [it for it in self.names('room.2') if it.endswith('.db')]
+        self.check('the archive', [dump(self.folder / it) for it in archives], [old])
+        self.check('what was there', (before.read_bytes(), self.names('room.db.old')),
+                   (b'of another', ['room.db.old']))
 
     def test_fails(self):
         """Where it fails the old room is served again."""

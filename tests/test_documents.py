@@ -13,14 +13,15 @@ import subprocess
 from room import TOP, TestCase
 
 # How many words a document has at most, as `wc -w` counts them.
-MOST = {'README': 900, 'CONTRIBUTING': 250, 'SECURITY': 350, 'CHANGELOG': 540, 'TUTORIAL': 800,
-        'OPERATING': 2800, 'RULES': 2300, 'HTTP': 2750, 'FILES': 3100, 'ARCHITECTURE': 1200,
-        'DECISIONS': 2500, 'JUDGING': 650, 'PROOFS': 2500, 'SCALE': 600, 'WORKING': 600}
-# README.md and docs/ together; and the long form of the measurements.
-TOGETHER = 20000
+MOST = {'README': 900, 'CONTRIBUTING': 250, 'SECURITY': 350, 'CHANGELOG': 560, 'TUTORIAL': 800,
+        'OPERATING': 2820, 'RULES': 2300, 'HTTP': 2750, 'FILES': 3100, 'ARCHITECTURE': 1200,
+        'DECISIONS': 2580, 'JUDGING': 650, 'PROOFS': 2600, 'PROMISES': 6000, 'SCALE': 600,
+        'WORKING': 600}
+# README.md and docs/ together, without what tools write; and the long form of the measurements.
+TOGETHER = 17850
 MOST_OF_BENCH = 4500
 # What a tool writes: it may list crates, and has no figures.
-WRITTEN = ['PROOFS']
+WRITTEN = ['PROOFS', 'PROMISES']
 
 # A figure that a document cites, as [157 us](../bench/figures.csv#call).
 CITED = re.compile(r'\[([^\]]+)\]\([./]*bench/figures\.csv#(\w+)\)')
@@ -101,7 +102,8 @@ class Words(TestCase):
                     self.assertLessEqual(many[name], most)
         found = [TOP / 'README.md', *(TOP / 'docs').glob('*.md')]
         with self.subTest('together'):
-            self.assertLessEqual(sum(many[it.stem] for it in found), TOGETHER)
+            by_hand = [it.stem for it in found if it.stem not in WRITTEN]
+            self.assertLessEqual(sum(many[it] for it in by_hand), TOGETHER)
         with self.subTest('bench/README.md'):
             self.assertLessEqual(len(LONG_FORM[0].read_text().split()), MOST_OF_BENCH)
 

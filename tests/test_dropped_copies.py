@@ -8,11 +8,9 @@ import pathlib
 import subprocess
 import tempfile
 
-from journals import QUEUE, ends
+from journals import CUT, QUEUE, ends
 from preloaded import IN_MEMORY, Preloaded, dropped
 from room import PROGRAM, TestCase, call, made
-
-CUT = b'journal: a record that was cut off is taken away\n'
 
 
 class DroppedCopies(TestCase):
@@ -46,8 +44,9 @@ class DroppedCopies(TestCase):
         for whole, end in zip([0, *places], [*places, len(text)]):
             for left in {whole, (whole + end) // 2}:
                 self.list.write_bytes(text)
-                reported = CUT if whole < left else b''
-                self.check(f'{left} bytes', self.served(left, QUEUE), ([200], 0, reported))
+                *done, report = self.served(left, QUEUE)
+                self.check(f'{left} bytes', done, [[200], 0])
+                self.assertRegex(report, CUT if whole < left else rb'\A\Z')
                 now = self.list.read_bytes()
                 self.check(f'{left} bytes: what stands', now[:whole], text[:whole])
                 more = [it for it in ends(now) if whole < it]

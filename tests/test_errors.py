@@ -258,8 +258,8 @@ class Journals(ErrorCase):
         with self.list.open('a') as file:
             file.write('no record\n')
         self.check('records stand before it', whole > 0, True)
-        self.check_list('behind whole records', self.list,
-                        f' is no journal: no record begins at byte {whole}')
+        self.check_list('behind whole records', self.list, ' is no journal: `dispatch_room verify '
+                        f'{self.list}` says at which record')
         text = bytearray(self.list.read_bytes()[:whole])
         text[len('list 2\n00000 ')] ^= 1
         self.list.write_bytes(text)

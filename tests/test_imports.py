@@ -6,7 +6,7 @@ changed in its rows is found, and a list that ends with a fleet leaves it out.""
 # builds: dispatch_room
 import shutil
 
-from journals import (CREW, QUEUE, JournalTestCase, bodies, chain, head_of, pieces, plain, replay,
+from journals import (CREW, CUT, QUEUE, JournalTestCase, bodies, chain, head_of, pieces, plain, replay,
                       verify)
 from preloaded import (BEFORE, HALFWAY, MACHINE, NEVER_STOPPED, WRITES, PreloadedTestCase, sampled,
                        stop, sync_fault)
@@ -18,7 +18,6 @@ HEADER = 'callsign,division,kind,place,token'
 B1 = 'B1,2,2,TQ600800,crewofb1'
 C1 = 'C1,1,1,TQ303804,crewofc1'
 UNTIL = 4_000_000_000
-CUT = b'journal: a record that was cut off is taken away\n'
 
 
 def duty(callsign):
@@ -384,9 +383,10 @@ class Stopped(PreloadedTestCase):
         for at in sampled(self.program.total()):
             with self.subTest(f'stopped at {at}'):
                 file, _ = self.imports(stop(at) | WRITES)
-                report = CUT if self.list.exists() and is_cut(self.list.read_bytes()) else b''
+                cut = self.list.exists() and is_cut(self.list.read_bytes())
                 done = self.program.run({}, 'import', file, self.fleet, '--journal', self.list)
-                self.assertEqual((done[0], done[2]), (0, report))
+                self.assertEqual(done[0], 0)
+                self.assertRegex(done[2], CUT if cut else rb'\A\Z')
                 self.assertEqual(self.leads_to(file), ['A1', 'B1', 'C1'])
 
     def test_syncs(self):

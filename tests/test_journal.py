@@ -133,7 +133,7 @@ class Unkept(JournalTestCase):
 
 class Cut(JournalTestCase):
     def test_cut(self):
-        """A record that was cut off is reported and taken away at the next start."""
+        """A record that was cut off is reported and set aside at the next start."""
         copy = self.copy()
         self.serve([call(1)])
         whole = self.list.read_bytes()
@@ -154,7 +154,7 @@ class GoneOnWith(JournalTestCase):
     """A list goes on as it stands there."""
 
     def test_first_version(self):
-        """A list of version 1 is gone on with as one, and what was cut off is taken away."""
+        """A list of version 1 is gone on with as one, and what was cut off is set aside."""
         copy = self.copy()
         self.serve([call(1)])
         whole = plain(self.list.read_bytes())
@@ -583,11 +583,14 @@ class Chained(JournalTestCase):
             ('one that did not', chain(self.bodies), span + 'not ended\n'),
             ('version 1', written(self.found), span + 'not ended\n'),
             ('a head', chain(self.bodies[:1]), 'verified 0\nnot ended\n'),
-            ('nothing', b'', 'verified 0\nnot ended\n'),
         ]:
             self.list.write_bytes(text)
             self.check(what, verify(self.list), (0, wanted, ''))
         self.check('no list', verify(self.folder / 'none')[:2], (1, ''))
+        for what, text in [('nothing', b''), ('no record', b'list 2\n'),
+                           ('an end', chain([self.END]))]:
+            self.list.write_bytes(text)
+            self.check(what, verify(self.list), (1, '', 'refused: record 1\n'))
 
     # what an import leaves in a list: the lines of the fleet's file
     ROWS = [b'row callsign,division,kind,place,token\n', b'row A9,1,0,TQ303804,crewofa9\n']
@@ -605,7 +608,7 @@ class Chained(JournalTestCase):
         self.list.write_bytes(chain([*self.bodies, self.END, *self.ROWS]))
         self.check('rows at last', verify(self.list), (0, span + 'not ended\n', ''))
         self.list.write_bytes(chain(self.ROWS))
-        self.check('only rows', verify(self.list), (0, 'verified 0\nnot ended\n', ''))
+        self.check('only rows', verify(self.list), (1, '', 'refused: record 1\n'))
         for what, text in [
             ('version 1', written(self.found) + b''.join(self.ROWS)),
             ('another word', chain([*self.bodies, b'rows A9\n'])),
@@ -636,7 +639,7 @@ class Chained(JournalTestCase):
             self.check(f'row {nth} lost', verify(self.list)[:2], (1, ''))
 
     def test_served_behind_rows(self):
-        """A service goes on behind rows, and takes away one that was cut off."""
+        """A service goes on behind rows, and sets aside one that was cut off."""
         whole = chain([*self.bodies, self.END, *self.ROWS])
         for what, cut in [('whole', len(whole)), ('cut off', len(whole) - 5)]:
             self.list.write_bytes(whole[:cut])

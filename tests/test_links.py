@@ -1,5 +1,5 @@
 """Each link in README.md, what stands beside it, and docs/ leads to a file that is there, and one
-to a line to the function, the clause or the field that it names."""
+to a line to the function, the type, the clause or the field that it names."""
 from documents import LINK
 from room import TOP, TestCase
 
@@ -17,4 +17,5 @@ class Links(TestCase):
         if line:
             lines = ['', *target.read_text().split('\n')]
             self.assertRegex(lines[int(line)],
-                             rf'\b(fn|record) {name}\b|\bensures {name} \{{|\bpub {name} :')
+                             rf'\b(fn|struct|enum|trait|type|record) {name}\b'
+                             rf'|\bensures {name} \{{|\bpub {name} :')

@@ -35,6 +35,7 @@ serving
 2026-03-29T08:15:08Z none - - 400 0 ms
 2026-03-29T08:15:08Z none DELETE /queue" 405 0 ms
 2026-03-29T08:15:09Z none GET /incidents/a1/close 404 0 ms
+2026-03-29T08:15:09Z desk 1 GET /offers 404 0 ms
 storage
 2026-03-29T08:15:10Z desk 1 GET /queue 200 4
 """
@@ -42,7 +43,7 @@ COUNTED = """\
 dispatch_room_requests_total{method="-",path="-",status="400"} 1
 dispatch_room_requests_total{method="GET",path="/queue",status="200"} 2
 dispatch_room_requests_total{method="GET",path="/queue",status="403"} 1
-dispatch_room_requests_total{method="GET",path="other",status="404"} 1
+dispatch_room_requests_total{method="GET",path="other",status="404"} 2
 dispatch_room_requests_total{method="HEAD",path="/queue",status="200"} 1
 dispatch_room_requests_total{method="POST",path="/call",status="200"} 1
 dispatch_room_requests_total{method="POST",path="/incidents/N/close",status="200"} 1
@@ -58,7 +59,7 @@ BOUNDS = ['0.001', '0.002', '0.005', '0.01', '0.02', '0.05', '0.1', '0.2', '0.5'
 # How many messages took less than each bound, and how long all took by the log.
 TOOK = {
     '-': ([1] * 13, 0), '/call': ([0] + [1] * 12, 0.001), '/report': ([1] * 13, 0),
-    '/queue': ([2, 2] + [3] * 10 + [4], 5.004), 'other': ([2] * 13, 0),
+    '/queue': ([2, 2] + [3] * 10 + [4], 5.004), 'other': ([3] * 13, 0),
     '/incidents/N/close': ([0] * 4 + [1] + [2] * 8, 0.039),
 }
 
@@ -200,6 +201,8 @@ class Served(TestCase):
             statuses = [it for it, _ in ask(self.port, call(1), call(2, 'TQ350800'), call(2))]
             self.check('two calls, and a serial that another has', statuses, [200, 200, 409])
             ask(self.port, report(1), report(2))
+            self.check('a path with parameters is none of the room',
+                       ask(self.port, message('deskone1', 'GET /offers?x'))[0][0], 404)
             queues = [len(json.loads(body)['queue']) for desk in ('deskone1', 'desktwo2')
                       for _, body in ask(self.port, message(desk, 'GET /queue'))]
             self.check('the queues have the reports', queues, [2, 0])
@@ -239,6 +242,8 @@ class Served(TestCase):
         self.check('calls', calls, {name % 200: 2, name % 409: 1})
         bucket = 'dispatch_room_request_duration_seconds_bucket{path="/call",le="+Inf"}'
         self.check('times of calls', found[bucket], 3)
+        self.check('a path with parameters', {it: found[it] for it in found if '"404"' in it},
+                   {'dispatch_room_requests_total{method="GET",path="other",status="404"}': 1})
 
     def check_end(self, room, url):
         """The room ends; it is asked again after five seconds."""

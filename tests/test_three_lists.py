@@ -24,6 +24,23 @@ def call(serial):
     return message('takerat01', 'POST /call', json.dumps(body))
 
 
+class Copies(ThreeTestCase):
+    def setUp(self):
+        super(ThreeTestCase, self).setUp()
+
+    def test_set_aside(self):
+        """A copy that is set aside takes no name that another one has."""
+        copy = copies.copy_at(self.folder, Place(7, 'a' * 64, 100), 'b' * 64, 'c' * 64)
+        name = copy.file.name.replace('copy', 'lost', 1)
+        for text in 'one', 'two', 'three':
+            copy.file.write_text(text)
+            copies.set_aside(copy)
+            self.check(f'{text}: it has another name', copy.file.exists(), False)
+        self.check('all are there',
+                   {it.name: it.read_text() for it in self.folder.glob('lost.*')},
+                   {name: 'one', f'{name}.1': 'two', f'{name}.2': 'three'})
+
+
 class Entries(ThreeTestCase):
     def setUp(self):
         super(ThreeTestCase, self).setUp()

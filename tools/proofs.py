@@ -64,7 +64,8 @@ def head():
     """What stands above the list."""
     every = crates().values()
     return HEAD.read_text().rstrip().format(
-        most=NUMERALS[MOST], edits=sum(len(it.edits) for it in every))
+        most=NUMERALS[MOST], edits=sum(len(it.edits) for it in every),
+        gate=sum(len(it.gate_edits) for it in every))
 
 
 def document():

@@ -27,6 +27,7 @@ import os
 import pathlib
 import subprocess
 import sys
+import time
 
 PROGRAM = os.environ.get('DISPATCH_ROOM', 'dispatch_room')
 OPENING = b'list 2\n'
@@ -34,8 +35,8 @@ HEADER = 71
 # The nights whose copies are kept, unless other is asked for.
 KEPT = 14
 # What the names of a room's files end with: itself, what a database has beside it, and what `restore`
-# makes.
-ENDS = ('', '-wal', '-shm', '.old', '.old-wal', '.new')
+# makes first.
+ENDS = ('', '-wal', '-shm', '.new')
 
 
 class Untrusted(Exception):
@@ -166,7 +167,7 @@ def since(file: pathlib.Path, place: Place) -> tuple[list[bytes], Place]:
 def begin(room: pathlib.Path, file: pathlib.Path, folder: pathlib.Path) -> str:
     """The first copy."""
     place = since(file, Place())[1] if file.exists() else Place()
-    copy = Copy(folder / name(), '', place)
+    copy = Copy(unused(folder), '', place)
     digest = restored(room, copy.of('.db'))
     dataclasses.replace(copy, digest=digest).note()
     return f'{copy.path.name}: the first copy, digest {digest}'
@@ -180,7 +181,7 @@ def night(file: pathlib.Path, folder: pathlib.Path, kept: int) -> str:
     part, third = folder / 'part.db', folder / 'third.db'
     restored(last.of('.db'), part)
     lines = said('replay', part, '--digest', '--history', text=text)
-    copy = Copy(folder / name(), digest_in(lines), place)
+    copy = Copy(unused(folder), digest_in(lines), place)
     if restored(part, third) != copy.digest:
         raise Untrusted(f'{third} was restored, and is another room than its copy')
     copy.of('.list').write_bytes(text)
@@ -190,8 +191,13 @@ def night(file: pathlib.Path, folder: pathlib.Path, kept: int) -> str:
     return f'{copy.path.name}: {lines[0]}, digest {copy.digest}'
 
 
-def name() -> str:
-    return datetime.datetime.now().strftime('%Y-%m-%d.%H%M%S')
+def unused(folder: pathlib.Path) -> pathlib.Path:
+    """A copy's file without an ending, of a name that no copy has; a copy has its second's."""
+    while True:
+        path = folder / datetime.datetime.now().strftime('%Y-%m-%d.%H%M%S')
+        if not path.with_name(f'{path.name}.db').exists():
+            return path
+        time.sleep(0.05)
 
 
 def newest(folder: pathlib.Path) -> list[pathlib.Path]:

@@ -54,11 +54,14 @@ def pattern(path):
 
 
 PATTERNS = [(it, pattern(it)) for it in PATHS]
+FIXED = {it for it, form in PATTERNS if form.pattern == it}
 
 
-def path_of(text):
-    """The form of a path."""
-    return next((path for path, form in PATTERNS if form.fullmatch(text)), OTHER)
+def path_of(text, status):
+    """The form of a path that the room has. It has none with parameters, and the log cuts them off: a
+    path in which no name or number stands is 404 only then."""
+    path = next((path for path, form in PATTERNS if form.fullmatch(text)), OTHER)
+    return OTHER if status == '404' and path in FIXED else path
 
 
 # Milliseconds, up to which the histogram counts.
@@ -99,7 +102,7 @@ class Log:
                 self.others += 1
 
     def take_message(self, moment, method, target, status, millis):
-        path = path_of(target)
+        path = path_of(target, status)
         self.requests[method if method in METHODS else OTHER, path, status] += 1
         self.times[path].add(int(millis))
         self.last_answer = int(datetime.datetime.fromisoformat(moment).timestamp())

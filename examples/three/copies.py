@@ -4,6 +4,7 @@ import collections.abc
 import contextlib
 import dataclasses
 import fcntl
+import itertools
 import os
 import pathlib
 import shutil
@@ -99,8 +100,16 @@ def keep(file: pathlib.Path, copy: Copy) -> None:
 
 
 def set_aside(copy: Copy) -> pathlib.Path:
-    """Keeps a copy that is not in the list any more out of the way."""
-    return copy.file.rename(copy.file.with_name(f'lost{copy.file.name.removeprefix("copy")}'))
+    """Keeps a copy that is not in the list any more out of the way. A link takes no name that a file
+    has: the first that is free, of lost.NAME, lost.NAME.1 and so on."""
+    name = f'lost{copy.file.name.removeprefix("copy")}'
+    for number in itertools.count():
+        aside = copy.file.with_name(f'{name}.{number}' if number else name)
+        with contextlib.suppress(FileExistsError):
+            os.link(copy.file, aside)
+            copy.file.unlink()
+            break
+    return aside
 
 
 def drop_part(part: pathlib.Path) -> None:

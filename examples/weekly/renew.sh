@@ -10,6 +10,11 @@ cd "${1:-/var/lib/dispatch-room}"
 unit=${2:-dispatch-room}
 now=$(date +%F.%H%M%S)
 
+# Gives a file another name, if it is there; a link takes no name that a file has.
+move() {
+    [ ! -e "$1" ] || { ln "$1" "$2" && rm "$1"; }
+}
+
 began=$(date +%s)
 systemctl stop "$unit"
 trap 'systemctl start "$unit"' EXIT
@@ -18,14 +23,15 @@ if [ -e room.db ]; then
     rm -f next.db next.db-wal
     dispatch_room renew room.db next.db --since "$(date -d '7 days ago' +%F)"
 fi
-# The old room goes to room.db.old, with its log, before the new one comes.
-dispatch_room restore next.db room.db >/dev/null
+# The old room is set aside, with its log, before the new one comes.
+printed=$(dispatch_room restore next.db room.db)
 rm -f next.db next.db-wal
+aside=$(echo "$printed" | sed -n 's/^set aside: //p')
 for end in -wal ''; do
-    [ ! -e "room.db.old$end" ] || mv "room.db.old$end" "room.$now.db$end"
+    move "$aside$end" "room.$now.db$end"
 done
 # A list ends with its room.
-[ ! -e room.list ] || mv room.list "room.$now.list"
+move room.list "room.$now.list"
 
 systemctl start "$unit"
 trap - EXIT

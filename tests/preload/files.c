@@ -2,6 +2,8 @@
 #define _GNU_SOURCE
 #include "preload.h"
 
+#include <fcntl.h>
+#include <stdarg.h>
 #include <stdio.h>
 #include <sys/stat.h>
 #include <unistd.h>
@@ -59,6 +61,16 @@ static bool is_unsynced(int file) {
 int fsync(int file) { return is_unsynced(file) ? -1 : NEXT(fsync)(file); }
 
 int fdatasync(int file) { return is_unsynced(file) ? -1 : NEXT(fdatasync)(file); }
+
+int open(const char *path, int flags, ...) {
+  if (!(flags & O_CREAT)) return NEXT(open)(path, flags);
+  if (switches.counts_names && stops()) _exit(STOPPED);
+  va_list more;
+  va_start(more, flags);
+  const mode_t mode = va_arg(more, mode_t);
+  va_end(more);
+  return NEXT(open)(path, flags, mode);
+}
 
 int rename(const char *from, const char *to) {
   if (switches.counts_names && stops()) _exit(STOPPED);

@@ -30,7 +30,7 @@
 //                            path.
 //   WRITES=1                 With FAULTS or STOPS: writes to a file that are no changes of the room,
 //                            but its journal, are counted too.
-//   NAMES=1                  With STOPS: the calls that move or remove a file are counted too.
+//   NAMES=1                  With STOPS: the calls that make, move or remove a file are counted too.
 //   COUNTED=FILE             A program that comes to its end writes to this file how many calls
 //                            were counted.
 //

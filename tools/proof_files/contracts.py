@@ -80,8 +80,10 @@ def owner(lines, at):
 
 
 class Crate:
-    def __init__(self, name):
-        self.name, self.folder = name, TOP / 'crates' / name
+    """A crate of the tree, or of a copy of it."""
+
+    def __init__(self, name, top=TOP):
+        self.name, self.top, self.folder = name, top, top / 'crates' / name
         self.sources = {it: it.read_text() for it in sorted((self.folder / 'src').glob('*.rt'))}
 
     @functools.cached_property
@@ -112,7 +114,7 @@ class Crate:
     @property
     def edits(self):
         """All edits of the crate that the prover has to refuse."""
-        return [*self.gate_edits, *(TOP / 'edits' / self.name).glob('*.edit')]
+        return [*self.gate_edits, *(self.top / 'edits' / self.name).glob('*.edit')]
 
 
 @functools.cache

@@ -132,9 +132,9 @@ const DIGEST: CommandForm = CommandForm {
 const RESTORE: CommandForm = CommandForm {
     name: "restore",
     about: "Puts a copy of a room in the place of a file, and prints what it has",
-    end: "The copy stays, with its log in it. The file that was there goes to FILE.old, with its \
-         log: neither may be served meanwhile. A stop leaves the copy's room there, or no file; \
-         then do it again.\n\n\
+    end: "The copy stays, with its log in it. Another room that was there goes to FILE.old, or to \
+         FILE.old.1 and so on, with its log, and that name is printed: neither may be served \
+         meanwhile. After a stop do it again; where the copy's room is there already, it stays.\n\n\
          Example: dispatch_room restore /backup/room.db room.db",
     words: &[
         Word {

@@ -7,8 +7,10 @@ use Rattle.std.specs.Option.{option_map}
 use Rattle.std.specs.Prelude.{is_some, true, ℕ, ◌*◌, ◌≡◌, ◌⊎◌}
 use Rattle.clap.specs.Words.{kind_of}
 use Rattle.clap.specs.declared.error.Error.{Error}
+use Rattle.dispatch_room_disk.specs.AsideNames.{found_text}
 use Rattle.dispatch_room_disk.specs.FileSteps.{StopsFor}
-use Rattle.dispatch_room_disk.specs.ReplacingSteps.{IsFaultOf, replacing}
+use Rattle.dispatch_room_disk.specs.ReplacingSteps.{IsFaultOf, Step, replacing}
+use Rattle.dispatch_room_disk.specs.declared.aside_names.Found.{Found}
 use Rattle.dispatch_room_cli.specs.AskedTasks.{IsRead}
 use Rattle.dispatch_room_cli.specs.ExitStatus.{status_after}
 use Rattle.dispatch_room_cli.specs.Tasks.{IsServedHere}
@@ -84,11 +86,16 @@ module _ {F : Type 0} (around : Surroundings F) (before after : Option (List ℕ
   abbrev pub IsDigest : List ℕ → Type 0
   IsDigest file = IsDoneAt (around.kept file) Digests before after done
 
-  -- a copy was looked at that is a well-formed room, and was put in the place of a file, step after
-  -- step
+  -- A copy was looked at that is a well-formed room, and was put in the place of a file, step after
+  -- step; and then the name was printed that what was found there has.
+  abbrev pub IsRestoreBy : (List Step → Type 0) → List ℕ → List ℕ → Type 0
+  IsRestoreBy replaced copy file = (between : Option (List ℕ))
+      × IsDoneAt (around.kept copy) Examines before between done
+      × ((found : Found) × replaced (replacing copy file found)
+      × Appends between after (found_text file found))
+
   abbrev pub IsRestore : List ℕ → List ℕ → Type 0
-  IsRestore copy file =
-      IsCheck copy × ((there : Bool) × around.replaced (replacing copy file there))
+  IsRestore copy file = IsRestoreBy around.replaced copy file
 
   -- a division's day was reported of a file's room without an output, and then that was written
   pub record IsTimes (file : List ℕ) (division : ℕ) (day : List ℕ) : Type 0 where
@@ -190,12 +197,18 @@ module _ {F : Type 0} (around : Surroundings F) (before after : Option (List ℕ
   FailsDigest file = IsUndoneAt (around.kept file) Digests OpensNone before after fault
 
   -- The copy is no room, or can't be read, and no step is done by which it is put in place. Or it
-  -- is one, and one of these steps failed for this, and those before it were done.
+  -- is one, and one of these steps failed for this, and those before it were done; or all were, and
+  -- then the output failed.
+  abbrev pub FailsRestoreBy : (List Step → Type 0) → List ℕ → List ℕ → Type 0
+  FailsRestoreBy replaced copy file = (FailsCheck copy × replaced [])
+      ⊎ ((done : Done) × (between : Option (List ℕ))
+      × IsDoneAt (around.kept copy) Examines before between done
+      × ((found : Found) × (((after ≡ between)
+      × StopsFor IsFaultOf replaced (replacing copy file found) fault)
+      ⊎ ((fault ≡ failure.Network) × replaced (replacing copy file found)))))
+
   abbrev pub FailsRestore : List ℕ → List ℕ → Type 0
-  FailsRestore copy file = (FailsCheck copy × around.replaced [])
-      ⊎ ((done : Done) × IsCheck around before after done copy
-      × ((there : Bool)
-      × StopsFor IsFaultOf around.replaced (replacing copy file there) fault))
+  FailsRestore copy file = FailsRestoreBy around.replaced copy file
 
   -- no day was reported, and nothing is written; or one was, and the output failed
   abbrev pub FailsTimes : List ℕ → ℕ → List ℕ → Type 0

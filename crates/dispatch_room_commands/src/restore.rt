@@ -1,20 +1,19 @@
 //! `restore`: a copy of a room is put in the place of a file.
-ghost use Rattle.std.specs.Prelude.{◌≡◌, ◌⊎◌, Bool, IfErr, IfOk};
-ghost use Rattle.dispatch_room_cli.specs.declared.exit_status.Done.{Done as Amount};
-ghost use Rattle.dispatch_room_commands.specs.DoneTasks.{FailsCheck, FailsRestore, IsCheck};
-ghost use Rattle.dispatch_room_commands.specs.DoneTasks.{IsRestore};
-ghost use Rattle.dispatch_room_disk.specs.FileSteps.{Does, StopsFor};
-ghost use Rattle.dispatch_room_disk.specs.ReplacingSteps.{IsFaultOf, replacing};
+ghost use Rattle.std.specs.Prelude.{IfErr, IfOk};
+ghost use Rattle.dispatch_room_commands.specs.DoneTasks.{FailsRestore, FailsRestoreBy, IsRestore};
+ghost use Rattle.dispatch_room_commands.specs.DoneTasks.{IsRestoreBy};
+ghost use Rattle.dispatch_room_disk.specs.FileSteps.{Does};
 
 use crate::check::check;
 use dispatch_room_cli::exit_status::{Done, Failure};
+use dispatch_room_disk::aside_names::print_found;
 use dispatch_room_disk::restored_files::{Replacing, put_in_place};
 use dispatch_room_tcp::hosts::Machine;
 use std::io::Write;
 
 /// Puts a copy in the place of a file, where the copy is a well-formed room, of which it reports
-/// how much it has. A copy that is none leaves the file as it is; where a step fails, those before
-/// it stay done.
+/// how much it has, and under which name another room was set aside. A copy that is none leaves the
+/// file as it is; where a step fails, those before it stay done.
 pub fn restore<M: Machine, O: Write>(
     machine: M,
     copy: &str,
@@ -41,21 +40,19 @@ fn restore_by<M: Machine, R: Replacing, O: Write>(
     file: &str,
     out: &mut O,
 ) -> Result<Done, Failure>
-    ensures done { IfOk result (λ done.
-        IsCheck (M.surroundings machine) (O.contents out.old) (O.contents out.new) done copy.now
-        × ((there : Bool)
-        × Does (replacing copy.now file.now there) (R.done calls.old) (R.done calls.new))) }
-    ensures undone { IfErr result (λ fault. (FailsCheck (M.surroundings machine)
-        (O.contents out.old) (O.contents out.new) fault copy.now × (calls.new ≡ calls.old))
-        ⊎ ((done : Amount)
-        × IsCheck (M.surroundings machine) (O.contents out.old) (O.contents out.new) done copy.now
-        × ((there : Bool) × StopsFor IsFaultOf
-        (λ first. Does first (R.done calls.old) (R.done calls.new))
-        (replacing copy.now file.now there) fault))) }
+    ensures done { IfOk result (λ done. IsRestoreBy (M.surroundings machine) (O.contents out.old)
+        (O.contents out.new) done (λ steps. Does steps (R.done calls.old) (R.done calls.new))
+        copy.now file.now) }
+    ensures undone { IfErr result (λ fault. FailsRestoreBy (M.surroundings machine)
+        (O.contents out.old) (O.contents out.new) fault
+        (λ steps. Does steps (R.done calls.old) (R.done calls.new)) copy.now file.now) }
 {
     match check(machine, copy, out) {
         Ok(done) => match put_in_place(calls, machine.host().explainer, copy, file) {
-            Ok(()) => Ok(done),
+            Ok(found) => match print_found(found, file, out) {
+                Ok(()) => Ok(done),
+                Err(fault) => Err(fault),
+            },
             Err(fault) => Err(fault),
         },
         Err(fault) => Err(fault),

@@ -1,2 +1,3 @@
 pub mod StepLemmas
+pub mod StopLemmas
 pub mod WorkLemmas

@@ -4,7 +4,7 @@ use Rattle.std.proofs.Common.{Result, Ok, Err, sym, OnOk, IsOk, IfErr, ℕ, [], 
 use Rattle.std.proofs.Common.{map, refl, subst, take, ◌+◌, ◌<◌}
 use Rattle.std.proofs.lemmas.List.{map-append, take-append-drop, take_more}
 use Rattle.std.specs.List.{AllByRecursion}
-use Rattle.std.specs.Result.{IsErrAnd}
+use Rattle.std.specs.Result.{IfOk, IsErrAnd}
 use Rattle.dispatch_room_disk.specs.FileSteps.{Does, Follows, FollowsFor, Stops}
 
 pub both : {S : Type 0} (first rest : List S) (a b c : Option (List S)) → Does first a b → Does rest b c
@@ -120,3 +120,13 @@ module _ {S T F : Type 0} (may_have : S → F → Type 0) where
 pub unknown : {S T E : Type 0} (steps : List S) (r : Result T E) → Follows steps None None r
 unknown steps (Ok done) = tt
 unknown steps (Err fault) = tt
+
+-- what failed is not done
+pub no_ok : {T E : Type 0} (r : Result T E) (P : E → Type 0) (Q : T → Type 0) → IsErrAnd r P → IfOk r Q
+no_ok (Ok x) P Q is = absurd is
+no_ok (Err e) P Q is = tt
+
+pub all_append : {S : Type 0} (P : S → Type 0) (first rest : List S) → AllByRecursion P first → AllByRecursion P rest
+    → AllByRecursion P (first ++ rest)
+all_append P [] rest one two = two
+all_append P (step ∷ first) rest one two = (one.0, all_append P first rest one.1 two)

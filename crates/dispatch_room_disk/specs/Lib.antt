@@ -1,3 +1,5 @@
+-- the names of what restores set aside
+pub mod AsideNames
 -- what the faults of files are to the program
 pub mod DiskFaults
 -- what is done with files, step after step
@@ -12,5 +14,5 @@ pub mod ReplacingSteps
 pub mod SystemFiles
 -- the database of a room's file, opened and closed
 pub mod RoomFiles
--- what lies at a path wherever a restore is stopped
+-- what becomes of the files beside a path wherever restores are stopped
 pub mod StoppedRestores

@@ -2,6 +2,7 @@
 //! The file of a room: it is found, or made, and what is done in it is done over any storage.
 #![tactic(auto)]
 
+pub mod aside_names;
 mod file_causes;
 mod holders;
 pub mod laws;

@@ -61,8 +61,8 @@ fn made(file: &io::Result<File>) -> Result<(), Failure>
     }
 }
 
-// How that file is opened: only if it is not there yet, so one that is there stays as it is.
-fn private_options() -> OpenOptions
+/// How that file is opened: only if it is not there yet, so one that is there stays as it is.
+pub(crate) fn private_options() -> OpenOptions
     ensures { result.create_new ≡ true }
 {
     let mut options = OpenOptions::new();

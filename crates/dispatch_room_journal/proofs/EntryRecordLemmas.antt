@@ -13,7 +13,7 @@ use Rattle.dispatch_room_journal.specs.EntryPrefixes.{IsLayout}
 use Rattle.dispatch_room_journal.proofs.EntryLemmas.{no_end_law, one_entry_law}
 use Rattle.dispatch_room_journal.proofs.NextEntryLemmas.{layout_of_room}
 use Rattle.dispatch_room_journal.specs.Chains.{is_no_entry}
-use Rattle.dispatch_room_journal.specs.WholeRecords.{SaysEntry}
+use Rattle.dispatch_room_journal.specs.CutRecords.{SaysEntry}
 
 pub nothing_left : (rest : List ℕ) → length rest ≡ 0 → rest ≡ []
 nothing_left [] none = refl

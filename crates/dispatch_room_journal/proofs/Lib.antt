@@ -27,8 +27,11 @@ pub mod AdvanceLemmas
 pub mod RecordLemmas
 pub mod PlainLemmas
 pub mod RunLemmas
+pub mod RecordLineLemmas
+pub mod CutLemmas
 pub mod WholeLemmas
 pub mod RowLemmas
 pub mod LegLemmas
 pub mod EntryRecordLemmas
 pub mod FormLemmas
+pub mod LossLemmas

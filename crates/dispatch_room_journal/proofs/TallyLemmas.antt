@@ -1,6 +1,6 @@
 -- Lemmas on what a list holds.
 use Rattle.std.proofs.Common.{◌≡◌, ◌∙◌, ap, sym, refl, inl, ℕ, ◌+◌, List, [], ◌∷◌, ◌++◌, append-nil}
-use Rattle.std.proofs.Common.{append_assoc, Bool, true, Option, Some, Err}
+use Rattle.std.proofs.Common.{append_assoc, arith, Bool, length, true, Option, Some, Err}
 use Rattle.dispatch_room_journal.specs.declared.entry_reader.EntryFault.{EntryFault}
 use Rattle.dispatch_room_journal.specs.declared.entry_reader.EntryFault.TheVariants.{Cut, Foreign}
 use Rattle.dispatch_room_journal.specs.declared.entry_reader.EntryFault.TheVariants.{Read}
@@ -31,7 +31,7 @@ span_more span at moments is =
 pub ends_as : (read_failed : Bool) (entries : List Entry) (rest : List ℕ) (fault : EntryFault)
     → (fault ≡ Read → read_failed ≡ true)
     → FirstIs rest (Err fault) → EndsAs read_failed entries rest fault
-ends_as read_failed entries rest Cut failed first = first
+ends_as read_failed entries rest Cut failed first = inl first
 ends_as read_failed entries rest Foreign failed first = first
 ends_as read_failed entries rest Read failed first = inl (failed refl)
 
@@ -41,3 +41,8 @@ pub failed_by : (kept : List ℕ) (failed ended : Bool) (left : Option (List ℕ
 failed_by kept failed ended left Cut says is = cc
 failed_by kept failed ended left Foreign says is = cc
 failed_by kept failed ended left Read says is = says
+
+-- no entry came
+pub no_entries : (entries : List Entry) (n : ℕ) → length entries ≡ n → n ≡ 0 → entries ≡ []
+no_entries [] n long none = refl
+no_entries (x ∷ entries) n long none = absurd (omega (arith, long, none))

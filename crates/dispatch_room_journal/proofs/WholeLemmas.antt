@@ -2,12 +2,14 @@
 use Rattle.std.proofs.Common.{◌≡◌, ◌∙◌, refl, sym, ap, subst, arith, ℕ, ◌+◌, ◌*◌, ◌≤◌, List, []}
 use Rattle.std.proofs.Common.{◌∷◌, ◌++◌, length, length-append, length-drop, length-take-le, drop}
 use Rattle.std.proofs.Common.{min, append_assoc, append-nil, Bool, true, false, Option, Some, None}
-use Rattle.std.proofs.Common.{◌⊎◌, inl, inr}
+use Rattle.std.proofs.Common.{◌⊎◌, inl, inr, Result, Ok, Err}
+use Rattle.std.specs.Prelude.{MatchResult}
 use Rattle.std.specs.Io.KnownBytes.{prepend_known, Consumes, IsAtEnd, Keeps}
 use Rattle.dispatch_room_journal.specs.WholeEntries.{most_bytes}
 use Rattle.dispatch_room_journal.specs.declared.record_headers.TheConstants.{HEADER}
 use Rattle.dispatch_room_journal.specs.declared.record_fronts.Front.TheVariants.{Short, Whole}
 use Rattle.dispatch_room_journal.specs.declared.record_fronts.Front.TheVariants.{Wrong}
+use Rattle.dispatch_room_journal.specs.declared.entry_reader.EntryFault.{EntryFault}
 use Rattle.dispatch_room_journal.specs.declared.entry_reader.EntryFault.TheVariants.{Foreign}
 use Rattle.dispatch_room_journal.specs.declared.record_fronts.Link.{Link}
 use Rattle.dispatch_room_journal.specs.declared.whole_records.WholeChain.{WholeChain}
@@ -15,8 +17,8 @@ use Rattle.dispatch_room_journal.specs.Chains.{chain_text, first_check, header, 
 use Rattle.dispatch_room_journal.specs.Chains.{next_check, record_text, sha256_digits}
 use Rattle.dispatch_room_journal.specs.RecordFronts.{Stays, after, body_in, front_of}
 use Rattle.dispatch_room_journal.specs.RecordRuns.{first_link}
+use Rattle.dispatch_room_journal.specs.CutRecords.{IsCutRecord, SaysEntry}
 use Rattle.dispatch_room_journal.specs.WholeRecords.{EndsChain, FailsChain, GivesMore, GoesOnTo}
-use Rattle.dispatch_room_journal.specs.WholeRecords.{SaysEntry}
 use Rattle.dispatch_room_journal.proofs.FrontLemmas.{body_stays}
 use Rattle.dispatch_room_journal.proofs.PlainLemmas.{chain-push, digits_long}
 use Rattle.dispatch_room_journal.proofs.RunLemmas.{none_run, run_more}
@@ -208,19 +210,33 @@ module _ (first left : Option (List ℕ)) (whole : WholeChain) (kept : List ℕ)
     (bodies : List (List ℕ))
     (x : ChainTaken first (prepend_known kept left) whole (length kept) looks bodies)
     (text : List ℕ) (known : first ≡ Some text) where
-  -- nothing more is read, and what is kept is no whole record
-  pub chain_ends : (now : Option (List ℕ)) → Keeps left now → IsAtEnd now
-      → (kept ≡ []) ⊎ (front_of sha256_digits whole.link.check whole.link.has_ended kept ≡ Short)
-      → EndsChain text whole
-  chain_ends now keeps ends end =
+  -- nothing more is read
+  all_kept : (now : Option (List ℕ)) → Keeps left now → IsAtEnd now → GoesOnTo text bodies kept whole.link
+  all_kept now keeps ends =
       let follows = x.follows text known in
-      let same = rest_kept kept follows.0 left (end_before left now keeps ends) follows.1 in (
-        bodies,
-        kept,
-        subst (λ (t : List ℕ). GoesOnTo text bodies t whole.link) same follows.2,
-        x.count,
-        end,
-      )
+      let same = rest_kept kept follows.0 left (end_before left now keeps ends) follows.1 in
+      subst (λ (t : List ℕ). GoesOnTo text bodies t whole.link) same follows.2
+
+  -- and what is kept is nothing, or the beginning of one record
+  pub chain_ends : (now : Option (List ℕ)) → Keeps left now → IsAtEnd now
+      → (kept ≡ []) ⊎ ((front_of sha256_digits whole.link.check whole.link.has_ended kept ≡ Short)
+      × IsCutRecord kept)
+      → EndsChain text whole
+  chain_ends now keeps ends end = (bodies, kept, all_kept now keeps ends, x.count, end)
+
+  -- and what is kept is too short for a record: it is the beginning of one, or the chain is no
+  -- journal
+  pub chain_cut : (now : Option (List ℕ)) → Keeps left now → IsAtEnd now
+      → front_of sha256_digits whole.link.check whole.link.has_ended kept ≡ Short
+      → (read_failed : Bool) (result : Result WholeChain EntryFault)
+      → MatchResult result (λ found. (found ≡ whole) × IsCutRecord kept)
+      (λ fault. (fault ≡ Foreign) × ¬ (IsCutRecord kept))
+      → MatchResult result (EndsChain text) (FailsChain read_failed text)
+  chain_cut now keeps ends short read_failed (Ok found) (same, cut) =
+      subst (EndsChain text) (sym same) (chain_ends now keeps ends (inr (short, cut)))
+  chain_cut now keeps ends short read_failed (Err fault) (same, none) =
+      subst (FailsChain read_failed text) (sym same)
+      (bodies, kept, whole.link, all_kept now keeps ends, inr (inr (short, none)))
 
   -- what follows is not the record that comes next
   pub wrong_next : (read_failed : Bool)
@@ -255,5 +271,5 @@ module _ (first left : Option (List ℕ)) (whole : WholeChain) (kept : List ℕ)
         follows.0,
         whole.link,
         follows.2,
-        inr (body_in size kept, rest, more.1 ∙ split ∙ ap (λ t. t ++ rest) (sym (append-nil line)), none),
+        inr (inl (body_in size kept, rest, more.1 ∙ split ∙ ap (λ t. t ++ rest) (sym (append-nil line)), none)),
       )

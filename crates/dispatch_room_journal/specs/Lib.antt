@@ -22,4 +22,6 @@ pub mod RowRuns
 pub mod Legs
 pub mod LegLaws
 pub mod PlainTexts
+pub mod CutRecords
 pub mod WholeRecords
+pub mod ChangedChains

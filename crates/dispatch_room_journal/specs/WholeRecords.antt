@@ -2,7 +2,7 @@
 use Rattle.std.specs.Prelude.{◌≡◌, ◌≢◌, ◌⊎◌, ◌≤◌, ◌<◌, ◌*◌, ◌+◌, ℕ, List, [], ◌∷◌, ◌++◌, length}
 use Rattle.std.specs.Prelude.{min, Bool, true, false, Option}
 use Rattle.std.specs.Io.KnownBytes.{Consumes, IsAtEnd, Keeps}
-use Rattle.dispatch_room_journal.specs.Entries.{Entry, IsEntry, text_of}
+use Rattle.dispatch_room_journal.specs.CutRecords.{IsCutRecord, SaysEntry}
 use Rattle.dispatch_room_journal.specs.WholeEntries.{most_bytes}
 use Rattle.dispatch_room_journal.specs.declared.entry_reader.EntryFault.{EntryFault}
 use Rattle.dispatch_room_journal.specs.declared.entry_reader.EntryFault.TheVariants.{Cut, Foreign}
@@ -13,37 +13,36 @@ use Rattle.dispatch_room_journal.specs.declared.whole_records.ListForm.{ListForm
 use Rattle.dispatch_room_journal.specs.declared.whole_records.ListForm.TheVariants.{Chain, New}
 use Rattle.dispatch_room_journal.specs.declared.whole_records.ListForm.TheVariants.{Plain}
 use Rattle.dispatch_room_journal.specs.declared.whole_records.WholeChain.{WholeChain}
-use Rattle.dispatch_room_journal.specs.Chains.{chain_text, first_check, is_no_entry, opening}
+use Rattle.dispatch_room_journal.specs.Chains.{chain_text, first_check, opening}
 use Rattle.dispatch_room_journal.specs.Chains.{sha256_digits}
 use Rattle.dispatch_room_journal.specs.RecordFronts.{front_of}
 use Rattle.dispatch_room_journal.specs.RecordRuns.{Runs, first_link}
-
--- a record is an entry, or says none
-abbrev pub SaysEntry : List ℕ → Type 0
-SaysEntry body = (is_no_entry body ≡ true) ⊎ ((e : Entry) × IsEntry e × (body ≡ text_of e))
 
 -- the text after a chain's first line begins with these records, and this rest follows them; and
 -- how far the chain has come after them
 abbrev pub GoesOnTo : List ℕ → List (List ℕ) → List ℕ → Link → Type 0
 GoesOnTo text bodies rest link = Runs SaysEntry first_link text bodies rest link
 
--- so many bytes of the text are whole records: after them there is nothing, or a record that is cut
--- short
+-- so many bytes of the text are whole records: after them there is nothing, or the beginning of one
+-- record that comes next
 abbrev pub EndsChain : List ℕ → WholeChain → Type 0
 EndsChain text whole =
     (bodies : List (List ℕ)) × (rest : List ℕ) × GoesOnTo text bodies rest whole.link
     × (whole.bytes ≡ min (length (chain_text sha256_digits first_check bodies)) most_bytes)
-    × ((rest ≡ []) ⊎ (front_of sha256_digits whole.link.check whole.link.has_ended rest ≡ Short))
+    × ((rest ≡ []) ⊎ ((front_of sha256_digits whole.link.check whole.link.has_ended rest ≡ Short)
+    × IsCutRecord rest))
 
 -- Why a text does not end so: what follows its first records is not the one that comes next, or the
--- next one is no entry; or a read failed, or the text is too long.
+-- next one is no entry, or all that follows is too short for the next one and not the beginning of
+-- one; or a read failed, or the text is too long.
 abbrev pub FailsChain : Bool → List ℕ → EntryFault → Type 0
 FailsChain read_failed text Cut = ⊥
 FailsChain read_failed text Foreign =
     (bodies : List (List ℕ)) × (rest : List ℕ) × (link : Link) × GoesOnTo text bodies rest link
     × ((front_of sha256_digits link.check link.has_ended rest ≡ Wrong)
-    ⊎ ((body : List ℕ) × (more : List ℕ)
-    × (rest ≡ chain_text sha256_digits link.check (body ∷ []) ++ more) × (SaysEntry body → ⊥)))
+    ⊎ (((body : List ℕ) × (more : List ℕ)
+    × (rest ≡ chain_text sha256_digits link.check (body ∷ []) ++ more) × (SaysEntry body → ⊥))
+    ⊎ ((front_of sha256_digits link.check link.has_ended rest ≡ Short) × ¬ (IsCutRecord rest))))
 FailsChain read_failed text Read = (read_failed ≡ true) ⊎ (most_bytes ≤ 2 * length text)
 
 -- What a list is: none yet, where it is some first bytes of the line with which a chain begins and

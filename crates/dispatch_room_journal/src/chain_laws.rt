@@ -1,5 +1,7 @@
 //! What the text of a chain decides. Each law is the contract of a function that does nothing.
 ghost use Rattle.dispatch_room_journal.specs.ChainLaws.{IsOneChain, IsReadAgain, IsWritten};
+ghost use Rattle.dispatch_room_journal.specs.ChangedChains.{IsNeverLost};
+ghost use Rattle.dispatch_room_journal.specs.CutRecords.{IsNeverCut};
 ghost use Rattle.dispatch_room_journal.specs.LegLaws.{IsLegByLeg};
 
 /// Two lists that end with the same check are the same, unless two texts have one hash, or one has
@@ -21,4 +23,15 @@ pub fn written()
 /// What a list says is its legs, one after another.
 pub fn leg_by_leg()
     ensures { IsLegByLeg }
+{}
+
+/// A whole record is never taken for the beginning of one, whatever its line says.
+pub fn never_cut()
+    ensures { IsNeverCut }
+{}
+
+/// Where one byte of a chain was changed, none of its whole records is taken away, unless two texts
+/// have one hash.
+pub fn never_lost()
+    ensures { IsNeverLost }
 {}

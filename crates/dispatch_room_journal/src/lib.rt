@@ -43,6 +43,7 @@ pub mod answer_frames;
 pub mod answer_statuses;
 pub mod answer_writers;
 pub mod chain_laws;
+pub mod cut_records;
 pub mod entry_lines;
 pub mod entry_prefixes;
 pub mod entry_reader;

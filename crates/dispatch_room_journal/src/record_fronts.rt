@@ -97,8 +97,8 @@ fn value(digit: u8) -> usize
     usize::from(digit.saturating_sub(b'0'))
 }
 
-// The number whose five digits the bytes begin with.
-fn number_in(bytes: &[u8]) -> usize
+/// The number whose five digits the bytes begin with.
+pub fn number_in(bytes: &[u8]) -> usize
     requires { 5 ≤ length bytes.now }
     ensures { result ≡ number_in bytes.now }
 {

@@ -7,7 +7,8 @@ use crate::journal_inbox::JournalInbox;
 use crate::list_tallies::{Flaw, Tally};
 use room_http_messages::sources::Source;
 
-/// What a list holds, read by an inbox that is new; or where it is no list.
+/// What a list holds, read by an inbox that is new; or where it is no list. One without an entry is
+/// none: nothing was begun.
 pub fn verify<R: Source>(inbox: &mut JournalInbox, list: &mut R) -> Result<Tally, Flaw>
     requires sound { R.has_failed list.old ≡ false }
     requires kept { inbox.old.kept ≡ [] }
@@ -16,13 +17,18 @@ pub fn verify<R: Source>(inbox: &mut JournalInbox, list: &mut R) -> Result<Tally
         → MatchResult result (IsVerified text) (IsFlawed (R.has_failed list.new) text) }
 {
     let mut tally = Tally::new();
-    'entries: for _entry in 0..u64::MAX {
+    'entries: for entry in 0..u64::MAX {
         match read_entry(inbox, list) {
             Ok(Some(layout)) => {
                 tally.note(&layout.line);
                 inbox.remove(&layout);
             }
-            Ok(None) => return Ok(tally),
+            Ok(None) => {
+                if entry == 0 {
+                    return Err(tally.flaw(EntryFault::Cut));
+                }
+                return Ok(tally);
+            }
             Err(fault) => return Err(tally.flaw(fault)),
         }
     }

@@ -2,13 +2,16 @@
 ghost use Rattle.std.specs.Prelude.{◌≡◌, ◌↔◌, ◌≤◌, ◌<◌, ℕ, List, [], false, length, is_err, take};
 ghost use Rattle.std.specs.Prelude.{IsTrue, Some, MatchResult};
 ghost use Rattle.std.specs.Io.KnownBytes.{Keeps, prepend_known};
+ghost use Rattle.dispatch_room_journal.specs.declared.entry_reader.EntryFault.TheVariants.{Foreign};
 ghost use Rattle.dispatch_room_journal.specs.declared.entry_reader.EntryFault.TheVariants.{Read};
 ghost use Rattle.std.specs.Str.{bytes_eq};
 ghost use Rattle.dispatch_room_journal.specs.Chains.{opening};
+ghost use Rattle.dispatch_room_journal.specs.CutRecords.{IsCutRecord, SaysEntry};
 ghost use Rattle.dispatch_room_journal.specs.WholeRecords.{EndsChain, FailsChain, FailsForm};
-ghost use Rattle.dispatch_room_journal.specs.WholeRecords.{GivesMore, IsForm, IsFull, SaysEntry};
+ghost use Rattle.dispatch_room_journal.specs.WholeRecords.{GivesMore, IsForm, IsFull};
 ghost use Rattle.dispatch_room_journal.specs.declared.record_inbox.TheConstants.{RECORD_ROOM};
 
+use crate::cut_records::is_cut_record;
 use crate::entry_prefixes::{self, EntryLayout, EntryPrefix};
 use crate::entry_reader::EntryFault;
 use crate::record_fronts::{
@@ -65,8 +68,8 @@ pub fn read_more<R: Source>(inbox: &mut RecordInbox, reader: &mut R) -> Result<b
 }
 
 /// What is whole of a chain whose first line was read. What follows its whole records is nothing,
-/// or a record that was cut off; where it is anything else, or a record is no entry, the chain is
-/// no journal.
+/// or the beginning of one; where it is anything else, or a record is no entry, the chain is no
+/// journal.
 pub fn whole_chain<R: Source>(
     inbox: &mut RecordInbox,
     reader: &mut R,
@@ -98,13 +101,25 @@ pub fn whole_chain<R: Source>(
             }
             Front::Short => {
                 if !read_more(inbox, reader)? {
-                    return Ok(whole);
+                    return cut_to(&whole, inbox.bytes());
                 }
             }
             Front::Wrong => return Err(EntryFault::Foreign),
         }
     }
     Err(EntryFault::Read)
+}
+
+// What is whole of a chain that ends with these bytes, if they are the beginning of one record.
+fn cut_to(whole: &WholeChain, rest: &[u8]) -> Result<WholeChain, EntryFault>
+    ensures { MatchResult result (λ found. (found ≡ whole.now) × IsCutRecord rest.now)
+        (λ fault. (fault ≡ Foreign) × ¬ (IsCutRecord rest.now)) }
+{
+    if is_cut_record(rest) {
+        Ok(*whole)
+    } else {
+        Err(EntryFault::Foreign)
+    }
 }
 
 /// What a list is.

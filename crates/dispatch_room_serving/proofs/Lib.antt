@@ -16,5 +16,3 @@ pub mod ChangeLaws
 pub mod CallerLemmas
 -- lists that are opened
 pub mod OpeningLemmas
--- the beginning of the line before a record
-pub mod LeftLemmas

@@ -20,7 +20,5 @@ pub mod Starts
 pub mod Lists
 -- how a list is opened, and goes on
 pub mod OpenedLists
--- what a stop leaves of the line before a record
-pub mod LeftRecords
 -- the place of a list that is kept
 pub mod ListPlaces

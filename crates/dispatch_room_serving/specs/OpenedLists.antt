@@ -1,5 +1,5 @@
 -- How a list is opened, and goes on.
-use Rattle.std.specs.Prelude.{◌≡◌, ◌⊎◌, ◌+◌, ◌==◌, ⊤, ℕ, List, [], ◌∷◌, Bool, true, false, drop}
+use Rattle.std.specs.Prelude.{◌≡◌, ◌⊎◌, ◌+◌, ◌==◌, ⊤, ℕ, List, [], ◌∷◌, ◌++◌, Bool, true, false}
 use Rattle.std.specs.Prelude.{if◌then◌else◌, is_some, min, unwrap_or, Err, None, Ok, Option, Result}
 use Rattle.std.specs.Prelude.{Some}
 use Rattle.dispatch_room_cli.specs.declared.exit_status.Failure.{Failure}
@@ -12,7 +12,6 @@ use Rattle.dispatch_room_journal.specs.declared.list_ends.ListEnd.{ListEnd}
 use Rattle.dispatch_room_journal.specs.declared.list_ends.ListEnd.TheVariants as lists
 use Rattle.dispatch_room_journal.specs.declared.whole_records.ListForm.{ListForm}
 use Rattle.dispatch_room_journal.specs.declared.whole_records.ListForm.TheVariants as forms
-use Rattle.dispatch_room_serving.specs.LeftRecords.{BeginsLeft}
 use Rattle.dispatch_room_serving.specs.declared.opened_lists.WholeList.{WholeList}
 
 -- why a list can't be opened
@@ -28,12 +27,12 @@ IsWholeOf forms.Plain list = list.end ≡ Some lists.Plain
 IsWholeOf (forms.Chain chain) list = (list.whole ≡ min (chain.bytes + 7) most_bytes)
     × (list.end ≡ Some (lists.Chain chain.link))
 
--- So many bytes of a text of this form are whole: of one that is no chain, its whole entries; of a
--- chain, what a stop may have left of a record follows them.
+-- So many bytes of a text of this form are whole: of one that is no chain, its whole entries. Of
+-- the others their form says it.
 abbrev pub IsWholeTo : List ℕ → ListForm → ℕ → Type 0
 IsWholeTo text forms.New whole = ⊤
 IsWholeTo text forms.Plain whole = EndsWhole text whole
-IsWholeTo text (forms.Chain chain) whole = BeginsLeft (drop whole text)
+IsWholeTo text (forms.Chain chain) whole = ⊤
 
 -- what of a list of this form is whole, by its text, where that is known
 abbrev pub IsWholeAs : Option (List ℕ) → ListForm → WholeList → Type 0
@@ -51,22 +50,39 @@ abbrev pub goes_on_at : WholeList → Option ListEnd
 goes_on_at list = if list.whole == 0 then None else list.end
 
 -- A step that was tried with the file of a list, and whether it could be done: to make what stands
--- in it last; to cut off what follows so many bytes of it; to write the line with which a chain
--- begins.
+-- in it last; to copy what follows so many bytes of it to a new file beside it; to cut that off; to
+-- write the line with which a chain begins.
 pub data Step : Type 0 where
   settled : Bool → Step
+  copied : ℕ → Bool → Step
   cut : ℕ → Bool → Step
   begun : Bool → Step
 
--- What is done with a list of which this is whole: what follows that is cut off, and no other byte;
--- and a list that goes on nowhere is begun, and no other one.
-abbrev pub opening : WholeList → List Step
-opening list = cut list.whole true ∷ (if is_some (goes_on_at list) then [] else begun true ∷ [])
+-- what is done first with a list: what follows its whole records is copied to a new file, and only
+-- then cut off, and no other byte
+abbrev pub clearing : ℕ → List Step
+clearing whole = copied whole true ∷ cut whole true ∷ []
 
--- what was tried where one of these steps could not be done, with which it ends
+-- and then a list that goes on nowhere is begun, and no other one
+abbrev pub opening : WholeList → List Step
+opening list = clearing list.whole ++ (if is_some (goes_on_at list) then [] else begun true ∷ [])
+
+-- what was tried where one of the first could not be done, with which it ends
+abbrev pub BreaksClearing : ℕ → List Step → Type 0
+BreaksClearing whole steps = (steps ≡ copied whole false ∷ [])
+    ⊎ (steps ≡ copied whole true ∷ cut whole false ∷ [])
+
+-- or of all
 abbrev pub BreaksOff : WholeList → List Step → Type 0
-BreaksOff list steps = (steps ≡ cut list.whole false ∷ [])
-    ⊎ ((goes_on_at list ≡ None) × (steps ≡ cut list.whole true ∷ begun false ∷ []))
+BreaksOff list steps = BreaksClearing list.whole steps
+    ⊎ ((goes_on_at list ≡ None) × (steps ≡ clearing list.whole ++ begun false ∷ []))
+
+-- what was done first, or could not be
+abbrev pub Clears : {F : Type 0} → (F → Option (List Step)) → F → F → ℕ
+    → Result (Unit {0}) Failure → Type 0
+Clears tried old new whole (Ok _) = Grows (tried old) (tried new) (clearing whole)
+Clears tried old new whole (Err fault) = (steps : List Step) × BreaksClearing whole steps
+    × Grows (tried old) (tried new) steps
 
 -- where it is known of the file of a list what was tried with it, and what stands in it
 module _ {F : Type 0} (tried : F → Option (List Step)) (text : F → Option (List ℕ)) where

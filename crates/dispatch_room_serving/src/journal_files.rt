@@ -1,5 +1,5 @@
-//! The file of a journal: a record that a crash cut off is removed, and entries are appended to the
-//! rest.
+//! The file of a journal: a record that a crash cut off is set aside, and entries are appended to
+//! the rest.
 ghost use Rattle.std.specs.Prelude.{◌≡◌, ◌||◌, ◌⊎◌, ℕ, List, Bool, false, if◌then◌else◌, is_some};
 ghost use Rattle.std.specs.Prelude.{nat_lt, not, refl, IfErr, IsErrAnd, IsTrue, MatchResult, None};
 ghost use Rattle.std.specs.Prelude.{Ok, OnErr, OnOk, Option, Some, true};
@@ -14,6 +14,7 @@ ghost use Rattle.dispatch_room_serving.specs.OpenedLists.{IsListFault};
 ghost use Rattle.dispatch_room_serving.specs.declared.journal_files.WrittenFile.{WrittenFile};
 
 use crate::journals::Keeper;
+use crate::list_places::{Aside, put_aside};
 use crate::opened_lists::{ListFile, end_of};
 use dispatch_room_cli::exit_status::Failure;
 use dispatch_room_cli::failure_causes::Explainer;
@@ -25,7 +26,7 @@ use room_http_messages::standard_wires::Wire;
 use std::alloc::Global;
 use std::fs;
 use std::fs::{File, OpenOptions, TryLockError};
-use std::io::{Error, ErrorKind, Seek, SeekFrom, Write};
+use std::io::{self, Error, ErrorKind, Seek, SeekFrom, Write};
 use std::marker::Model;
 use std::os::fd::AsRawFd;
 use std::os::unix::fs::OpenOptionsExt;
@@ -77,8 +78,8 @@ impl<F: Lasting> OpenedList<F> {
 
 /// Opens the file of a journal behind its last whole record, and locks it against other writers. A
 /// missing file is made, for its owner only, and an empty one begins as a chain. A record that a
-/// crash cut off is removed, which is reported to `err`. What stands in the file then lasts, and so
-/// does its name. Explains why if the file can't be opened, or is no journal.
+/// crash cut off is set aside, which is reported to `err`. What stands in the file then lasts, and
+/// so does its name. Explains why if the file can't be opened, or is no journal.
 pub fn open_journal<E: Write>(
     rt: &HostRuntime,
     explainer: Explainer<'_>,
@@ -91,6 +92,7 @@ pub fn open_journal<E: Write>(
     let file = opened(rt, explainer, path)?;
     let mut found = FoundList {
         rt,
+        alloc,
         explainer,
         path,
         file: &file,
@@ -103,6 +105,7 @@ pub fn open_journal<E: Write>(
 #[derive(Clone, Copy)]
 struct FoundList<'a> {
     rt: &'a HostRuntime,
+    alloc: Global,
     explainer: Explainer<'a>,
     path: &'a str,
     file: &'a File,
@@ -120,13 +123,27 @@ impl<'a> ListFile for FoundList<'a> {
         self.explained(settle(self.rt, self.path, self.file))
     }
 
-    fn read_from(&self, at: u64) -> Result<Wire<&'a File>, Failure> {
+    fn reader(&self) -> Result<Wire<&'a File>, Failure> {
         let mut file = self.file;
-        self.explained(file.seek(SeekFrom::Start(at)))?;
+        self.explained(file.seek(SeekFrom::Start(0)))?;
         Ok(Wire::new(file))
     }
 
-    fn cut(&mut self, whole: u64) -> Result<bool, Failure> {
+    fn set_aside(&mut self, whole: u64) -> Result<Option<String>, Failure> {
+        let bytes = self.explained(length_of(self.file))?;
+        let Some(at) = cut_to(bytes, whole) else {
+            return Ok(None);
+        };
+        let end = ListEnding {
+            rt: self.rt,
+            file: self.file,
+            at,
+        };
+        let put = put_aside(self.alloc, self.path, "cut", &end);
+        self.explained(put).map(Some)
+    }
+
+    fn cut(&mut self, whole: u64) -> Result<(), Failure> {
         self.explained(cut(self.file, whole))
     }
 
@@ -207,15 +224,54 @@ fn folder_of(rt: &HostRuntime, path: &str) -> Result<File, Error> {
     File::open(rt, folder.as_str())
 }
 
-// Cuts off what follows so many bytes of a file, and returns whether anything did.
-fn cut(file: &File, whole: u64) -> Result<bool, Error> {
-    match cut_to(file.metadata()?.len(), whole) {
+// The number of the bytes of a file.
+fn length_of(file: &File) -> Result<u64, Error> {
+    Ok(file.metadata()?.len())
+}
+
+// What stands in the file of a list from one of its bytes on.
+#[derive(Clone, Copy)]
+struct ListEnding<'a> {
+    rt: &'a HostRuntime,
+    file: &'a File,
+    at: u64,
+}
+
+impl<'a> ListEnding<'a> {
+    // Copies it to a new file of this name, and makes that last, and its name.
+    fn copy_to(&self, target: &mut File, name: &str) -> Result<(), Error> {
+        let mut file = self.file;
+        file.seek(SeekFrom::Start(self.at))?;
+        io::copy(&mut file, target)?;
+        target.sync_all()?;
+        folder_of(self.rt, name)?.sync_all()
+    }
+}
+
+// It is copied. A file of which not all could be written is removed.
+impl<'a> Aside for ListEnding<'a> {
+    fn put(&self, name: &str) -> Result<(), Error> {
+        let mut target = OpenOptions::new()
+            .write(true)
+            .create_new(true)
+            .mode(0o600)
+            .open(self.rt, name)?;
+        let copied = self.copy_to(&mut target, name);
+        if copied.is_err() {
+            let _ = fs::remove_file(self.rt, name);
+        }
+        copied
+    }
+}
+
+// Cuts off what follows so many bytes of a file.
+fn cut(file: &File, whole: u64) -> Result<(), Error> {
+    match cut_to(length_of(file)?, whole) {
         Some(end) => {
             file.set_len(end)?;
-            file.sync_all()?;
-            Ok(true)
+            file.sync_all()
         }
-        None => Ok(false),
+        None => Ok(()),
     }
 }
 

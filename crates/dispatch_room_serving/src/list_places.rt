@@ -9,8 +9,36 @@ use std::fs::File;
 use std::io::{Error, ErrorKind};
 use std::os::unix::fs::MetadataExt;
 
-// How many truncated lists may lie aside beside one another.
+// How many files of one kind may lie aside beside a list.
 const MOST_ASIDE: u32 = 1_000;
+
+/// What can be put aside.
+pub(crate) trait Aside {
+    /// Puts it in a new file of this name. Where a file has the name, that stays as it is, and the
+    /// error is `AlreadyExists`.
+    fn put(&self, name: &str) -> Result<(), Error>;
+}
+
+/// Puts something aside beside a list: under the list's name with `.WORD.1`, `.2` and so on, the
+/// first up to 1,000 that no file has. Returns that name.
+pub(crate) fn put_aside<A: Aside>(
+    alloc: Global,
+    path: &str,
+    word: &str,
+    aside: &A,
+) -> Result<String, Error> {
+    for number in 1..=MOST_ASIDE {
+        let Ok(name) = format!(in alloc; "{path}.{word}.{number}") else {
+            return Err(ErrorKind::OutOfMemory.into());
+        };
+        match aside.put(name.as_str()) {
+            Ok(()) => return Ok(name),
+            Err(error) if error.kind() == ErrorKind::AlreadyExists => {}
+            Err(error) => return Err(error),
+        }
+    }
+    Err(ErrorKind::AlreadyExists.into())
+}
 
 /// What a look finds at the place of a list.
 #[derive(Clone, Copy, PartialEq, Eq)]
@@ -95,25 +123,21 @@ impl<'a> ListPlace<'a> {
         }
     }
 
-    /// Renames what stands there to its own name with `.truncated.1`, `.2` and so on, up to 1,000:
-    /// the first that no file has. Returns whether it could. What has no bytes is left where it is.
+    /// Renames what stands there to its own name with `.truncated.1`, `.2` and so on. Returns
+    /// whether it could. What has no bytes is left where it is.
     pub fn set_aside(&self, alloc: Global) -> bool {
-        let path = self.path;
-        match fs::metadata(self.rt, path) {
-            Ok(found) if found.len() == 0 => return true,
-            _ => {}
+        match fs::metadata(self.rt, self.path) {
+            Ok(found) if found.len() == 0 => true,
+            _ => put_aside(alloc, self.path, "truncated", self).is_ok(),
         }
-        for number in 1..=MOST_ASIDE {
-            let Ok(aside) = format!(in alloc; "{path}.truncated.{number}") else {
-                return false;
-            };
-            match fs::hard_link(self.rt, path, aside.as_str()) {
-                Ok(()) => return fs::remove_file(self.rt, path).is_ok(),
-                Err(error) if error.kind() == ErrorKind::AlreadyExists => {}
-                Err(_) => return false,
-            }
-        }
-        false
+    }
+}
+
+// What stands at the place of a list is renamed.
+impl<'a> Aside for ListPlace<'a> {
+    fn put(&self, name: &str) -> Result<(), Error> {
+        fs::hard_link(self.rt, self.path, name)?;
+        fs::remove_file(self.rt, self.path)
     }
 }
 

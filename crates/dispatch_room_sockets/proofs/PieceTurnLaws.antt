@@ -1,6 +1,6 @@
 -- Who is given at a door to be served, and who is not taken back.
-use Rattle.std.proofs.Common.{◌≡◌, ◌⊎◌, ◌∙◌, ap, arith, inl, inr, refl, ℕ, ◌+◌, ◌<◌, List, length}
-use Rattle.std.proofs.Common.{Bool, false, Option, None, Some, IfSome}
+use Rattle.std.proofs.Common.{◌≡◌, ◌⊎◌, ◌∙◌, ap, arith, inl, inr, refl, ℕ, ◌+◌, ◌<◌, List, [], ◌∷◌}
+use Rattle.std.proofs.Common.{length, Bool, false, true, Option, None, Some, IfSome}
 use Rattle.std.proofs.lemmas.Option.{same_Some}
 use Rattle.std.specs.declared.time.Duration.{Duration}
 use Rattle.dispatch_room_sockets.specs.declared.doors.Client.{Client}
@@ -8,7 +8,8 @@ use Rattle.dispatch_room_sockets.specs.declared.kept_callers.Kept.{Kept}
 use Rattle.dispatch_room_sockets.specs.declared.leavers.Leaver.{Leaver}
 use Rattle.dispatch_room_sockets.specs.CallerHistories.{GivesNext}
 use Rattle.dispatch_room_sockets.specs.Departures.{Departs}
-use Rattle.dispatch_room_sockets.specs.PieceTurns.{GivesPiece, TakesBack, fresh, unwatched}
+use Rattle.dispatch_room_sockets.specs.PieceTurns.{GivesPiece, IsHindered, TakesBack, fresh}
+use Rattle.dispatch_room_sockets.specs.PieceTurns.{unwatched}
 use Rattle.dispatch_room_sockets.specs.Turns.{IsInTurn}
 use Rattle.dispatch_room_sockets.proofs.HistoryLaws.{back_gone, given_after}
 
@@ -27,22 +28,35 @@ given_alike line lines ready readied next after k it same given h s =
       one.2,
     )
 
-module _ (line lines ready readied : List (Kept Client)) (next after : ℕ)
+module _ {T : Type 0} (shows : Option Duration → Type 0) (is_full : T → Type 0)
+    (line lines ready readied : List (Kept (Client T))) (next after : ℕ)
     (heard : GivesNext line ready next lines readied after None)
     (stay : ¬ (length ready ≡ 0) → (readied ≡ ready) × (lines ≡ line)) where
-  pub nobody_given_piece : GivesPiece line lines ready readied next after None
-  nobody_given_piece = record {
+  nobody_given : (readied ≡ [])
+      ⊎ ((k : Kept (Client T)) × (more : List (Kept (Client T))) × (readied ≡ k ∷ more)
+      × IsHindered shows is_full k)
+      → GivesPiece shows is_full line lines ready readied next after None
+  nobody_given why = record {
     one = heard;
     first = λ k more is.
         let same = stay (λ none. omega (arith, ap length is, none)) in
         (same.1, same.0);
+    nobody = λ _. why;
     room = λ some. absurd (cc);
   }
 
-  pub one_given_piece : (left others : List (Kept Client)) (last : ℕ) (k it : Kept Client)
+  pub nobody_ready : readied ≡ [] → GivesPiece shows is_full line lines ready readied next after None
+  nobody_ready none = nobody_given (inl none)
+
+  -- the first can't be served for now
+  pub first_hindered : (k : Kept (Client T)) (more : List (Kept (Client T))) → readied ≡ k ∷ more
+      → IsHindered shows is_full k → GivesPiece shows is_full line lines ready readied next after None
+  first_hindered k more is hindered = nobody_given (inr (k, more, is, hindered))
+
+  pub one_given_piece : (left others : List (Kept (Client T))) (last : ℕ) (k it : Kept (Client T))
       → GivesNext lines readied after left others last (Some k) → IsInTurn lines left readied others (Some k)
       → it ≡ unwatched k → length left + length others < 1024
-      → GivesPiece line left ready others next last (Some it)
+      → GivesPiece shows is_full line left ready others next last (Some it)
   one_given_piece left others last k it given turn is room = record {
     one =
         given_alike line left ready others next last k it (ap (λ j. j.number) is)
@@ -51,18 +65,22 @@ module _ (line lines ready readied : List (Kept Client)) (next after : ℕ)
         let stays = stay (λ none. omega (arith, ap length same, none)) in
         let one = turn.first j more (stays.0 ∙ same) in
         (one.2 ∙ stays.1, (is ∙ ap unwatched (same_Some k j one.0), one.1));
+    nobody = λ none. absurd (cc);
     room = λ _. room;
   }
 
-module _ (keep : Duration) (k : Kept Client) (is_paused : Bool) (answered : Option Duration)
-    (line ready : List (Kept Client)) (next : ℕ) (leavers : List (Leaver Client)) where
-  none_departs : (moment : Option Duration)
-      → IfSome moment (λ until. Departs (fresh k.caller) until leavers leavers)
-  none_departs None = tt
-  none_departs (Some until) = inl refl
+module _ {T : Type 0} (shows : Option Duration → Type 0) (is_stuck : T → Type 0) (keep : Duration)
+    (k : Kept (Client T)) (is_paused is_open : Bool) (answered : Option Duration)
+    (line ready : List (Kept (Client T))) (next : ℕ) (leavers : List (Leaver (Client T))) where
+  none_departs : (moment : Option Duration) → (is_open ≡ true → is_stuck k.caller.stream)
+      → IfSome moment (λ until. is_open ≡ true → ((leavers ≡ leavers) × is_stuck k.caller.stream)
+      ⊎ Departs shows (fresh k.caller) until leavers leavers)
+  none_departs None stuck = tt
+  none_departs (Some until) stuck = λ open_yet. inl (refl, stuck open_yet)
 
-  pub gone_taken : (answered ≡ None) ⊎ (is_paused ≡ false)
-      → TakesBack keep k is_paused answered line line ready next leavers leavers
+  -- who got no answer, or who isn't parted from, is dropped
+  pub gone_taken : (answered ≡ None) ⊎ ((is_paused ≡ false) × (is_open ≡ true → is_stuck k.caller.stream))
+      → TakesBack shows is_stuck keep k is_paused is_open answered line line ready next leavers leavers
   gone_taken why = record {
     back = back_gone line ready next k.number;
     dropped = λ _. (refl, refl);
@@ -72,5 +90,8 @@ module _ (keep : Duration) (k : Kept Client) (is_paused : Bool) (answered : Opti
       | inr ended ↦ absurd (cc)
     ];
     parted = λ _. refl;
-    departs = λ _. none_departs answered;
+    departs = λ _. elim why [
+      | inl none ↦ rw none tt
+      | inr ended ↦ none_departs answered ended.1
+    ];
   }

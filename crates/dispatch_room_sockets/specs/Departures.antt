@@ -1,15 +1,24 @@
 -- Those who are parted from, and until when each of them is kept.
-use Rattle.std.specs.Prelude.{◌≡◌, ◌⊎◌, ◌+◌, ◌||◌, List, [], ◌∷◌, ◌++◌, Bool, true, min, not}
-use Rattle.std.specs.Prelude.{Option, None, Some}
+use Rattle.std.specs.Prelude.{◌≡◌, ◌⊎◌, ◌+◌, ◌≤◌, ◌||◌, ℕ, List, [], ◌∷◌, ◌++◌, Bool, true, min}
+use Rattle.std.specs.Prelude.{length, not, Option, None, Some, Result, Ok, Err}
+use Rattle.std.specs.Io.KnownBytes.{Consumes}
 use Rattle.std.specs.Duration.{as_nanos, max_nanos}
 use Rattle.std.specs.declared.time.Duration.{Duration}
 use Rattle.dispatch_room_sockets.specs.declared.leavers.Leaver.{Leaver}
+use Rattle.dispatch_room_sockets.specs.declared.nonblocking_streams.NoBytes.{NoBytes}
+use Rattle.dispatch_room_sockets.specs.declared.nonblocking_streams.NoBytes.TheVariants.{Ever}
 use Rattle.dispatch_room_sockets.specs.Verdicts.{is_over}
 
 -- it is the turn of one who leaves: it doesn't rest any longer
 abbrev pub is_due : Option Duration → Duration → Bool
 is_due None now = true
 is_due (Some rests) now = is_over now rests
+
+-- More comes no longer on a stream, as its reads may give: it is at its end, or lost, or 4,096
+-- bytes at least have been thrown away since.
+abbrev pub IsSpent : (Result ℕ NoBytes → Type 0) → Option (List ℕ) → Option (List ℕ) → Type 0
+IsSpent gives left after = gives (Ok 0) ⊎ gives (Err Ever)
+    ⊎ ((bytes : List ℕ) × Consumes left after bytes × (4096 ≤ length bytes))
 
 module _ {C : Type 0} where
   -- One stands behind those who are parted from, is kept until a moment, and rests two milliseconds
@@ -19,10 +28,13 @@ module _ {C : Type 0} where
       (rests : Duration) × (as_nanos rests ≡ min (as_nanos now + 2000000) max_nanos)
       × (more ≡ leavers ++ record { caller = caller; until = until; rests = Some rests } ∷ [])
 
-  -- one is parted from at some moment, or is dropped, and they stay as they are
-  abbrev pub Departs : C → Duration → List (Leaver C) → List (Leaver C) → Type 0
-  Departs caller until leavers more = (more ≡ leavers)
-      ⊎ ((now : Duration) × IsParting caller until now leavers more)
+  -- One is parted from at the moment that a clock shows. It is dropped only where the clock can't
+  -- be read or 1,024 leave already, and they stay as they are.
+  abbrev pub Departs : (Option Duration → Type 0) → C → Duration → List (Leaver C)
+      → List (Leaver C) → Type 0
+  Departs shows caller until leavers more = ((more ≡ leavers)
+      × (shows None ⊎ (1024 ≤ length leavers)))
+      ⊎ ((now : Duration) × shows (Some now) × IsParting caller until now leavers more)
 
   -- one who leaves is in its time, and it isn't its turn yet
   abbrev pub is_resting : Duration → Leaver C → Bool

@@ -2,7 +2,8 @@
 pub mod Discards
 -- how a peer is parted from
 pub mod LingeringClose
--- what is known grows
+-- how long it is until a moment
+pub mod TimesLeft
 -- what becomes of one that was looked at
 pub mod Verdicts
 -- what one look at all who are kept does

@@ -42,7 +42,8 @@ left_at room ahead is_first left = if room == INBOX_ROOM then given_of ahead is_
 -- A read of a piece with so much room gave this. Where the piece ends before what stands ahead, it
 -- pauses, and nothing is given: only so it pauses. Else no more is given than is left. Once a
 -- request has begun, the next isn't the first any more. Its caller keeps its number.
-abbrev pub IsPieceRead : {E : Type 0} → ℕ → PieceReader → PieceReader → Result ℕ E → Type 0
+abbrev pub IsPieceRead : {E C T : Type 0} → ℕ → PieceReader C T → PieceReader C T → Result ℕ E
+    → Type 0
 IsPieceRead room old new given =
     let left = left_at room new.kept.caller.ahead old.is_first old.left in
     (new.is_paused ≡ (old.is_paused || is_none left))
@@ -53,7 +54,8 @@ IsPieceRead room old new given =
 
 -- What is given is the front of what was read ahead, and of what was read after it as a request was
 -- to begin: as much as is left and has room. The others stay ahead, and where the piece pauses all.
-abbrev pub GivesFront : {E : Type 0} → ℕ → PieceReader → PieceReader → Result ℕ E → List ℕ → Type 0
+abbrev pub GivesFront : {E C T : Type 0} → ℕ → PieceReader C T → PieceReader C T → Result ℕ E
+    → List ℕ → Type 0
 GivesFront room old new given buf =
     let before = old.kept.caller.unserved in
     let after = new.kept.caller.unserved in

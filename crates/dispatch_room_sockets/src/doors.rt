@@ -1,14 +1,18 @@
 //! The door of a room: its sockets, and the system's set of those that move.
-ghost use Rattle.std.specs.Prelude.{◌≡◌, ◌+◌, ◌-◌, ◌||◌, ◌↔◌, ◌≤ℤ◌, [], IfSome, IsTrue};
-ghost use Rattle.std.specs.Prelude.{if◌then◌else◌, false, min, pos, true};
+ghost use Rattle.std.specs.Prelude.{◌≡◌, ◌+◌, ◌-◌, ◌||◌, ◌↔◌, ◌≤ℤ◌, [], Err, IfSome, IsTrue};
+ghost use Rattle.std.specs.Prelude.{if◌then◌else◌, None, false, length, min, pos, true};
 ghost use Rattle.std.specs.Duration.{as_nanos, max_nanos};
 ghost use Rattle.dispatch_room_sockets.specs.Lookaheads.{StandsAhead, StaysInFront, heard_of};
 ghost use Rattle.dispatch_room_sockets.specs.Lookaheads.{may_grow};
-ghost use Rattle.dispatch_room_sockets.specs.Moves.{has_moved};
+ghost use Rattle.dispatch_room_sockets.specs.Departures.{IsSpent};
+ghost use Rattle.dispatch_room_sockets.specs.Moves.{IsDeaf, IsDone, has_moved};
+ghost use Rattle.dispatch_room_sockets.specs.declared.nonblocking_streams.NoBytes.TheVariants.{Yet};
 
 use crate::entrances::Entrance;
 use crate::kept_callers::{Heard, is_over};
 use crate::lookaheads::{Lookahead, look_ahead};
+use crate::monotonic_clocks::MonotonicClock;
+use crate::nonblocking_streams::{NoBytes, NonblockingListener, NonblockingStream};
 use crate::readiness::is_readable;
 use crate::timeouts::earlier;
 use crate::unserved_bytes::UnservedBytes;
@@ -19,12 +23,10 @@ use mio::unix::SourceFd;
 use mio::{Interest, Poll, Token};
 use room_http_messages::limits::INBOX_ROOM;
 use std::alloc::Global;
-use std::io::{Error, ErrorKind, Read};
+use std::io::{self, Error, ErrorKind};
 use std::net::{TcpListener, TcpStream};
 use std::os::fd::{AsRawFd, OwnedFd, RawFd};
-use std::rc::Rc;
-use std::time::{Clock, Duration};
-use std::{io, thread};
+use std::time::Duration;
 
 // How many slots note which connections have moved. Two may share one: then both are looked at
 // where either has moved.
@@ -48,8 +50,8 @@ const MOST_PIECES: u32 = 4096;
 
 /// A connection of one who called.
 #[derive(Drop)]
-pub struct Client {
-    pub(crate) stream: Rc<TcpStream>,
+pub struct Client<T> {
+    pub(crate) stream: T,
     pub(crate) unserved: UnservedBytes,
     // What stood ahead when it was looked at last.
     pub(crate) ahead: Lookahead,
@@ -60,28 +62,50 @@ pub struct Client {
     is_watched: bool,
 }
 
-impl Client {
-    // A connection that was not looked at yet.
-    fn new(alloc: Global, stream: Rc<TcpStream>, slot: usize) -> Client
-        ensures { (result.unserved ≡ []) × (result.is_fresh ≡ true) × (result.is_watched ≡ false) }
+impl<T: NonblockingStream> Client<T> {
+    // A connection that was not looked at yet: none without memory.
+    fn new(alloc: Global, stream: T, slot: usize) -> Option<Client<T>>
+        ensures { IfSome result (λ it. (it.unserved ≡ []) × (it.is_fresh ≡ true)
+            × (it.is_watched ≡ false)) }
     {
-        Client {
+        Some(Client {
             stream,
-            unserved: UnservedBytes::new(alloc),
+            unserved: UnservedBytes::new(alloc).ok()?,
             ahead: Lookahead::Nothing,
             slot,
             is_fresh: true,
             is_watched: false,
-        }
+        })
     }
 
     /// What stands ahead, by what was read of its stream and can be read now.
     pub(crate) fn look_ahead(&mut self, room: &mut [u8]) -> Lookahead
-        ensures seen { StandsAhead self.new.unserved result }
+        ensures seen { StandsAhead (length room.old) (T.gives self.new.stream)
+            (T.left self.new.stream) self.new.unserved result }
         ensures front { StaysInFront self.old.unserved self.new.unserved }
     {
-        let mut stream = self.stream.as_ref();
-        look_ahead(&mut self.unserved, &mut stream, room).unwrap_or(Lookahead::End)
+        look_ahead(&mut self.unserved, &mut self.stream, room)
+    }
+
+    // Throws away what has come, and returns whether more may come: none after its end, or once it
+    // is lost, and none is waited for after so many pieces.
+    fn throw_away(&mut self) -> bool
+        ensures yet { result ≡ true → T.gives self.new.stream (Err Yet) }
+        ensures gone { result ≡ false → IsSpent (T.gives self.new.stream)
+            (T.left self.old.stream) (T.left self.new.stream) }
+        ensures same { (self.new.is_fresh ≡ self.old.is_fresh)
+            × (self.new.is_watched ≡ self.old.is_watched) }
+    {
+        let mut piece = [0; PIECE];
+        for _piece in 0..MOST_PIECES {
+            match self.stream.receive(&mut piece) {
+                Ok(0) => return false,
+                Ok(_) => {}
+                Err(NoBytes::Yet) => return true,
+                Err(NoBytes::Ever) => return false,
+            }
+        }
+        false
     }
 
     /// From now on it is looked at anew.
@@ -124,10 +148,10 @@ fn deaf_until(now: Duration) -> Duration
 
 /// A door at which those who call are accepted.
 #[derive(Drop)]
-pub struct Door<'a> {
-    rt: &'a HostRuntime,
+pub struct Door<'a, C, L> {
+    clock: &'a C,
     alloc: Global,
-    listener: TcpListener,
+    listener: L,
     // What a look reads comes here first.
     room: Vec<u8>,
     poll: Poll,
@@ -143,7 +167,8 @@ pub struct Door<'a> {
     watches: bool,
     // Until when nobody is accepted.
     deaf_until: Duration,
-    // Whether the last who was accepted has a descriptor that is to be left to the room itself.
+    // Whether the last who was accepted has a descriptor that is to be left to the room itself, or
+    // there was no memory for it.
     is_full: bool,
     // Up to this one descriptors are not left to the room itself.
     known: RawFd,
@@ -163,14 +188,21 @@ fn poll_of(rt: &HostRuntime, listener: &TcpListener) -> io::Result<Poll> {
     Ok(poll)
 }
 
-impl<'a> Door<'a> {
+/// A door of the system.
+pub type HostDoor<'a> = Door<'a, HostRuntime, TcpListener>;
+
+impl<'a> Door<'a, HostRuntime, TcpListener> {
     /// The door where this listens.
-    pub fn new(rt: &'a HostRuntime, alloc: Global, listener: TcpListener) -> io::Result<Door<'a>> {
+    pub fn new(
+        rt: &'a HostRuntime,
+        alloc: Global,
+        listener: TcpListener,
+    ) -> io::Result<HostDoor<'a>> {
         listener.set_nonblocking(true)?;
         set_nodelay(&listener)?;
         let poll = poll_of(rt, &listener)?;
         Ok(Door {
-            rt,
+            clock: rt,
             alloc,
             listener,
             room: vec![in alloc; 0; INBOX_ROOM]?,
@@ -186,7 +218,9 @@ impl<'a> Door<'a> {
             known: 0,
         })
     }
+}
 
+impl<'a, C: MonotonicClock, L: NonblockingListener> Door<'a, C, L> {
     /// What can be read from once someone moves who is watched, or calls.
     pub(crate) fn set(&self) -> RawFd {
         self.poll.as_raw_fd()
@@ -203,9 +237,9 @@ impl<'a> Door<'a> {
     }
 
     // Lets the moves of one be reported. Where that can't be, it is looked at whoever has moved.
-    fn watch(&self, client: &mut Client)
+    fn watch(&self, client: &mut Client<L::Stream>)
         ensures same { (client.new.unserved ≡ client.old.unserved)
-            × (client.new.ahead ≡ client.old.ahead) }
+            × (client.new.ahead ≡ client.old.ahead) × (client.new.stream ≡ client.old.stream) }
         ensures again { client.new.is_watched ≡ false → client.new.is_fresh ≡ true }
     {
         if client.is_watched {
@@ -222,8 +256,9 @@ impl<'a> Door<'a> {
 
     // Looks at what stands ahead of one now. Who may still speak is looked at again, whoever has
     // moved, until its moves are reported.
-    fn look_anew(&mut self, client: &mut Client)
-        ensures seen { StandsAhead client.new.unserved client.new.ahead }
+    fn look_anew(&mut self, client: &mut Client<L::Stream>)
+        ensures seen { StandsAhead (length self.old.room.items) (L.Stream.gives client.new.stream)
+            (L.Stream.left client.new.stream) client.new.unserved client.new.ahead }
         ensures again { may_grow client.new.ahead ≡ true → client.new.is_watched ≡ false
             → client.new.is_fresh ≡ true }
     {
@@ -239,7 +274,7 @@ impl<'a> Door<'a> {
     }
 
     /// Lets the moves of one not be reported any longer.
-    pub(crate) fn release(&self, client: &mut Client)
+    pub(crate) fn release(&self, client: &mut Client<L::Stream>)
         ensures { client.new ≡ record client.old { is_watched = false } }
     {
         if client.is_watched {
@@ -250,7 +285,9 @@ impl<'a> Door<'a> {
     }
 
     // Notes why nobody could be accepted.
-    fn note(&mut self, error: &Error) {
+    fn note(&mut self, error: &Error)
+        ensures { self.new.listener ≡ self.old.listener }
+    {
         match error.kind() {
             ErrorKind::WouldBlock => self.is_called = false,
             ErrorKind::ConnectionAborted => {}
@@ -259,9 +296,11 @@ impl<'a> Door<'a> {
     }
 
     // Accepts nobody for a while. Since then more descriptors may be left to the room itself.
-    fn pause(&mut self) {
+    fn pause(&mut self)
+        ensures { (self.new.is_full ≡ self.old.is_full) × (self.new.listener ≡ self.old.listener) }
+    {
         self.known = 0;
-        if let Ok(now) = self.rt.monotonic() {
+        if let Some(now) = self.clock.now() {
             self.deaf_until = deaf_until(now);
         }
     }
@@ -308,46 +347,51 @@ impl<'a> Door<'a> {
         is_spare
     }
 
-    // One who was accepted: none where its stream can't be had.
-    fn admitted(&mut self, stream: TcpStream) -> Option<Client>
+    // One who was accepted: none without memory.
+    fn admitted(&mut self, stream: L::Stream) -> Option<Client<L::Stream>>
         ensures fresh { IfSome result (λ client. (client.unserved ≡ [])
             × (client.is_fresh ≡ true)) }
+        ensures none { result ≡ None → self.new.is_full ≡ true }
     {
         // To ask whether more call costs less than an accept that finds none.
         self.is_called = is_readable(self.listener.as_raw_fd());
         // The system is asked only where it gave none as high before.
         let fd = stream.as_raw_fd();
         self.is_full = fd > self.known && self.is_spare(fd, first_spare());
-        stream.set_nonblocking(true).ok()?;
-        let stream = Rc::new(self.alloc, stream).ok()?;
         let slot = self.slot;
         let next = slot.saturating_add(1);
         self.slot = if next < SLOTS { next } else { 0 };
-        Some(Client::new(self.alloc, stream, slot))
+        let client = Client::new(self.alloc, stream, slot);
+        self.is_full = self.is_full || client.is_none();
+        client
     }
 
     // Whether the next descriptor is one of those that are left to the room itself.
     fn lacks_descriptors(&self) -> bool {
-        match self.listener.try_clone() {
-            Ok(listener) => listener.as_raw_fd() >= first_spare(),
-            Err(_) => true,
+        match self.listener.next_descriptor() {
+            Some(next) => next >= first_spare(),
+            None => true,
         }
     }
 
     // Whether nobody is accepted for a while.
-    fn is_deaf(&self) -> bool {
-        match self.rt.monotonic() {
-            Ok(now) => !is_over(now, self.deaf_until),
-            Err(_) => true,
+    fn is_deaf(&self) -> bool
+        ensures { result ≡ true → IsDeaf (C.shows self.now.clock.now) self.now.deaf_until }
+    {
+        match self.clock.now() {
+            Some(now) => !is_over(now, self.deaf_until),
+            None => true,
         }
     }
 }
 
-// What is said on a socket no contract can say.
-impl<'a> Entrance for Door<'a> {
-    type Caller = Client;
+// Who calls and what is said no contract can say.
+impl<'a, C: MonotonicClock, L: NonblockingListener> Entrance for Door<'a, C, L> {
+    type Caller = Client<L::Stream>;
 
-    ghost use Rattle.std.specs.Prelude.{None, ⊤};
+    ghost use Rattle.std.specs.Prelude.{None};
+    ghost use Rattle.dispatch_room_sockets.specs.Departures.{IsSpent};
+    ghost use Rattle.dispatch_room_sockets.specs.Moves.{IsDone};
 
     ghost came = { λ _. None };
 
@@ -355,16 +399,22 @@ impl<'a> Entrance for Door<'a> {
 
     ghost is_watched = { λ _ client. client.is_watched };
 
-    ghost is_done = { λ _. ⊤ };
+    ghost is_done = { λ door. IsDone door.is_called door.is_full (L.is_deaf door.listener)
+        (C.shows door.clock.now) door.deaf_until };
+
+    ghost has_gone = { λ old new. IsSpent (L.Stream.gives new.stream) (L.Stream.left old.stream)
+        (L.Stream.left new.stream) };
 
     ghost waits = { λ _. None };
 
-    ghost shows = { λ _ _. ⊤ };
+    ghost shows = { λ door. C.shows door.clock.now };
 
     // Beside what each entrance ensures: the next look includes who was accepted.
-    fn accept(&mut self) -> Option<Client>
+    fn accept(&mut self) -> Option<Client<L::Stream>>
         ensures fresh { IfSome result (λ client. (client.unserved ≡ [])
             × (client.is_fresh ≡ true)) }
+        ensures none { result ≡ None → IsDone self.new.is_called self.new.is_full
+            (L.is_deaf self.new.listener) (C.shows self.new.clock.now) self.new.deaf_until }
     {
         if !self.is_called || self.is_deaf() {
             return None;
@@ -373,8 +423,8 @@ impl<'a> Entrance for Door<'a> {
             self.pause();
             return None;
         }
-        match self.listener.accept() {
-            Ok((stream, _)) => self.admitted(stream),
+        match self.listener.take(self.alloc) {
+            Ok(stream) => self.admitted(stream),
             Err(error) => {
                 self.note(&error);
                 None
@@ -382,12 +432,17 @@ impl<'a> Entrance for Door<'a> {
         }
     }
 
-    // Beside what each entrance ensures: what was heard is what stands ahead.
-    fn look(&mut self, client: &mut Client) -> Heard
+    // Beside what each entrance ensures: what was heard is what stands ahead. Who has not moved
+    // stays as it is.
+    fn look(&mut self, client: &mut Client<L::Stream>) -> Heard
         ensures said { result ≡ heard_of client.new.ahead }
         ensures seen { (client.old.is_fresh
             || has_moved self.old.moved.items self.old.wait client.old.slot) ≡ true
-            → StandsAhead client.new.unserved client.new.ahead }
+            → StandsAhead (length self.old.room.items) (L.Stream.gives client.new.stream)
+            (L.Stream.left client.new.stream) client.new.unserved client.new.ahead }
+        ensures rests { (client.old.is_fresh
+            || has_moved self.old.moved.items self.old.wait client.old.slot) ≡ false
+            → client.new ≡ client.old }
     {
         if !client.is_fresh && !self.has_moved(client.slot) {
             return client.ahead.heard();
@@ -396,28 +451,19 @@ impl<'a> Entrance for Door<'a> {
         client.ahead.heard()
     }
 
-    fn throw_away(&mut self, client: &mut Client) -> bool {
+    fn throw_away(&mut self, client: &mut Client<L::Stream>) -> bool {
         if !client.is_fresh && !self.has_moved(client.slot) {
             return true;
         }
         client.is_fresh = false;
-        let mut piece = [0; PIECE];
-        let mut stream = client.stream.as_ref();
-        for _piece in 0..MOST_PIECES {
-            match stream.read(&mut piece) {
-                Ok(0) => return false,
-                Ok(_) => {}
-                Err(error) if error.kind() == ErrorKind::WouldBlock => {
-                    self.watch(client);
-                    return true;
-                }
-                Err(_) => return false,
-            }
+        let stays = client.throw_away();
+        if stays {
+            self.watch(client);
         }
-        false
+        stays
     }
 
-    fn is_watched(&self, client: &Client) -> bool {
+    fn is_watched(&self, client: &Client<L::Stream>) -> bool {
         client.is_watched
     }
 
@@ -425,12 +471,12 @@ impl<'a> Entrance for Door<'a> {
         let most = self.begin_wait(most);
         match self.poll.poll(&mut self.events, Some(most)) {
             Ok(_) => self.note_moves(),
-            Err(_) => thread::sleep(self.rt, Duration::from_millis(PAUSE)),
+            Err(_) => self.clock.rest(Duration::from_millis(PAUSE)),
         }
-        self.rt.monotonic().ok()
+        self.clock.now()
     }
 
     fn now(&self) -> Option<Duration> {
-        self.rt.monotonic().ok()
+        self.clock.now()
     }
 }

@@ -1,5 +1,5 @@
 //! Where those who call come in, and where they are looked at.
-ghost use Rattle.std.specs.Prelude.{◌≡◌, Bool, List, [], ◌∷◌, None, Option, option_to_list};
+ghost use Rattle.std.specs.Prelude.{◌≡◌, Bool, List, [], ◌∷◌, None, Option, false, option_to_list};
 ghost use Rattle.std.specs.declared.time.Duration.{Duration as Moment};
 ghost use Rattle.room_http_messages.specs.Streams.{Grows};
 ghost use Rattle.dispatch_room_sockets.specs.Pauses.{Wait};
@@ -29,6 +29,9 @@ pub trait Entrance: Drop {
     // Each wait so far, where they are known.
     ghost waits: { Self → Option (List Wait) };
 
+    // One has said all that it will, or too much, since it was so, as far as that is known.
+    ghost has_gone: { Self.Caller → Self.Caller → Type 0 };
+
     // What the clock may show, as far as that is known.
     ghost shows: { Self → Option Moment → Type 0 };
 
@@ -47,6 +50,7 @@ pub trait Entrance: Drop {
 
     /// Throws away what comes on a closing connection, and returns whether more may come.
     fn throw_away(&mut self, caller: &mut Self::Caller) -> bool
+        ensures gone { result ≡ false → has_gone caller.old caller.new }
         ensures came { came self.new ≡ came self.old }
         ensures heard { heard self.new ≡ heard self.old }
         ensures waits { waits self.new ≡ waits self.old };

@@ -1,11 +1,12 @@
 //! Closing connections: the writing side of each is shut, and what the peer still sends is read and
 //! thrown away between looks at the others, so that nobody waits for it.
-ghost use Rattle.std.specs.Prelude.{◌≤◌, ◌<◌, All, true};
+ghost use Rattle.std.specs.Prelude.{◌⊎◌, ◌≤◌, ◌<◌, All, true};
 ghost use Rattle.std.specs.Duration.{as_nanos};
 ghost use Rattle.std.specs.VecDeque.{deque_len, deque_capacity};
 ghost use Rattle.std.specs.Prelude.{◌≡◌, None, false, filter, if◌then◌else◌};
 ghost use Rattle.dispatch_room_sockets.specs.Departures.{is_due, is_resting};
 ghost use Rattle.dispatch_room_sockets.specs.Pauses.{looked_at_by};
+ghost use Rattle.dispatch_room_sockets.specs.Verdicts.{is_over};
 
 use crate::entrances::Entrance;
 use crate::kept_callers::is_over;
@@ -87,6 +88,8 @@ fn stays<E: Entrance>(entrance: &mut E, leaver: &mut Leaver<E::Caller>, now: Dur
     ensures in_time { result ≡ true → as_nanos now < as_nanos leaver.new.until }
     ensures rests { is_resting now leaver.old ≡ true → (result ≡ true) × (leaver.new ≡ leaver.old) }
     ensures due { is_resting now leaver.old ≡ false → is_resting now leaver.new ≡ false }
+    ensures gone { result ≡ false → (is_over now leaver.old.until ≡ true)
+        ⊎ E.has_gone leaver.old.caller leaver.new.caller }
     ensures came { E.came entrance.new ≡ E.came entrance.old }
     ensures heard { E.heard entrance.new ≡ E.heard entrance.old }
     ensures waits { E.waits entrance.new ≡ E.waits entrance.old }

@@ -12,6 +12,8 @@ mod leavers;
 mod lines;
 pub mod lingering_close;
 pub mod lookaheads;
+pub mod monotonic_clocks;
+pub mod nonblocking_streams;
 pub mod pieces;
 mod read_deadlines;
 pub mod readiness;

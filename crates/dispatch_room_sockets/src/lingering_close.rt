@@ -6,11 +6,12 @@ ghost use Rattle.dispatch_room_sockets.specs.LingeringClose.{Does, IsDrained, Is
 ghost use Rattle.dispatch_room_sockets.specs.LingeringClose.{drains_until, shut, threw};
 ghost use Rattle.dispatch_room_sockets.specs.Discards.{ThrowsAway};
 
+use crate::monotonic_clocks::MonotonicClock;
 use crate::socket_readers::SocketReader;
 use crate::socket_writers::SocketWriter;
 use std::io::{Read, Write};
 use std::net::OpenStream;
-use std::time::{Clock, Duration};
+use std::time::Duration;
 
 // How many pieces are thrown away, at most.
 const MOST_PIECES: u32 = 4096;
@@ -95,7 +96,7 @@ pub struct Peer<'a, T, C> {
     writer: SocketWriter<'a, T, C>,
 }
 
-impl<'a, T: Read + Write + OpenStream, C: Clock> Peer<'a, T, C> {
+impl<'a, T: Read + Write + OpenStream, C: MonotonicClock> Peer<'a, T, C> {
     /// The peer from which one side was read, and to which the other was written.
     pub fn new(reader: SocketReader<'a, T, C>, writer: SocketWriter<'a, T, C>) -> Peer<'a, T, C>
         ensures { result ≡ record { reader = reader.entry; writer = writer.entry } }
@@ -105,7 +106,7 @@ impl<'a, T: Read + Write + OpenStream, C: Clock> Peer<'a, T, C> {
 }
 
 // What was done with a socket no contract can say.
-impl<'a, T: Read + Write + OpenStream, C: Clock> Parting for Peer<'a, T, C> {
+impl<'a, T: Read + Write + OpenStream, C: MonotonicClock> Parting for Peer<'a, T, C> {
     ghost left = { λ peer. T.remaining peer.reader.stream };
 
     ghost done = { λ _. None };

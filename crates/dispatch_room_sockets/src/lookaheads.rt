@@ -1,16 +1,15 @@
 //! What stands ahead in a stream, before any of it is served.
 ghost use Rattle.std.specs.Io.KnownBytes.{Keeps, prepend_known};
-ghost use Rattle.std.specs.Prelude.{◌≡◌, ◌≤◌, IfOk, OnOk, length};
+ghost use Rattle.std.specs.Prelude.{◌≡◌, ◌≤◌, false, length, true};
 ghost use Rattle.room_http_messages.specs.declared.limits.TheConstants.{INBOX_ROOM};
-ghost use Rattle.dispatch_room_sockets.specs.Lookaheads.{IsSeen, LookaheadIs, StaysInFront};
+ghost use Rattle.dispatch_room_sockets.specs.Lookaheads.{LookaheadIs, StandsAhead, StaysInFront};
 ghost use Rattle.dispatch_room_sockets.specs.Lookaheads.{heard_of, may_grow};
 
 use crate::kept_callers::Heard;
+use crate::nonblocking_streams::{NoBytes, NonblockingStream};
 use crate::unserved_bytes::UnservedBytes;
 use room_http_messages::limits::INBOX_ROOM;
 use room_http_messages::message_prefixes::{MessagePrefix, look_at};
-use room_http_messages::sources::ReadFailed;
-use std::io::Read;
 
 /// What stands ahead in a stream.
 #[derive(Clone, Copy)]
@@ -28,38 +27,38 @@ pub enum Lookahead {
 }
 
 /// What stands ahead in a stream that doesn't block, by what was read of it and can be read now, by
-/// way of some room. Once that is more than a part, no more is read. It fails where the stream is
-/// lost.
-pub(crate) fn look_ahead<T: Read>(
+/// way of some room. Once that is more than a part, no more is read.
+pub(crate) fn look_ahead<T: NonblockingStream>(
     unserved: &mut UnservedBytes,
     stream: &mut T,
     room: &mut [u8],
-) -> Result<Lookahead, ReadFailed>
-    ensures seen { IfOk result (IsSeen (length room.old) unserved.new (T.remaining stream.new)) }
-    ensures kept { OnOk result (Keeps
-        (prepend_known unserved.old (T.remaining stream.old))
-        (prepend_known unserved.new (T.remaining stream.new))) }
+) -> Lookahead
+    ensures seen { StandsAhead (length room.old) (T.gives stream.new) (T.left stream.new)
+        unserved.new result }
+    ensures kept { Keeps (prepend_known unserved.old (T.left stream.old))
+        (prepend_known unserved.new (T.left stream.new)) }
     ensures front { StaysInFront unserved.old unserved.new }
 {
     for _read in 0..INBOX_ROOM {
         let ahead = lookahead_of(unserved.bytes(), false);
         if !ahead.may_grow() {
-            return Ok(ahead);
+            return ahead;
         }
-        match unserved.fill(stream, room)? {
-            Some(0) => return Ok(lookahead_of(unserved.bytes(), true)),
-            Some(_) => {}
-            None => break,
+        match unserved.fill(stream, room) {
+            Ok(0) => return lookahead_of(unserved.bytes(), true),
+            Ok(_) => {}
+            Err(NoBytes::Yet) => return ahead,
+            Err(NoBytes::Ever) => return Lookahead::End,
         }
     }
-    Ok(lookahead_of(unserved.bytes(), false))
+    lookahead_of(unserved.bytes(), false)
 }
 
 // What these bytes are at the front of a stream that has ended after them or may go on. It is said
 // by what reads them.
 fn lookahead_of(bytes: &[u8], has_ended: bool) -> Lookahead
     requires { length bytes.now ≤ INBOX_ROOM }
-    ensures { LookaheadIs bytes.now has_ended result }
+    ensures { LookaheadIs (has_ended ≡ true) (has_ended ≡ false) bytes.now result }
 {
     if bytes.is_empty() {
         return if has_ended {

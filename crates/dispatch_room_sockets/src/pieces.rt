@@ -1,21 +1,24 @@
 //! A connection is served in pieces: each is whole requests, and between two of them others are
 //! served.
-ghost use Rattle.std.specs.Prelude.{◌≡◌, ◌*◌, ◌-◌, ◌≤◌, ◌||◌, if◌then◌else◌, IfOk, IfSome, None};
-ghost use Rattle.std.specs.Prelude.{false, is_err, length, true, ◌&&◌, ◌≢◌, not, option_map, take};
-ghost use Rattle.std.specs.Duration.{as_nanos};
+ghost use Rattle.std.specs.Prelude.{◌≡◌, ◌⊎◌, ◌+◌, ◌*◌, ◌-◌, ◌≤◌, ◌||◌, if◌then◌else◌, IfOk};
+ghost use Rattle.std.specs.Prelude.{IfSome, None, Some, Err, OnErr, false, is_err, length, true};
+ghost use Rattle.std.specs.Prelude.{◌&&◌, ◌≢◌, min, not, option_map, take};
+ghost use Rattle.std.specs.Duration.{as_nanos, max_nanos};
 ghost use Rattle.std.specs.Io.KnownBytes.{ReadConsumes, prepend_known};
 ghost use Rattle.dispatch_room_sockets.specs.Lookaheads.{StandsAhead, StaysInFront};
 ghost use Rattle.dispatch_room_sockets.specs.Pieces.{Begins, GivesAhead, GivesFront, IsPieceRead};
 ghost use Rattle.dispatch_room_sockets.specs.Pieces.{given_of};
-ghost use Rattle.dispatch_room_sockets.specs.PieceTurns.{GivesPiece, TakesBack};
+ghost use Rattle.dispatch_room_sockets.specs.PieceTurns.{BeginsTurn, GivesPiece, TakesBack};
 ghost use Rattle.dispatch_room_sockets.specs.Turns.{is_turn_over};
 ghost use Rattle.dispatch_room_sockets.specs.declared.lookaheads.Lookahead.TheVariants.{Nothing};
+ghost use Rattle.dispatch_room_sockets.specs.declared.nonblocking_streams.NoBytes.{NoBytes};
 ghost use Rattle.room_http_messages.specs.Streams.{CountsBy, found_end, known_count};
 
 use crate::doors::{Client, Door, PAUSE};
-use crate::entrances::Entrance;
 use crate::kept_callers::{Kept, is_over};
 use crate::lookaheads::Lookahead;
+use crate::monotonic_clocks::MonotonicClock;
+use crate::nonblocking_streams::{NonblockingListener, NonblockingStream};
 use crate::readiness::readable_before;
 use crate::shared_streams::SharedStream;
 use crate::socket_writers::SocketWriter;
@@ -23,10 +26,10 @@ use crate::unserved_bytes::UnservedBytes;
 use crate::waiting_callers::Waiting;
 use room_http_messages::limits::INBOX_ROOM;
 use room_http_messages::sources::{ReadFailed, Source};
-use std::io::Read;
-use std::os::fd::RawFd;
-use std::thread;
-use std::time::{Clock, Duration};
+use std::net::TcpStream;
+use std::os::fd::{AsRawFd, RawFd};
+use std::rc::Rc;
+use std::time::Duration;
 
 // How many milliseconds one who asks without a pause is served while others move.
 const TURN: u64 = 50;
@@ -38,9 +41,9 @@ const MOST_READS: u32 = 50_000;
 /// its turn is over. None of the bytes of a request is given before that is whole, its time is over
 /// or it can't be whole any more.
 #[derive(Drop)]
-pub struct PieceReader<'a> {
-    rt: &'a HostRuntime,
-    kept: Kept<Client>,
+pub struct PieceReader<'a, C, T> {
+    clock: &'a C,
+    kept: Kept<Client<T>>,
     // What can be read from once someone else moves.
     elsewhere: RawFd,
     // Until when it goes on while nobody else moves.
@@ -63,20 +66,21 @@ pub struct PieceReader<'a> {
 
 // Takes what comes next of a stream: what was read ahead of it, and where all that is served, what
 // can be read of it now.
-fn take_from<T: Read>(
+fn take_from<T: NonblockingStream>(
     unserved: &mut UnservedBytes,
     stream: &mut T,
     buf: &mut [u8],
 ) -> Result<usize, ReadFailed>
     ensures bound { IfOk result (λ n. n ≤ length buf.new) }
-    ensures bytes { ReadConsumes (prepend_known unserved.old (T.remaining stream.old))
-        (prepend_known unserved.new (T.remaining stream.new)) result buf.new }
+    ensures bytes { ReadConsumes (prepend_known unserved.old (T.left stream.old))
+        (prepend_known unserved.new (T.left stream.new)) result buf.new }
     ensures ahead { GivesAhead unserved.old unserved.new result buf.new }
+    ensures lost { OnErr result ((e : NoBytes) × T.gives stream.new (Err e)) }
 {
     if !unserved.is_empty() {
         return Ok(unserved.give(buf));
     }
-    match stream.read(buf) {
+    match stream.receive(buf) {
         Ok(count) => Ok(count),
         Err(_) => Err(ReadFailed),
     }
@@ -103,23 +107,25 @@ fn is_turn_over(reads: u32, now: Duration, only_until: Duration, turn_ends: Dura
     reads > MOST_READS || is_over(now, only_until) && is_over(now, turn_ends)
 }
 
-impl<'a> PieceReader<'a> {
+impl<'a, C: MonotonicClock, T: NonblockingStream + AsRawFd> PieceReader<'a, C, T> {
     // The piece that begins with what stands ahead, and whose turn begins now. It goes on so long
     // while nobody else moves.
     fn new(
-        rt: &'a HostRuntime,
-        kept: Kept<Client>,
+        clock: &'a C,
+        kept: Kept<Client<T>>,
         elsewhere: RawFd,
         pause: Duration,
         now: Duration,
-    ) -> PieceReader<'a>
+    ) -> PieceReader<'a, C, T>
         ensures sound { result.failed ≡ false }
         ensures kept { result.kept ≡ kept }
         ensures begins { (result.is_first ≡ true) × (result.is_paused ≡ false)
             × (result.ended ≡ false) × (result.reads ≡ 0) }
+        ensures turn { (as_nanos result.only_until ≡ min (as_nanos now + as_nanos pause) max_nanos)
+            × (as_nanos result.turn_ends ≡ min (as_nanos now + 50_000_000) max_nanos) }
     {
         PieceReader {
-            rt,
+            clock,
             kept,
             elsewhere,
             only_until: now.saturating_add(pause),
@@ -141,7 +147,9 @@ impl<'a> PieceReader<'a> {
         ensures number { self.new.kept.number ≡ self.old.kept.number }
         ensures front { StaysInFront self.old.kept.caller.unserved self.new.kept.caller.unserved }
         ensures seen { self.old.is_first ≡ false → self.new.kept.caller.ahead ≢ Nothing
-            → StandsAhead self.new.kept.caller.unserved self.new.kept.caller.ahead }
+            → StandsAhead (length room.old) (T.gives self.new.kept.caller.stream)
+            (T.left self.new.kept.caller.stream) self.new.kept.caller.unserved
+            self.new.kept.caller.ahead }
         ensures turn { self.old.is_first ≡ false → self.new.kept.caller.ahead ≢ Nothing
             → self.new.reads ≤ 50_000 }
         ensures same { (self.new.failed ≡ self.old.failed) × (self.new.ended ≡ self.old.ended)
@@ -178,7 +186,9 @@ impl<'a> PieceReader<'a> {
     // What stands ahead after a request. Where nothing was read of it, it is waited for while
     // nobody else moves.
     fn next(&mut self, room: &mut [u8]) -> Lookahead
-        ensures seen { result ≢ Nothing → StandsAhead self.new.kept.caller.unserved result }
+        ensures seen { result ≢ Nothing → StandsAhead (length room.old)
+            (T.gives self.new.kept.caller.stream) (T.left self.new.kept.caller.stream)
+            self.new.kept.caller.unserved result }
         ensures front { StaysInFront self.old.kept.caller.unserved self.new.kept.caller.unserved }
         ensures turn { result ≢ Nothing → self.new.reads ≤ 50_000 }
         ensures same { (self.new.failed ≡ self.old.failed) × (self.new.ended ≡ self.old.ended)
@@ -186,7 +196,7 @@ impl<'a> PieceReader<'a> {
         ensures first { self.new.is_first ≡ self.old.is_first }
         ensures number { self.new.kept.number ≡ self.old.kept.number }
     {
-        let Ok(now) = self.rt.monotonic() else {
+        let Some(now) = self.clock.now() else {
             return Lookahead::Nothing;
         };
         let is_empty = self.kept.caller.unserved.is_empty();
@@ -195,7 +205,7 @@ impl<'a> PieceReader<'a> {
         } else {
             Duration::ZERO
         };
-        let stream = self.kept.caller.stream.as_ref();
+        let stream = self.kept.caller.stream.as_raw_fd();
         let (is_readable, is_elsewhere) = readable_before(stream, self.elsewhere, most);
         if is_elsewhere {
             self.only_until = now;
@@ -210,9 +220,9 @@ impl<'a> PieceReader<'a> {
     fn has_had_its_turn(&self) -> bool
         ensures { result ≡ false → self.now.reads ≤ 50_000 }
     {
-        match self.rt.monotonic() {
-            Ok(now) => is_turn_over(self.reads, now, self.only_until, self.turn_ends),
-            Err(_) => true,
+        match self.clock.now() {
+            Some(now) => is_turn_over(self.reads, now, self.only_until, self.turn_ends),
+            None => true,
         }
     }
 
@@ -224,6 +234,7 @@ impl<'a> PieceReader<'a> {
         ensures left { IfOk result (λ n. self.new.left ≡ self.old.left - n) }
         ensures ahead { GivesAhead self.old.kept.caller.unserved self.new.kept.caller.unserved
             result (take self.old.left buf.new) }
+        ensures lost { OnErr result ((e : NoBytes) × T.gives self.new.kept.caller.stream (Err e)) }
         ensures same { (self.new.failed ≡ self.old.failed) × (self.new.ended ≡ self.old.ended)
             × (self.new.reads ≡ self.old.reads) × (self.new.is_paused ≡ self.old.is_paused) }
         ensures begun { (self.new.is_first ≡ self.old.is_first)
@@ -232,8 +243,7 @@ impl<'a> PieceReader<'a> {
     {
         let most = buf.len().min(self.left);
         let client = &mut self.kept.caller;
-        let mut stream = client.stream.as_ref();
-        let count = take_from(&mut client.unserved, &mut stream, &mut buf[..most])?;
+        let count = take_from(&mut client.unserved, &mut client.stream, &mut buf[..most])?;
         self.left = self.left.saturating_sub(count);
         Ok(count)
     }
@@ -243,6 +253,7 @@ impl<'a> PieceReader<'a> {
         ensures bound { IfOk result (λ n. n ≤ length buf.new) }
         ensures piece { IsPieceRead (length buf.old) self.old self.new result }
         ensures front { GivesFront (length buf.old) self.old self.new result buf.new }
+        ensures lost { OnErr result ((e : NoBytes) × T.gives self.new.kept.caller.stream (Err e)) }
         ensures same { (self.new.failed ≡ self.old.failed) × (self.new.ended ≡ self.old.ended)
             × (self.new.reads ≡ self.old.reads) }
     {
@@ -279,7 +290,7 @@ impl<'a> PieceReader<'a> {
     }
 }
 
-impl<'a> Source for PieceReader<'a> {
+impl<'a, C: MonotonicClock, T: NonblockingStream + AsRawFd> Source for PieceReader<'a, C, T> {
     ghost left = { λ _. None };
 
     ghost reads = { λ r. known_count r.reads };
@@ -288,8 +299,9 @@ impl<'a> Source for PieceReader<'a> {
 
     ghost has_ended = { λ r. r.ended };
 
-    // Beside what each source ensures: where the piece pauses, how much is given at most, and that
-    // no byte that was read ahead is lost or given twice.
+    // Beside what each source ensures: where the piece pauses, how much is given at most, that no
+    // byte that was read ahead is lost or given twice, and that it fails only where the stream gave
+    // nothing.
     fn read(&mut self, buf: &mut [u8]) -> Result<usize, ReadFailed>
         ensures bound { IfOk result (λ n. n ≤ length buf.new) }
         ensures bytes { ReadConsumes None None result buf.new }
@@ -298,6 +310,7 @@ impl<'a> Source for PieceReader<'a> {
         ensures ended { self.new.ended ≡ (self.old.ended || found_end result (length buf.new)) }
         ensures piece { IsPieceRead (length buf.old) self.old self.new result }
         ensures front { GivesFront (length buf.old) self.old self.new result buf.new }
+        ensures lost { OnErr result ((e : NoBytes) × T.gives self.new.kept.caller.stream (Err e)) }
     {
         self.reads = self.reads.saturating_add(1);
         let given = self.give(buf);
@@ -306,30 +319,41 @@ impl<'a> Source for PieceReader<'a> {
     }
 }
 
-/// What is written to on a connection.
-pub type PieceWriter<'a> = SocketWriter<'a, SharedStream, HostRuntime>;
+/// What is written to in a piece.
+type Writer<'a, C, T> = SocketWriter<'a, SharedStream<T>, C>;
+
+/// The sides of a piece of a connection of the system.
+pub type HostReader<'a> = PieceReader<'a, HostRuntime, Rc<TcpStream>>;
+
+pub type HostWriter<'a> = Writer<'a, HostRuntime, Rc<TcpStream>>;
 
 // What is written to in a turn of one who is to be served, and the moment that it is. Without
 // memory or a clock nobody can be served for a while.
-fn begin_turn(rt: &HostRuntime, client: &Client) -> Option<(SharedStream, Duration)>
-    ensures { IfSome result (λ it. it.0.stream.value ≡ client.now.stream.value) }
+fn begin_turn<C: MonotonicClock, T: NonblockingStream + AsRawFd>(
+    clock: &C,
+    client: &Client<T>,
+) -> Option<(SharedStream<T>, Duration)>
+    ensures shown { IfSome result (λ it. C.shows clock.now (Some it.1)) }
+    ensures same { IfSome result (λ it. T.is_same it.0.stream client.now.stream) }
+    ensures none { result ≡ None → T.is_full client.now.stream ⊎ C.shows clock.now None }
 {
-    match (SharedStream::new(&client.stream), rt.monotonic()) {
-        (Ok(stream), Ok(now)) => Some((stream, now)),
+    match (SharedStream::new(&client.stream), clock.now()) {
+        (Some(stream), Some(now)) => Some((stream, now)),
         _ => {
-            thread::sleep(rt, Duration::from_millis(PAUSE));
+            clock.rest(Duration::from_millis(PAUSE));
             None
         }
     }
 }
 
 /// The two sides of the next piece, where someone is to be served: what is written goes to whom it
-/// is read from. Where they can't be made, nobody is given.
-pub fn next_piece<'a>(
-    rt: &'a HostRuntime,
-    waiting: &mut Waiting<Door<'a>>,
+/// is read from. Nobody is given only where nobody is to be served, or where the clock can't be
+/// read or there is no memory.
+pub fn next_piece<'a, C: MonotonicClock, L: NonblockingListener>(
+    clock: &'a C,
+    waiting: &mut Waiting<Door<'a, C, L>>,
     patience: Duration,
-) -> Option<(PieceReader<'a>, PieceWriter<'a>)>
+) -> Option<(PieceReader<'a, C, L::Stream>, Writer<'a, C, L::Stream>)>
     ensures reader { IfSome result (λ sides. sides.0.failed ≡ false) }
     ensures begins { IfSome result (λ sides. (sides.0.is_first ≡ true)
         × (sides.0.is_paused ≡ false) × (sides.0.ended ≡ false) × (sides.0.reads ≡ 0)) }
@@ -337,15 +361,18 @@ pub fn next_piece<'a>(
     ensures patient { IfSome result (λ sides. (sides.1.patience ≡ patience)
         × (as_nanos sides.1.last ≡ u64.MAX * 1_000_000_000)) }
     ensures same_stream { IfSome result (λ sides.
-        sides.1.stream.stream.value ≡ sides.0.kept.caller.stream.value) }
-    ensures given { GivesPiece waiting.old.line.items waiting.new.line.items
-        waiting.old.ready.items waiting.new.ready.items waiting.old.next waiting.new.next
-        (option_map (λ sides. sides.0.kept) result) }
+        L.Stream.is_same sides.1.stream.stream sides.0.kept.caller.stream) }
+    ensures given { GivesPiece (C.shows clock.now) L.Stream.is_full waiting.old.line.items
+        waiting.new.line.items waiting.old.ready.items waiting.new.ready.items waiting.old.next
+        waiting.new.next (option_map (λ sides. sides.0.kept) result) }
+    ensures turn { IfSome result (λ sides. BeginsTurn (C.shows clock.now)
+        waiting.new.line.items waiting.new.ready.items waiting.new.leavers.items
+        sides.0.only_until sides.0.turn_ends) }
     ensures times { (waiting.new.keep ≡ waiting.old.keep)
         × (waiting.new.patience ≡ waiting.old.patience) }
 {
     waiting.hear();
-    let (stream, now) = begin_turn(rt, &waiting.first()?.caller)?;
+    let (stream, now) = begin_turn(clock, &waiting.first()?.caller)?;
     let mut kept = waiting.next()?;
     let pause = if waiting.is_awaited() {
         Duration::ZERO
@@ -357,18 +384,20 @@ pub fn next_piece<'a>(
     let elsewhere = door.set();
     // Each answer has its patience: there is no last moment for all of them.
     let last = Duration::from_secs(u64::MAX);
-    let writer = SocketWriter::new(stream, rt, patience, last);
-    Some((PieceReader::new(rt, kept, elsewhere, pause, now), writer))
+    let writer = SocketWriter::new(stream, clock, patience, last);
+    Some((PieceReader::new(clock, kept, elsewhere, pause, now), writer))
 }
 
 /// Takes the sides of a piece back that was served. Where the stream may go on, its next request is
 /// waited for among the others; else it is parted from. Who got no answer is dropped.
-pub fn take_back<'a>(
-    waiting: &mut Waiting<Door<'a>>,
-    reader: PieceReader<'a>,
-    writer: PieceWriter<'a>,
+pub fn take_back<'a, C: MonotonicClock, L: NonblockingListener>(
+    waiting: &mut Waiting<Door<'a, C, L>>,
+    reader: PieceReader<'a, C, L::Stream>,
+    writer: Writer<'a, C, L::Stream>,
 )
-    ensures taken { TakesBack waiting.old.keep reader.entry.kept reader.entry.is_paused
+    ensures taken { TakesBack (C.shows waiting.old.entrance.clock.now) L.Stream.is_stuck
+        waiting.old.keep
+        reader.entry.kept reader.entry.is_paused (not (reader.entry.failed || reader.entry.ended))
         (if writer.entry.failed then None else writer.entry.until) waiting.old.line.items
         waiting.new.line.items waiting.old.ready.items waiting.old.next
         waiting.old.leavers.items waiting.new.leavers.items }
@@ -387,11 +416,9 @@ pub fn take_back<'a>(
         ..
     } = reader;
     kept.caller.refresh();
-    // Where the clock can't be read, it is silent again from the clock's beginning.
-    let now = waiting.entrance().now();
     if is_paused {
-        waiting.take_back(kept, now.unwrap_or(Duration::ZERO));
-    } else if is_open && writer.shut() {
-        waiting.part(kept, until, now);
+        waiting.take_back(kept);
+    } else if is_open && kept.caller.stream.shut() {
+        waiting.part(kept, until);
     }
 }

@@ -4,8 +4,7 @@ ghost use Rattle.std.specs.Duration.{as_nanos};
 
 use libc::net::{POLLIN, POLLOUT, poll};
 use libc::types::pollfd;
-use std::net::TcpStream;
-use std::os::fd::{AsRawFd, RawFd};
+use std::os::fd::RawFd;
 use std::time::Duration;
 
 // What the system is asked of a descriptor.
@@ -33,8 +32,8 @@ pub(crate) fn is_readable(fd: RawFd) -> bool {
 }
 
 /// Whether a socket has room for what is written to it, or may have, before a wait is over.
-pub(crate) fn has_room_before(stream: &TcpStream, wait: Option<Duration>) -> bool {
-    let mut sockets = [asked(stream.as_raw_fd(), POLLOUT)];
+pub(crate) fn has_room_before(stream: RawFd, wait: Option<Duration>) -> bool {
+    let mut sockets = [asked(stream, POLLOUT)];
     let millis = match wait {
         Some(wait) => in_millis(wait),
         None => 0,
@@ -44,12 +43,8 @@ pub(crate) fn has_room_before(stream: &TcpStream, wait: Option<Duration>) -> boo
 
 /// Waits until a socket has bytes, its end or a failure to read, or until something else moves, at
 /// most this long. Returns whether the first is so, and whether the second.
-pub(crate) fn readable_before(
-    stream: &TcpStream,
-    elsewhere: RawFd,
-    most: Duration,
-) -> (bool, bool) {
-    let mut sockets = [asked(stream.as_raw_fd(), POLLIN), asked(elsewhere, POLLIN)];
+pub(crate) fn readable_before(stream: RawFd, elsewhere: RawFd, most: Duration) -> (bool, bool) {
+    let mut sockets = [asked(stream, POLLIN), asked(elsewhere, POLLIN)];
     if poll(&mut sockets, in_millis(most)) > 0 {
         (sockets[0].revents != 0, sockets[1].revents != 0)
     } else {

@@ -1,21 +1,22 @@
 //! A read or a write of a socket, which a signal may interrupt: then it is tried again.
-ghost use Rattle.std.specs.Prelude.{◌<◌, ◌≤◌, IfOk, IsSomeAnd, OnOk, length};
-ghost use Rattle.std.specs.Duration.{as_nanos};
+ghost use Rattle.std.specs.Prelude.{◌≤◌, IfOk, OnOk, length};
 ghost use Rattle.std.specs.Io.KnownBytes.{ReadConsumes, WriteAppends};
+ghost use Rattle.dispatch_room_sockets.specs.TimesLeft.{WaitsUntil};
 
+use crate::monotonic_clocks::MonotonicClock;
 use crate::timeouts::time_until;
 use room_http_messages::sinks::WriteFailed;
 use room_http_messages::sources::ReadFailed;
 use std::io::{ErrorKind, Read, Write};
 use std::net::OpenStream;
-use std::time::{Clock, Duration};
+use std::time::Duration;
 
 // How often it is tried at most: the moment comes long before.
 const MOST_TRIES: u32 = u32::MAX;
 
 /// Reads some bytes to the front of `buf`, and waits for them until a moment of the clock. How long
 /// is set in the system where something else was set last.
-pub(crate) fn read_until<T: Read + OpenStream, C: Clock>(
+pub(crate) fn read_until<T: Read + OpenStream, C: MonotonicClock>(
     stream: &mut T,
     clock: &C,
     last_wait: &mut Option<Duration>,
@@ -24,8 +25,7 @@ pub(crate) fn read_until<T: Read + OpenStream, C: Clock>(
 ) -> Result<usize, ReadFailed>
     ensures bound { IfOk result (λ n. n ≤ length buf.new) }
     ensures bytes { ReadConsumes (T.remaining stream.old) (T.remaining stream.new) result buf.new }
-    ensures waits { OnOk result (IsSomeAnd last_wait.new (λ left. (0 < as_nanos left)
-        × (as_nanos left ≤ as_nanos moment))) }
+    ensures waits { OnOk result (WaitsUntil (C.shows clock.now) moment last_wait.new) }
 {
     for _try in 0..MOST_TRIES {
         let Some(left) = time_until(clock, moment) else {
@@ -49,7 +49,7 @@ pub(crate) fn read_until<T: Read + OpenStream, C: Clock>(
 
 /// Writes some of the first bytes, and waits until a moment of the clock for room for them. How
 /// long is set in the system where something else was set last.
-pub(crate) fn write_until<T: Write + OpenStream, C: Clock>(
+pub(crate) fn write_until<T: Write + OpenStream, C: MonotonicClock>(
     stream: &mut T,
     clock: &C,
     last_wait: &mut Option<Duration>,
@@ -58,8 +58,7 @@ pub(crate) fn write_until<T: Write + OpenStream, C: Clock>(
 ) -> Result<usize, WriteFailed>
     ensures bound { IfOk result (λ n. n ≤ length buf.now) }
     ensures bytes { WriteAppends (T.contents stream.old) (T.contents stream.new) result buf.now }
-    ensures waits { OnOk result (IsSomeAnd last_wait.new (λ left. (0 < as_nanos left)
-        × (as_nanos left ≤ as_nanos moment))) }
+    ensures waits { OnOk result (WaitsUntil (C.shows clock.now) moment last_wait.new) }
 {
     for _try in 0..MOST_TRIES {
         let Some(left) = time_until(clock, moment) else {

@@ -1,37 +1,37 @@
 //! A stream that both sides of a connection hold, and whose reads and writes don't block.
-ghost use Rattle.std.specs.Prelude.{◌≡◌, IfOk};
+ghost use Rattle.std.specs.Prelude.{◌≡◌, IfSome, None};
 
+use crate::nonblocking_streams::NonblockingStream;
 use crate::readiness::has_room_before;
-use std::alloc::{AllocError, Global};
 use std::cell::Cell;
-use std::io;
-use std::io::{Error, ErrorKind, Write};
-use std::net::{OpenStream, Shutdown, TcpStream};
-use std::rc::Rc;
+use std::io::{self, Error, ErrorKind, Write};
+use std::net::OpenStream;
+use std::os::fd::AsRawFd;
 use std::time::Duration;
 
 /// A stream that is written to, while the other side of its connection holds it too. How long a
 /// write waits for room is kept here, so that it is set in the system only where one has to wait.
 #[derive(Drop)]
-pub struct SharedStream {
-    stream: Rc<TcpStream>,
+pub struct SharedStream<T> {
+    stream: T,
     wait: Cell<Option<Duration>>,
 }
 
-impl SharedStream {
+impl<T: NonblockingStream + AsRawFd> SharedStream<T> {
     /// The stream of a connection.
-    pub(crate) fn new(stream: &Rc<TcpStream>) -> Result<SharedStream, AllocError>
-        ensures { IfOk result (λ it. it.stream.value ≡ stream.now.value) }
+    pub(crate) fn new(stream: &T) -> Option<SharedStream<T>>
+        ensures same { IfSome result (λ it. T.is_same it.stream stream.now) }
+        ensures none { result ≡ None → T.is_full stream.now }
     {
-        Ok(SharedStream {
-            stream: stream.clone()?,
+        Some(SharedStream {
+            stream: stream.share()?,
             wait: Cell::new(None),
         })
     }
 
     // Waits for room. Where there is some, that was interrupted: what was is tried again.
     fn wait_for_room(&self) -> Error {
-        if has_room_before(self.stream.as_ref(), self.wait.get()) {
+        if has_room_before(self.stream.as_raw_fd(), self.wait.get()) {
             Error::from(ErrorKind::Interrupted)
         } else {
             Error::from(ErrorKind::TimedOut)
@@ -39,10 +39,9 @@ impl SharedStream {
     }
 }
 
-impl Write for SharedStream {
+impl<T: NonblockingStream + AsRawFd> Write for SharedStream<T> {
     fn write(&mut self, buf: &[u8]) -> io::Result<usize> {
-        let mut stream = self.stream.as_ref();
-        match stream.write(buf) {
+        match self.stream.send(buf) {
             Err(error) if error.kind() == ErrorKind::WouldBlock => Err(self.wait_for_room()),
             given => given,
         }
@@ -53,11 +52,7 @@ impl Write for SharedStream {
     }
 }
 
-impl OpenStream for SharedStream {
-    fn shutdown(&self, how: Shutdown) -> io::Result<()> {
-        self.stream.as_ref().shutdown(how)
-    }
-
+impl<T: NonblockingStream + AsRawFd> OpenStream for SharedStream<T> {
     fn set_write_timeout(&self, wait: Option<Duration>) -> io::Result<()> {
         self.wait.set(wait);
         Ok(())

@@ -2,19 +2,21 @@
 ghost use Rattle.std.specs.Duration.{as_nanos, max_nanos};
 ghost use Rattle.std.specs.Prelude.{◌≡◌, ◌≤◌, ◌<◌, ◌-◌, ◌+◌, IfOk, IfSome, false, not, is_err, min};
 ghost use Rattle.std.specs.Prelude.{if◌then◌else◌, length, ◌==◌, ◌||◌, ◌≢◌, None, Some, IsSome};
-ghost use Rattle.std.specs.Prelude.{IsSomeAnd};
+ghost use Rattle.std.specs.Prelude.{IsSomeAnd, true};
 ghost use Rattle.std.specs.Io.KnownBytes.{ReadConsumes};
 ghost use Rattle.room_http_messages.specs.Streams.{found_end, known_count, CountsBy};
 ghost use Rattle.room_http_messages.specs.declared.limits.TheConstants.{INBOX_ROOM};
 ghost use Rattle.dispatch_room_sockets.specs.Discards.{ThrowsAway};
+ghost use Rattle.dispatch_room_sockets.specs.TimesLeft.{IsAwaited};
 
+use crate::monotonic_clocks::MonotonicClock;
 use crate::read_deadlines::Pace;
 use crate::retries::read_until;
 use crate::timeouts::{Waits, earlier};
 use room_http_messages::sources::{ReadFailed, Source};
 use std::io::Read;
 use std::net::OpenStream;
-use std::time::{Clock, Duration};
+use std::time::Duration;
 
 // How many bytes are thrown away by one read.
 const PIECE: usize = 4096;
@@ -37,11 +39,11 @@ pub struct SocketReader<'a, T, C> {
     lost: bool,
 }
 
-impl<'a, T: Read + OpenStream, C: Clock> SocketReader<'a, T, C> {
+impl<'a, T: Read + OpenStream, C: MonotonicClock> SocketReader<'a, T, C> {
     /// A socket from which nothing was read yet, and whose turn ends at a moment of the clock.
     pub fn new(stream: T, clock: &'a C, waits: Waits, ends: Duration) -> SocketReader<'a, T, C>
         ensures stream { result.stream ≡ stream }
-        ensures unread { result.reads ≡ 0 }
+        ensures unread { (result.reads ≡ 0) × (result.last_wait ≡ None) }
         ensures pace { result.pace ≡ record { waits = waits; ends = ends; here = 0; until = ends } }
         ensures idle { result.idle ≡ waits.idle }
         ensures sound { result.failed ≡ false }
@@ -91,7 +93,7 @@ fn silent_until(now: Duration, idle: Duration, moment: Duration) -> Duration
     earlier(now.saturating_add(idle), moment)
 }
 
-impl<'a, T: Read + OpenStream, C: Clock> Source for SocketReader<'a, T, C> {
+impl<'a, T: Read + OpenStream, C: MonotonicClock> Source for SocketReader<'a, T, C> {
     ghost left = { λ r. T.remaining r.stream };
 
     ghost reads = { λ r. known_count r.reads };
@@ -113,7 +115,7 @@ impl<'a, T: Read + OpenStream, C: Clock> Source for SocketReader<'a, T, C> {
             self.new.pace.here ≡ (if here == 0 then 0 else min (here + n) usize.MAX)) }
     {
         self.reads = self.reads.saturating_add(1);
-        let now = self.clock.monotonic().ok();
+        let now = self.clock.now();
         let Some(moment) = moment(&mut self.pace, now, buf.len()) else {
             self.failed = true;
             return Err(ReadFailed);
@@ -130,7 +132,7 @@ impl<'a, T: Read + OpenStream, C: Clock> Source for SocketReader<'a, T, C> {
     }
 }
 
-impl<'a, T: Read + OpenStream, C: Clock> SocketReader<'a, T, C> {
+impl<'a, T: Read + OpenStream, C: MonotonicClock> SocketReader<'a, T, C> {
     // Notes what a read gave that was made and had so much room: how much of a message is there
     // then, whether the peer has ended, and whether it is lost.
     fn note(&mut self, given: Result<usize, ReadFailed>, room: usize)
@@ -166,9 +168,12 @@ impl<'a, T: Read + OpenStream, C: Clock> SocketReader<'a, T, C> {
     /// Reads a piece of what still comes and throws it away, and returns whether more may come. It
     /// waits until a moment, and no longer than a connection may idle.
     pub(crate) fn throw_away(&mut self, moment: Duration) -> bool
-        ensures { ThrowsAway 4096 (T.remaining self.old.stream) (T.remaining self.new.stream) }
+        ensures thrown { ThrowsAway 4096 (T.remaining self.old.stream)
+            (T.remaining self.new.stream) }
+        ensures waits { result ≡ true → IsAwaited (C.shows self.old.clock.now) self.old.idle moment
+            self.new.last_wait }
     {
-        let Ok(now) = self.clock.monotonic() else {
+        let Some(now) = self.clock.now() else {
             return false;
         };
         let silent = silent_until(now, self.idle, moment);

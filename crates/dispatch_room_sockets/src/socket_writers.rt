@@ -6,12 +6,13 @@ ghost use Rattle.std.specs.Duration.{as_nanos, max_nanos};
 ghost use Rattle.std.specs.Io.KnownBytes.{WriteAppends};
 ghost use Rattle.room_http_messages.specs.Streams.{took_none};
 
+use crate::monotonic_clocks::MonotonicClock;
 use crate::retries::write_until;
 use crate::timeouts::earlier;
 use room_http_messages::sinks::{Sink, WriteFailed};
 use std::io::Write;
 use std::net::{OpenStream, Shutdown};
-use std::time::{Clock, Duration};
+use std::time::Duration;
 
 /// A socket that is written to. An answer has its patience from its first write, until all of it is
 /// written and the connection is parted from, and all answers end by a last moment.
@@ -31,7 +32,7 @@ pub struct SocketWriter<'a, T, C> {
     failed: bool,
 }
 
-impl<'a, T: Write + OpenStream, C: Clock> SocketWriter<'a, T, C> {
+impl<'a, T: Write + OpenStream, C: MonotonicClock> SocketWriter<'a, T, C> {
     /// A socket to which nothing was written yet. Its answers have so much patience, and none is
     /// waited for after a last moment.
     pub fn new(
@@ -42,7 +43,8 @@ impl<'a, T: Write + OpenStream, C: Clock> SocketWriter<'a, T, C> {
     ) -> SocketWriter<'a, T, C>
         ensures stream { result.stream ≡ stream }
         ensures times { (result.patience ≡ patience) × (result.last ≡ last) }
-        ensures unwritten { (result.until ≡ None) × (result.within ≡ false) }
+        ensures unwritten { (result.until ≡ None) × (result.within ≡ false)
+            × (result.last_wait ≡ None) }
         ensures sound { result.failed ≡ false }
     {
         SocketWriter {
@@ -119,7 +121,7 @@ fn answer_until(now: Duration, patience: Duration, last: Duration) -> Duration
     earlier(now.saturating_add(patience), last)
 }
 
-impl<'a, T: Write + OpenStream, C: Clock> Sink for SocketWriter<'a, T, C> {
+impl<'a, T: Write + OpenStream, C: MonotonicClock> Sink for SocketWriter<'a, T, C> {
     ghost held = { λ w. T.contents w.stream };
 
     ghost has_failed = { λ w. w.failed };
@@ -135,7 +137,7 @@ impl<'a, T: Write + OpenStream, C: Clock> Sink for SocketWriter<'a, T, C> {
         ensures goes_on { self.old.within ≡ true → OnOk result (self.new.until ≡ self.old.until) }
         ensures noted { OnOk result (IsSome self.new.until) }
     {
-        let Some(moment) = self.begin(self.clock.monotonic().ok()) else {
+        let Some(moment) = self.begin(self.clock.now()) else {
             self.failed = true;
             return Err(WriteFailed);
         };

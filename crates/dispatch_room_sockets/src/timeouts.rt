@@ -1,8 +1,10 @@
 //! How long a connection is waited for.
-ghost use Rattle.std.specs.Prelude.{◌≡◌, ◌+◌, ◌-◌, ◌*◌, ◌/◌, ◌<◌, ◌≤◌, None, IfSome, IsSome, min};
+ghost use Rattle.std.specs.Prelude.{◌≡◌, ◌+◌, ◌-◌, ◌*◌, ◌/◌, ◌<◌, ◌≤◌, None, min};
 ghost use Rattle.std.specs.Duration.{as_nanos, max_nanos};
+ghost use Rattle.dispatch_room_sockets.specs.TimesLeft.{IsLeft, IsTimeUntil};
 
-use std::time::{Clock, Duration};
+use crate::monotonic_clocks::MonotonicClock;
+use std::time::Duration;
 
 // A connection's turn lasts so many times as long as a pause and a message may take.
 const TURN: u32 = 5;
@@ -43,23 +45,16 @@ pub(crate) fn earlier(one: Duration, other: Duration) -> Duration
 
 /// How long it is until a moment of a clock; none where the moment has come, or where the clock
 /// can't be read.
-pub(crate) fn time_until<C: Clock>(clock: &C, moment: Duration) -> Option<Duration>
-    ensures { IfSome result (λ left. (0 < as_nanos left) × (as_nanos left ≤ as_nanos moment)) }
+pub(crate) fn time_until<C: MonotonicClock>(clock: &C, moment: Duration) -> Option<Duration>
+    ensures { IsTimeUntil (C.shows clock.now) moment result }
 {
-    left_until(clock.monotonic().ok()?, moment)
+    left_until(clock.now()?, moment)
 }
 
 // How long it is from now until a moment, rounded down to milliseconds where it is one at least;
 // none where the moment has come.
 fn left_until(now: Duration, moment: Duration) -> Option<Duration>
-    ensures come { as_nanos moment ≤ as_nanos now → result ≡ None }
-    ensures waits { as_nanos now < as_nanos moment → IsSome result }
-    ensures left { IfSome result (λ left. (0 < as_nanos left)
-        × (as_nanos left ≤ as_nanos moment - as_nanos now)) }
-    ensures whole { 1_000_000 ≤ as_nanos moment - as_nanos now → IfSome result (λ left.
-        as_nanos left ≡ (as_nanos moment - as_nanos now) / 1_000_000 * 1_000_000) }
-    ensures short { as_nanos moment - as_nanos now < 1_000_000 → IfSome result (λ left.
-        as_nanos left ≡ as_nanos moment - as_nanos now) }
+    ensures { IsLeft now moment result }
 {
     let left = moment.saturating_sub(now);
     if left.is_zero() {

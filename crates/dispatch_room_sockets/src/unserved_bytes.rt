@@ -1,19 +1,18 @@
 //! The bytes of a stream that were read ahead of the requests that are served.
-ghost use Rattle.std.specs.Prelude.{◌≡◌, ◌≢◌, ◌≤◌, ◌<◌, ◌++◌, ◌==◌, ℕ, List, [], IfOk, None, Ok};
-ghost use Rattle.std.specs.Prelude.{OnOk, Some, drop, is_err, length, min, take, true};
-ghost use Rattle.std.specs.IoError.{error_kind};
+ghost use Rattle.std.specs.Prelude.{◌≡◌, ◌≤◌, ◌<◌, ◌+◌, ◌++◌, ◌==◌, ℕ, List, [], IfOk, OnErr, drop};
+ghost use Rattle.std.specs.Prelude.{length, min, take};
+ghost use Rattle.std.specs.Vec.{vec_capacity};
 ghost use Rattle.std.specs.Io.KnownBytes.{IsAtEnd, Keeps, prepend_known};
 ghost use Rattle.room_http_messages.specs.declared.limits.TheConstants.{INBOX_ROOM};
 ghost use Rattle.dispatch_room_sockets.specs.Lookaheads.{StaysInFront};
 
+use crate::nonblocking_streams::{NoBytes, NonblockingStream};
 use room_http_messages::limits::INBOX_ROOM;
-use room_http_messages::sources::ReadFailed;
-use std::alloc::Global;
-use std::io::{Error, ErrorKind, Read};
+use std::alloc::{AllocError, Global};
 use std::marker::Model;
 
-/// The bytes of a stream that were read and not served yet: no more than a request has. They go
-/// with their connection.
+/// The bytes of a stream that were read and not served yet: no more than a request has, for which
+/// there is room from the beginning. They go with their connection.
 #[derive(Drop)]
 pub struct UnservedBytes {
     bytes: Vec<u8>,
@@ -24,32 +23,18 @@ impl Model for UnservedBytes {
 
     ghost view = { λ unserved. unserved.bytes.items };
 
-    ghost invariant = { λ unserved. length unserved.bytes.items ≤ INBOX_ROOM };
-}
-
-// What a read gave that failed: none where nothing has come yet, and else the stream is lost.
-fn unread(error: &Error) -> Result<Option<usize>, ReadFailed>
-    ensures silent { error_kind error.now ≡ ErrorKind.WouldBlock → result ≡ Ok None }
-    ensures again { error_kind error.now ≡ ErrorKind.Interrupted → result ≡ Ok None }
-    ensures lost { error_kind error.now ≢ ErrorKind.WouldBlock
-        → error_kind error.now ≢ ErrorKind.Interrupted → is_err result ≡ true }
-{
-    let kind = error.kind();
-    if kind == ErrorKind::WouldBlock || kind == ErrorKind::Interrupted {
-        Ok(None)
-    } else {
-        Err(ReadFailed)
-    }
+    ghost invariant = { λ unserved. (length unserved.bytes.items ≤ INBOX_ROOM)
+        × (INBOX_ROOM ≤ vec_capacity unserved.bytes) };
 }
 
 impl UnservedBytes {
     /// None was read yet.
-    pub(crate) fn new(alloc: Global) -> UnservedBytes
-        ensures { result ≡ [] }
+    pub(crate) fn new(alloc: Global) -> Result<UnservedBytes, AllocError>
+        ensures { IfOk result (λ it. it ≡ []) }
     {
-        UnservedBytes {
-            bytes: Vec::new(alloc),
-        }
+        Ok(UnservedBytes {
+            bytes: Vec::with_capacity(alloc, INBOX_ROOM)?,
+        })
     }
 
     /// Whether all that was read is served.
@@ -67,28 +52,27 @@ impl UnservedBytes {
         self.bytes.as_slice()
     }
 
-    /// Reads what can be read now of a stream that doesn't block, by way of some room, and returns
-    /// how many bytes that were: 0 at its end, and none where nothing has come yet.
-    pub(crate) fn fill<T: Read>(
+    /// Reads what can be read now of a stream, by way of some room, and returns how many bytes that
+    /// were: 0 at its end.
+    pub(crate) fn fill<T: NonblockingStream>(
         &mut self,
         stream: &mut T,
         room: &mut [u8],
-    ) -> Result<Option<usize>, ReadFailed>
-        ensures bytes { OnOk result (Keeps
-            (prepend_known self.old (T.remaining stream.old))
-            (prepend_known self.new (T.remaining stream.new))) }
-        ensures end { IfOk result (λ count. count ≡ Some 0 → 0 < length room.old
-            → length self.old < INBOX_ROOM → IsAtEnd (T.remaining stream.new)) }
+    ) -> Result<usize, NoBytes>
+        ensures bytes { Keeps (prepend_known self.old (T.left stream.old))
+            (prepend_known self.new (T.left stream.new)) }
+        ensures given { T.gives stream.new result }
+        ensures end { IfOk result (λ count. count ≡ 0 → 0 < length room.old
+            → length self.old < INBOX_ROOM → IsAtEnd (T.left stream.new)) }
+        ensures none { OnErr result (self.new ≡ self.old) }
+        ensures grown { IfOk result (λ count. length self.new ≡ length self.old + count) }
         ensures front { StaysInFront self.old self.new }
     {
         let most = room.len().min(INBOX_ROOM - self.bytes.len());
-        match stream.read(&mut room[..most]) {
-            Ok(count) => match self.bytes.extend_from_slice(&room[..count]) {
-                Ok(()) => Ok(Some(count)),
-                Err(_) => Err(ReadFailed),
-            },
-            Err(error) => unread(&error),
-        }
+        let count = stream.receive(&mut room[..most])?;
+        // There is room for them.
+        let _ = self.bytes.extend_from_slice(&room[..count]);
+        Ok(count)
     }
 
     /// Gives the first of them to be served, as many as fit in `buf`, and returns how many.

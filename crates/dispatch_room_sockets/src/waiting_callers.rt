@@ -52,7 +52,7 @@ impl<E: Entrance> Waiting<E> {
     ghost use Rattle.dispatch_room_sockets.specs.Rounds.{IsRound, LooksAround, Waited, all_watched};
     ghost use Rattle.dispatch_room_sockets.specs.Rounds.{before_giving, queues};
     ghost use Rattle.dispatch_room_sockets.specs.Turns.{IsInTurn, WaitsAgain};
-    ghost use Rattle.dispatch_room_sockets.specs.Departures.{Departs, IsParting, is_resting};
+    ghost use Rattle.dispatch_room_sockets.specs.Departures.{Departs, is_resting};
     ghost use Rattle.dispatch_room_sockets.specs.Pauses.{IsLeast, limits};
     ghost use Rattle.std.specs.Prelude.{[], ◌∷◌, ◌≢◌, ◌<◌, ◌==◌, IfSome, IsSome, drop, All, None};
     ghost use Rattle.std.specs.Prelude.{filter, length, not};
@@ -247,23 +247,24 @@ impl<E: Entrance> Waiting<E> {
 
     /// Whether another is to be served.
     pub fn is_awaited(&self) -> bool
-        ensures { result ≡ not (deque_len self.now.ready == 0) }
+        ensures { result ≡ not (length self.now.ready.items == 0) }
     {
         !self.ready.is_empty()
     }
 
     /// Takes one back who was served and may say more: there is room since it was given. It is
-    /// silent again from now on.
-    pub fn take_back(&mut self, kept: Kept<E::Caller>, now: Duration)
+    /// silent again from now on, or from the clock's beginning where that can't be read.
+    pub fn take_back(&mut self, kept: Kept<E::Caller>)
         ensures again { length self.old.line.items + length self.old.ready.items < 1024
-            → WaitsAgain self.old.keep now kept.number kept.caller self.old.line.items
-            self.new.line.items }
+            → WaitsAgain (E.shows self.old.entrance) self.old.keep kept.number kept.caller
+            self.old.line.items self.new.line.items }
         ensures back { ComesBack kept.number self.old.line.items self.new.line.items
             self.old.ready.items self.old.next }
         ensures same { (self.new.ready.items ≡ self.old.ready.items)
             × (self.new.leavers ≡ self.old.leavers) × (self.new.next ≡ self.old.next) }
         ensures times { (self.new.keep ≡ self.old.keep) × (self.new.patience ≡ self.old.patience) }
     {
+        let now = self.entrance.now().unwrap_or(Duration::ZERO);
         if self.line.len() + self.ready.len() < MOST_KEPT {
             self.line.push_back_reserved(Kept {
                 number: kept.number,
@@ -275,18 +276,17 @@ impl<E: Entrance> Waiting<E> {
     }
 
     /// Parts now from one who was served: what they still say is thrown away until a moment. Where
-    /// it isn't known what time it is, it is dropped.
-    pub fn part(&mut self, kept: Kept<E::Caller>, until: Duration, now: Option<Duration>)
-        ensures departs { Departs kept.caller until self.old.leavers.items self.new.leavers.items }
-        ensures parts { IfSome now (λ now. length self.old.leavers.items < 1024
-            → IsParting kept.caller until now self.old.leavers.items self.new.leavers.items) }
+    /// the clock can't be read, or too many leave, it is dropped.
+    pub fn part(&mut self, kept: Kept<E::Caller>, until: Duration)
+        ensures departs { Departs (E.shows self.old.entrance) kept.caller until
+            self.old.leavers.items self.new.leavers.items }
         ensures back { ComesBack kept.number self.old.line.items self.new.line.items
             self.old.ready.items self.old.next }
         ensures same { (self.new.line.items ≡ self.old.line.items)
             × (self.new.ready.items ≡ self.old.ready.items) × (self.new.next ≡ self.old.next) }
         ensures times { (self.new.keep ≡ self.old.keep) × (self.new.patience ≡ self.old.patience) }
     {
-        let Some(now) = now else {
+        let Some(now) = self.entrance.now() else {
             return;
         };
         if self.leavers.len() < MOST_KEPT {

@@ -240,7 +240,7 @@ impl<'a> Machine for Host<'a> {
         ensures patient { IfSome result (λ sides. (sides.0.idle ≡ patience)
             × (sides.1.patience ≡ patience)) }
     {
-        client::call(self.rt, self.explainer, address, patience)
+        client::call(self.rt, self.rt, self.explainer, address, patience)
     }
 
     ghost files = { λ _. (refl, refl) };

@@ -20,7 +20,7 @@ use room_http_messages::sources::Source;
 use std::io::{Error, ErrorKind};
 use std::net::{SocketAddr, TcpListener, TcpStream};
 use std::thread;
-use std::time::{Clock, Duration};
+use std::time::Duration;
 
 /// What listens for connections: it gives the two sides of each, makes its peer of them once it was
 /// served, and releases the peer once the room parted from it.
@@ -164,7 +164,7 @@ impl<'a> Listener for TcpAddress<'a> {
         ensures patient { IfSome result (λ sides. sides.1.patience ≡ self.old.waits.patience) }
     {
         match self.listener.as_ref()?.accept() {
-            Ok((stream, _)) => sides(stream, self.rt, self.rt.monotonic().ok()?, self.waits),
+            Ok((stream, _)) => sides(stream, self.rt, self.waits),
             Err(error) => {
                 pause_after(self.rt, &error);
                 None

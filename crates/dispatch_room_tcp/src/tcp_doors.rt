@@ -1,7 +1,7 @@
 //! A door at which nobody waits for a silent caller: each connection is served in pieces, and
 //! between two pieces it waits among the others.
-ghost use Rattle.std.specs.Prelude.{◌≡◌, if◌then◌else◌, IfErr, IfOk, IfSome, None, OnErr, OnOk};
-ghost use Rattle.std.specs.Prelude.{false, is_some, option_map, true};
+ghost use Rattle.std.specs.Prelude.{◌≡◌, ◌||◌, ⊤, if◌then◌else◌, IfErr, IfOk, IfSome, None, OnErr};
+ghost use Rattle.std.specs.Prelude.{OnOk, false, is_some, not, option_map, true};
 ghost use Rattle.dispatch_room_cli.specs.declared.exit_status.Failure.TheVariants.{Network};
 ghost use Rattle.dispatch_room_sockets.specs.PieceTurns.{GivesPiece, TakesBack};
 
@@ -9,9 +9,9 @@ use crate::hosts::Host;
 use crate::listeners::{Listener, bound};
 use crate::opened_names::OpenedNames;
 use dispatch_room_cli::exit_status::Failure;
-use dispatch_room_sockets::doors::Door;
+use dispatch_room_sockets::doors::{Door, HostDoor};
 use dispatch_room_sockets::lingering_close::Parting;
-use dispatch_room_sockets::pieces::{PieceReader, PieceWriter, next_piece, take_back};
+use dispatch_room_sockets::pieces::{HostReader, HostWriter, next_piece, take_back};
 use dispatch_room_sockets::waiting_callers::Waiting;
 use std::net::{SocketAddr, TcpListener};
 use std::time::Duration;
@@ -28,7 +28,7 @@ pub struct TcpDoor<'a> {
     keep: Duration,
     // How long a request may take to come, and its answer to be taken.
     patience: Duration,
-    waiting: Option<Waiting<Door<'a>>>,
+    waiting: Option<Waiting<HostDoor<'a>>>,
 }
 
 impl<'a> TcpDoor<'a> {
@@ -58,7 +58,7 @@ impl<'a> TcpDoor<'a> {
     }
 
     // Those who wait at a listener: nobody yet. It fails only as `Network`.
-    fn opened(&self, listener: TcpListener) -> Result<Waiting<Door<'a>>, Failure>
+    fn opened(&self, listener: TcpListener) -> Result<Waiting<HostDoor<'a>>, Failure>
         ensures times { IfOk result (λ waiting. (waiting.keep ≡ self.now.keep)
             × (waiting.patience ≡ self.now.patience)) }
         ensures fault { IfErr result (λ fault. fault ≡ Network) }
@@ -82,8 +82,8 @@ impl<'a> TcpDoor<'a> {
 /// The peer of a piece that was served. It isn't parted from here, but among the others.
 #[derive(Drop)]
 pub struct PiecePeer<'a> {
-    reader: PieceReader<'a>,
-    writer: PieceWriter<'a>,
+    reader: HostReader<'a>,
+    writer: HostWriter<'a>,
 }
 
 // No contract can say what was done with a socket.
@@ -115,9 +115,9 @@ impl<'a> Parting for PiecePeer<'a> {
 
 // No contract can say what is said on a socket.
 impl<'a> Listener for TcpDoor<'a> {
-    type Reader = PieceReader<'a>;
+    type Reader = HostReader<'a>;
 
-    type Writer = PieceWriter<'a>;
+    type Writer = HostWriter<'a>;
 
     type Peer = PiecePeer<'a>;
 
@@ -166,8 +166,8 @@ impl<'a> Listener for TcpDoor<'a> {
         ensures same_stream { IfSome result (λ sides.
             sides.1.stream.stream.value ≡ sides.0.kept.caller.stream.value) }
         ensures given { IfSome self.old.waiting (λ old. IfSome self.new.waiting (λ new.
-            GivesPiece old.line.items new.line.items old.ready.items new.ready.items
-            old.next new.next (option_map (λ sides. sides.0.kept) result))) }
+            GivesPiece (λ _. ⊤) (λ _. ⊤) old.line.items new.line.items old.ready.items
+            new.ready.items old.next new.next (option_map (λ sides. sides.0.kept) result))) }
         ensures times { IfSome self.old.waiting (λ old. IfSome self.new.waiting (λ new.
             (new.keep ≡ old.keep) × (new.patience ≡ old.patience))) }
     {
@@ -184,7 +184,8 @@ impl<'a> Listener for TcpDoor<'a> {
     fn release(&mut self, peer: Self::Peer)
         ensures listens { is_some self.new.waiting ≡ is_some self.old.waiting }
         ensures taken { IfSome self.old.waiting (λ old. IfSome self.new.waiting (λ new.
-            TakesBack old.keep peer.entry.reader.kept peer.entry.reader.is_paused
+            TakesBack (λ _. ⊤) (λ _. ⊤) old.keep peer.entry.reader.kept
+            peer.entry.reader.is_paused (not (peer.entry.reader.failed || peer.entry.reader.ended))
             (if peer.entry.writer.failed then None else peer.entry.writer.until) old.line.items
             new.line.items old.ready.items old.next old.leavers.items new.leavers.items)) }
         ensures same { IfSome self.old.waiting (λ old. IfSome self.new.waiting (λ new.

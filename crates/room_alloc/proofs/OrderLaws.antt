@@ -1,5 +1,5 @@
 -- What the statuses of vehicles and what incidents lack imply.
-use Rattle.std.proofs.Common.{◌≡◌, ◌-◌, ℕ, true, false, refl, arith, ◌==◌, Err, IfOk, Ok, Result}
+use Rattle.std.proofs.Common.{◌≡◌, ◌-◌, ℕ, true, false, refl, arith, ◌==◌}
 use Rattle.std.specs.Prelude.{nat_le}
 use Rattle.room_types.specs.Codes.{is_busy, is_free}
 use Rattle.room_types.specs.declared.codes.Status.TheVariants.{AtHospital, AtScene, Available}
@@ -20,8 +20,3 @@ free_idle Offered e = refl
 -- nothing is lacking where as many were got
 pub met : (need got lack : ℕ) → lack ≡ need - got → (lack == 0) ≡ nat_le need got
 met need got lack e = grind (arith, e)
-
--- what holds in any case, holds where something is decided
-pub in_any_case : {X E P : Type 0} (r : Result X E) → P → IfOk r (λ _. P)
-in_any_case (Ok x) p = p
-in_any_case (Err e) p = tt

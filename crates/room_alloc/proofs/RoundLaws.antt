@@ -18,22 +18,17 @@ use Rattle.room_types.specs.Texts.{Callsign}
 use Rattle.room_types.specs.declared.answers.Proposal.{Proposal}
 use Rattle.room_types.specs.declared.codes.Kind.TheVariants.{Ambulance, Car, Support}
 use Rattle.room_types.specs.declared.codes.Kind.{Kind}
-use Rattle.room_types.specs.declared.slices.DivisionRows.{DivisionRows}
 use Rattle.room_types.specs.declared.tables.Incident.{Incident}
-use Rattle.room_types.specs.declared.tables.Point.{Point}
 use Rattle.room_types.specs.declared.tables.Vehicle.{Vehicle}
 use Rattle.room_model.proofs.ProposalLaws.{one_proposed, proposed_first}
 use Rattle.room_model.proofs.Tests.{among_filter, right_true}
 use Rattle.room_model.specs.Incidents.{lacking}
-use Rattle.room_model.specs.Proposals.{candidates, is_before, proposal_cmp, proposed}
+use Rattle.room_model.specs.Proposals.{candidates, is_before, proposal_cmp, proposal_of, proposed}
 use Rattle.room_model.specs.Queries.{is_eligible}
-use Rattle.room_model.specs.Room.{IsInOrder}
-use Rattle.room_model.specs.RoomSlices.{unplanned}
-use Rattle.room_alloc.specs.Candidates.{AreShort, is_candidate, proposal_by}
+use Rattle.room_model.specs.Room.{IsInOrder, Room}
 use Rattle.room_alloc.specs.Rings.{AreApart, AreOfKind, ArePlaced, IsPlaced, candidate_of}
-use Rattle.room_alloc.specs.Rings.{candidates_round, is_breaking, proposal_at}
+use Rattle.room_alloc.specs.Rings.{candidates_round, is_breaking, is_candidate, proposal_at}
 use Rattle.room_alloc.specs.declared.nearness.Candidate.{Candidate}
-use Rattle.room_alloc.proofs.CandidateLaws.{candidates_so}
 use Rattle.room_alloc.proofs.FirstLaws.{among_either, among_left, among_right, first_then}
 use Rattle.room_alloc.proofs.FirstLaws.{same_first}
 
@@ -56,9 +51,9 @@ alike Support Ambulance e = cc
 alike Support Car e = cc
 alike Support Support e = refl
 
-module _ (d : ℕ) (i : Incident) (short : List Point) (k : Kind) (at : ℕ) where
+module _ (d : ℕ) (i : Incident) (k : Kind) (at : ℕ) (r : Room) where
   of_kind : (vs : List Vehicle) → ((v : Vehicle) → Among v vs → v.kind ≡ k)
-      → AreOfKind k (map (candidate_of d i short) vs)
+      → AreOfKind k (map (candidate_of d i at r) vs)
   of_kind [] f c h = absurd h
   of_kind (v ∷ vs) f c h =
       elim h [
@@ -67,7 +62,7 @@ module _ (d : ℕ) (i : Incident) (short : List Point) (k : Kind) (at : ℕ) whe
       ]
 
   pub are_of_kind : (vs : List Vehicle) (xs : List Candidate)
-      → xs ≡ candidates_round d i short k at vs → AreOfKind k xs
+      → xs ≡ candidates_round d i k at r vs → AreOfKind k xs
   are_of_kind vs xs e =
       subst (AreOfKind k) (sym e) (of_kind (filter (is_candidate d at k) vs)
       (λ v a.
@@ -76,41 +71,39 @@ module _ (d : ℕ) (i : Incident) (short : List Point) (k : Kind) (at : ℕ) whe
 
   below : (c : Callsign) (vs : List Vehicle) → IsBelowAll callsign_cmp vehicle_key c vs
       → IsBelowAll callsign_cmp (λ (x : Candidate). x.vehicle.callsign) c
-      (map (candidate_of d i short) vs)
+      (map (candidate_of d i at r) vs)
   below c [] h = tt
   below c (v ∷ vs) h = (h.0, below c vs h.1)
 
   keyed : (vs : List Vehicle) → IsKeyed callsign_cmp vehicle_key vs
-      → AreApart (map (candidate_of d i short) vs)
+      → AreApart (map (candidate_of d i at r) vs)
   keyed [] h = tt
   keyed (v ∷ vs) h = (below v.callsign vs h.0, keyed vs h.1)
 
   pub are_apart : (vs : List Vehicle) (xs : List Candidate) → IsKeyed callsign_cmp vehicle_key vs
-      → xs ≡ candidates_round d i short k at vs → AreApart xs
+      → xs ≡ candidates_round d i k at r vs → AreApart xs
   are_apart vs xs h e =
       subst AreApart (sym e) (keyed (filter (is_candidate d at k) vs)
       (keyed_filter callsign_cmp vehicle_key callsigns_total (is_candidate d at k) vs h))
 
   as_proposed : (vs : List Vehicle)
-      → map (proposal_at i) (map (candidate_of d i short) vs) ≡ map (proposal_by d i short) vs
+      → map (proposal_at i) (map (candidate_of d i at r) vs) ≡ map (proposal_of d i at r) vs
   as_proposed [] = refl
-  as_proposed (v ∷ vs) = ap (λ ps. proposal_by d i short v ∷ ps) (as_proposed vs)
+  as_proposed (v ∷ vs) = ap (λ ps. proposal_of d i at r v ∷ ps) (as_proposed vs)
 
   -- the first few of the candidates are what is proposed, and that is one list
-  pub proposed_so : (s : DivisionRows) (n : ℕ) (xs : List Candidate) (few : List Proposal)
-      → IsInOrder (unplanned s) → AreShort d at (unplanned s) short
-      → n ≡ lacking d i (unplanned s) k → xs ≡ candidates_round d i short k at s.vehicles
-      → AreFirst is_before n None (map (proposal_at i) xs) few
-      → few ≡ proposed d i at (unplanned s) k
-  proposed_so s n xs few order short_so count all first =
+  pub proposed_so : (n : ℕ) (xs : List Candidate) (few : List Proposal) → IsInOrder r
+      → n ≡ lacking d i r k → xs ≡ candidates_round d i k at r r.vehicles
+      → AreFirst is_before n None (map (proposal_at i) xs) few → few ≡ proposed d i at r k
+  unfolding candidates
+  proposed_so n xs few order count all first =
       let these : map (proposal_at i) xs
-      ≡ candidates d i k at (unplanned s) =
-      ap (λ ys. map (proposal_at i) ys) all
-      ∙ (as_proposed (filter (is_candidate d at k) s.vehicles) ∙ candidates_so d at i k s short short_so) in
-      one_proposed d i at (unplanned s) k few (proposed d i at (unplanned s) k)
-      (subst (λ m. AreFirst is_before m None (candidates d i k at (unplanned s)) few) count
+      ≡ candidates d i k at r =
+      ap (λ ys. map (proposal_at i) ys) all ∙ as_proposed (filter (is_candidate d at k) r.vehicles) in
+      one_proposed d i at r k few (proposed d i at r k)
+      (subst (λ m. AreFirst is_before m None (candidates d i k at r) few) count
       (subst (λ ps. AreFirst is_before n None ps few) these first))
-      (proposed_first d i at (unplanned s) k order)
+      (proposed_first d i at r k order)
 
 -- ---- those that don't break cover, and then the others
 proposals_total : IsTotalOrder proposal_cmp

@@ -1,5 +1,4 @@
 pub mod Cover
-pub mod Candidates
 pub mod ProposalAnswers
 pub mod Nearness
 pub mod NearnessLemmas

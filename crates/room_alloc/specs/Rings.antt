@@ -1,30 +1,36 @@
 -- Candidates ring by ring of cells round an incident.
 use Rattle.std.specs.Prelude.{Bool, List, None, Option, Some, [], drop, false, filter, map, nat_lt}
-use Rattle.std.specs.Prelude.{not, suc, true, zero, ℕ, ◌<◌, ◌∷◌, ◌≡◌, ◌≤◌, ◌⊎◌}
+use Rattle.std.specs.Prelude.{not, suc, true, zero, ℕ, ◌&&◌, ◌<◌, ◌∷◌, ◌≡◌, ◌≤◌, ◌⊎◌}
 use Rattle.room_place.specs.Choice.{Among, first}
 use Rattle.room_place.specs.Places.{cell_of, distance, ring_floor, ring_of}
+use Rattle.room_types.specs.Codes.{same_kind}
 use Rattle.room_types.specs.KeyedRows.{IsKeyed}
 use Rattle.room_types.specs.Keys.{callsign_cmp}
 use Rattle.room_types.specs.declared.answers.Proposal.{Proposal}
 use Rattle.room_types.specs.declared.codes.Kind.{Kind}
 use Rattle.room_types.specs.declared.tables.Incident.{Incident}
-use Rattle.room_types.specs.declared.tables.Point.{Point}
 use Rattle.room_types.specs.declared.tables.Vehicle.{Vehicle}
-use Rattle.room_alloc.specs.Candidates.{has_point, is_candidate}
+use Rattle.room_model.specs.Points.{breaks_cover}
+use Rattle.room_model.specs.Queries.{is_eligible}
+use Rattle.room_model.specs.Room.{Room}
 use Rattle.room_alloc.specs.declared.nearness.Candidate.{Candidate}
 use Rattle.room_alloc.specs.declared.nearness.Nearness.{Nearness}
 
 -- ---- candidates
-abbrev pub candidate_of : ℕ → Incident → List Point → Vehicle → Candidate
-candidate_of d i short v = record {
+-- an eligible vehicle of the kind
+abbrev pub is_candidate : ℕ → ℕ → Kind → Vehicle → Bool
+is_candidate d at k v = is_eligible d at v && same_kind v.kind k
+
+abbrev pub candidate_of : ℕ → Incident → ℕ → Room → Vehicle → Candidate
+candidate_of d i at r v = record {
   ring = ring_of (cell_of v.place) (cell_of i.place);
-  breaks = has_point d short v.post;
+  breaks = breaks_cover d at r v;
   vehicle = v;
 }
 
-abbrev pub candidates_round : ℕ → Incident → List Point → Kind → ℕ → List Vehicle → List Candidate
-candidates_round d i short k at vehicles =
-    map (candidate_of d i short) (filter (is_candidate d at k) vehicles)
+abbrev pub candidates_round : ℕ → Incident → Kind → ℕ → Room → List Vehicle → List Candidate
+candidates_round d i k at r vehicles =
+    map (candidate_of d i at r) (filter (is_candidate d at k) vehicles)
 
 abbrev pub nearness_of : Incident → Candidate → Nearness
 nearness_of i c = record {

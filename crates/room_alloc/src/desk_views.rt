@@ -25,7 +25,7 @@ pub fn vehicles(alloc: Global, slice: &Slice) -> Result<Decision, Refusal>
         (show_vehicles slice.now.division (room_of plan slice.now.rows)) result }
 {
     let lines = vehicle_lines(alloc, slice, slice.rows.vehicles.as_slice())?;
-    Ok(Decision::show(alloc, Answer::Vehicles(lines)))
+    Ok(Decision::show(Answer::Vehicles(lines)))
 }
 
 fn vehicle_lines(
@@ -68,7 +68,7 @@ pub fn points(alloc: Global, slice: &Slice, at: Moment) -> Result<Decision, Refu
         (show_points slice.now.division at (room_of plan slice.now.rows)) result }
 {
     let lines = point_lines(alloc, slice, slice.rows.points.as_slice(), at)?;
-    Ok(Decision::show(alloc, Answer::Points(lines)))
+    Ok(Decision::show(Answer::Points(lines)))
 }
 
 fn point_lines(
@@ -107,7 +107,7 @@ pub fn loans(alloc: Global, slice: &Slice) -> Result<Decision, Refusal>
         (show_loans slice.now.division (room_of plan slice.now.rows)) result }
 {
     let loans = listed(alloc, slice.rows.loans.as_slice())?;
-    Ok(Decision::show(alloc, Answer::Loans(loans)))
+    Ok(Decision::show(Answer::Loans(loans)))
 }
 
 /// The offers of which the division is lender or borrower, in callsign order. The one refusal is
@@ -118,7 +118,7 @@ pub fn offers(alloc: Global, slice: &Slice) -> Result<Decision, Refusal>
         (show_offers slice.now.division (room_of plan slice.now.rows)) result }
 {
     let offers = listed(alloc, slice.rows.offers.as_slice())?;
-    Ok(Decision::show(alloc, Answer::Offers(offers)))
+    Ok(Decision::show(Answer::Offers(offers)))
 }
 
 /// The lines of a slice. The one refusal is `Memory`.

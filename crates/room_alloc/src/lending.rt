@@ -2,7 +2,6 @@
 ghost use Rattle.std.specs.Prelude.{◌≡◌, List, IfErr, MatchResult, None, Some};
 ghost use Rattle.room_place.specs.declared.plans.Area.{Area};
 ghost use Rattle.room_types.specs.declared.refusal_statuses.Refusal.TheVariants.{NoSuchOffer};
-ghost use Rattle.room_model.specs.Decisions.{Decides};
 ghost use Rattle.room_model.specs.Loans.{accept, decline, give_back, lend, recall, withdraw};
 ghost use Rattle.room_model.specs.Queries.{offered_to};
 ghost use Rattle.room_model.specs.RoomSlices.{room_of};
@@ -17,7 +16,6 @@ use room_types::numbers::Moment;
 use room_types::refusal_statuses::Refusal;
 use room_types::slices::Slice;
 use room_types::tables::{Loan, Offer, Vehicle};
-use std::alloc::Global;
 
 /// What a vehicle is offered on: to which division, and until when.
 #[derive(Clone, Copy)]
@@ -33,15 +31,14 @@ pub struct LoanTerms {
 /// `WrongStatus` where it is off duty or offered, `ShiftOver` where its shift is over.
 #[tactic(auto, unfolding(room_model::specs::Loans::lend, room_model::specs::Decisions::refuse_if))]
 pub fn lend(
-    alloc: Global,
     plan: &Plan,
     slice: &Slice,
     callsign: &Callsign,
     terms: LoanTerms,
     at: Moment,
 ) -> Result<Decision, Refusal>
-    ensures { Decides (lend slice.now.division callsign.now terms.borrower terms.until at
-        (room_of plan.now.areas slice.now.rows)) result }
+    ensures { result ≡ lend slice.now.division callsign.now terms.borrower terms.until at
+        (room_of plan.now.areas slice.now.rows) }
 {
     let vehicle = held(slice, callsign)?;
     if terms.borrower == slice.division || !plan.has(terms.borrower) {
@@ -71,18 +68,17 @@ pub fn lend(
         since: at,
         until: terms.until,
     };
-    Decision::done(alloc)
-        .with(Change::PutVehicle(reserved))?
-        .with(Change::PutOffer(offer))
+    let changes = [Change::PutVehicle(reserved), Change::PutOffer(offer)];
+    Ok(Decision::done(changes))
 }
 
 /// Takes back an offer: its vehicle is available.
 ///
 /// Refused as `held` refuses, then as `NoSuchOffer` where the division offers no such vehicle.
 #[tactic(auto, unfolding(room_model::specs::Loans::withdraw, room_model::specs::Queries::offered_by))]
-pub fn withdraw(alloc: Global, slice: &Slice, callsign: &Callsign) -> Result<Decision, Refusal>
-    ensures { (plan : List Area) → Decides
-        (withdraw slice.now.division callsign.now (room_of plan slice.now.rows)) result }
+pub fn withdraw(slice: &Slice, callsign: &Callsign) -> Result<Decision, Refusal>
+    ensures { (plan : List Area)
+        → result ≡ withdraw slice.now.division callsign.now (room_of plan slice.now.rows) }
 {
     let vehicle = held(slice, callsign)?;
     match slice.rows.offers.get(callsign) {
@@ -93,23 +89,21 @@ pub fn withdraw(alloc: Global, slice: &Slice, callsign: &Callsign) -> Result<Dec
         status: Status::Available,
         ..*vehicle
     };
-    Decision::done(alloc)
-        .with(Change::PutVehicle(available))?
-        .with(Change::DropOffer(vehicle.callsign))
+    let dropped = Change::DropOffer(vehicle.callsign);
+    Ok(Decision::done([Change::PutVehicle(available), dropped]))
 }
 
 /// Declines an offer: its vehicle is the lender's, and available.
 ///
 /// Refused as `NoSuchOffer` where no such vehicle is offered to the division.
 #[tactic(auto, unfolding(room_model::specs::Loans::decline))]
-pub fn decline(alloc: Global, slice: &Slice, callsign: &Callsign) -> Result<Decision, Refusal>
-    ensures { (plan : List Area) → Decides
-        (decline slice.now.division callsign.now (room_of plan slice.now.rows)) result }
+pub fn decline(slice: &Slice, callsign: &Callsign) -> Result<Decision, Refusal>
+    ensures { (plan : List Area)
+        → result ≡ decline slice.now.division callsign.now (room_of plan slice.now.rows) }
 {
     let offer = offered_to(slice, callsign)?;
-    Decision::done(alloc)
-        .with(Change::Settle(offer.callsign, offer.lender))?
-        .with(Change::DropOffer(offer.callsign))
+    let settled = Change::Settle(offer.callsign, offer.lender);
+    Ok(Decision::done([settled, Change::DropOffer(offer.callsign)]))
 }
 
 /// Accepts an offer, which becomes a loan: its vehicle is the borrower's, and available.
@@ -117,14 +111,9 @@ pub fn decline(alloc: Global, slice: &Slice, callsign: &Callsign) -> Result<Deci
 /// Refused as `NoSuchOffer` where no such vehicle is offered to the division. Nothing else of the
 /// lender's is looked at: the vehicle's shift may be over.
 #[tactic(auto, unfolding(room_model::specs::Loans::accept))]
-pub fn accept(
-    alloc: Global,
-    slice: &Slice,
-    callsign: &Callsign,
-    at: Moment,
-) -> Result<Decision, Refusal>
-    ensures { (plan : List Area) → Decides
-        (accept slice.now.division callsign.now at (room_of plan slice.now.rows)) result }
+pub fn accept(slice: &Slice, callsign: &Callsign, at: Moment) -> Result<Decision, Refusal>
+    ensures { (plan : List Area)
+        → result ≡ accept slice.now.division callsign.now at (room_of plan slice.now.rows) }
 {
     let offer = offered_to(slice, callsign)?;
     let loan = Loan {
@@ -135,10 +124,9 @@ pub fn accept(
         until: offer.until,
         recalled: false,
     };
-    Decision::done(alloc)
-        .with(Change::Settle(offer.callsign, offer.borrower))?
-        .with(Change::DropOffer(offer.callsign))?
-        .with(Change::PutLoan(loan))
+    let settled = Change::Settle(offer.callsign, offer.borrower);
+    let dropped = Change::DropOffer(offer.callsign);
+    Ok(Decision::done([settled, dropped, Change::PutLoan(loan)]))
 }
 
 /// Marks a loan as recalled, which does nothing else; a marked one stays as it is.
@@ -146,16 +134,16 @@ pub fn accept(
 /// Where the division has lent no such vehicle: refused as `NoSuchLoan` where it holds it, and
 /// else as `NoSuchVehicle`.
 #[tactic(auto, unfolding(room_model::specs::Loans::recall))]
-pub fn recall(alloc: Global, slice: &Slice, callsign: &Callsign) -> Result<Decision, Refusal>
-    ensures { (plan : List Area) → Decides
-        (recall slice.now.division callsign.now (room_of plan slice.now.rows)) result }
+pub fn recall(slice: &Slice, callsign: &Callsign) -> Result<Decision, Refusal>
+    ensures { (plan : List Area)
+        → result ≡ recall slice.now.division callsign.now (room_of plan slice.now.rows) }
 {
     if let Some(loan) = find_lent(slice, callsign) {
         let recalled = Loan {
             recalled: true,
             ..*loan
         };
-        return Decision::done(alloc).with(Change::PutLoan(recalled));
+        return Ok(Decision::done([Change::PutLoan(recalled)]));
     }
     match find(slice, callsign) {
         Some(_) => Err(Refusal::NoSuchLoan),
@@ -168,9 +156,9 @@ pub fn recall(alloc: Global, slice: &Slice, callsign: &Callsign) -> Result<Decis
 /// Refused as `held` refuses, then as `NoSuchLoan` where the vehicle is at home, `StillAssigned`
 /// where it has an order.
 #[tactic(auto, unfolding(room_model::specs::Loans::give_back, room_model::specs::Decisions::refuse_if, room_model::specs::Queries::borrowed))]
-pub fn give_back(alloc: Global, slice: &Slice, callsign: &Callsign) -> Result<Decision, Refusal>
-    ensures { (plan : List Area) → Decides
-        (give_back slice.now.division callsign.now (room_of plan slice.now.rows)) result }
+pub fn give_back(slice: &Slice, callsign: &Callsign) -> Result<Decision, Refusal>
+    ensures { (plan : List Area)
+        → result ≡ give_back slice.now.division callsign.now (room_of plan slice.now.rows) }
 {
     let vehicle = held(slice, callsign)?;
     if vehicle.home == slice.division {
@@ -188,9 +176,8 @@ pub fn give_back(alloc: Global, slice: &Slice, callsign: &Callsign) -> Result<De
         post: None,
         ..*vehicle
     };
-    Decision::done(alloc)
-        .with(Change::PutVehicle(returned))?
-        .with(Change::DropLoan(vehicle.callsign))
+    let dropped = Change::DropLoan(vehicle.callsign);
+    Ok(Decision::done([Change::PutVehicle(returned), dropped]))
 }
 
 // The offer of this vehicle to the division.

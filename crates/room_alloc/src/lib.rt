@@ -1,7 +1,6 @@
 //! Which vehicles are sent, when they are on duty, where they stand by, and to whom they are lent.
 #![tactic(auto)]
 
-pub(crate) mod candidates;
 pub mod cover;
 pub mod desk_views;
 pub mod held_shifts;

@@ -1,13 +1,10 @@
 //! A vehicle's order for an incident, and its end by the desk.
-ghost use Rattle.std.specs.Prelude.{◌≡◌, ◌+◌, ℕ, List, IfErr, IfOk, None, Some, nat_le};
+ghost use Rattle.std.specs.Prelude.{◌≡◌, ◌+◌, ◌∷◌, [], ℕ, List, IfOk, None, Some, nat_le};
 ghost use Rattle.std.specs.Prelude.{if◌then◌else◌, option_copied};
 ghost use Rattle.room_place.specs.declared.plans.Area.{Area};
 ghost use Rattle.room_types.specs.Needs.{need_of};
 ghost use Rattle.room_types.specs.Slices.{assignment_at, vehicle_at};
-ghost use Rattle.room_types.specs.declared.answers.Answer.TheVariants.{Done};
 ghost use Rattle.room_types.specs.declared.codes.Status.TheVariants as status;
-ghost use Rattle.room_types.specs.declared.refusal_statuses.Refusal.TheVariants.{Memory};
-ghost use Rattle.room_model.specs.Decisions.{Decides};
 ghost use Rattle.room_model.specs.Moments.{number_limit};
 ghost use Rattle.room_model.specs.Queries.{open_turn, served};
 ghost use Rattle.room_model.specs.RoomSlices.{room_of};
@@ -26,7 +23,6 @@ use room_types::numbers::{LastNumber, Moment, Number};
 use room_types::refusal_statuses::Refusal;
 use room_types::slices::Slice;
 use room_types::tables::{Assignment, Incident, Turn, Vehicle};
-use std::alloc::Global;
 
 /// Orders a vehicle to an incident, under its next order number.
 ///
@@ -35,14 +31,13 @@ use std::alloc::Global;
 /// incident lacks no vehicle of its kind, `NumbersUsedUp` where its order numbers are.
 #[tactic(auto, unfolding(room_model::specs::Vehicles::mobilise, room_model::specs::Decisions::refuse_if))]
 pub fn mobilise(
-    alloc: Global,
     slice: &Slice,
     number: Number,
     callsign: &Callsign,
     at: Moment,
 ) -> Result<Decision, Refusal>
-    ensures decides { (plan : List Area) → Decides
-        (mobilise slice.now.division number callsign.now at (room_of plan slice.now.rows)) result }
+    ensures decides { (plan : List Area) → result
+        ≡ mobilise slice.now.division number callsign.now at (room_of plan slice.now.rows) }
     // The vehicle had no assignment.
     ensures unassigned { IfOk result (λ _. assignment_at callsign.now slice.now.rows ≡ None) }
 {
@@ -64,11 +59,14 @@ pub fn mobilise(
         first_order: incident.first_order.or(Some(at)),
         ..*incident
     };
-    Decision::show(alloc, Answer::Mobilised(order, vehicle.callsign))
-        .with(Change::PutIncident(sent_to))?
-        .with(Change::PutVehicle(mobilised(vehicle, order)))?
-        .with(Change::PutTurn(turn(incident, vehicle, order, at)))?
-        .with(Change::PutAssignment(assignment(incident, vehicle, order)))
+    let changes = [
+        Change::PutIncident(sent_to),
+        Change::PutVehicle(mobilised(vehicle, order)),
+        Change::PutTurn(turn(incident, vehicle, order, at)),
+        Change::PutAssignment(assignment(incident, vehicle, order)),
+    ];
+    let answer = Answer::Mobilised(order, vehicle.callsign);
+    Ok(Decision::with_changes(answer, changes))
 }
 
 // Whether the incident has got as many vehicles of the kind as it needs.
@@ -140,14 +138,9 @@ fn assignment(incident: &Incident, vehicle: &Vehicle, order: Number) -> Assignme
 ///
 /// Refused as `held` refuses, then as `WrongStatus` where the vehicle is not mobilised.
 #[tactic(auto, unfolding(room_model::specs::Vehicles::stand_down, room_model::specs::Decisions::refuse_if))]
-pub fn stand_down(
-    alloc: Global,
-    slice: &Slice,
-    callsign: &Callsign,
-    at: Moment,
-) -> Result<Decision, Refusal>
-    ensures { (plan : List Area) → Decides
-        (stand_down slice.now.division callsign.now at (room_of plan slice.now.rows)) result }
+pub fn stand_down(slice: &Slice, callsign: &Callsign, at: Moment) -> Result<Decision, Refusal>
+    ensures { (plan : List Area)
+        → result ≡ stand_down slice.now.division callsign.now at (room_of plan slice.now.rows) }
 {
     let vehicle = held(slice, callsign)?;
     if !vehicle.status.is_mobilised() {
@@ -157,26 +150,23 @@ pub fn stand_down(
         status: Status::Returning,
         ..*vehicle
     };
-    ended(alloc, open_turn(slice, callsign, vehicle), at)?
-        .with(Change::DropAssignment(vehicle.callsign))?
-        .with(Change::PutVehicle(returning))
+    let dropped = Change::DropAssignment(vehicle.callsign);
+    let put = Change::PutVehicle(returning);
+    let decision = match open_turn(slice, callsign, vehicle) {
+        Some(turn) => Decision::done([stood_down(turn, at), dropped, put]),
+        None => Decision::done([dropped, put]),
+    };
+    Ok(decision)
 }
 
-// The turn's end, where there is one. The one refusal is `Memory`.
-fn ended(alloc: Global, turn: Option<&Turn>, at: Moment) -> Result<Decision, Refusal>
-    ensures ok { IfOk result (λ x. x ≡ record
-        { changes = turn_stood_down at (option_copied turn.entry); answer = Done }) }
-    ensures memory { IfErr result (λ e. e ≡ Memory) }
+fn stood_down(turn: &Turn, at: Moment) -> Change
+    ensures { turn_stood_down at (Some turn.now) ≡ result ∷ [] }
 {
-    let Some(turn) = turn else {
-        return Ok(Decision::done(alloc));
-    };
-    let ended = Turn {
+    Change::PutTurn(Turn {
         ended: Some(at),
         stood_down: true,
         ..*turn
-    };
-    Decision::done(alloc).with(Change::PutTurn(ended))
+    })
 }
 
 // The vehicle's open turn.

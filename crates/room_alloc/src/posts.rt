@@ -1,7 +1,6 @@
 //! Standby points, and the vehicles sent to them.
-ghost use Rattle.std.specs.Prelude.{List};
+ghost use Rattle.std.specs.Prelude.{◌≡◌, Ok, List};
 ghost use Rattle.room_place.specs.declared.plans.Area.{Area};
-ghost use Rattle.room_model.specs.Decisions.{Decides};
 ghost use Rattle.room_model.specs.Points.{set_point};
 ghost use Rattle.room_model.specs.RoomSlices.{room_of};
 ghost use Rattle.room_model.specs.Vehicles.{standby};
@@ -15,7 +14,6 @@ use room_types::numbers::{Cover, Moment, PointNumber};
 use room_types::refusal_statuses::Refusal;
 use room_types::slices::Slice;
 use room_types::tables::{Point, Vehicle};
-use std::alloc::Global;
 
 /// Posts the vehicle to this point, or to none.
 ///
@@ -23,15 +21,14 @@ use std::alloc::Global;
 /// of a point then as `ShiftOver` where its shift is over, and as `NoSuchPoint` where the division
 /// has no such point.
 #[tactic(auto, unfolding(room_model::specs::Vehicles::standby, room_model::specs::Decisions::refuse_if, room_model::specs::Queries::point_of))]
-pub fn standby(
-    alloc: Global,
+pub fn post(
     slice: &Slice,
     callsign: &Callsign,
     point: Option<PointNumber>,
     at: Moment,
 ) -> Result<Decision, Refusal>
-    ensures { (plan : List Area) → Decides
-        (standby slice.now.division callsign.now point at (room_of plan slice.now.rows)) result }
+    ensures { (plan : List Area)
+        → result ≡ standby slice.now.division callsign.now point at (room_of plan slice.now.rows) }
 {
     let vehicle = held(slice, callsign)?;
     if !vehicle.status.is_free() {
@@ -49,19 +46,13 @@ pub fn standby(
         post: point,
         ..*vehicle
     };
-    Decision::done(alloc).with(Change::PutVehicle(posted))
+    Ok(Decision::done([Change::PutVehicle(posted)]))
 }
 
 /// Puts a point of this number at this place, where so many vehicles are wanted: a new one, or in
 /// place of the one that the division has.
-pub fn set_point(
-    alloc: Global,
-    slice: &Slice,
-    number: PointNumber,
-    place: &Place,
-    cover: Cover,
-) -> Result<Decision, Refusal>
-    ensures { Decides (set_point slice.now.division number place.now cover) result }
+pub fn set_point(slice: &Slice, number: PointNumber, place: &Place, cover: Cover) -> Decision
+    ensures { set_point slice.now.division number place.now cover ≡ Ok result }
 {
     let point = Point {
         division: slice.division,
@@ -69,5 +60,5 @@ pub fn set_point(
         place: *place,
         cover,
     };
-    Decision::done(alloc).with(Change::PutPoint(point))
+    Decision::done([Change::PutPoint(point)])
 }

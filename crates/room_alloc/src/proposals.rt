@@ -9,11 +9,9 @@ ghost use Rattle.room_model.specs.Proposals.{all_proposed, is_before, propose, p
 ghost use Rattle.room_model.specs.Queries.{incident_of};
 ghost use Rattle.room_model.specs.Room.{IsInOrder};
 ghost use Rattle.room_model.specs.RoomSlices.{room_of, unplanned};
-ghost use Rattle.room_alloc.specs.Candidates.{AreShort};
 ghost use Rattle.room_alloc.specs.ProposalAnswers.{AreForIncident};
 ghost use Rattle.room_alloc.specs.Rings.{AreApart, AreOfKind, ArePlaced, proposal_at};
 
-use crate::candidates::short_points;
 use crate::nearness::Candidate;
 use crate::ring_search::{candidates_round, nearest};
 use room_incident::active_incidents::active;
@@ -23,9 +21,8 @@ use room_types::codes::Kind;
 use room_types::decisions::Decision;
 use room_types::numbers::{Moment, Number};
 use room_types::refusal_statuses::Refusal;
-use room_types::rows::Rows;
 use room_types::slices::{DivisionRows, Slice};
-use room_types::tables::{Incident, Point};
+use room_types::tables::Incident;
 use std::alloc::{AllocError, Global};
 
 /// The proposals for an active incident: of each kind as many of the eligible vehicles as it
@@ -49,7 +46,7 @@ pub fn propose(
     lemma_in_order(&slice.rows);
     let incident = active(slice, number)?;
     let proposals = of_all_kinds(alloc, slice, incident, at)?;
-    Ok(Decision::show(alloc, Answer::Proposals(proposals)))
+    Ok(Decision::show(Answer::Proposals(proposals)))
 }
 
 fn of_all_kinds(
@@ -63,10 +60,9 @@ fn of_all_kinds(
         all ≡ all_proposed slice.now.division incident.now at (unplanned slice.now.rows)) }
     ensures memory { IfErr result (λ e. e ≡ Memory) }
 {
-    let short = short_points(alloc, slice, at)?;
-    let ambulances = of_kind(alloc, slice, incident, &short, Kind::Ambulance, at)?;
-    let cars = of_kind(alloc, slice, incident, &short, Kind::Car, at)?;
-    let support = of_kind(alloc, slice, incident, &short, Kind::Support, at)?;
+    let ambulances = of_kind(alloc, slice, incident, Kind::Ambulance, at)?;
+    let cars = of_kind(alloc, slice, incident, Kind::Car, at)?;
+    let support = of_kind(alloc, slice, incident, Kind::Support, at)?;
     joined(ambulances, &cars, &support)
 }
 
@@ -75,19 +71,17 @@ fn of_kind(
     alloc: Global,
     slice: &Slice,
     incident: &Incident,
-    short: &Rows<Point>,
     kind: Kind,
     at: Moment,
 ) -> Result<Listed<Proposal>, Refusal>
-    requires division { incident.now.division ≡ slice.now.division }
-    requires short { AreShort slice.now.division at (unplanned slice.now.rows) short.now }
+    requires { incident.now.division ≡ slice.now.division }
     ensures ok { IfOk result (λ few.
         few ≡ proposed slice.now.division incident.now at (unplanned slice.now.rows) kind) }
     ensures memory { IfErr result (λ e. e ≡ Memory) }
 {
     lemma_in_order(&slice.rows);
     let count = lack(incident, &slice.rows.turns, kind).get();
-    let all = candidates_round(alloc, slice, incident, short, kind, at)?;
+    let all = candidates_round(alloc, slice, incident, kind, at)?;
     let few = first_of_both(alloc, all.as_slice(), incident, kind, count as usize)?;
     Ok(few)
 }

@@ -9,22 +9,25 @@ ghost use Rattle.room_place.specs.Places.{IsInSquares};
 ghost use Rattle.room_types.specs.KeyedRows.{IsKeyed};
 ghost use Rattle.room_types.specs.declared.refusal_statuses.Refusal.TheVariants.{Memory};
 ghost use Rattle.room_model.specs.Proposals.{is_before};
+ghost use Rattle.room_model.specs.RoomSlices.{unplanned};
 ghost use Rattle.room_alloc.specs.Nearness.{nearness_cmp, proposal_with, whole};
 ghost use Rattle.room_alloc.specs.Rings.{AreApart, AreByRing, AreOfKind, ArePlaced, IsByRing};
 ghost use Rattle.room_alloc.specs.Rings.{IsPlaced, IsSearched, candidate_of, candidates_round};
-ghost use Rattle.room_alloc.specs.Rings.{is_breaking, is_enough, nearness_of, proposal_at};
+ghost use Rattle.room_alloc.specs.Rings.{is_breaking, is_candidate, is_enough, nearness_of};
+ghost use Rattle.room_alloc.specs.Rings.{proposal_at};
 
-use crate::candidates::{has_point, is_candidate};
+use crate::cover::{breaks_cover, eligible};
 use crate::nearness::{Candidate, Nearness};
 use room_place::grid_cells::{cell_of, ring_floor, ring_of};
 use room_place::places::{Place, distance};
+use room_place::plans::DivisionNumber;
 use room_types::answers::{Listed, Proposal};
 use room_types::codes::Kind;
 use room_types::numbers::Moment;
 use room_types::refusal_statuses::Refusal;
 use room_types::rows::Rows;
 use room_types::slices::Slice;
-use room_types::tables::{Incident, Point, Vehicle};
+use room_types::tables::{Incident, Vehicle};
 use std::alloc::{AllocError, Global};
 
 /// The division's eligible vehicles of a kind, in callsign order, each with its ring round the
@@ -33,12 +36,11 @@ pub(crate) fn candidates_round(
     alloc: Global,
     slice: &Slice,
     incident: &Incident,
-    short: &Rows<Point>,
     kind: Kind,
     at: Moment,
 ) -> Result<Vec<Candidate>, Refusal>
     ensures ok { IfOk result (λ all. all.items
-        ≡ candidates_round slice.now.division incident.now short.now kind at
+        ≡ candidates_round slice.now.division incident.now kind at (unplanned slice.now.rows)
         slice.now.rows.vehicles) }
     ensures placed { IfOk result (λ all. ArePlaced incident.now all.items) }
     ensures memory { IfErr result (λ refusal. refusal ≡ Memory) }
@@ -46,19 +48,22 @@ pub(crate) fn candidates_round(
     let mut all = Vec::new(alloc);
     for vehicle in slice.rows.vehicles.as_slice() {
         if is_candidate(vehicle, slice.division, kind, at) {
-            all.push(candidate(slice, incident, short, vehicle))?;
+            all.push(candidate(slice, incident, vehicle, at))?;
         }
     }
     Ok(all)
 }
 
-fn candidate(
-    slice: &Slice,
-    incident: &Incident,
-    short: &Rows<Point>,
-    vehicle: &Vehicle,
-) -> Candidate
-    ensures value { result ≡ candidate_of slice.now.division incident.now short.now vehicle.now }
+// Whether the division may send the vehicle, which is of the kind.
+fn is_candidate(vehicle: &Vehicle, division: DivisionNumber, kind: Kind, at: Moment) -> bool
+    ensures { result ≡ is_candidate division at kind vehicle.now }
+{
+    eligible(vehicle, division, at) && vehicle.kind == kind
+}
+
+fn candidate(slice: &Slice, incident: &Incident, vehicle: &Vehicle, at: Moment) -> Candidate
+    ensures value { result
+        ≡ candidate_of slice.now.division incident.now at (unplanned slice.now.rows) vehicle.now }
     ensures placed { IsPlaced incident.now result }
 {
     // A place is in the squares, which bounds its ring and ties its distance to that.
@@ -66,7 +71,7 @@ fn candidate(
     in_squares(&incident.place);
     Candidate {
         ring: ring_of(cell_of(vehicle.place), cell_of(incident.place)),
-        breaks: has_point(short, vehicle, slice.division),
+        breaks: breaks_cover(slice, vehicle, at),
         vehicle: *vehicle,
     }
 }

@@ -1,1 +1,2 @@
 pub mod CallWork
+pub mod DecidedLaws

@@ -1,10 +1,9 @@
 //! What a desk asks, decided on its division's rows.
 ghost use Rattle.std.specs.Prelude.{◌≡◌};
-ghost use Rattle.room_model.specs.Decisions.{Decides};
 ghost use Rattle.room_model.specs.Room.{IsInOrder, Room};
 ghost use Rattle.room_model.specs.Shares.{own};
 ghost use Rattle.room_model.specs.RoomSlices.{room_of};
-ghost use Rattle.room_model.specs.Step.{desk_asks};
+ghost use Rattle.room_model.specs.Step.{DecidesAsked, desk_asks};
 ghost use Rattle.room_model.specs.RoomAgreements.{IsWellFormed};
 ghost use Rattle.room_core.specs.DecisionRows.{AreRead};
 
@@ -12,7 +11,7 @@ use room_alloc::desk_views::{loans, offers, points, vehicles};
 use room_alloc::held_shifts::{off_duty, on_duty};
 use room_alloc::lending::{LoanTerms, accept, decline, give_back, lend, recall, withdraw};
 use room_alloc::orders::{mobilise, stand_down};
-use room_alloc::posts::{set_point, standby};
+use room_alloc::posts::{post, set_point};
 use room_alloc::proposals::propose;
 use room_incident::incident_closing::close;
 use room_incident::incident_history::incident;
@@ -31,7 +30,8 @@ use std::alloc::Global;
 
 /// What a division's desk asks. In every well-formed room of this plan the decision is the room's,
 /// where the slice's rows are those that the request reads, and where they are the division's whole
-/// share. A request that is for no desk is refused as `WrongRole`.
+/// share. A request that is for no desk is refused as `WrongRole`. Only a list and a merge may lack
+/// memory.
 pub fn decide_desk(
     alloc: Global,
     plan: &Plan,
@@ -41,12 +41,12 @@ pub fn decide_desk(
 ) -> Result<Decision, Refusal>
     ensures decides { (r : Room) → IsWellFormed r → r.plan ≡ plan.now.areas
         → AreRead slice.now.division ask.now at (room_of r.plan slice.now.rows) r
-        → Decides (desk_asks slice.now.division ask.now at r) result }
+        → DecidesAsked ask.now (desk_asks slice.now.division ask.now at r) result }
     // In every other room where the division has the same rows, it is that room's too.
     ensures apart { (r other : Room) → IsWellFormed r → r.plan ≡ plan.now.areas
         → AreRead slice.now.division ask.now at (room_of r.plan slice.now.rows) r
         → IsInOrder other → own slice.now.division r ≡ own slice.now.division other
-        → Decides (desk_asks slice.now.division ask.now at other) result }
+        → DecidesAsked ask.now (desk_asks slice.now.division ask.now at other) result }
 {
     decide(alloc, plan, slice, ask, at)
 }
@@ -58,38 +58,38 @@ fn decide(
     ask: &Ask,
     at: Moment,
 ) -> Result<Decision, Refusal>
-    ensures { Decides (desk_asks slice.now.division ask.now at
+    ensures { DecidesAsked ask.now (desk_asks slice.now.division ask.now at
         (room_of plan.now.areas slice.now.rows)) result }
 {
     match ask {
         Ask::Incidents => incidents(alloc, slice),
         Ask::Incident(number) => incident(alloc, slice, *number),
         Ask::Propose(number) => propose(alloc, slice, *number, at),
-        Ask::Mobilise(number, callsign) => mobilise(alloc, slice, *number, callsign, at),
-        Ask::Needs(number, needs) => change_needs(alloc, slice, *number, *needs),
+        Ask::Mobilise(number, callsign) => mobilise(slice, *number, callsign, at),
+        Ask::Needs(number, needs) => change_needs(slice, *number, *needs),
         Ask::Merge(from, into) => merge(alloc, slice, *from, *into),
-        Ask::Close(number) => close(alloc, slice, *number),
+        Ask::Close(number) => close(slice, *number),
         Ask::Vehicles => vehicles(alloc, slice),
-        Ask::StandDown(callsign) => stand_down(alloc, slice, callsign, at),
-        Ask::Standby(callsign, point) => standby(alloc, slice, callsign, *point, at),
-        Ask::Duty(callsign, place, until) => on_duty(alloc, slice, callsign, place, *until, at),
-        Ask::Off(callsign) => off_duty(alloc, slice, callsign),
+        Ask::StandDown(callsign) => stand_down(slice, callsign, at),
+        Ask::Standby(callsign, point) => post(slice, callsign, *point, at),
+        Ask::Duty(callsign, place, until) => on_duty(slice, callsign, place, *until, at),
+        Ask::Off(callsign) => off_duty(slice, callsign),
         Ask::Lend(callsign, to, until) => {
             let terms = LoanTerms {
                 borrower: *to,
                 until: *until,
             };
-            lend(alloc, plan, slice, callsign, terms, at)
+            lend(plan, slice, callsign, terms, at)
         }
-        Ask::Withdraw(callsign) => withdraw(alloc, slice, callsign),
-        Ask::Decline(callsign) => decline(alloc, slice, callsign),
-        Ask::Accept(callsign) => accept(alloc, slice, callsign, at),
-        Ask::Recall(callsign) => recall(alloc, slice, callsign),
-        Ask::GiveBack(callsign) => give_back(alloc, slice, callsign),
+        Ask::Withdraw(callsign) => withdraw(slice, callsign),
+        Ask::Decline(callsign) => decline(slice, callsign),
+        Ask::Accept(callsign) => accept(slice, callsign, at),
+        Ask::Recall(callsign) => recall(slice, callsign),
+        Ask::GiveBack(callsign) => give_back(slice, callsign),
         Ask::Queue => queue(alloc, slice, at),
-        Ask::Clear(callsign, number) => clear(alloc, slice, callsign, *number),
+        Ask::Clear(callsign, number) => clear(slice, callsign, *number),
         Ask::Points => points(alloc, slice, at),
-        Ask::SetPoint(number, place, cover) => set_point(alloc, slice, *number, place, *cover),
+        Ask::SetPoint(number, place, cover) => Ok(set_point(slice, *number, place, *cover)),
         Ask::Loans => loans(alloc, slice),
         Ask::Offers => offers(alloc, slice),
         Ask::Times(from, to) => day_times(alloc, slice, *from, *to),

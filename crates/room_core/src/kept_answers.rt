@@ -11,12 +11,11 @@ use room_types::asks::{NewCall, Press};
 use room_types::decisions::Decision;
 use room_types::refusal_statuses::Refusal;
 use room_types::tables::{Call, Report};
-use std::alloc::Global;
 
 /// A call whose serial the room has kept. Of the same content it gets its kept answer, and changes
 /// nothing; of another it is refused as `SerialReused`.
 #[tactic(auto, unfolding(room_model::specs::Decisions::refuse_if))]
-pub fn decide_repeated_call(alloc: Global, kept: &Call, new: &NewCall) -> Result<Decision, Refusal>
+pub fn decide_repeated_call(kept: &Call, new: &NewCall) -> Result<Decision, Refusal>
     ensures { result ≡ refuse_if (not (same_call kept.now new.now)) SerialReused
         (show (Called kept.now.division kept.now.given kept.now.linked)) }
 {
@@ -28,17 +27,13 @@ pub fn decide_repeated_call(alloc: Global, kept: &Call, new: &NewCall) -> Result
         return Err(Refusal::SerialReused);
     }
     let answer = Answer::Called(kept.division, kept.given, kept.linked);
-    Ok(Decision::show(alloc, answer))
+    Ok(Decision::show(answer))
 }
 
 /// A report whose number the room has kept. Of the same content it gets its kept answer, and
 /// changes nothing; of another it is refused as `NumberReused`.
 #[tactic(auto, unfolding(room_model::specs::Decisions::refuse_if))]
-pub fn decide_repeated_report(
-    alloc: Global,
-    kept: &Report,
-    press: &Press,
-) -> Result<Decision, Refusal>
+pub fn decide_repeated_report(kept: &Report, press: &Press) -> Result<Decision, Refusal>
     ensures { result ≡ again kept.now press.now }
 {
     let is_same_press = kept.button == press.button
@@ -48,5 +43,5 @@ pub fn decide_repeated_report(
         return Err(Refusal::NumberReused);
     }
     let answer = Answer::Reported(kept.number, kept.outcome, kept.status);
-    Ok(Decision::show(alloc, answer))
+    Ok(Decision::show(answer))
 }

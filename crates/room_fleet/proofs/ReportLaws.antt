@@ -2,7 +2,7 @@
 use Rattle.std.proofs.Common.{Bool, None, Option, Some, eq-eqb, false, refl, true, ap, ◌∙◌, subst}
 use Rattle.std.proofs.Common.{sym, cond, ℕ, ◌≡◌}
 use Rattle.std.proofs.lemmas.Bool.{false≢true}
-use Rattle.std.specs.List.{cons_option}
+use Rattle.std.specs.Option.{option_to_list}
 use Rattle.std.specs.Prelude.{List, [], is_none, is_some, IfSome, option_map, ◌&&◌, ◌++◌, ◌==◌, ◌∷◌}
 use Rattle.room_types.proofs.EachRow.{row_key}
 use Rattle.room_types.specs.KeyedRows.{keep, row_at}
@@ -38,7 +38,7 @@ use Rattle.room_fleet.specs.declared.reports.Reported.{Reported as Rows}
 
 -- ---- the changes are those of the rows that differ
 turn_put : (b : Button) (at : ℕ) (t : Option Turn)
-    → cons_option (option_map PutTurn (option_map (turn_after b at) t)) [] ≡ turn_changes b at t
+    → option_to_list (option_map PutTurn (option_map (turn_after b at) t)) ≡ turn_changes b at t
 turn_put b at None = refl
 turn_put b at (Some t) = refl
 
@@ -54,7 +54,7 @@ loan_over home at (Some l) = loan_dropped (home && is_due at (Some l)) l
 
 -- as they are put one after another
 abbrev pub put_one_by_one : CrewRows → Rows → List Change
-put_one_by_one x y = PutReport y.report ∷ cons_option (option_map PutTurn y.turn) []
+put_one_by_one x y = PutReport y.report ∷ option_to_list (option_map PutTurn y.turn)
     ++ (drop_changes y.vehicle.callsign (ends_turn y.report.button)
     ++ (back_changes y.vehicle.callsign (is_some x.loan && is_none y.loan)
     ++ PutVehicle y.vehicle ∷ []))

@@ -1,15 +1,14 @@
 //! What a crew's report does to its vehicle's rows.
-ghost use Rattle.std.specs.List.{cons_option};
-ghost use Rattle.std.specs.Prelude.{◌≡◌, ◌++◌, ◌∷◌, ◌&&◌, ℕ, [], IfErr, IfOk, None, Some, false};
-ghost use Rattle.std.specs.Prelude.{is_none, is_some, max, option_copied, option_map, true};
+ghost use Rattle.std.specs.Option.{option_to_list};
+ghost use Rattle.std.specs.Prelude.{◌≡◌, ◌++◌, ◌∷◌, ◌&&◌, ◌+◌, ◌<◌, ◌≤◌, ℕ, [], None, Ok, Some};
+ghost use Rattle.std.specs.Prelude.{false, is_none, is_some, length, max, option_copied};
+ghost use Rattle.std.specs.Prelude.{option_map, true};
 ghost use Rattle.room_types.specs.Codes.{acts};
 ghost use Rattle.room_types.specs.declared.answers.Answer.TheVariants as answer;
 ghost use Rattle.room_types.specs.declared.asks.Press.{Press};
 ghost use Rattle.room_types.specs.declared.changes.Change.TheVariants.{PutReport, PutTurn};
 ghost use Rattle.room_types.specs.declared.changes.Change.TheVariants.{PutVehicle};
 ghost use Rattle.room_types.specs.declared.crews.CrewRows.{CrewRows};
-ghost use Rattle.room_types.specs.declared.refusal_statuses.Refusal.TheVariants.{Memory};
-ghost use Rattle.room_model.specs.Decisions.{Decides};
 ghost use Rattle.room_model.specs.Moments.{first_of};
 ghost use Rattle.room_model.specs.Queries.{kept_report};
 ghost use Rattle.room_model.specs.Reports.{back_changes, drop_changes, ends_turn, is_due};
@@ -22,104 +21,117 @@ ghost use Rattle.room_fleet.specs.ReportedRows.{AreHolders, IsOnlyKept, TurnKeep
 ghost use Rattle.room_fleet.specs.ReportedRows.{only_kept, reported};
 
 use crate::buttons::{acts, ends_turn, is_home, names_order, press as outcome_at, status_after};
-use room_types::answers::{Answer, Listed};
+use room_types::answers::Answer;
 use room_types::asks::Press;
-use room_types::changes::Change;
+use room_types::changes::{Change, Changes, FewChanges};
 use room_types::codes::{Button, Outcome, Status};
 use room_types::crews::{CrewRows, CrewSlice};
 use room_types::decisions::Decision;
 use room_types::numbers::{LastNumber, Moment};
-use room_types::refusal_statuses::Refusal;
 use room_types::tables::{Loan, Report, Turn, Vehicle};
-use std::alloc::Global;
 
 /// A report whose number the room has not kept (the caller sees to that): its row and those that it
-/// changes are put, and its crew is answered what it came to. The one refusal is `Memory`.
-pub fn take_report(
-    alloc: Global,
-    slice: &CrewSlice,
-    press: &Press,
-    at: Moment,
-) -> Result<Decision, Refusal>
+/// changes are put, and its crew is answered what it came to. Nothing is refused.
+pub fn take_report(slice: &CrewSlice, press: &Press, at: Moment) -> Decision
     // In any room where the holder has these rows.
     ensures holder { (r : Room) → AreHolders r slice.now.rows
-        → Decides (report_in slice.now.rows.vehicle.holder slice.now.rows.vehicle.callsign
-        press.now at r) result }
+        → report_in slice.now.rows.vehicle.holder slice.now.rows.vehicle.callsign press.now at r
+        ≡ Ok result }
     // In a well-formed room that has these rows of the vehicle, and not the report's number.
     ensures crew { (r : Room) → IsWellFormed r
         → AreCrewRows slice.now.rows.vehicle.callsign r slice.now.rows
         → kept_report slice.now.rows.vehicle.callsign press.now.number r ≡ None
-        → Decides (take_report slice.now.rows.vehicle.callsign press.now at r) result }
+        → take_report slice.now.rows.vehicle.callsign press.now at r ≡ Ok result }
 {
     let after = report(slice, press, at);
-    put(alloc, &slice.rows, &after)
+    put(&slice.rows, &after)
 }
 
 // From the rows before a report to those after it.
-fn put(alloc: Global, before: &CrewRows, after: &Reported) -> Result<Decision, Refusal>
+fn put(before: &CrewRows, after: &Reported) -> Decision
     // Whatever the report was.
     ensures { (press : Press) (at : ℕ) → after.now ≡ reported before.now press at
-        → Decides (report_held (Some before.now.vehicle) before.now.turn before.now.loan press at)
-        result }
+        → report_held (Some before.now.vehicle) before.now.turn before.now.loan press at
+        ≡ Ok result }
 {
     if acts(after.report.outcome) {
-        put_acted(alloc, before, after)
+        put_acted(before, after)
     } else {
-        put_kept(alloc, after)
+        put_kept(after)
     }
 }
 
-fn put_kept(alloc: Global, after: &Reported) -> Result<Decision, Refusal>
+fn put_kept(after: &Reported) -> Decision
     ensures { (before : CrewRows) (press : Press) (at : ℕ)
         → acts after.now.report.outcome ≡ false → after.now ≡ reported before press at
-        → Decides (report_held (Some before.vehicle) before.turn before.loan press at) result }
+        → report_held (Some before.vehicle) before.turn before.loan press at ≡ Ok result }
 {
-    let kept = &after.report;
-    Decision::show(alloc, answer_of(kept))
-        .with(Change::PutReport(*kept))?
-        .with(Change::PutVehicle(after.vehicle))
+    let kept = Change::PutReport(after.report);
+    let vehicle = Change::PutVehicle(after.vehicle);
+    Decision::with_changes(answer_of(&after.report), [kept, vehicle])
 }
 
-fn put_acted(alloc: Global, before: &CrewRows, after: &Reported) -> Result<Decision, Refusal>
+fn put_acted(before: &CrewRows, after: &Reported) -> Decision
     ensures { (press : Press) (at : ℕ)
         → acts after.now.report.outcome ≡ true → after.now ≡ reported before.now press at
-        → Decides (report_held (Some before.now.vehicle) before.now.turn before.now.loan press at)
-        result }
+        → report_held (Some before.now.vehicle) before.now.turn before.now.loan press at
+        ≡ Ok result }
 {
-    let changes = changes_acted(alloc, before, after)?;
-    let answer = answer_of(&after.report);
-    Ok(Decision { changes, answer })
+    Decision {
+        changes: Changes::few(changes_acted(before, after)),
+        answer: answer_of(&after.report),
+    }
 }
 
 // The vehicle's row comes last.
-fn changes_acted(
-    alloc: Global,
-    before: &CrewRows,
-    after: &Reported,
-) -> Result<Listed<Change>, Refusal>
-    ensures ok { IfOk result (λ changes.
-        changes ≡ PutReport after.now.report
-        ∷ cons_option (option_map PutTurn after.now.turn) []
+fn changes_acted(before: &CrewRows, after: &Reported) -> FewChanges
+    ensures { result ≡ PutReport after.now.report
+        ∷ option_to_list (option_map PutTurn after.now.turn)
         ++ (drop_changes after.now.vehicle.callsign (ends_turn after.now.report.button)
         ++ (back_changes after.now.vehicle.callsign
         (is_some before.now.loan && is_none after.now.loan)
-        ++ PutVehicle after.now.vehicle ∷ []))) }
-    ensures memory { IfErr result (λ e. e ≡ Memory) }
+        ++ PutVehicle after.now.vehicle ∷ [])) }
 {
-    let callsign = after.vehicle.callsign;
-    let mut changes = Listed::new(alloc);
-    changes.push(Change::PutReport(after.report))?;
-    if let Some(turn) = after.turn {
-        changes.push(Change::PutTurn(turn))?;
+    let vehicle = &after.vehicle;
+    let goes_back = before.loan.is_some() && after.loan.is_none();
+    let mut changes = FewChanges::of([Change::PutReport(after.report)]);
+    put_turn(&mut changes, after.turn.as_ref());
+    drop_assignment(&mut changes, vehicle, ends_turn(after.report.button));
+    drop_loan(&mut changes, vehicle, goes_back);
+    changes.add(&[Change::PutVehicle(*vehicle)]);
+    changes
+}
+
+fn put_turn(changes: &mut FewChanges, turn: Option<&Turn>)
+    requires { length changes.old < 5 }
+    ensures items { changes.new
+        ≡ changes.old ++ option_to_list (option_map PutTurn (option_copied turn.entry)) }
+    ensures few { length changes.new ≤ length changes.old + 1 }
+{
+    if let Some(turn) = turn {
+        changes.add(&[Change::PutTurn(*turn)]);
     }
-    if ends_turn(after.report.button) {
-        changes.push(Change::DropAssignment(callsign))?;
+}
+
+fn drop_assignment(changes: &mut FewChanges, vehicle: &Vehicle, ends: bool)
+    requires { length changes.old < 5 }
+    ensures items { changes.new ≡ changes.old ++ drop_changes vehicle.now.callsign ends }
+    ensures few { length changes.new ≤ length changes.old + 1 }
+{
+    if ends {
+        changes.add(&[Change::DropAssignment(vehicle.callsign)]);
     }
-    if before.loan.is_some() && after.loan.is_none() {
-        changes.push(Change::DropLoan(callsign))?;
+}
+
+fn drop_loan(changes: &mut FewChanges, vehicle: &Vehicle, goes_back: bool)
+    requires { length changes.old < 5 }
+    ensures items { changes.new
+        ≡ changes.old ++ back_changes vehicle.now.callsign goes_back }
+    ensures few { length changes.new ≤ length changes.old + 1 }
+{
+    if goes_back {
+        changes.add(&[Change::DropLoan(vehicle.callsign)]);
     }
-    changes.push(Change::PutVehicle(after.vehicle))?;
-    Ok(changes)
 }
 
 fn answer_of(kept: &Report) -> Answer

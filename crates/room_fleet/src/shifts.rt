@@ -1,5 +1,5 @@
 //! A vehicle's shifts.
-ghost use Rattle.room_model.specs.Decisions.{Decides};
+ghost use Rattle.std.specs.Prelude.{◌≡◌};
 ghost use Rattle.room_model.specs.Vehicles.{on_duty, off_duty};
 
 use room_place::places::Place;
@@ -9,7 +9,6 @@ use room_types::decisions::Decision;
 use room_types::numbers::Moment;
 use room_types::refusal_statuses::Refusal;
 use room_types::tables::Vehicle;
-use std::alloc::Global;
 
 /// The vehicle on duty: available at a place, with a shift up to `until`.
 ///
@@ -17,13 +16,12 @@ use std::alloc::Global;
 /// have ended at this moment or before.
 #[tactic(auto, unfolding(room_model::specs::Decisions::refuse_if))]
 pub fn on_duty(
-    alloc: Global,
     vehicle: &Vehicle,
     place: &Place,
     until: Moment,
     at: Moment,
 ) -> Result<Decision, Refusal>
-    ensures { Decides (on_duty place.now until at vehicle.now) result }
+    ensures { result ≡ on_duty place.now until at vehicle.now }
 {
     if !vehicle.status.is_off() {
         return Err(Refusal::WrongStatus);
@@ -31,12 +29,13 @@ pub fn on_duty(
     if until <= at {
         return Err(Refusal::ShiftOver);
     }
-    Decision::done(alloc).with(Change::PutVehicle(Vehicle {
+    let on_duty = Vehicle {
         status: Status::Available,
         shift_end: until,
         place: *place,
         ..*vehicle
-    }))
+    };
+    Ok(Decision::done([Change::PutVehicle(on_duty)]))
 }
 
 /// The vehicle off duty, and without a post.
@@ -44,8 +43,8 @@ pub fn on_duty(
 /// Refused as `StillAssigned` where it has an order, then as `WrongStatus` where it is off duty or
 /// offered.
 #[tactic(auto, unfolding(room_model::specs::Decisions::refuse_if))]
-pub fn off_duty(alloc: Global, vehicle: &Vehicle) -> Result<Decision, Refusal>
-    ensures { Decides (off_duty vehicle.now) result }
+pub fn off_duty(vehicle: &Vehicle) -> Result<Decision, Refusal>
+    ensures { result ≡ off_duty vehicle.now }
 {
     if vehicle.status.is_busy() {
         return Err(Refusal::StillAssigned);
@@ -53,9 +52,10 @@ pub fn off_duty(alloc: Global, vehicle: &Vehicle) -> Result<Decision, Refusal>
     if !vehicle.status.is_free() {
         return Err(Refusal::WrongStatus);
     }
-    Decision::done(alloc).with(Change::PutVehicle(Vehicle {
+    let off_duty = Vehicle {
         status: Status::OffDuty,
         post: None,
         ..*vehicle
-    }))
+    };
+    Ok(Decision::done([Change::PutVehicle(off_duty)]))
 }

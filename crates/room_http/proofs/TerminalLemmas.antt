@@ -1,10 +1,11 @@
 -- Lemmas on tokens and terminals.
 use Rattle.std.proofs.Common.{◌≡◌, ◌∙◌, ap, sym, refl, ℕ, List, Bool, true, false, Option, Some}
-use Rattle.std.proofs.Common.{None}
-use Rattle.std.specs.Prelude.{if◌then◌else◌, IsUtf8, option_map}
+use Rattle.std.proofs.Common.{Err, None, Ok}
+use Rattle.std.specs.Prelude.{if◌then◌else◌, IsUtf8, SomeIff, option_map}
 use Rattle.room_types.specs.KeyLemmas.{callsigns_total, exact_callsigns}
 use Rattle.room_types.specs.Texts.{Token, is_token}
 use Rattle.room_types.specs.declared.asks.Who.{Who}
+use Rattle.room_types.specs.declared.refusal_statuses.Refusal.{Refusal}
 use Rattle.room_types.specs.declared.asks.Who.TheVariants.{Crew, Desk, Position}
 use Rattle.room_types.specs.declared.fleet.Terminal.{Terminal}
 use Rattle.room_types.proofs.Letters.{token_text}
@@ -26,7 +27,7 @@ no_token text none = go (is_token text) (token_text text)
 
 module _ (field : Option (List ℕ)) (bytes text : List ℕ) (is : field ≡ Some bytes) (same : text ≡ bytes) where
   -- what is read as a token is the field's
-  pub shows_token : (token : Token) → is_token text ≡ true → token ≡ text
+  shows_token : (token : Token) → is_token text ≡ true → token ≡ text
       → token_of field ≡ Some token
   shows_token token valid read = ap token_of (is ∙ ap Some (sym same)) ∙ rw valid (ap Some (sym read))
 
@@ -35,8 +36,13 @@ module _ (field : Option (List ℕ)) (bytes text : List ℕ) (is : field ≡ Som
   none_there false not = refl
 
   -- and where the text is none, the field has none
-  pub shows_none : ¬ (is_token text ≡ true) → token_of field ≡ None
+  shows_none : ¬ (is_token text ≡ true) → token_of field ≡ None
   shows_none not = ap token_of (is ∙ ap Some (sym same)) ∙ none_there (is_token text) not
+
+  pub read_token : (read : Option Token) → SomeIff read (is_token text ≡ true) text
+      → read ≡ token_of field
+  read_token (Some token) is = sym (shows_token token is.0 is.1)
+  read_token None not = sym (shows_none not)
 
 -- a terminal that is found is known
 pub found_known : (room : Room) (terminals : List Terminal) (token : Token) (who : Who)
@@ -61,3 +67,7 @@ found_known room terminals token who fit is = go (terminal_at token terminals) r
         → Some who ≡ option_map (λ t. t.who) o → is_known who room ≡ true
     go None found named = absurd (cc)
     go (Some t) found named = let same : t.who ≡ who = cc in known t found who same
+
+-- what was found was not refused
+pub not_refused : (who : Who) (why : Refusal) → Ok who ≡ Err why → ⊥
+not_refused who why is = absurd (cc)

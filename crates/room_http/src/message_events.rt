@@ -1,8 +1,10 @@
 //! The event that a message asks for, or the first refusal on the way to it.
 ghost use Rattle.std.specs.Prelude.{◌≡◌};
 ghost use Rattle.std.specs.Option.{option_map};
+ghost use Rattle.room_http_messages.specs.Layouts.{Shows};
+ghost use Rattle.room_http_messages.specs.Messages.{WholeMessage, terminal_of};
 ghost use Rattle.room_http_requests.specs.declared.request_table.Request.TheVariants as request;
-ghost use Rattle.room_http.specs.MessageEvents.{IsAskFor};
+ghost use Rattle.room_http.specs.MessageEvents.{IsAskFor, token_of};
 ghost use Rattle.room_http.specs.Findings.{FindsMessage, FindsTerminal, LooksOnly};
 
 use crate::handlers::Handler;
@@ -17,6 +19,22 @@ use room_types::refusal_statuses::Refusal;
 use room_types::token::Token;
 use std::alloc::Global;
 
+/// The token that a message shows, in the value of its only X-Terminal field. It shows none where
+/// that value is no token, and where it has no such field or more than one.
+pub fn token(message: &Message) -> Option<Token>
+    ensures field { result ≡ token_of (option_map (λ text. text.now) message.now.terminal) }
+    ensures sent { (m : WholeMessage) → Shows message.now m
+        → result ≡ token_of (terminal_of m.head) }
+{
+    let Some(field) = message.terminal else {
+        return None;
+    };
+    let Ok(text) = str::from_utf8(field) else {
+        return None;
+    };
+    Token::parse(text)
+}
+
 /// The terminal that a message names. It names none where it shows no token, or one that the room
 /// doesn't know.
 fn terminal<M: Room>(alloc: Global, room: &mut M, message: &Message) -> Result<Who, Refusal>
@@ -28,13 +46,7 @@ fn terminal<M: Room>(alloc: Global, room: &mut M, message: &Message) -> Result<W
     ensures looks { LooksOnly M.is_trusted M.is_kept M.stands M.leaves_one_of room.old room.new
         result }
 {
-    let Some(field) = message.terminal else {
-        return Err(Refusal::NoTerminal);
-    };
-    let Ok(text) = str::from_utf8(field) else {
-        return Err(Refusal::NoTerminal);
-    };
-    let Some(token) = Token::parse(text) else {
+    let Some(token) = token(message) else {
         return Err(Refusal::NoTerminal);
     };
     match room.who(alloc, &token) {

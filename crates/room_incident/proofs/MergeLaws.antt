@@ -1,6 +1,6 @@
 -- What two incidents are joined to.
 use Rattle.std.proofs.Common.{List, None, Option, Some, [], ap, arith, inl, inr, map, refl, subst}
-use Rattle.std.proofs.Common.{sym, ℕ, ◌∙◌, ◌∷◌, ◌≡◌, ◌≤◌}
+use Rattle.std.proofs.Common.{sym, ℕ, ◌++◌, ◌∙◌, ◌∷◌, ◌≡◌, ◌≤◌}
 use Rattle.room_place.specs.Choice.{Among}
 use Rattle.room_types.specs.Needs.{larger, need_of}
 use Rattle.room_types.specs.declared.changes.Change.{Change}
@@ -71,3 +71,9 @@ joins_so n m target into merged cs x joins is_m are =
         ]
       ];
     }
+
+-- two are put one after the other
+pub put_two : (none first both : List Change) (a b : Change) → none ≡ [] → first ≡ none ++ a ∷ []
+    → both ≡ first ++ b ∷ [] → both ≡ a ∷ b ∷ []
+put_two none first both a b empty one two =
+    two ∙ ap (λ xs. xs ++ b ∷ []) (one ∙ ap (λ xs. xs ++ a ∷ []) empty)

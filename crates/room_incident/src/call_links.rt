@@ -17,7 +17,7 @@ use room_types::tables::Incident;
 /// The incident that a call at this place and moment is linked to: the nearest of the division's
 /// active ones that lie near enough and were opened late enough, of equally near ones that of the
 /// lowest number. None where there is no such incident.
-pub fn nearest<'a>(slice: &'a Slice, place: &Place, at: Moment) -> Option<&'a Incident>
+pub fn link_target<'a>(slice: &'a Slice, place: &Place, at: Moment) -> Option<&'a Incident>
     ensures target { (plan : List Area)
         → option_copied result ≡ link_target slice.now.division place.now at
         (room_of plan slice.now.rows) }
@@ -26,11 +26,11 @@ pub fn nearest<'a>(slice: &'a Slice, place: &Place, at: Moment) -> Option<&'a In
     ensures active { IfSome result (λ i. is_active i.now.state ≡ true) }
     ensures division { IfSome result (λ i. i.now.division ≡ slice.now.division) }
 {
-    nearest_of(&slice.rows.incidents, place, at)
+    nearest(&slice.rows.incidents, place, at)
 }
 
 // Of all these incidents, whichever division's they are.
-fn nearest_of<'a>(incidents: &'a Rows<Incident>, place: &Place, at: Moment) -> Option<&'a Incident>
+fn nearest<'a>(incidents: &'a Rows<Incident>, place: &Place, at: Moment) -> Option<&'a Incident>
     ensures { option_copied result ≡ least (is_nearer place.now)
         (filter (is_open_near place.now at) incidents.now) }
 {

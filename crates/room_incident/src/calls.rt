@@ -1,17 +1,16 @@
 //! What becomes of a call.
-ghost use Rattle.std.specs.Prelude.{◌≡◌, List, Option, Some, IfOk, true};
+ghost use Rattle.std.specs.Prelude.{◌≡◌, List, Ok, Option, Some, IfOk, true};
 ghost use Rattle.room_place.specs.declared.plans.Area.{Area};
 ghost use Rattle.room_types.specs.Codes.{is_active};
 ghost use Rattle.room_types.specs.declared.tables.Division.{Division};
 ghost use Rattle.room_model.specs.Calls.{call_in, call_new, call_row, call_taken, new_incident};
 ghost use Rattle.room_model.specs.Calls.{with_call};
-ghost use Rattle.room_model.specs.Decisions.{Decides};
 ghost use Rattle.room_model.specs.Queries.{last_number};
 ghost use Rattle.room_model.specs.RoomSlices.{room_of};
 ghost use Rattle.room_incident.specs.IncidentCalls.{is_call_of};
 ghost use Rattle.room_incident.specs.LinkedCalls.{Covers};
 
-use crate::call_links::nearest;
+use crate::call_links::link_target;
 use room_place::plans::DivisionNumber;
 use room_types::answers::Answer;
 use room_types::asks::NewCall;
@@ -22,7 +21,6 @@ use room_types::numbers::{LastNumber, Number};
 use room_types::refusal_statuses::Refusal;
 use room_types::slices::Slice;
 use room_types::tables::{Call, Division, Incident};
-use std::alloc::Global;
 
 /// Takes a call whose place is in the slice's division and whose serial the room does not have
 /// (the caller sees to both). It is linked to an active incident near by, or makes a new one with
@@ -30,39 +28,35 @@ use std::alloc::Global;
 ///
 /// Refused as `NumbersUsedUp` where it makes a new one and the last number is given out.
 #[tactic(auto, unfolding(room_model::specs::Calls::call_in))]
-pub fn take_call(alloc: Global, slice: &Slice, new: &NewCall) -> Result<Decision, Refusal>
-    ensures decides { (plan : List Area) → Decides
-        (call_in slice.now.division new.now (room_of plan slice.now.rows)) result }
+pub fn take_call(slice: &Slice, new: &NewCall) -> Result<Decision, Refusal>
+    ensures decides { (plan : List Area)
+        → result ≡ call_in slice.now.division new.now (room_of plan slice.now.rows) }
     ensures covers { IfOk result (Covers new.now) }
 {
-    match nearest(slice, &new.place, new.at) {
-        Some(incident) => link(alloc, slice.division, incident, new),
-        None => open_incident(alloc, slice, new),
+    match link_target(slice, &new.place, new.at) {
+        Some(incident) => Ok(link(slice.division, incident, new)),
+        None => open_incident(slice, new),
     }
 }
 
-fn link(
-    alloc: Global,
-    division: DivisionNumber,
-    incident: &Incident,
-    new: &NewCall,
-) -> Result<Decision, Refusal>
+fn link(division: DivisionNumber, incident: &Incident, new: &NewCall) -> Decision
     requires active { is_active incident.now.state ≡ true }
     requires division { incident.now.division ≡ division }
-    ensures decides { (last : Option Division) → Decides
-        (call_taken division new.now (Some incident.now) last) result }
-    ensures covers { IfOk result (Covers new.now) }
+    ensures decides { (last : Option Division)
+        → call_taken division new.now (Some incident.now) last ≡ Ok result }
+    ensures covers { Covers new.now result }
 {
-    Decision::show(alloc, Answer::Called(division, incident.number, true))
-        .with(Change::PutIncident(with_call(new, incident)))?
-        .with(Change::PutCall(call_row(division, incident.number, true, new)))
+    let incident_row = Change::PutIncident(with_call(new, incident));
+    let call = Change::PutCall(call_row(division, incident.number, true, new));
+    let answer = Answer::Called(division, incident.number, true);
+    Decision::with_changes(answer, [incident_row, call])
 }
 
 #[tactic(auto, unfolding(room_model::specs::Decisions::refuse_if, room_model::specs::Queries::last_number))]
-fn open_incident(alloc: Global, slice: &Slice, new: &NewCall) -> Result<Decision, Refusal>
-    ensures decides { (plan : List Area) → Decides
-        (call_new slice.now.division new.now
-        (last_number slice.now.division (room_of plan slice.now.rows))) result }
+fn open_incident(slice: &Slice, new: &NewCall) -> Result<Decision, Refusal>
+    ensures decides { (plan : List Area) → result
+        ≡ call_new slice.now.division new.now
+        (last_number slice.now.division (room_of plan slice.now.rows)) }
     ensures covers { IfOk result (Covers new.now) }
 {
     let Some(division) = slice.rows.divisions.get(&slice.division) else {
@@ -75,10 +69,11 @@ fn open_incident(alloc: Global, slice: &Slice, new: &NewCall) -> Result<Decision
         last_incident: LastNumber::of(number.get()),
         ..*division
     };
-    Decision::show(alloc, Answer::Called(slice.division, number, false))
-        .with(Change::PutDivision(numbered))?
-        .with(Change::PutIncident(new_incident(slice.division, number, new)))?
-        .with(Change::PutCall(call_row(slice.division, number, false, new)))
+    let incident = Change::PutIncident(new_incident(slice.division, number, new));
+    let call = Change::PutCall(call_row(slice.division, number, false, new));
+    let answer = Answer::Called(slice.division, number, false);
+    let changes = [Change::PutDivision(numbered), incident, call];
+    Ok(Decision::with_changes(answer, changes))
 }
 
 // The incident keeps its place.

@@ -3,7 +3,6 @@ ghost use Rattle.std.specs.Prelude.{◌≡◌, List, IfOk, IsSome};
 ghost use Rattle.room_place.specs.Choice.{Among};
 ghost use Rattle.room_place.specs.declared.plans.Area.{Area};
 ghost use Rattle.room_types.specs.declared.tables.Turn.{Turn};
-ghost use Rattle.room_model.specs.Decisions.{Decides};
 ghost use Rattle.room_model.specs.Incidents.{close};
 ghost use Rattle.room_model.specs.RoomSlices.{room_of};
 
@@ -16,16 +15,15 @@ use room_types::numbers::Number;
 use room_types::refusal_statuses::Refusal;
 use room_types::slices::Slice;
 use room_types::tables::Incident;
-use std::alloc::Global;
 
 /// Closes the division's incident.
 ///
 /// Refused as `NoSuchIncident`, then as `IncidentNotOpen`, then as `StillAssigned` where it has an
 /// open turn.
 #[tactic(auto, unfolding(room_model::specs::Decisions::refuse_if, room_model::specs::Incidents::close))]
-pub fn close(alloc: Global, slice: &Slice, number: Number) -> Result<Decision, Refusal>
-    ensures decides { (plan : List Area) → Decides
-        (close slice.now.division number (room_of plan slice.now.rows)) result }
+pub fn close(slice: &Slice, number: Number) -> Result<Decision, Refusal>
+    ensures decides { (plan : List Area)
+        → result ≡ close slice.now.division number (room_of plan slice.now.rows) }
     ensures ended { IfOk result (λ x. (t : Turn) → Among t slice.now.rows.turns
         → t.division ≡ slice.now.division → t.incident ≡ number → IsSome t.ended) }
 {
@@ -33,8 +31,9 @@ pub fn close(alloc: Global, slice: &Slice, number: Number) -> Result<Decision, R
     if is_attended(&slice.rows.turns, slice.division, number) {
         return Err(Refusal::StillAssigned);
     }
-    Decision::done(alloc).with(Change::PutIncident(Incident {
+    let closed = Incident {
         state: State::Closed,
         ..*incident
-    }))
+    };
+    Ok(Decision::done([Change::PutIncident(closed)]))
 }

@@ -35,7 +35,7 @@ pub fn incident(alloc: Global, slice: &Slice, number: Number) -> Result<Decision
         calls: calls_of(alloc, slice, number)?,
         turns: turns_of(alloc, slice, number)?,
     };
-    Ok(Decision::show(alloc, Answer::Incident(history)))
+    Ok(Decision::show(Answer::Incident(history)))
 }
 
 fn all_served(slice: &Slice, number: Number) -> Served

@@ -35,7 +35,7 @@ pub fn incidents(alloc: Global, slice: &Slice) -> Result<Decision, Refusal>
         is_active i.state) slice.now.rows.incidents ≡ true) }
 {
     let lines = incident_lines(alloc, slice)?;
-    Ok(Decision::show(alloc, Answer::Incidents(lines)))
+    Ok(Decision::show(Answer::Incidents(lines)))
 }
 
 fn incident_lines(alloc: Global, slice: &Slice) -> Result<Listed<IncidentLine>, Refusal>
@@ -100,5 +100,5 @@ pub fn day_times(alloc: Global, slice: &Slice, from: i64, to: i64) -> Result<Dec
         (list_any (is_opened_between from to) slice.now.rows.incidents ≡ true) }
 {
     let times = times(alloc, &slice.rows.incidents, from, to)?;
-    Ok(Decision::show(alloc, Answer::Times(times)))
+    Ok(Decision::show(Answer::Times(times)))
 }

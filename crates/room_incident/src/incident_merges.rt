@@ -1,5 +1,5 @@
 //! One incident goes into another.
-ghost use Rattle.std.specs.Prelude.{◌≡◌, ◌++◌, List, Some, IfErr, IfOk, map};
+ghost use Rattle.std.specs.Prelude.{◌≡◌, ◌++◌, List, Some, IfErr, IfOk, OnOk, map};
 ghost use Rattle.room_place.specs.declared.plans.Area.{Area};
 ghost use Rattle.room_types.specs.Slices.{incident_at};
 ghost use Rattle.room_types.specs.declared.refusal_statuses.Refusal.TheVariants.{Memory};
@@ -13,7 +13,8 @@ ghost use Rattle.room_incident.specs.IncidentMerges.{Joins};
 
 use crate::calls::is_call_of;
 use crate::served_needs::is_attended;
-use room_types::changes::Change;
+use room_types::answers::{Answer, Listed};
+use room_types::changes::{Change, Changes};
 use room_types::codes::State;
 use room_types::decisions::Decision;
 use room_types::numbers::{Moment, Number};
@@ -55,10 +56,14 @@ pub fn merge(alloc: Global, slice: &Slice, from: Number, into: Number) -> Result
         state: State::Merged(target.number),
         ..*source
     };
-    let decision = Decision::done(alloc)
-        .with(Change::PutIncident(with_source(source, target)))?
-        .with(Change::PutIncident(merged))?;
-    move_calls(decision, slice, from, target.number)
+    let mut changes = Listed::new(alloc);
+    changes.push(Change::PutIncident(with_source(source, target)))?;
+    changes.push(Change::PutIncident(merged))?;
+    move_calls(&mut changes, slice, from, target.number)?;
+    Ok(Decision {
+        changes: Changes::many(changes),
+        answer: Answer::Done,
+    })
 }
 
 // The target keeps its number and its place.
@@ -87,27 +92,24 @@ fn earlier(one: Option<Moment>, other: Option<Moment>) -> Option<Moment>
 
 // The calls of the one as calls of the other. What each was answered stays.
 fn move_calls(
-    decision: Decision,
+    changes: &mut Listed<Change>,
     slice: &Slice,
     from: Number,
     into: Number,
-) -> Result<Decision, Refusal>
-    ensures ok { IfOk result (λ x. (plan : List Area)
-        → x ≡ record decision {
-          changes = decision.changes ++ map (moved_call into)
-              (calls_of slice.now.division from (room_of plan slice.now.rows));
-        }) }
+) -> Result<(), Refusal>
+    ensures ok { OnOk result ((plan : List Area)
+        → changes.new ≡ changes.old ++ map (moved_call into)
+        (calls_of slice.now.division from (room_of plan slice.now.rows))) }
     ensures memory { IfErr result (λ e. e ≡ Memory) }
 {
-    let mut moved = decision;
     for call in slice.rows.calls.as_slice() {
         if is_call_of(call, slice.division, from) {
             let call = Call {
                 incident: into,
                 ..*call
             };
-            moved.changes.push(Change::PutCall(call))?;
+            changes.push(Change::PutCall(call))?;
         }
     }
-    Ok(moved)
+    Ok(())
 }

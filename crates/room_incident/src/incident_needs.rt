@@ -6,7 +6,6 @@ ghost use Rattle.room_types.specs.Needs.{need_of};
 ghost use Rattle.room_types.specs.declared.changes.Change.TheVariants.{PutIncident};
 ghost use Rattle.room_types.specs.declared.codes.Kind.{Kind};
 ghost use Rattle.room_types.specs.declared.tables.Incident.{Incident};
-ghost use Rattle.room_model.specs.Decisions.{Decides};
 ghost use Rattle.room_model.specs.Incidents.{change_needs, is_below};
 ghost use Rattle.room_model.specs.Queries.{served};
 ghost use Rattle.room_model.specs.RoomSlices.{room_of};
@@ -21,21 +20,15 @@ use room_types::numbers::Number;
 use room_types::refusal_statuses::Refusal;
 use room_types::slices::Slice;
 use room_types::tables::Incident;
-use std::alloc::Global;
 
 /// Changes the needs of the division's incident.
 ///
 /// Refused as `NoSuchIncident`, then as `IncidentNotOpen`, then as `BelowServed` where a need is
 /// below the number of vehicles of that kind that serve the incident.
 #[tactic(auto, unfolding(room_model::specs::Decisions::refuse_if, room_model::specs::Incidents::change_needs))]
-pub fn change_needs(
-    alloc: Global,
-    slice: &Slice,
-    number: Number,
-    needs: Needs,
-) -> Result<Decision, Refusal>
-    ensures decides { (plan : List Area) → Decides
-        (change_needs slice.now.division number needs (room_of plan slice.now.rows)) result }
+pub fn change_needs(slice: &Slice, number: Number, needs: Needs) -> Result<Decision, Refusal>
+    ensures decides { (plan : List Area)
+        → result ≡ change_needs slice.now.division number needs (room_of plan slice.now.rows) }
     // No need that is put is below what the incident got of that kind.
     ensures served { IfOk result (λ x. (i : Incident) (plan : List Area) (k : Kind)
         → Among (PutIncident i) x.changes
@@ -45,7 +38,8 @@ pub fn change_needs(
     if is_below(slice, number, needs) {
         return Err(Refusal::BelowServed);
     }
-    Decision::done(alloc).with(Change::PutIncident(Incident { needs, ..*incident }))
+    let changed = Incident { needs, ..*incident };
+    Ok(Decision::done([Change::PutIncident(changed)]))
 }
 
 fn is_below(slice: &Slice, number: Number, needs: Needs) -> bool

@@ -11,13 +11,13 @@ use Rattle.room_types.specs.Keys.{assignment_key, callsign_cmp, loan_key, number
 use Rattle.room_types.specs.Keys.{same_callsign, turn_key, vehicle_key}
 use Rattle.room_types.specs.KeyLemmas.{callsigns_total, exact_callsigns, exact_numbered}
 use Rattle.room_types.specs.KeyLemmas.{numbered_total}
-use Rattle.room_types.specs.SentVehicles.{OrderAgrees}
+use Rattle.room_types.specs.SentVehicles.{SentAgrees}
 use Rattle.room_types.specs.Texts.{Callsign}
 use Rattle.room_types.specs.declared.crews.CrewRows.{CrewRows}
 use Rattle.room_types.specs.declared.tables.Assignment.{Assignment}
 use Rattle.room_types.specs.declared.tables.Turn.{Turn}
 use Rattle.room_types.specs.declared.tables.Vehicle.{Vehicle}
-use Rattle.room_model.proofs.SliceLaws.{SentAgrees, if_kept, if_then, is_open, sent_in_room}
+use Rattle.room_model.proofs.SliceLaws.{if_kept, if_then, is_open, sent_in_room}
 use Rattle.room_model.proofs.Tests.{both_true, is_equal, keep_keep_row, keep_row, none_of}
 use Rattle.room_model.specs.Room.{IsInOrder, Room}
 use Rattle.room_model.specs.Shares.{mine}
@@ -53,31 +53,31 @@ module _ (c : Callsign) (r : Room) (in_order : IsInOrder r) where
   rows_of_mine x = (
     λ h. record {
       vehicle = sym (mine_row vehicle_key r.vehicles c in_order.vehicles) ∙ h.vehicle;
+      assignment = sym (mine_row assignment_key r.assignments c in_order.assignments) ∙ h.assignment;
       turn = sym (mine_turn x.vehicle.last_order) ∙ h.turn;
       loan = sym (mine_row loan_key r.loans c in_order.loans) ∙ h.loan;
     },
     λ h. record {
       vehicle = mine_row vehicle_key r.vehicles c in_order.vehicles ∙ h.vehicle;
+      assignment = mine_row assignment_key r.assignments c in_order.assignments ∙ h.assignment;
       turn = mine_turn x.vehicle.last_order ∙ h.turn;
       loan = mine_row loan_key r.loans c in_order.loans ∙ h.loan;
     },
   )
 
 -- ---- and they agree
-order_of : (v : Vehicle) (a : Option Assignment) (t : Option Turn) → SentAgrees v a t
-    → OrderAgrees v t
-order_of v None None h = h
-order_of v None (Some t) h = absurd h
-order_of v (Some a) None h = absurd h
-order_of v (Some a) (Some t) h =
-    record { busy = h.busy; ordered_by_holder = h.ordered_by_holder; ordered_last = h.ordered_last }
-
 module _ (c : Callsign) (r : Room) (x : CrewRows) (formed : IsWellFormed r)
     (mine : AreCrewRows c r x) where
   vehicle_named : x.vehicle.callsign ≡ c
   vehicle_named =
       subst (λ o. IfSome o (λ v. v.callsign ≡ c)) mine.vehicle
       (row_key callsign_cmp vehicle_key callsigns_total exact_callsigns r.vehicles c)
+
+  assignment_named : IfSome x.assignment (λ a. a.callsign ≡ x.vehicle.callsign)
+  assignment_named = subst (λ o. IfSome o (λ a. a.callsign ≡ x.vehicle.callsign)) mine.assignment
+      (if_then (λ a. a.callsign ≡ c) (λ a. a.callsign ≡ x.vehicle.callsign)
+      (row_at callsign_cmp assignment_key r.assignments c) (λ a e. e ∙ sym vehicle_named)
+      (row_key callsign_cmp assignment_key callsigns_total exact_callsigns r.assignments c))
 
   loan_named : IfSome x.loan (λ l. l.callsign ≡ x.vehicle.callsign)
   loan_named = subst (λ o. IfSome o (λ l. l.callsign ≡ x.vehicle.callsign)) mine.loan
@@ -97,10 +97,11 @@ module _ (c : Callsign) (r : Room) (x : CrewRows) (formed : IsWellFormed r)
       subst (λ o. IfSome o (λ t. turn_key t ≡ (c, x.vehicle.last_order))) e (turn_named x.vehicle.last_order) in
       (ap (λ (k : Callsign × ℕ). k.0) key ∙ sym vehicle_named, none_of t.ended open_one)))
 
-  ordered : OrderAgrees x.vehicle x.turn
-  ordered =
-      subst (OrderAgrees x.vehicle) mine.turn
-      (order_of x.vehicle _ _ (sent_in_room x.vehicle _ _
+  sent : SentAgrees x.vehicle x.assignment x.turn
+  sent =
+      subst (λ a. SentAgrees x.vehicle a x.turn) mine.assignment
+      (subst (SentAgrees x.vehicle (row_at callsign_cmp assignment_key r.assignments c)) mine.turn
+      (sent_in_room x.vehicle _ _
       (subst (λ o. room.AssignmentAgrees o (row_at callsign_cmp assignment_key r.assignments c)) mine.vehicle
       (formed.assignments c))
       (subst
@@ -113,7 +114,8 @@ module _ (c : Callsign) (r : Room) (x : CrewRows) (formed : IsWellFormed r)
 
   pub rows_are_crew : IsCrew x
   rows_are_crew = record {
+    assignment = assignment_named;
     turn = turn_open;
     loan = loan_named;
-    ordered = ordered;
+    sent = sent;
   }

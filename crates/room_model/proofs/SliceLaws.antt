@@ -12,7 +12,7 @@ use Rattle.room_types.specs.Keys.{owns_loan, owns_offer, owns_point, owns_report
 use Rattle.room_types.specs.Keys.{owns_vehicle, pair_cmp, turn_key, vehicle_key}
 use Rattle.room_types.specs.KeyLemmas.{callsigns_total, exact_callsigns, exact_numbered}
 use Rattle.room_types.specs.KeyLemmas.{numbered_total, pairs_total}
-use Rattle.room_types.specs.SentVehicles.{IsSent, PartsAgree}
+use Rattle.room_types.specs.SentVehicles.{IsSent, PartsAgree, SentAgrees}
 use Rattle.room_types.specs.Codes.{is_active, is_busy}
 use Rattle.room_types.specs.Slices.{AssignmentAgrees, IsActive, IsInTurn, IsShare, TurnAgrees}
 use Rattle.room_types.specs.Slices.{VehicleAgrees, assignment_at, open_turn, turn_at, vehicle_at}
@@ -60,13 +60,7 @@ open_idle : (v : Vehicle) (n : ℕ) (t : Turn) (ended : Option ℕ) → room.Ope
 open_idle v n t None h idle = let busy = h.2 in cc
 open_idle v n t (Some at) h idle = refl
 
--- it has an assignment, and has an open turn, exactly where it is busy
-abbrev pub SentAgrees : Vehicle → Option Assignment → Option Turn → Type 0
-SentAgrees v None None = is_busy v.status ≡ false
-SentAgrees v None (Some t) = ⊥
-SentAgrees v (Some a) None = ⊥
-SentAgrees v (Some a) (Some t) = IsSent v a t
-
+-- so it has an assignment, and an open turn, exactly where it is busy
 pub sent_in_room : (v : Vehicle) (a : Option Assignment) (t : Option Turn)
     → room.AssignmentAgrees (Some v) a → room.TurnAgrees (Some v) v.last_order t
     → room.SameIncident a t → IfSome t (λ x. x.order ≡ v.last_order)

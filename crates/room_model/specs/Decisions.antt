@@ -58,8 +58,8 @@ abbrev pub answer_of : Verdict → Result Answer Refusal
 answer_of (Ok x) = Ok x.answer
 answer_of (Err e) = Err e
 
--- what the code gives is the machine's; in place of a decision, and of nothing else, memory may be
--- refused, and then nothing is decided
+-- what a code gives that makes a list is the machine's; in place of a decision, and of nothing
+-- else, memory may be refused, and then nothing is decided
 abbrev pub Decides : Verdict → Result Decision Refusal → Type 0
 Decides verdict (Ok x) = verdict ≡ Ok x
 Decides verdict (Err e) = (verdict ≡ Err e) ⊎ ((e ≡ refusal.Memory) × (is_ok verdict ≡ true))

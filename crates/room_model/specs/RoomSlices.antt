@@ -2,7 +2,8 @@
 use Rattle.std.specs.Prelude.{List, [], Some, is_none, ◌≡◌}
 use Rattle.room_place.specs.declared.plans.Area.{Area}
 use Rattle.room_types.specs.KeyedRows.{keep, row_at}
-use Rattle.room_types.specs.Keys.{callsign_cmp, loan_key, numbered_cmp, turn_key, vehicle_key}
+use Rattle.room_types.specs.Keys.{assignment_key, callsign_cmp, loan_key, numbered_cmp, turn_key}
+use Rattle.room_types.specs.Keys.{vehicle_key}
 use Rattle.room_types.specs.Texts.{Callsign}
 use Rattle.room_types.specs.declared.crews.CrewRows.{CrewRows}
 use Rattle.room_types.specs.declared.slices.DivisionRows.{DivisionRows}
@@ -31,6 +32,7 @@ unplanned s = room_of [] s
 -- what the room has of vehicle c: the turn is that of its last order, where it is not ended
 pub record AreCrewRows (c : Callsign) (r : Room) (x : CrewRows) : Type 0 where
   pub vehicle : row_at callsign_cmp vehicle_key r.vehicles c ≡ Some x.vehicle
+  pub assignment : row_at callsign_cmp assignment_key r.assignments c ≡ x.assignment
   pub turn :
       keep (λ t. is_none t.ended) (row_at numbered_cmp turn_key r.turns (c, x.vehicle.last_order))
       ≡ x.turn

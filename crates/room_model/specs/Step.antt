@@ -7,12 +7,13 @@ use Rattle.room_types.specs.declared.asks.Ask.{Ask}
 use Rattle.room_types.specs.declared.asks.Event.{Event}
 use Rattle.room_types.specs.declared.asks.Who.{Who}
 use Rattle.room_types.specs.declared.asks.Who.TheVariants.{Crew, Desk, Position}
+use Rattle.room_types.specs.declared.decisions.Decision.{Decision}
 use Rattle.room_types.specs.declared.refusal_statuses.Refusal.{Refusal}
 use Rattle.room_types.specs.RefusalStatuses.{refusal_number}
 use Rattle.room_types.specs.Texts.{Callsign}
 use Rattle.room_model.specs.Calls.{new_call, show_last_serial, take_call}
 use Rattle.room_model.specs.DayTimes.{show_times}
-use Rattle.room_model.specs.Decisions.{Verdict, answer_of, changes_of}
+use Rattle.room_model.specs.Decisions.{Decides, Verdict, answer_of, changes_of}
 use Rattle.room_model.specs.Incidents.{change_needs, close, merge, show_incident, show_incidents}
 use Rattle.room_model.specs.Loans.{accept, decline, give_back, lend, recall, show_loans}
 use Rattle.room_model.specs.Loans.{show_offers, withdraw}
@@ -100,6 +101,27 @@ abbrev pub is_positions : Ask → Bool
 is_positions (ask.Call f) = true
 is_positions ask.Last = true
 is_positions a = false
+
+-- the answer is a list that grows, or calls are moved without bound: only such an ask of a desk may
+-- lack memory
+abbrev pub may_lack_memory : Ask → Bool
+may_lack_memory ask.Incidents = true
+may_lack_memory (ask.Incident n) = true
+may_lack_memory (ask.Propose n) = true
+may_lack_memory (ask.Merge n m) = true
+may_lack_memory ask.Vehicles = true
+may_lack_memory ask.Queue = true
+may_lack_memory ask.Points = true
+may_lack_memory ask.Loans = true
+may_lack_memory ask.Offers = true
+may_lack_memory (ask.Times from to) = true
+may_lack_memory a = false
+
+-- what the code decides of a desk's ask: what the machine does, and exactly that where no list is
+-- made
+abbrev pub DecidesAsked : Ask → Verdict → Result Decision Refusal → Type 0
+DecidesAsked a verdict result =
+    Decides verdict result × (may_lack_memory a ≡ false → result ≡ verdict)
 
 -- the ask is one that the role of who asks may ask
 abbrev pub is_of_role : Who → Ask → Bool

@@ -33,7 +33,7 @@ pub fn queue(alloc: Global, slice: &Slice, at: Moment) -> Result<Decision, Refus
         → IsQueueOf (entries slice.now.division at (room_of plan slice.now.rows)) queue) }
 {
     let queue = ordered_entries(alloc, slice, at)?;
-    Ok(Decision::show(alloc, Answer::Queue(queue)))
+    Ok(Decision::show(Answer::Queue(queue)))
 }
 
 fn ordered_entries(alloc: Global, slice: &Slice, at: Moment) -> Result<Listed<QueueEntry>, Refusal>

@@ -3,6 +3,7 @@ pub mod LookLaws
 pub mod ActLaws
 pub mod KnownLaws
 pub mod StoreLaws
+pub mod EventLaws
 pub mod EnrolledLaws
 pub mod CreationLaws
 pub mod Misses

@@ -33,6 +33,7 @@ ready_sound g held outside sound shows = record {
   outside = outside;
   sound = λ _ clean. shows clean;
   unsound = λ unsound. let never : false ≡ true = sym unsound ∙ sound in cc;
+  cause = λ unsound. let never : false ≡ true = sym unsound ∙ sound in cc;
 }
 
 -- and it sees a room's schema, where it is sound

@@ -1,9 +1,13 @@
 -- What is decided, or that memory or storage is unavailable.
-use Rattle.std.proofs.Common.{Err, List, Ok, Result, ap, inl, inr, refl, subst, sym, ⊎_elim, ◌≡◌}
-use Rattle.std.specs.Prelude.{IfOk}
+use Rattle.std.proofs.Common.{Err, List, Ok, Result, inl, inr, refl, subst, sym, ⊎_elim, ◌≡◌}
+use Rattle.std.specs.Prelude.{IfErr, IfOk, OnOk}
 use Rattle.std.specs.Result.{IsErr}
+use Rattle.sqlite.specs.Held.{Held}
+use Rattle.sqlite_trees.specs.declared.store.Store.{Ghosts}
 use Rattle.room_model.specs.Decisions.{Decides, Verdict, answer_of, changes_of}
 use Rattle.room_model.specs.Rooms.{IsUnavailable}
+use Rattle.room_tables_schema.proofs.ReadLaws.{fails, looked, succeeds}
+use Rattle.room_tables_schema.specs.Outcomes.{ReadsOnly}
 use Rattle.room_tables_schema.specs.declared.database_faults.Fault.{Fault}
 use Rattle.room_tables_schema.specs.declared.database_faults.Fault.TheVariants as fault
 use Rattle.room_model.specs.Room.{Room}
@@ -51,25 +55,30 @@ module _ (f : Fault) {e : Refusal} (is : e ≡ refusal_of f) where
   pub failed : IsErr (unless_unavailable (Err e))
   failed = subst (λ x. IsErr (unless_unavailable (Err x))) (sym is) (failed_of f)
 
--- what nothing is decided for is unavailable
-pub unavailable_is : (r : Result Decision Refusal) (e : Refusal) → unless_unavailable r ≡ Err e → IsUnavailable e
-unavailable_is (Ok x) e is = absurd (cc)
-unavailable_is (Err refusal.Memory) e is = let same : e ≡ refusal.Memory = cc in inl same
-unavailable_is (Err refusal.Storage) e is = let same : e ≡ refusal.Storage = cc in inr same
-unavailable_is (Err x) e is = absurd (cc)
+-- what is so of what was decided is so of its parts
+pub in_parts_of : (r : Result Verdict Refusal) (P : Verdict → Type 0)
+    (Q : List Change × Result Answer Refusal → Type 0) → IfOk r P
+    → ((d : Verdict) → P d → Q (changes_of d, answer_of d)) → IfOk (in_parts r) Q
+in_parts_of (Ok d) P Q p then = then d p
+in_parts_of (Err e) P Q p then = tt
 
--- the parts of what was decided
-pub parted : (r : Result Verdict Refusal) (parts : List Change × Result Answer Refusal)
-    → Ok parts ≡ in_parts r
-    → (d : Verdict) × (r ≡ Ok d) × (parts.0 ≡ changes_of d) × (parts.1 ≡ answer_of d)
-parted (Ok d) parts is =
-    let both : parts ≡ (changes_of d, answer_of d) = cc in
-    (d, refl, ap (λ p. p.0) both, ap (λ p. p.1) both)
-parted (Err e) parts is = absurd (cc)
+pub kept_in_parts : (r : Result Verdict Refusal) (P : Type 0) → IfOk r (λ _. P)
+    → OnOk (in_parts r) P
+kept_in_parts (Ok d) P p = p
+kept_in_parts (Err e) P p = tt
 
-pub not_parted : (r : Result Verdict Refusal) (e : Refusal) → Err e ≡ in_parts r → r ≡ Err e
-not_parted (Ok d) e is = absurd (cc)
-not_parted (Err x) e is = let same : x ≡ e = cc in ap Err same
+pub reads_in_parts : {S : Type 0} {g : Ghosts S} {a b : Held S} (r : Result Verdict Refusal)
+    → ReadsOnly g a b r → ReadsOnly g a b (in_parts r)
+reads_in_parts (Ok d) h = succeeds (looked h)
+reads_in_parts (Err e) h = fails refl h
+
+-- where nothing is decided, memory or storage is unavailable
+pub unavailable_in_parts : (r : Result Decision Refusal)
+    → IfErr (in_parts (unless_unavailable r)) IsUnavailable
+unavailable_in_parts (Ok x) = tt
+unavailable_in_parts (Err refusal.Memory) = inl refl
+unavailable_in_parts (Err refusal.Storage) = inr refl
+unavailable_in_parts (Err e) = tt
 
 -- the fleet was filled, and what else is known stays as it was
 pub filled : {before : Cache} {room : Room} (fleet : Fleet) → HasFleetOf fleet room

@@ -2,6 +2,8 @@
 pub mod EventDecisions
 -- what acting on an event makes of the tables
 pub mod ActedEvents
+-- what acting on a list of events makes of a store
+pub mod EventRuns
 -- what a store keeps, and which room it stands for
 pub mod StoredRoom
 -- a room that begins

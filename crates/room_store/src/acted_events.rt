@@ -25,9 +25,9 @@ use room_place::plans::Plan;
 use room_store_cache::cache::Cache;
 use room_store_writes::transactions::write;
 use room_tables::connection_lemmas::lemma_committed;
-use room_types::answers::{Answer, Listed};
+use room_types::answers::Answer;
 use room_types::asks::{Ask, Event};
-use room_types::changes::Change;
+use room_types::changes::{Changes, FewChanges};
 use room_types::decisions::Decision;
 use room_types::refusal_statuses::Refusal;
 use sqlite::{Alter, Connection};
@@ -85,7 +85,7 @@ pub(crate) fn act_on<S: Alter, F: FnOnce(&Result<Answer, Refusal>) -> Result<Vec
 /// What an event changes, and the answer to it.
 #[derive(Drop)]
 pub(crate) struct Prepared {
-    pub(crate) changes: Listed<Change>,
+    pub(crate) changes: Changes,
     pub(crate) bytes: Vec<u8>,
 }
 
@@ -119,8 +119,7 @@ pub(crate) fn prepare<S: Alter, F: FnOnce(&Result<Answer, Refusal>) -> Result<Ve
     ensures reads { ReadsOnly S.Store conn.old conn.new result }
     ensures unavailable { IfErr result IsUnavailable }
 {
-    let decision = decide(alloc, conn, plan, cache, event);
-    let (changes, answer) = match parts(alloc, decision) {
+    let (changes, answer) = match answered(alloc, conn, plan, cache, event) {
         Ok(parts) => parts,
         Err(refusal) => return Err(refusal),
     };
@@ -132,19 +131,46 @@ pub(crate) fn prepare<S: Alter, F: FnOnce(&Result<Answer, Refusal>) -> Result<Ve
     }
 }
 
+/// What an event changes, and the machine's answer to it. Nothing is written. A refusal is of
+/// memory or of storage.
+pub(crate) fn answered<S: Alter>(
+    alloc: Global,
+    conn: &mut Connection<S>,
+    plan: &Plan,
+    cache: &mut Cache,
+    event: &Event,
+) -> Result<(Changes, Result<Answer, Refusal>), Refusal>
+    requires room { HasRoomSchema S.Store conn.old }
+    requires open { IsTrue cache.old.fleet.is_known → StandsOpen S.Store conn.old }
+    ensures changes { IsClean S.Store conn.new
+        → IfOk result (λ parts. (config : Configuration) (room : Room)
+        → IsFor (state S.Store conn.old).now.trees plan.now cache.old event.now config room
+        → parts.0 ≡ changes_of (decided event.now room)) }
+    ensures answer { IsClean S.Store conn.new
+        → IfOk result (λ parts. (config : Configuration) (room : Room)
+        → IsFor (state S.Store conn.old).now.trees plan.now cache.old event.now config room
+        → parts.1 ≡ answer_to event.now room) }
+    ensures cache { IsClean S.Store conn.new
+        → OnOk result ((config : Configuration) (room : Room)
+        → IsFor (state S.Store conn.old).now.trees plan.now cache.old event.now config room
+        → IsCacheOf cache.new room) }
+    ensures reads { ReadsOnly S.Store conn.old conn.new result }
+    ensures unavailable { IfErr result IsUnavailable }
+{
+    let decision = decide(alloc, conn, plan, cache, event);
+    parts(decision)
+}
+
 // The changes of a decision, and the answer: a refusal too, unless memory was refused or storage
 // failed.
-fn parts(
-    alloc: Global,
-    decision: Result<Decision, Refusal>,
-) -> Result<(Listed<Change>, Result<Answer, Refusal>), Refusal>
+fn parts(decision: Result<Decision, Refusal>) -> Result<(Changes, Result<Answer, Refusal>), Refusal>
     ensures { result ≡ in_parts (unless_unavailable decision) }
 {
     match decision {
         Ok(Decision { changes, answer }) => Ok((changes, Ok(answer))),
         Err(Refusal::Memory) => Err(Refusal::Memory),
         Err(Refusal::Storage) => Err(Refusal::Storage),
-        Err(refusal) => Ok((Listed::new(alloc), Err(refusal))),
+        Err(refusal) => Ok((Changes::few(FewChanges::new()), Err(refusal))),
     }
 }
 

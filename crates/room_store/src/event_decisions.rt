@@ -4,14 +4,15 @@ ghost use Rattle.sqlite.specs.Held.{state};
 ghost use Rattle.room_tables_schema.specs.FileConnections.{HasRoomSchema, IsClean, StandsOpen};
 ghost use Rattle.room_tables_schema.specs.Outcomes.{ReadsOnly};
 ghost use Rattle.room_types.specs.declared.asks.Ask.TheVariants.{Call as CallAsk};
+ghost use Rattle.room_types.specs.declared.asks.Ask.TheVariants.{Report as ReportAsk};
 ghost use Rattle.room_types.specs.declared.asks.CallForm.{CallForm as FormModel};
 ghost use Rattle.room_model.specs.Calls.{new_call, show_last_serial, take_call};
-ghost use Rattle.room_model.specs.Reports.{take_report};
 ghost use Rattle.room_model.specs.Room.{Room};
 ghost use Rattle.room_model.specs.Step.{crew_asks, decided, desk_asks};
 ghost use Rattle.room_model.specs.RoomAgreements.{IsWellFormed};
 ghost use Rattle.room_tables.specs.RoomsInTables.{Configuration};
 ghost use Rattle.room_tables.specs.FoundRows.{Finds};
+ghost use Rattle.room_core.specs.DecisionRows.{IsUnsent};
 ghost use Rattle.room_store.specs.ActedEvents.{IsFor};
 ghost use Rattle.room_store.specs.EventDecisions.{unless_unavailable};
 ghost use Rattle.room_store_cache.specs.Cache.{HasFleetOf, IsCacheOf};
@@ -20,7 +21,7 @@ ghost use Rattle.room_store_reads.specs.Partitions.{AreKnown};
 
 use crate::store_faults::refusal_of;
 use room_core::call_decisions::{decide_call, decide_last_serial};
-use room_core::crew_decisions::{decide_last, decide_order, decide_report};
+use room_core::crew_decisions::decide_crew;
 use room_core::desk_decisions::decide_desk;
 use room_core::kept_answers::{decide_repeated_call, decide_repeated_report};
 use room_place::plans::{DivisionNumber, Plan};
@@ -69,22 +70,13 @@ pub(crate) fn decide<S: Alter>(
     }
     match &event.who {
         Who::Desk(division) => for_desk(alloc, conn, plan, cache, *division, event),
-        Who::Crew(callsign) => {
-            for_crew(
-                alloc,
-                conn,
-                &mut cache.fleet,
-                callsign,
-                &event.ask,
-                event.at,
-            )
-        }
+        Who::Crew(callsign) => { for_crew(conn, &mut cache.fleet, callsign, &event.ask, event.at) }
         Who::Position(position) => match &event.ask {
             Ask::Call(form) => {
                 let call = new_call(*position, form, event.at);
                 for_call(alloc, conn, plan, cache, &call, &event.ask)
             }
-            Ask::Last => for_last(alloc, conn, *position),
+            Ask::Last => for_last(conn, *position),
             _ => Err(Refusal::Storage),
         },
     }
@@ -125,7 +117,6 @@ fn for_desk<S: Alter>(
 
 // What a vehicle's crew asks.
 fn for_crew<S: Alter>(
-    alloc: Global,
     conn: &mut Connection<S>,
     fleet: &mut Fleet,
     callsign: &Callsign,
@@ -145,47 +136,63 @@ fn for_crew<S: Alter>(
         return Err(Refusal::Storage);
     };
     match ask {
-        Ask::Order => {
-            let assignment = fleet.get().assignments.get(callsign).copied();
-            Ok(decide_order(alloc, &vehicle, assignment))
-        }
-        Ask::Report(press) => for_report(alloc, conn, fleet, &vehicle, press, at),
-        Ask::Last => Ok(decide_last(alloc, &vehicle)),
+        Ask::Report(press) => for_report(conn, fleet, &vehicle, press, ask, at),
+        Ask::Order => by_rows(conn, fleet, &vehicle, ask, at),
+        Ask::Last => by_rows(conn, fleet, &vehicle, ask, at),
         _ => Err(Refusal::WrongRole),
     }
 }
 
 // A report, kept already or new.
 fn for_report<S: Alter>(
-    alloc: Global,
     conn: &mut Connection<S>,
     fleet: &mut Fleet,
     vehicle: &Vehicle,
     press: &Press,
+    ask: &Ask,
+    at: Moment,
+) -> Result<Decision, Refusal>
+    requires room { HasRoomSchema S.Store conn.old }
+    requires open { StandsOpen S.Store conn.old }
+    requires report { ask.now ≡ ReportAsk press.now }
+    ensures decided { Finds S.Store conn.old conn.new (unless_unavailable result) (λ room x.
+        IsWellFormed room → HasFleetOf fleet.old room → HasVehicle vehicle.now room
+        → x ≡ crew_asks vehicle.now.callsign ask.now at room) }
+    ensures known { Finds S.Store conn.old conn.new (unless_unavailable result) (λ room _.
+        HasFleetOf fleet.old room → HasFleetOf fleet.new room) }
+    ensures reads { ReadsOnly S.Store conn.old conn.new (unless_unavailable result) }
+{
+    match load_report(conn, vehicle, press.number) {
+        Ok(Some(kept)) => decide_repeated_report(&kept, press),
+        Ok(None) => by_rows(conn, fleet, vehicle, ask, at),
+        Err(fault) => Err(refusal_of(fault)),
+    }
+}
+
+// What a crew asks that is no report of a number that is kept.
+fn by_rows<S: Alter>(
+    conn: &mut Connection<S>,
+    fleet: &mut Fleet,
+    vehicle: &Vehicle,
+    ask: &Ask,
     at: Moment,
 ) -> Result<Decision, Refusal>
     requires room { HasRoomSchema S.Store conn.old }
     requires open { StandsOpen S.Store conn.old }
     ensures decided { Finds S.Store conn.old conn.new (unless_unavailable result) (λ room x.
         IsWellFormed room → HasFleetOf fleet.old room → HasVehicle vehicle.now room
-        → x ≡ take_report vehicle.now.callsign press.now at room) }
+        → IsUnsent vehicle.now.callsign ask.now room
+        → x ≡ crew_asks vehicle.now.callsign ask.now at room) }
     ensures known { Finds S.Store conn.old conn.new (unless_unavailable result) (λ room _.
         HasFleetOf fleet.old room → HasFleetOf fleet.new room) }
     ensures reads { ReadsOnly S.Store conn.old conn.new (unless_unavailable result) }
 {
-    let found = match load_report(conn, vehicle, press.number) {
-        Ok(found) => found,
-        Err(fault) => return Err(refusal_of(fault)),
-    };
-    if let Some(kept) = found {
-        return decide_repeated_report(alloc, &kept, press);
-    }
     let rows = match load_crew(conn, fleet, vehicle) {
         Ok(rows) => rows,
         Err(fault) => return Err(refusal_of(fault)),
     };
     match CrewSlice::build(rows) {
-        Some(slice) => decide_report(alloc, &slice, press, at),
+        Some(slice) => decide_crew(&slice, ask, at),
         None => Err(Refusal::Storage),
     }
 }
@@ -215,7 +222,7 @@ fn for_call<S: Alter>(
         Err(fault) => return Err(refusal_of(fault)),
     };
     if let Some(kept) = found {
-        return decide_repeated_call(alloc, &kept, call);
+        return decide_repeated_call(&kept, call);
     }
     let Some(division) = plan.division_of(call.place) else {
         return Err(Refusal::OutsideArea);
@@ -229,14 +236,13 @@ fn for_call<S: Alter>(
         Ok(slice) => slice,
         Err(fault) => return Err(refusal_of(fault)),
     };
-    let decision = decide_call(alloc, &slice, call);
+    let decision = decide_call(&slice, call);
     drop(slice);
     decision
 }
 
 // The greatest serial of a position's calls.
 fn for_last<S: Alter>(
-    alloc: Global,
     conn: &mut Connection<S>,
     position: PositionNumber,
 ) -> Result<Decision, Refusal>
@@ -246,7 +252,7 @@ fn for_last<S: Alter>(
     ensures reads { ReadsOnly S.Store conn.old conn.new (unless_unavailable result) }
 {
     match last_serial(conn, position) {
-        Ok(serial) => Ok(decide_last_serial(alloc, serial)),
+        Ok(serial) => Ok(decide_last_serial(serial)),
         Err(fault) => Err(refusal_of(fault)),
     }
 }

@@ -6,6 +6,7 @@
 mod acted_events;
 mod digest_events;
 mod event_decisions;
+pub mod event_runs;
 mod fleet_enrolment;
 pub mod opened_store;
 mod served_store;

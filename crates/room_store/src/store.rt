@@ -1,9 +1,10 @@
 //! A room that is kept in the tables of a connection.
-ghost use Rattle.std.specs.Prelude.{◌≡◌, false, List, Result, Ok, IsTrue, IfOk, IfErr, OnOk, OnErr};
-ghost use Rattle.std.specs.Prelude.{MatchResult};
+ghost use Rattle.std.specs.Prelude.{◌≡◌, [], false, List, Result, Ok, IsTrue, IfOk, IfErr, OnOk};
+ghost use Rattle.std.specs.Prelude.{MatchResult, OnErr};
 ghost use Rattle.std.specs.Fn.{FnOnceReturnsAt};
 ghost use Rattle.sqlite.specs.Held.{state};
-ghost use Rattle.sqlite.specs.State.{Survives};
+ghost use Rattle.sqlite.specs.State.{FailsToQuery, Survives};
+ghost use Rattle.sqlite.specs.declared.error.Error.{Error};
 ghost use Rattle.sqlite_trees.specs.Tree.{Trees};
 ghost use Rattle.room_types.specs.declared.answers.Answer.{Answer as Answered};
 ghost use Rattle.room_types.specs.declared.fleet.Terminal.{Terminal as Known};
@@ -18,9 +19,10 @@ ghost use Rattle.room_model.specs.Digests.{IsMiss};
 ghost use Rattle.room_model.specs.Rooms.{IsUnavailable, who_at};
 ghost use Rattle.room_model.specs.declared.digests.Miss.TheVariants.{OtherDigest};
 ghost use Rattle.room_tables.specs.RoomsInTables.{Stands};
+ghost use Rattle.room_tables_rows.specs.declared.meta_sql.TheConstants.{ALL_META};
 ghost use Rattle.room_store_writes.specs.Transactions.{IsSettled, Leaves, LeavesOnErr};
 ghost use Rattle.room_store_cache.specs.Cache.{KnowsNothing};
-ghost use Rattle.room_store.specs.StoredRoom.{IsReady, IsRoom, ShowsRoom};
+ghost use Rattle.room_store.specs.StoredRoom.{IsReady, IsRoom, IsUnreadable, ShowsRoom};
 ghost use Rattle.room_store.specs.DigestEvents.{IsHeadAfter};
 ghost use Rattle.room_store_writes.specs.Configurations.{config_of};
 
@@ -32,6 +34,8 @@ use room_store_cache::cache::Cache;
 use room_store_cache::known_terminals::Terminals;
 use room_tables::connection_lemmas::lemma_committed;
 use room_tables::terminal_table::terminal_at;
+use room_tables_rows::meta_sql::ALL_META;
+use room_tables_schema::queries::select;
 use room_tables_schema::schema_tests::is_room;
 use room_types::answers::Answer;
 use room_types::asks::{Event, Who};
@@ -72,6 +76,8 @@ impl<S: Alter> Store<S> {
         ensures value { result ≡ self.now.is_sound }
         ensures usable { IsClean S.Store self.now.conn
             → IsTrue result → ShowsRoom (state S.Store self.now.conn) }
+        ensures cause { IsClean S.Store self.now.conn
+            → result ≡ false → IsUnreadable S.Store self.now.conn }
     {
         self.is_sound
     }
@@ -287,21 +293,20 @@ impl<S: Alter> Store<S> {
     }
 }
 
-// Whether a row can be read: that of a token, which need not be any terminal's. A shut connection
-// reads none.
+// Whether a query can be made: not where the connection is shut.
 fn can_read<S: Alter>(conn: &mut Connection<S>) -> bool
     requires room { HasRoomSchema S.Store conn.old }
     requires outside { conn.old.in_transaction ≡ false }
     ensures shows { IsTrue result → IsClean S.Store conn.new
         → ShowsRoom (state S.Store conn.new) }
+    ensures cause { result ≡ false → IsClean S.Store conn.new
+        → (e : Error) × FailsToQuery ALL_META.now [] (state S.Store conn.old)
+        (state S.Store conn.new) e }
     ensures leaves { IsClean S.Store conn.new
         → Leaves (state S.Store conn.old) (state S.Store conn.new) }
     ensures outside { conn.new.in_transaction ≡ false }
     ensures survives { Survives (state S.Store conn.old) (state S.Store conn.new) (λ _. ⊥) }
 {
-    let Some(token) = Token::parse("00000000") else {
-        return false;
-    };
     lemma_committed(conn);
-    terminal_at(conn, &token).is_ok()
+    select(conn, ALL_META, &[]).is_ok()
 }

@@ -1,9 +1,9 @@
 -- What a change does to the fleet's rows and the turns that are known.
-use Rattle.std.proofs.Common.{Bool, List, Some, cond, false, refl, true, ℕ, ◌∙◌, ◌≡◌}
+use Rattle.std.proofs.Common.{Bool, List, None, Some, cond, false, refl, true, ℕ, ◌∙◌, ◌≡◌}
 use Rattle.std.proofs.lemmas.Cmp.{tied_itself}
 use Rattle.std.specs.Cmp.{Equal-is}
 use Rattle.std.specs.Ordering.{is_eq}
-use Rattle.std.specs.Prelude.{IfSome}
+use Rattle.std.specs.Prelude.{IfSome, Option, is_some}
 use Rattle.room_types.proofs.KeyedLaws.{row_drop_other, row_drop_same, row_put}
 use Rattle.room_types.specs.KeyedRows.{IsKeyed, drop_row, put_row, row_at}
 use Rattle.room_types.specs.Keys.{numbered_cmp, turn_key}
@@ -13,6 +13,11 @@ use Rattle.room_types.specs.declared.changes.Change.TheVariants.{PutTurn}
 use Rattle.room_types.specs.declared.tables.Turn.{Turn}
 use Rattle.room_model.specs.Room.{Room, apply_one}
 use Rattle.room_store_cache.specs.OpenTurns.{AreTurnsOf}
+
+-- what is not there is none
+pub none_if : {X : Type 0} (o : Option X) → is_some o ≡ false → o ≡ None
+none_if None is = refl
+none_if (Some x) is = absurd (cc)
 
 -- the second room has this turn in its key's place, and the others of the first
 pub record HasMet (t : Turn) (before after : Room) : Type 0 where
@@ -38,15 +43,15 @@ module _ (t : Turn) (before after : Room) (met : HasMet t before after) (known :
   has_own : (k : Callsign × ℕ) → is_eq (numbered_cmp k (turn_key t)) ≡ true → k ≡ turn_key t
   has_own k same = exact_numbered k (turn_key t) ((Equal-is (numbered_cmp k (turn_key t))).0 same)
 
-  -- it is kept in its key's place
-  pub met_kept : AreTurnsOf (put_row numbered_cmp turn_key known t) after
-  met_kept k =
+  -- it is kept in its key's place, where it is open
+  pub met_kept : t.ended ≡ None → AreTurnsOf (put_row numbered_cmp turn_key known t) after
+  met_kept is_open k =
       rw (row_put numbered_cmp turn_key numbered_total known t k)
       ((elim (is_eq (numbered_cmp k (turn_key t))) as (λ (b : Bool).
       is_eq (numbered_cmp k (turn_key t)) ≡ b
       → IfSome (cond b (Some t) (row_at numbered_cmp turn_key known k))
-      (λ x. row_at numbered_cmp turn_key after.turns k ≡ Some x)) [
-        | true ↦ λ same. rw (has_own k same) met.here
+      (λ x. (row_at numbered_cmp turn_key after.turns k ≡ Some x) × (x.ended ≡ None))) [
+        | true ↦ λ same. rw (has_own k same) (met.here, is_open)
         | false ↦ λ other. rw (met.others k other) (are k)
       ]) refl)
 
@@ -57,7 +62,7 @@ module _ (t : Turn) (before after : Room) (met : HasMet t before after) (known :
       (elim (is_eq (numbered_cmp k (turn_key t))) as (λ (b : Bool).
       is_eq (numbered_cmp k (turn_key t)) ≡ b
       → IfSome (row_at numbered_cmp turn_key (drop_row numbered_cmp turn_key known (turn_key t)) k)
-      (λ x. row_at numbered_cmp turn_key after.turns k ≡ Some x)) [
+      (λ x. (row_at numbered_cmp turn_key after.turns k ≡ Some x) × (x.ended ≡ None))) [
         | true ↦
             λ same. rw (has_own k same, row_drop_same numbered_cmp turn_key numbered_total known (turn_key t) keyed) tt
         | false ↦

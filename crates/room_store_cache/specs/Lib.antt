@@ -1,3 +1,5 @@
+-- incidents that were opened in one half hour
+pub mod HalfHours
 -- which incidents are known
 pub mod RecentIncidents
 -- lemmas: the keys of entries distinguish them
@@ -10,7 +12,7 @@ pub mod QueueViews
 pub mod IncidentViews
 -- which incidents that were shown are of a room
 pub mod ShownLists
--- which turns are of a room
+-- which turns are open ones of a room
 pub mod OpenTurns
 -- which terminals are of a room
 pub mod KnownTerminals

@@ -1,7 +1,8 @@
 //! The incidents that were opened in one half hour.
-ghost use Rattle.std.specs.Prelude.{◌≡◌, ◌+◌, ◌≤◌, All, IfSome, IsTrue, nat_le, if◌then◌else◌};
+ghost use Rattle.std.specs.Prelude.{◌≡◌, ◌↔◌, All, IfSome, IsTrue, None, nat_le, if◌then◌else◌};
 ghost use Rattle.room_types.specs.Keys.{incident_key, pair_cmp};
 ghost use Rattle.room_types.specs.KeyedRows.{drop_row, put_row};
+ghost use Rattle.room_store_cache.specs.HalfHours.{IsOpenedIn};
 
 use crate::cached_rows::put_if;
 use room_types::rows::Rows;
@@ -16,13 +17,14 @@ pub struct HalfHour {
     /// When it begins, as a second of UTC since 1970.
     pub from: u32,
     pub incidents: Rows<Incident>,
-    ghost within: { All (λ i. (from ≤ i.opened) × (i.opened ≤ from + 1800)) incidents },
+    ghost within: { All (IsOpenedIn from) incidents },
 }
 
 impl HalfHour {
     /// The half hour from this second on, where all of these were opened in it.
     pub fn new(from: u32, incidents: Rows<Incident>) -> Option<HalfHour>
-        ensures { IfSome result (λ x. (x.from ≡ from) × (x.incidents ≡ incidents)) }
+        ensures same { IfSome result (λ x. (x.from ≡ from) × (x.incidents ≡ incidents)) }
+        ensures none { result ≡ None → ¬ (All (IsOpenedIn from) incidents) }
     {
         for incident in incidents.as_slice() {
             if !is_in(from, incident) {
@@ -57,7 +59,7 @@ impl HalfHour {
 
 // Whether an incident was opened in the half hour from this second on.
 fn is_in(from: u32, incident: &Incident) -> bool
-    ensures { IsTrue result → (from ≤ incident.now.opened) × (incident.now.opened ≤ from + 1800) }
+    ensures { IsTrue result ↔ IsOpenedIn from incident.now }
 {
     let opened = incident.opened.get();
     from <= opened && opened - from <= HALF_HOUR

@@ -1,5 +1,5 @@
 //! The open turns that are known of the fleet's vehicles.
-ghost use Rattle.std.specs.Prelude.{◌≡◌, Some, [], IfSome};
+ghost use Rattle.std.specs.Prelude.{◌≡◌, None, Some, [], IfSome};
 ghost use Rattle.room_types.specs.KeyedRows.{row_at};
 ghost use Rattle.room_types.specs.Keys.{numbered_cmp, turn_key};
 ghost use Rattle.room_types.specs.declared.changes.Change.TheVariants.{PutTurn};
@@ -32,7 +32,7 @@ impl Turns {
     /// The turn of a vehicle's order, if it is known.
     pub fn get(&self, key: &(Callsign, Number)) -> Option<Turn>
         ensures { (room : Room) → AreTurnsOf self.now.kept room → IfSome result (λ t.
-            row_at numbered_cmp turn_key room.turns key.now ≡ Some t) }
+            (row_at numbered_cmp turn_key room.turns key.now ≡ Some t) × (t.ended ≡ None)) }
     {
         self.kept.get(key).copied()
     }

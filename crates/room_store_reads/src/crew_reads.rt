@@ -19,7 +19,7 @@ use room_types::numbers::Number;
 use room_types::tables::{Report, Turn, Vehicle};
 use sqlite::{Alter, Connection};
 
-/// What a new report reads of a known vehicle: beside its row its open turn and its loan.
+/// The rows of a known vehicle: beside its own its assignment, its open turn and its loan.
 pub fn load_crew<S: Alter>(
     conn: &mut Connection<S>,
     fleet: &mut Fleet,
@@ -35,9 +35,11 @@ pub fn load_crew<S: Alter>(
     ensures reads { ReadsOnly S.Store conn.old conn.new result }
 {
     let turn = load_turn(conn, fleet, vehicle)?;
+    let assignment = fleet.get().assignments.get(&vehicle.callsign).copied();
     let loan = fleet.get().loans.get(&vehicle.callsign).copied();
     Ok(CrewRows {
         vehicle: *vehicle,
+        assignment,
         turn,
         loan,
     })

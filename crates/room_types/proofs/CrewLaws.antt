@@ -11,7 +11,7 @@ use Rattle.room_types.specs.Keys.{callsign_cmp, same_callsign}
 use Rattle.room_types.specs.KeyLemmas.{callsigns_total, exact_callsigns}
 use Rattle.room_types.specs.Texts.{Callsign}
 use Rattle.room_types.specs.declared.crews.CrewRows.{CrewRows}
-use Rattle.room_types.proofs.SentLaws.{order_decides}
+use Rattle.room_types.proofs.SentLaws.{sent_decides}
 
 callsigns_decide : (a b : Callsign) → Decides (same_callsign a b) (a ≡ b)
 callsigns_decide a b = (
@@ -31,8 +31,11 @@ none_decides (Some at) = (λ h. cc, λ h. cc)
 pub crew_decides : (r : CrewRows) → Decides (is_crew r) (IsCrew r)
 unfolding is_crew
 crew_decides r = Decides-like _
-    (λ h. record { turn = h.0; loan = h.1.0; ordered = h.1.1 })
-    (λ h. (h.turn, (h.loan, h.ordered)))
+    (λ h. record { assignment = h.0.0; turn = h.0.1.0; loan = h.0.1.1; sent = h.1 })
+    (λ h. ((h.assignment, (h.turn, h.loan)), h.sent))
+    (Decides-and _ _
+    (Decides-and _ _ (passes_decides _ _ (λ a. callsigns_decide a.callsign _) r.assignment)
     (Decides-and _ _
     (passes_decides _ _ (λ t. Decides-and _ _ (callsigns_decide t.callsign _) (none_decides t.ended)) r.turn)
-    (Decides-and _ _ (passes_decides _ _ (λ l. callsigns_decide l.callsign _) r.loan) (order_decides _ _)))
+    (passes_decides _ _ (λ l. callsigns_decide l.callsign _) r.loan)))
+    (sent_decides _ _ _))

@@ -7,9 +7,9 @@ use Rattle.std.specs.Prelude.{not}
 use Rattle.room_types.specs.declared.tables.Assignment.{Assignment}
 use Rattle.room_types.specs.declared.tables.Turn.{Turn}
 use Rattle.room_types.specs.declared.tables.Vehicle.{Vehicle}
-use Rattle.room_types.specs.SentVehicles.{IsAssigned, IsOrdered, IsSent, OrderAgrees, PartsAgree}
-use Rattle.room_types.specs.SentVehicles.{is_assigned, is_ordered, is_sent, order_agrees}
-use Rattle.room_types.specs.SentVehicles.{parts_agree}
+use Rattle.room_types.specs.SentVehicles.{IsAssigned, IsOrdered, IsSent, PartsAgree, SentAgrees}
+use Rattle.room_types.specs.SentVehicles.{is_assigned, is_ordered, is_sent, parts_agree}
+use Rattle.room_types.specs.SentVehicles.{sent_agrees}
 use Rattle.room_types.specs.Codes.{is_busy}
 
 -- a test is its own answer
@@ -43,9 +43,12 @@ is_ordered_decides v t = Decides-like _
     (λ h. (h.busy, (h.ordered_by_holder, h.ordered_last)))
     (Decides-and _ _ (itself _) (Decides-and _ _ (Decides-eqb _ _) (Decides-eqb _ _)))
 
-pub order_decides : (v : Vehicle) (t : Option Turn) → Decides (order_agrees v t) (OrderAgrees v t)
-order_decides v None = (not-true _, ap not)
-order_decides v (Some t) = is_ordered_decides v t
+pub sent_decides : (v : Vehicle) (a : Option Assignment) (t : Option Turn)
+    → Decides (sent_agrees v a t) (SentAgrees v a t)
+sent_decides v None None = (not-true _, ap not)
+sent_decides v None (Some t) = (λ h. cc, λ h. absurd h)
+sent_decides v (Some a) None = (λ h. cc, λ h. absurd h)
+sent_decides v (Some a) (Some t) = is_sent_decides v a t
 
 pub parts_decide : (v : Vehicle) (a : Option Assignment) (t : Option Turn)
     → Decides (parts_agree v a t) (PartsAgree v a t)

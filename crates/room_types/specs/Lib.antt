@@ -1,6 +1,7 @@
 pub mod KeyedRows
 pub mod Codes
 pub mod Crews
+pub mod HeldChanges
 pub mod KeyLemmas
 pub mod Keys
 pub mod Needs

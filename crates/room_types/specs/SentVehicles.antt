@@ -27,10 +27,12 @@ pub record IsOrdered (v : Vehicle) (t : Turn) : Type 0 where
   pub ordered_by_holder : t.division ≡ v.holder
   pub ordered_last : t.order ≡ v.last_order
 
--- a vehicle has an open turn exactly where it is busy
-abbrev pub OrderAgrees : Vehicle → Option Turn → Type 0
-OrderAgrees v None = is_busy v.status ≡ false
-OrderAgrees v (Some t) = IsOrdered v t
+-- a vehicle has an assignment, and an open turn, exactly where it is busy
+abbrev pub SentAgrees : Vehicle → Option Assignment → Option Turn → Type 0
+SentAgrees v None None = is_busy v.status ≡ false
+SentAgrees v None (Some t) = ⊥
+SentAgrees v (Some a) None = ⊥
+SentAgrees v (Some a) (Some t) = IsSent v a t
 
 -- what is there of a vehicle's assignment and open turn belongs to it, and together
 abbrev pub PartsAgree : Vehicle → Option Assignment → Option Turn → Type 0
@@ -51,9 +53,11 @@ is_assigned v a = is_busy v.status && (a.division == v.holder && a.order == v.la
 abbrev pub is_ordered : Vehicle → Turn → Bool
 is_ordered v t = is_busy v.status && (t.division == v.holder && t.order == v.last_order)
 
-abbrev pub order_agrees : Vehicle → Option Turn → Bool
-order_agrees v None = not (is_busy v.status)
-order_agrees v (Some t) = is_ordered v t
+abbrev pub sent_agrees : Vehicle → Option Assignment → Option Turn → Bool
+sent_agrees v None None = not (is_busy v.status)
+sent_agrees v None (Some t) = false
+sent_agrees v (Some a) None = false
+sent_agrees v (Some a) (Some t) = is_sent v a t
 
 abbrev pub parts_agree : Vehicle → Option Assignment → Option Turn → Bool
 parts_agree v None None = true

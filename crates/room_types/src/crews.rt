@@ -1,20 +1,23 @@
-//! The rows of one vehicle that a report of its crew is decided on.
+//! The rows of one vehicle that its crew's requests are decided on.
 ghost use Rattle.std.specs.Prelude.{◌≡◌, true};
-ghost use Rattle.room_types.specs.Crews.{is_crew, is_own_loan, is_own_turn, passes};
+ghost use Rattle.room_types.specs.Crews.{are_own, is_crew, is_own_assignment, is_own_loan};
+ghost use Rattle.room_types.specs.Crews.{is_own_turn, passes};
 
-use crate::sent_vehicles::order_agrees;
-use crate::tables::{Loan, Turn, Vehicle};
+use crate::sent_vehicles::sent_agrees;
+use crate::tables::{Assignment, Loan, Turn, Vehicle};
 
-/// A vehicle with its open turn and its loan. Its status says whether it is offered.
+/// A vehicle with its assignment, its open turn and its loan. Its status says whether it is
+/// offered.
 #[derive(Clone, Copy)]
 pub struct CrewRows {
     pub vehicle: Vehicle,
+    pub assignment: Option<Assignment>,
     pub turn: Option<Turn>,
     pub loan: Option<Loan>,
 }
 
-/// The rows of one vehicle, whichever division owns them. It has an open turn exactly where it is
-/// busy: its holder's, of its last order.
+/// The rows of one vehicle, whichever division owns them. It has an assignment and an open turn
+/// exactly where it is busy: its holder's, for one incident, of its last order.
 #[derive(Clone, Copy)]
 pub struct CrewSlice {
     pub rows: CrewRows,
@@ -48,9 +51,24 @@ impl CrewRows {
         ensures test { result ≡ is_crew self.now }
         ensures crew { IsTrue result ↔ IsCrew self.now }
     {
-        self.has_own_turn()
-            && self.has_own_loan()
-            && order_agrees(&self.vehicle, self.turn.as_ref())
+        self.are_own() && sent_agrees(&self.vehicle, self.assignment.as_ref(), self.turn.as_ref())
+    }
+
+    fn are_own(&self) -> bool
+        ensures { result ≡ are_own self.now }
+    {
+        self.has_own_assignment() && self.has_own_turn() && self.has_own_loan()
+    }
+
+    // Whether the assignment, if there is one, is this vehicle's.
+    fn has_own_assignment(&self) -> bool
+        ensures { result ≡ passes (is_own_assignment self.now.vehicle.callsign)
+            self.now.assignment }
+    {
+        match self.assignment {
+            Some(assignment) => assignment.callsign == self.vehicle.callsign,
+            None => true,
+        }
     }
 
     // Whether the turn, if there is one, is this vehicle's and open.

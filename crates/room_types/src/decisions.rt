@@ -1,44 +1,44 @@
 //! What is decided of a request that isn't refused: the rows that change, and the answer.
-ghost use Rattle.std.specs.Prelude.{◌≡◌, ◌++◌, ◌∷◌, [], IfOk, IfErr};
+ghost use Rattle.std.specs.Prelude.{◌≡◌, ◌≤◌, []};
 ghost use Rattle.room_types.specs.declared.answers.Answer.TheVariants.{Done};
-ghost use Rattle.room_types.specs.declared.refusal_statuses.Refusal.TheVariants.{Memory};
 
-use crate::answers::{Answer, Listed};
-use crate::changes::Change;
-use crate::refusal_statuses::Refusal;
-use std::alloc::Global;
+use crate::answers::Answer;
+use crate::changes::{Change, Changes, FewChanges};
 
 /// The rows that a request changes, in their order, and the answer to it.
 #[derive(Drop)]
 pub struct Decision {
-    pub changes: Listed<Change>,
+    pub changes: Changes,
     pub answer: Answer,
 }
 
 impl Decision {
     /// An answer that changes nothing.
-    pub fn show(alloc: Global, answer: Answer) -> Decision
+    pub fn show(answer: Answer) -> Decision
         ensures { result ≡ record { changes = []; answer = answer } }
     {
         Decision {
-            changes: Listed::new(alloc),
+            changes: Changes::few(FewChanges::new()),
             answer,
         }
     }
 
-    /// Nothing changed yet, and nothing to show.
-    pub fn done(alloc: Global) -> Decision
-        ensures { result ≡ record { changes = []; answer = Done } }
+    /// Changes, and the answer to them.
+    pub fn with_changes<const COUNT: usize>(answer: Answer, changes: [Change; COUNT]) -> Decision
+        requires { COUNT ≤ 5 }
+        ensures { result ≡ record { changes = changes.entry; answer = answer } }
     {
-        Decision::show(alloc, Answer::Done)
+        Decision {
+            changes: Changes::few(FewChanges::of(changes)),
+            answer,
+        }
     }
 
-    /// The decision with one change more, at the end. The one refusal is `Memory`.
-    pub fn with(mut self, change: Change) -> Result<Decision, Refusal>
-        ensures ok { IfOk result (λ x. x ≡ record self { changes = self.changes ++ change ∷ [] }) }
-        ensures memory { IfErr result (λ e. e ≡ Memory) }
+    /// Changes with nothing to show.
+    pub fn done<const COUNT: usize>(changes: [Change; COUNT]) -> Decision
+        requires { COUNT ≤ 5 }
+        ensures { result ≡ record { changes = changes.entry; answer = Done } }
     {
-        self.changes.push(change)?;
-        Ok(self)
+        Decision::with_changes(Answer::Done, changes)
     }
 }

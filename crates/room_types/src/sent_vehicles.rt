@@ -1,7 +1,7 @@
 //! What a vehicle's status, its assignment and its open turn agree in.
 ghost use Rattle.std.specs.Prelude.{◌≡◌, option_copied};
-ghost use Rattle.room_types.specs.SentVehicles.{is_assigned, is_ordered, is_sent, order_agrees};
-ghost use Rattle.room_types.specs.SentVehicles.{parts_agree};
+ghost use Rattle.room_types.specs.SentVehicles.{is_assigned, is_ordered, is_sent, parts_agree};
+ghost use Rattle.room_types.specs.SentVehicles.{sent_agrees};
 
 use crate::tables::{Assignment, Turn, Vehicle};
 
@@ -47,13 +47,15 @@ pub fn parts_agree(vehicle: &Vehicle, assignment: Option<&Assignment>, turn: Opt
     }
 }
 
-/// Whether there is an open turn exactly where the vehicle is busy, its holder's and of its last
-/// order.
-pub fn order_agrees(vehicle: &Vehicle, turn: Option<&Turn>) -> bool
-    ensures { result ≡ order_agrees vehicle.now (option_copied turn.entry) }
+/// Whether there are an assignment and an open turn exactly where the vehicle is busy, both for one
+/// incident, its holder's and of its last order.
+pub fn sent_agrees(vehicle: &Vehicle, assignment: Option<&Assignment>, turn: Option<&Turn>) -> bool
+    ensures { result ≡ sent_agrees vehicle.now (option_copied assignment.entry)
+        (option_copied turn.entry) }
 {
-    match turn {
-        None => !vehicle.status.is_busy(),
-        Some(turn) => is_ordered(vehicle, turn),
+    match (assignment, turn) {
+        (None, None) => !vehicle.status.is_busy(),
+        (Some(assignment), Some(turn)) => is_sent(vehicle, assignment, turn),
+        _ => false,
     }
 }

@@ -4,7 +4,7 @@ use Rattle.dispatch_room_journal.specs.WholeEntries.{most_bytes}
 use Rattle.dispatch_room_journal.specs.Entries.{texts_of}
 use Rattle.dispatch_room_journal.proofs.EndLemmas.{nothing_taken, taken_kept, taken_more}
 use Rattle.dispatch_room_journal.specs.ListTallies.{Tallies, moments_by, moments_of}
-use Rattle.dispatch_room_journal.proofs.TallyLemmas.{ends_as, failed_by, moments-push}
+use Rattle.dispatch_room_journal.proofs.TallyLemmas.{ends_as, failed_by, moments-push, no_entries}
 use Rattle.dispatch_room_journal.proofs.verification.verify.Goals as goal
 
 pub entries-init : goal.entries-init
@@ -41,12 +41,26 @@ entries-preserved g c =
       sound = says.1;
     }
 
+pub returns-then-entry-eq0 : goal.returns-then-entry-eq0
+returns-then-entry-eq0 g c = λ text known.
+    let taken = c.entries.invariant.taken in
+    let follows = taken.1.follows text known in
+    let first = (rw c.in-Ok-None.field-0-is at (c.in-Ok-None.ensures.read.first follows.0 follows.1)) in
+    rw c.flaw.ensures (
+      taken.0,
+      follows.0,
+      (taken.1.are_entries, follows.2),
+      inr (no_entries taken.0 c.entries.entry taken.2 c.if-entry-eq0.true, first),
+      omega (arith, taken.3.messages),
+    )
+
 pub returns-in-Ok-None : goal.returns-in-Ok-None
 returns-in-Ok-None g c = λ text known.
     let taken = c.entries.invariant.taken in
     let follows = taken.1.follows text known in
     let first = (rw c.in-Ok-None.field-0-is at (c.in-Ok-None.ensures.read.first follows.0 follows.1)) in (
       taken.0,
+      omega (arith, taken.2, c.if-entry-eq0.false),
       taken.1.are_entries,
       follows.2 ∙ ap (λ t. texts_of taken.0 ++ t) first ∙ append-nil (texts_of taken.0),
       taken.3,
@@ -57,7 +71,7 @@ returns-in-Err g c = λ text known.
     let taken = c.entries.invariant.taken in
     let follows = taken.1.follows text known in
     let read = c.in-Err.ensures.read in
-    rw c.flaw.ensures (
+    rw c.flaw-in-Err.ensures (
       taken.0,
       follows.0,
       (taken.1.are_entries, follows.2),

@@ -9,6 +9,6 @@ abbrev pub invariant-entries : goal.invariant-entries
 invariant-entries g l = record {
   taken : (entries : List Entry)
       × Taken (g.R.Source.left l.fn.list) (prepend_known l.inbox.kept (g.R.Source.left l.list)) l.inbox.taken entries
-      × (length entries ≡ l._entry) × Tallies l.tally (moments_of entries);
+      × (length entries ≡ l.entry) × Tallies l.tally (moments_of entries);
   sound : g.R.Source.has_failed l.list ≡ false;
 }

@@ -2,10 +2,10 @@ use Rattle.std.proofs.Common.{◌≡◌, ◌∙◌, arith, ap, inl, inr, length,
 use Rattle.std.proofs.Common.{◌++◌, ◌∷◌, []}
 use Rattle.std.proofs.lemmas.Bool.{false≢true}
 use Rattle.dispatch_room_journal.specs.RecordFronts.{body_in}
-use Rattle.dispatch_room_journal.specs.WholeRecords.{SaysEntry}
+use Rattle.dispatch_room_journal.specs.CutRecords.{SaysEntry}
 use Rattle.dispatch_room_journal.proofs.EntryRecordLemmas.{nothing_left}
-use Rattle.dispatch_room_journal.proofs.WholeLemmas.{all_spent, chain_ends, chain_kept, chain_more}
-use Rattle.dispatch_room_journal.proofs.WholeLemmas.{given_on, no_entry, wrong_next}
+use Rattle.dispatch_room_journal.proofs.WholeLemmas.{all_spent, chain_cut, chain_ends, chain_kept}
+use Rattle.dispatch_room_journal.proofs.WholeLemmas.{chain_more, given_on, no_entry, wrong_next}
 use Rattle.dispatch_room_journal.proofs.whole_records.whole_chain.Goals as goal
 use Rattle.dispatch_room_journal.proofs.whole_records.whole_chain.Goals.{in-Whole+else-not-says_entry}
 use Rattle.dispatch_room_journal.proofs.whole_records.whole_chain.Goals.{in-Empty+in_ok-read_more-in-Empty+else-not-branch}
@@ -37,8 +37,8 @@ returns-then-not-branch-2 g c = λ text known.
     let short = (rw c.bytes.ensures.value at c.in-Short.ensures) in
     let gave = (rw c.if-not-branch-2.true at c.in_ok-read_more-in-Short.ensures.gave) in
     let taken = c.looks.invariant.taken in
-    chain_ends _ (g.R.Source.left c.looks.reader) c.looks.whole c.looks.inbox _ taken.0 taken.1 text known _ gave.1
-    gave.2 (inr short.2)
+    chain_cut _ (g.R.Source.left c.looks.reader) c.looks.whole c.looks.inbox _ taken.0 taken.1 text known _ gave.1
+    gave.2 short.2 _ _ (rw (c.bytes-then-not-branch-2.ensures.value, gave.0) at c.cut_to.ensures)
 
 pub returns-in-Wrong : goal.returns-in-Wrong
 returns-in-Wrong g c = λ text known.

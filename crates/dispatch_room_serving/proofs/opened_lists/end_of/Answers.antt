@@ -1,26 +1,26 @@
-use Rattle.std.proofs.Common.{◌∙◌, sym, [], ◌∷◌, Some, None, true, false}
-use Rattle.dispatch_room_serving.specs.OpenedLists.{begun, cut}
+use Rattle.std.proofs.Common.{◌∙◌, sym, [], ◌∷◌, Some, None, true, false, inr, refl}
+use Rattle.dispatch_room_serving.specs.OpenedLists.{begun, clearing}
 use Rattle.dispatch_room_serving.proofs.ConnectionLaws.{grows_more}
-use Rattle.dispatch_room_serving.proofs.OpeningLemmas.{opened, unbegun}
+use Rattle.dispatch_room_serving.proofs.OpeningLemmas.{broken_off, opened}
 use Rattle.dispatch_room_serving.proofs.opened_lists.end_of.Goals as goal
 
 pub returns-in-Some-clause-opens : goal.returns-in-Some-clause-opens
 returns-in-Some-clause-opens g c =
     opened g.F.ListFile.tried g.F.ListFile.text _ _ _ c.in_ok-list.list c.in_ok-settle.ensures.tried
     c.in_ok-list.ensures.whole (Some c.in-Some.end) (sym c.goes_on_at.ensures ∙ c.in-Some.is)
-    c.in_ok-cut.ensures.tried
+    c.in_ok-clear.ensures.clears
 
 pub returns-in_ok-begin-in-None-clause-opens : goal.returns-in_ok-begin-in-None-clause-opens
 returns-in_ok-begin-in-None-clause-opens g c =
     opened g.F.ListFile.tried g.F.ListFile.text _ _ _ c.in_ok-list.list c.in_ok-settle.ensures.tried
     c.in_ok-list.ensures.whole None (sym c.goes_on_at.ensures ∙ c.in-None.is)
-    (grows_more _ _ _ (cut c.in_ok-list.list.whole true ∷ []) (begun true ∷ []) c.in_ok-cut.ensures.tried
+    (grows_more _ _ _ (clearing c.in_ok-list.list.whole) (begun true ∷ []) c.in_ok-clear.ensures.clears
     c.in_ok-begin-in-None.ensures.tried)
 
 pub returns-in_err-begin-in-None-clause-opens : goal.returns-in_err-begin-in-None-clause-opens
 returns-in_err-begin-in-None-clause-opens g c =
-    unbegun g.F.ListFile.tried g.F.ListFile.text _ _ _ c.in_ok-list.list c.in_ok-settle.ensures.tried
-    c.in_ok-list.ensures.whole _ _ c.from_residual-in_err-begin-in-None.ensures.1
-    (sym c.goes_on_at.ensures ∙ c.in-None.is)
-    (grows_more _ _ _ (cut c.in_ok-list.list.whole true ∷ []) (begun false ∷ []) c.in_ok-cut.ensures.tried
+    broken_off g.F.ListFile.tried g.F.ListFile.text _ _ _ c.in_ok-list.list c.in_ok-settle.ensures.tried
+    c.in_ok-list.ensures.whole _ _ c.from_residual-in_err-begin-in-None.ensures.1 _
+    (inr (sym c.goes_on_at.ensures ∙ c.in-None.is, refl))
+    (grows_more _ _ _ (clearing c.in_ok-list.list.whole) (begun false ∷ []) c.in_ok-clear.ensures.clears
     c.in_err-begin-in-None.ensures.tried)

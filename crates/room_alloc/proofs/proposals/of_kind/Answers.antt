@@ -11,18 +11,18 @@ first_of_both-requires c =
     record {
       placed = subst (ArePlaced c.args.incident.now) (sym c.as_slice.ensures.value) c.in_ok-all.ensures.placed;
       kind =
-          are_of_kind slice.division c.args.incident.now c.args.short.now c.args.kind c.args.at slice.rows.vehicles _
-          all;
+          are_of_kind slice.division c.args.incident.now c.args.kind c.args.at (unplanned slice.rows)
+          slice.rows.vehicles _ all;
       apart =
-          are_apart slice.division c.args.incident.now c.args.short.now c.args.kind c.args.at slice.rows.vehicles _
-          (c.lemma_in_order.ensures []).vehicles all;
+          are_apart slice.division c.args.incident.now c.args.kind c.args.at (unplanned slice.rows)
+          slice.rows.vehicles _ (c.lemma_in_order.ensures []).vehicles all;
     }
 
 pub returns-clause-ok : goal.returns-clause-ok
 returns-clause-ok c =
     let slice = c.args.slice.now in
     let count = c.get-count.ensures.value
-    ∙ c.lack.ensures slice.division (unplanned slice.rows) refl c.requires.division in
-    proposed_so slice.division c.args.incident.now c.args.short.now c.args.kind c.args.at slice.rows c.get-count.result
-    _ _ (c.lemma_in_order.ensures []) c.requires.short count (c.as_slice.ensures.value ∙ c.in_ok-all.ensures.ok)
+    ∙ c.lack.ensures slice.division (unplanned slice.rows) refl c.requires in
+    proposed_so slice.division c.args.incident.now c.args.kind c.args.at (unplanned slice.rows) c.get-count.result
+    _ _ (c.lemma_in_order.ensures []) count (c.as_slice.ensures.value ∙ c.in_ok-all.ensures.ok)
     c.in_ok-few.ensures.ok

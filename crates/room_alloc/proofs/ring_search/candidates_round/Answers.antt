@@ -1,7 +1,7 @@
 use Rattle.std.proofs.Common.{ap, drop, filter, map, subst, sym, [], ◌+◌, ◌++◌, ◌∙◌, ◌∷◌, ◌≡◌}
 use Rattle.std.proofs.Common.{Global, Vec}
-use Rattle.room_alloc.specs.Candidates.{is_candidate}
-use Rattle.room_alloc.specs.Rings.{ArePlaced, candidate_of}
+use Rattle.room_model.specs.RoomSlices.{unplanned}
+use Rattle.room_alloc.specs.Rings.{ArePlaced, candidate_of, is_candidate}
 use Rattle.room_alloc.specs.declared.nearness.Candidate.{Candidate}
 use Rattle.room_alloc.proofs.CandidateLaws.{drop_item, made_more, made_none}
 use Rattle.room_alloc.proofs.RoundLaws.{placed_more}
@@ -15,7 +15,7 @@ loop-vehicle-preserved c =
     let i = c.args.incident.now in
     let vehicles = slice.rows.vehicles in
     let after = drop (c.loop-vehicle.vehicle-index + 1) vehicles in
-    let make = candidate_of slice.division i c.args.short.now in
+    let make = candidate_of slice.division i c.args.at (unplanned slice.rows) in
     let passes = is_candidate slice.division c.args.at c.args.kind in
     let rest = drop_item vehicles c.as_slice-vehicle-items.result.now c.loop-vehicle.vehicle-index c.vehicle-item.result
     c.as_slice-vehicle-items.ensures.all c.loop-vehicle-test.true c.vehicle-item.is in

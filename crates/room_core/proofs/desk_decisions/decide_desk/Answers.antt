@@ -2,8 +2,7 @@ use Rattle.std.proofs.Common.{ap, inl, inr, subst, sym, ◌∙◌, ◌≡◌}
 use Rattle.room_model.proofs.OwnDesk.{desk_equal, desk_own}
 use Rattle.room_model.proofs.WorkingLaw.{desk_working}
 use Rattle.room_model.specs.RoomSlices.{room_of}
-use Rattle.room_model.specs.Step.{desk_asks}
-use Rattle.room_model.specs.Decisions.{Decides}
+use Rattle.room_model.specs.Step.{DecidesAsked, desk_asks}
 use Rattle.room_core.proofs.desk_decisions.decide_desk.Goals as goal
 
 pub returns-clause-decides : goal.returns-clause-decides
@@ -16,10 +15,10 @@ returns-clause-decides c r formed planned read =
       | inl e ↦ ap (desk_asks d a at) e ∙ desk_working d r formed a at
       | inr e ↦ ap (desk_asks d a at) e ∙ desk_own d r formed.order a at
     ] in
-    subst (λ decided. Decides decided c.decide.result) (here ∙ asked) c.decide.ensures
+    subst (λ decided. DecidesAsked a decided c.decide.result) (here ∙ asked) c.decide.ensures
 
 pub returns-clause-apart : goal.returns-clause-apart
 returns-clause-apart c r other formed planned read order same =
-    subst (λ decided. Decides decided c.decide.result)
+    subst (λ decided. DecidesAsked c.args.ask.now decided c.decide.result)
     (desk_equal c.args.slice.now.division c.args.ask.now c.args.at r other formed.order order same)
     (returns-clause-decides c r formed planned read)

@@ -1,5 +1,4 @@
 use Rattle.std.proofs.Common.{[], refl, sym, ◌∙◌}
-use Rattle.std.proofs.lemmas.Result.{IfOk-weaker}
 use Rattle.room_model.specs.RoomSlices.{room_of}
 use Rattle.room_incident.proofs.ServedLaws.{all_ended}
 use Rattle.room_incident.proofs.incident_closing.close.Goals as goal
@@ -8,7 +7,4 @@ pub returns-clause-ended : goal.returns-clause-ended
 returns-clause-ended c =
     let slice = c.args.slice.now in
     let room = room_of [] slice.rows in
-    IfOk-weaker c.with.result _ _
-    (λ x e.
-    all_ended slice.division c.args.number room (sym (c.is_attended.ensures room refl) ∙ c.if-is_attended.false))
-    c.with.ensures.ok
+    all_ended slice.division c.args.number room (sym (c.is_attended.ensures room refl) ∙ c.if-is_attended.false)

@@ -6,7 +6,6 @@ use Rattle.room_incident.proofs.incident_merges.move_calls.Given as goal
 
 abbrev pub invariant-loop-call : goal.invariant-loop-call
 invariant-loop-call l =
-    (l.moved.changes
+    l.changes
     ++ map (moved_call l.into) (filter (is_call_of l.slice.division l.from) (drop l.call-index l.slice.rows.calls))
-    ≡ l.fn.decision.changes ++ map (moved_call l.into) (filter (is_call_of l.slice.division l.from) l.slice.rows.calls))
-    × (l.moved.answer ≡ l.fn.decision.answer)
+    ≡ l.fn.changes ++ map (moved_call l.into) (filter (is_call_of l.slice.division l.from) l.slice.rows.calls)

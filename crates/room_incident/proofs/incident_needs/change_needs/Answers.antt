@@ -1,5 +1,4 @@
 use Rattle.std.proofs.Common.{ap, subst, sym, ◌∙◌, ◌≤◌}
-use Rattle.std.proofs.lemmas.Result.{IfOk-weaker}
 use Rattle.room_place.specs.Choice.{Among}
 use Rattle.room_types.specs.Needs.{need_of}
 use Rattle.room_types.specs.declared.changes.Change.TheVariants.{PutIncident}
@@ -7,18 +6,14 @@ use Rattle.room_types.specs.declared.decisions.Decision.{Decision}
 use Rattle.room_types.specs.declared.tables.Incident.{Incident}
 use Rattle.room_model.specs.Queries.{served}
 use Rattle.room_model.specs.RoomSlices.{room_of}
-use Rattle.room_incident.proofs.PutLaws.{one_put, put_after}
+use Rattle.room_incident.proofs.PutLaws.{one_put}
 use Rattle.room_incident.proofs.ServedLaws.{not_below}
 use Rattle.room_incident.proofs.incident_needs.change_needs.Goals as goal
 
 pub returns-clause-served : goal.returns-clause-served
-returns-clause-served c =
+returns-clause-served c i plan k among =
     let slice = c.args.slice.now in
-    IfOk-weaker c.with.result _ _
-    (λ x e i plan k among.
-    let are = put_after _ x _ _ (ap (λ (y : Decision). y.changes) c.done.ensures) e in
     subst (λ (y : Incident). served slice.division c.args.number k (room_of plan slice.rows) ≤ need_of y.needs k)
-    (one_put i _ (subst (Among (PutIncident i)) are among)) (not_below c.args.needs
-    (λ j. served slice.division c.args.number j (room_of plan slice.rows))
-    (sym (c.is_below.ensures plan) ∙ c.if-is_below.false) k))
-    c.with.ensures.ok
+    (one_put i _ (subst (Among (PutIncident i)) (ap (λ (y : Decision). y.changes) c.done.ensures) among))
+    (not_below c.args.needs (λ j. served slice.division c.args.number j (room_of plan slice.rows))
+    (sym (c.is_below.ensures plan) ∙ c.if-is_below.false) k)

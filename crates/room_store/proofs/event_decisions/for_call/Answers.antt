@@ -1,5 +1,6 @@
 use Rattle.std.proofs.Common.{arith, inl, refl}
 use Rattle.std.proofs.lemmas.Result.{IfOk-weaker}
+use Rattle.room_core.proofs.DecidedLaws.{decides}
 use Rattle.room_model.specs.Calls.{take_call}
 use Rattle.room_tables_schema.proofs.ReadLaws.{and, but, ends_any, fails, looked, succeeds}
 use Rattle.room_store.proofs.CallReads.{answered_again, is_new, nowhere, placed_in}
@@ -53,10 +54,10 @@ returns-clause-decided g c clean =
     c.in_default.is in
     let placed = placed_in call areas room planned c.in-Ok.found row c.division_of.result c.division_of.ensures.value
     c.in-Some-division_of.division c.in-Some-division_of.is in
-    let decides = rw (made, c.in-Ok-working_slice.ensures.division) at
+    let asks = rw (made, c.in-Ok-working_slice.ensures.division) at
     c.decide_call-decision.ensures.decides room form formed in
     answered (take_call call room)
-    (rw made (decides refl (rw made at new) (rw made at placed) (inl (rw (made, asked) at rows)))))
+    (decides _ _ (rw made (asks refl (rw made at new) (rw made at placed) (inl (rw (made, asked) at rows))))))
     (machines c.decide_call-decision.result)
 
 pub returns-clause-cache : goal.returns-clause-cache

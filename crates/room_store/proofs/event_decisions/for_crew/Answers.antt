@@ -1,29 +1,12 @@
 use Rattle.std.proofs.Common.{Some, ap, refl, sym, ◌∙◌, ◌≡◌}
 use Rattle.std.proofs.lemmas.Result.{IfOk-weaker}
 use Rattle.room_types.specs.KeyedRows.{row_at}
-use Rattle.room_types.specs.Keys.{assignment_key, callsign_cmp, vehicle_key}
-use Rattle.room_model.specs.Queries.{assignment_at, vehicle_at}
+use Rattle.room_types.specs.Keys.{callsign_cmp, vehicle_key}
 use Rattle.room_tables_schema.proofs.ReadLaws.{begins, lacks_memory, succeeds}
 use Rattle.room_store_cache.specs.declared.fleets.FleetRows.{FleetRows}
 use Rattle.room_store_reads.proofs.CrewReads.{found_here}
 use Rattle.room_store.specs.EventDecisions.{unless_unavailable}
 use Rattle.room_store.proofs.event_decisions.for_crew.Goals as goal
-
-pub returns-in-Order-clause-decided : goal.returns-in-Order-clause-decided
-unfolding assignment_at vehicle_at
-returns-in-Order-clause-decided g c clean config room h formed fleet =
-    let k = c.args.callsign.now in
-    let there : row_at callsign_cmp vehicle_key room.vehicles k
-    ≡ Some c.in-Some.vehicle =
-    ap (λ xs. row_at callsign_cmp vehicle_key xs k)
-    (sym (ap (λ (r : FleetRows). r.vehicles) c.get.ensures ∙ fleet.rows.vehicles))
-    ∙ sym (c.copied.ensures ∙ c.get-2.ensures) ∙ c.in-Some.is in
-    let assigned : row_at callsign_cmp assignment_key room.assignments k
-    ≡ c.copied-assignment.result =
-    ap (λ xs. row_at callsign_cmp assignment_key xs k)
-    (sym (ap (λ (r : FleetRows). r.assignments) c.get-in-Order.ensures ∙ fleet.rows.assignments))
-    ∙ sym (c.copied-assignment.ensures ∙ c.get-in-Order-2.ensures) in
-    sym (rw (c.in-Order.is, there, assigned) (sym c.decide_order.ensures))
 
 pub returns-in-Report-clause-decided : goal.returns-in-Report-clause-decided
 returns-in-Report-clause-decided g c clean =
@@ -35,30 +18,43 @@ returns-in-Report-clause-decided g c clean =
     (sym (ap (λ (r : FleetRows). r.vehicles) c.get.ensures ∙ fleet.rows.vehicles))
     ∙ sym (c.copied.ensures ∙ c.get-2.ensures) ∙ c.in-Some.is in
     let here = found_here k c.in-Some.vehicle room there in
-    rw c.in-Report.is (rw here.0 at (answered config room h formed fleet here.1))) (c.for_report.ensures.decided clean)
+    rw here.0 at (answered config room h formed fleet here.1)) (c.for_report.ensures.decided clean)
 
-pub returns-in-Last-clause-decided : goal.returns-in-Last-clause-decided
-unfolding vehicle_at
-returns-in-Last-clause-decided g c clean config room h formed fleet =
+pub returns-in-Order-clause-decided : goal.returns-in-Order-clause-decided
+returns-in-Order-clause-decided g c clean =
+    IfOk-weaker (unless_unavailable c.by_rows.result) _ _ (λ x answered config room h formed fleet.
     let k = c.args.callsign.now in
     let there : row_at callsign_cmp vehicle_key room.vehicles k
     ≡ Some c.in-Some.vehicle =
     ap (λ xs. row_at callsign_cmp vehicle_key xs k)
     (sym (ap (λ (r : FleetRows). r.vehicles) c.get.ensures ∙ fleet.rows.vehicles))
     ∙ sym (c.copied.ensures ∙ c.get-2.ensures) ∙ c.in-Some.is in
-    sym (rw (c.in-Last.is, there) (sym c.decide_last.ensures))
+    let here = found_here k c.in-Some.vehicle room there in
+    rw here.0 at (answered config room h formed fleet here.1 (rw c.in-Order.is tt))) (c.by_rows.ensures.decided clean)
 
-pub returns-in-Last-clause-reads : goal.returns-in-Last-clause-reads
-returns-in-Last-clause-reads g c = succeeds (begins c.requires.open)
-
-pub returns-in-Order-clause-reads : goal.returns-in-Order-clause-reads
-returns-in-Order-clause-reads g c = succeeds (begins c.requires.open)
+pub returns-in-Last-clause-decided : goal.returns-in-Last-clause-decided
+returns-in-Last-clause-decided g c clean =
+    IfOk-weaker (unless_unavailable c.by_rows-in-Last.result) _ _ (λ x answered config room h formed fleet.
+    let k = c.args.callsign.now in
+    let there : row_at callsign_cmp vehicle_key room.vehicles k
+    ≡ Some c.in-Some.vehicle =
+    ap (λ xs. row_at callsign_cmp vehicle_key xs k)
+    (sym (ap (λ (r : FleetRows). r.vehicles) c.get.ensures ∙ fleet.rows.vehicles))
+    ∙ sym (c.copied.ensures ∙ c.get-2.ensures) ∙ c.in-Some.is in
+    let here = found_here k c.in-Some.vehicle room there in
+    rw here.0 at (answered config room h formed fleet here.1 (rw c.in-Last.is tt))) (c.by_rows-in-Last.ensures.decided clean)
 
 pub returns-in-Report-clause-reads : goal.returns-in-Report-clause-reads
 returns-in-Report-clause-reads g c = c.for_report.ensures.reads
 
 pub returns-in_default-clause-reads : goal.returns-in_default-clause-reads
 returns-in_default-clause-reads g c = lacks_memory refl (begins c.requires.open)
+
+pub returns-in-Order-clause-reads : goal.returns-in-Order-clause-reads
+returns-in-Order-clause-reads g c = c.by_rows.ensures.reads
+
+pub returns-in-Last-clause-reads : goal.returns-in-Last-clause-reads
+returns-in-Last-clause-reads g c = c.by_rows-in-Last.ensures.reads
 
 pub returns-in_default-ask-clause-reads : goal.returns-in_default-ask-clause-reads
 returns-in_default-ask-clause-reads g c = succeeds (begins c.requires.open)

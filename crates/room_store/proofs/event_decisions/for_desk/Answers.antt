@@ -18,7 +18,7 @@ returns-clause-decided g c clean =
     in
     let decides = rw c.in-Ok-working_slice.ensures.division at
     c.decide_desk-decision.ensures.decides room formed planned in
-    answered (desk_asks c.args.division ask at room) (decides (inl rows)))
+    answered (desk_asks c.args.division ask at room) (decides (inl rows)).0)
     (machines c.decide_desk-decision.result)
 
 pub returns-clause-known : goal.returns-clause-known

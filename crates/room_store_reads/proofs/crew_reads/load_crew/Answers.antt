@@ -8,10 +8,15 @@ returns-clause-rows g c clean config room h formed known there = (
   refl,
   record {
     vehicle = there;
+    assignment =
+        sym
+        (rw (c.get.ensures, c.in_ok-turn.ensures.rows, known.rows.assignments) at
+        (c.copied-assignment.ensures ∙ c.get-2.ensures));
     turn = c.in_ok-turn.ensures.row clean config room h formed known.turns there;
     loan =
         sym
-        (rw (c.get.ensures, c.in_ok-turn.ensures.rows, known.rows.loans) at (c.copied-loan.ensures ∙ c.get-2.ensures));
+        (rw (c.get-3.ensures, c.in_ok-turn.ensures.rows, known.rows.loans) at
+        (c.copied-loan.ensures ∙ c.get-4.ensures));
   },
 )
 

@@ -7,7 +7,7 @@ use Rattle.room_tables_schema.proofs.ReadLaws.{begins, fails, looked, succeeds}
 use Rattle.room_store_cache.proofs.fleets.Fleet.turn_at.Goals as goal
 
 pub returns-in-Some-clause-turn : goal.returns-in-Some-clause-turn
-returns-in-Some-clause-turn g c clean config room h are = sym (c.in-Some.ensures room are)
+returns-in-Some-clause-turn g c clean config room h are = sym (c.in-Some.ensures room are).0
 
 pub returns-in_default-2-clause-turn : goal.returns-in_default-2-clause-turn
 returns-in_default-2-clause-turn g c clean config room h are =

@@ -3,6 +3,7 @@ use Rattle.room_model.specs.Room.{Room}
 use Rattle.room_types.specs.Keys.{numbered_cmp, turn_key}
 use Rattle.room_types.specs.KeyedRows.{put_row}
 use Rattle.room_store_cache.proofs.FleetLaws.{HasMet, met_dropped, met_kept, met_made, met_read}
+use Rattle.room_store_cache.proofs.FleetLaws.{none_if}
 use Rattle.room_store_cache.proofs.RecentLaws.{where_err, where_ok}
 use Rattle.room_store_cache.specs.OpenTurns.{AreTurnsOf}
 use Rattle.room_store_cache.specs.declared.open_turns.Turns.{Turns}
@@ -36,8 +37,9 @@ returns-else-is_err c =
     let made : c.put.new.self
     ≡ put_row numbered_cmp turn_key known t =
     where_ok c.put.result (sym c.is_err.ensures.value ∙ c.if-is_err.false) c.put.ensures.ok in
+    let is_open = none_if t.ended (sym c.is_some.ensures ∙ c.if-is_some.false) in
     let all : (before after : Room) → HasMet t before after → AreTurnsOf known before
-    → AreTurnsOf c.put.new.self after = λ before after met are. rw made (met_kept t before after met known are) in
+    → AreTurnsOf c.put.new.self after = λ before after met are. rw made (met_kept t before after met known are is_open) in
     record {
       read = λ room are here. all room room (met_read t room here) are;
       made = λ room are. all room _ (met_made t room) are;

@@ -1,0 +1,1 @@
+"""What tools/promises.py is made of."""
