@@ -65,7 +65,9 @@ class Browser:
             words = ['--headless=new', '--no-sandbox', '--disable-gpu', '--disable-dev-shm-usage',
                      '--no-proxy-server', '--hide-scrollbars', '--window-size=1280,720',
                      f'--user-data-dir={folder}/profile{nth}']
+            patience = int(1000 * PATIENCE)  # milliseconds, where a busy machine takes as long
             wanted = {'alwaysMatch': {'browserName': 'chrome',
+                                      'timeouts': {'script': patience, 'pageLoad': patience},
                                       'goog:chromeOptions': {'args': words}}}
             try:
                 started = self.send('POST', '', capabilities=wanted)

@@ -14,7 +14,6 @@ from room import PROGRAM, TestCase, dump, message, read_answer, run
 import copies
 import digest
 import kept_list
-import upkeep
 
 ADDED = 20  # seconds by which a busy machine is late, where a request is past its deadline
 AT_END = message('deskof01', 'POST /vehicles/V1/off')
@@ -24,8 +23,8 @@ def replayed(room, messages):
     """The answers of a replay of messages, each with its moment, on a room's file."""
     sent = digest.head_of(room).encode()
     sent += b''.join(b'message %d %d\n%s\n' % (moment, len(it), it) for moment, it in messages)
-    done = subprocess.run([PROGRAM, 'replay', room, '--answers'], input=sent, capture_output=True,
-                          timeout=600)
+    done = subprocess.run([PROGRAM, 'replay', room, '--answers', '--history'], input=sent,
+                          capture_output=True, timeout=600)
     assert done.returncode == 0, done.stderr
     left, answers = memoryview(done.stdout), []
     while left:
@@ -94,12 +93,11 @@ class ThreeTestCase(TestCase):
         self.machines.until(are_level, 'the machines are level')
         return last.pop()
 
-    def reported(self, record):
-        """Waits until each machine has reported its copy of a record to the others, which compare it
-        with theirs."""
-        self.machines.until(
-            lambda: len(upkeep.reported_digests(self.machines.list()).get(record, ())) == 3,
-            f'each has reported its copy of {record}')
+    def copied(self, record):
+        """Waits until each machine has a copy of a record, or of a later one."""
+        for it in self.machines.machines:
+            self.machines.until(lambda: self.machines.health(it).get('copy', 0) >= record,
+                                f'{it} has a copy of {record}')
 
     def last_asked(self):
         """A change by each machine at the end. Behind it nothing comes that was on its way."""

@@ -1,10 +1,11 @@
-"""The day of examples/1992 at a tenth of its size: what the room answers keeps its promises as
-seen from outside, the list that is kept plays the day once more, and one seed gives one page of
-numbers. The whole day with --all."""
-# needs: python3 gnuplot-nox
+"""The day of examples/1992 at a small size: what the room answers keeps its promises as seen from
+outside, the list that is kept plays the day once more, the model with all promises is the room, and
+each promise that is turned moves a figure of the page. The whole day, and ten seeds, with --all."""
+# needs: python3
 # builds: dispatch_room
 import dataclasses
 import functools
+import html.parser
 import os
 import pathlib
 import shutil
@@ -20,17 +21,22 @@ sys.path += [str(FOLDER), str(TOP / 'examples' / 'three')]
 import digest  # noqa: E402
 import page  # noqa: E402
 import parameters  # noqa: E402
+import promises  # noqa: E402
 import summary  # noqa: E402
+import table  # noqa: E402
 from exchanges import Exchange, Watch  # noqa: E402
-from model_1992 import Model1992  # noqa: E402
+from logs import List  # noqa: E402
+from model import Model  # noqa: E402
 from proved_room import ProvedRoom  # noqa: E402
+from rooms import Line  # noqa: E402
 from world import World  # noqa: E402
 
 EVERY = 'EVERY_PLACE' in os.environ  # tests/run --all
-TENTH = {'calls': 250, 'vehicles': 30, 'side': 32, 'look': 60, 'look_again': 120}
-SMALL = {'calls': 60, 'vehicles': 30, 'side': 32, 'look': 600, 'look_again': 600}
+TENTH = {'calls': 160, 'other_calls': 80, 'vehicles': 34, 'side': 32, 'look': 300, 'desks': 2}
+SMALL = {'calls': 40, 'other_calls': 5, 'vehicles': 18, 'side': 32, 'look': 600, 'desks': 2}
 RATE = 2  # so that a tenth of a day has enough of each error
-PROMISES = {'call_once', 'desk_alike', 'report_once', 'sent_once'}
+SEEN = {'call_once', 'desk_alike', 'report_once', 'sent_once'}
+SEEDS = range(10) if EVERY else [0]
 
 
 class Recorder(Watch):
@@ -50,15 +56,21 @@ class Recorder(Watch):
         self.looks[key] = self.looks.get(key, True) and is_kept
 
 
-def played(folder, given, rate):
-    """A day in the room, and what was seen of it."""
-    settings = parameters.at_rate(parameters.values(given), rate)
+def in_model(settings, kept):
+    """A day in the model."""
+    world = World(settings, 1, lambda it: Model(it, kept))
+    world.play()
+    return world
+
+
+def in_room(settings, folder):
+    """The same in the room."""
     world = World(settings, 1, functools.partial(ProvedRoom, program=PROGRAM, folder=folder))
-    room = world.system.room
+    room = world.desks.room.room
     room.watch = Recorder(room.watch.desk_of_vehicle, room.watch.desk_of_place)
     world.play()
     room.end()
-    return world, room.watch
+    return world
 
 
 def play(*words, **environment):
@@ -73,7 +85,9 @@ class Day(TestCase):
     @classmethod
     def setUpClass(cls):
         cls.kept = pathlib.Path(cls.enterClassContext(tempfile.TemporaryDirectory()))
-        cls.world, cls.watch = played(cls.kept, {} if EVERY else TENTH, RATE)
+        cls.settings = parameters.at_rate(parameters.values({} if EVERY else TENTH), RATE)
+        cls.world = in_room(cls.settings, cls.kept)
+        cls.watch = cls.world.desks.room.room.watch
 
     # ---- what is promised
 
@@ -81,13 +95,14 @@ class Day(TestCase):
         """Each message that could have broken a promise is a check."""
         for (promise, nth), is_kept in self.watch.looks.items():
             self.check(f'{promise} at message {nth}', is_kept, True)
-        self.check('each was looked at', set(self.watch.looked), PROMISES)
+        self.check('each was looked at', set(self.watch.looked), SEEN)
 
     def test_day(self):
         """It is a day in which something went wrong, and which goes on to its end."""
         counts, outcomes = self.world.counts, self.watch.outcomes
         self.check('reports came again', counts.repeated > 20, True)
         self.check('calls came again', counts.typed_again > 3, True)
+        self.check('it stopped', self.settings.stops, 1)
         self.check('outcomes', set(outcomes), {'normal', 'skipped', 'wrong', 'late', 'stale'})
         self.check('vehicles were sent', counts.orders > len(self.world.emergencies) // 2, True)
         self.check('its last sample', self.world.samples[-1]['moment'], 86_400)
@@ -101,6 +116,16 @@ class Day(TestCase):
         self.check('it is replayed', (done.returncode, done.stdout, done.stderr),
                    (0, f'replayed {len(self.watch.seen)}\n'.encode(), b''))
         self.check('the room', digest.of_file(copy), digest.of_file(self.kept / 'room.db'))
+
+    def test_model(self):
+        """The model with all promises comes to the room's figures, stopped and begun again or not;
+        without one it doesn't."""
+        room, model = (summary.figures(it) for it in
+                       (self.world, in_model(self.settings, promises.KEPT)))
+        for name, wanted in room.items():
+            self.check(name, model[name], wanted)
+        other = summary.figures(in_model(self.settings, frozenset()))
+        self.check('1992', other == room, False)
 
     # ---- each check fails on what must fail
 
@@ -169,31 +194,52 @@ class Day(TestCase):
     def test_of_another_division(self):
         for line, name in [('GET /vehicles', 'vehicles'), ('GET /incidents', 'incidents')]:
             at = self.nth(line, lambda it: it.content[name])
-            token = 'deskof01' if self.watch.seen[at].token != 'deskof01' else 'deskof02'
+            token = 'deskof02'
             with self.subTest(line):
                 self.assertIn('desk_alike', self.broken(self.doctored(at, token=token)))
+
+
+class Seeds(TestCase):
+    def test_seeds(self):
+        """Days that draw every number from its range, in the room and in the model."""
+        for seed in SEEDS:
+            found = parameters.drawn(SMALL, seed)
+            settings = parameters.at_rate(found, 3)
+            folder = self.folder / str(seed)
+            folder.mkdir()
+            room = summary.figures(in_room(settings, folder))
+            model = summary.figures(in_model(settings, promises.KEPT))
+            for name, wanted in room.items():
+                self.check(f'seed {seed}: {name}', abs(model[name] - wanted) <= 0.02 * wanted, True)
 
 
 class Command(TestCase):
     def test_same_numbers(self):
         """One seed gives the same numbers, however texts are hashed; another gives others."""
         words = [it for name, value in SMALL.items() for it in ('--set', f'{name}={value}')]
+        words += ['--seeds', '2', '--rates', '0,3', '--program', PROGRAM]
         folders = [self.folder / name for name in ('one', 'two', 'other')]
         for nth, folder in enumerate(folders):
             more = ['--set', 'seed=1'] if nth == 2 else []
-            printed = play(folder, '--rates', '1', '--program', PROGRAM, *words, *more,
-                           PYTHONHASHSEED=str(nth))
+            printed = play(folder, *words, *more, PYTHONHASHSEED=str(nth))
             self.check(f'{folder.name}: it ends well', printed, (0, ''))
-        names = sorted(it.name for it in folders[0].iterdir())
-        for name in names:
+        for name in sorted(it.name for it in folders[0].iterdir()):
             one, two, other = ((it / name).read_bytes() for it in folders)
             self.check(f'{name}: the same', one == two, True)
-            if name in ('day.list', 'day-1992.csv', 'day-room.csv'):
+            if name in ('day.list', 'day.csv', 'days.csv', 'index.html'):
                 self.check(f'{name}: of another seed', one == other, False)
-        printed = (folders[0] / 'index.html').read_text()
+        self.look_at((folders[0] / 'index.html').read_text(), folders[0])
+
+    def look_at(self, printed, folder):
+        """The page names every number and every promise, and its links lead to what is there."""
         for it in parameters.ALL:
             self.check(f'the page names {it}', f'<code>{it}</code>' in printed, True)
-        self.check('its pictures', {'day.svg', 'rates.svg', '1992.svg'} <= set(names), True)
+        links = Links(printed)
+        for it in promises.ALL:
+            self.check(f'the page has {it.name}', page.clause(it, folder) in printed, True)
+        self.check('it links each', len(links.found) >= 2 * len(promises.ALL), True)
+        for it in links.found:
+            self.check(it, (folder / it.partition('#')[0]).is_file(), True)
 
     def test_words(self):
         for words, status, wanted in [
@@ -201,35 +247,105 @@ class Command(TestCase):
             (['--set', 'lost=2'], 2, 'lost is a share from 0 to 1'),
             (['--set', 'calls=0.5'], 2, 'calls is a whole number'),
             (['--rates', 'many'], 2, 'is no list of rates'),
-            (['--program', '/no/program', '--rates', '0'], 1, '/no/program: there is no'),
+            (['--program', '/no/program'], 1, '/no/program: there is no'),
         ]:
             found, printed = play(self.folder / 'page', *words)
             self.check(f'{words}', (found, wanted in printed), (status, True))
 
-    def test_links(self):
-        """Each sentence that the page links is in the README."""
-        folder = TOP / 'out'
-        for name in ('sent_once', 'report_once', 'call_once', 'queue'):
-            self.check(name, f'>{name}</a>' in page.sentence(name, folder), True)
-        with self.assertRaises(page.NoSentence):
-            page.sentence('no_such_law', folder)
+    def test_clauses(self):
+        for change in ({'clause': 'no_such_clause'}, {'edit': 'no such edit'}):
+            with self.assertRaises(page.NoClause):
+                page.clause(dataclasses.replace(promises.ALL[0], **change), self.folder)
 
 
-class Model(TestCase):
-    """Without errors the model does well: it is no straw man. With them it does what it is for."""
+class Links(html.parser.HTMLParser):
+    """Where the links of a page lead."""
 
-    def played(self, rate):
-        settings = parameters.at_rate(parameters.values(TENTH), rate)
-        world = World(settings, 1, Model1992)
-        world.play()
-        return summary.of_model(world)['figures']
+    def __init__(self, text):
+        super().__init__()
+        self.found = []
+        self.feed(text)
+
+    def handle_starttag(self, tag, attrs):
+        self.found += [value for name, value in attrs if name == 'href']
+
+
+class Switches(TestCase):
+    """A promise that is taken away moves figures of the page, as does a limit of both sides."""
+
+    def figures(self, kept, rate=4, **given):
+        """Those of a day that the page shows."""
+        settings = parameters.at_rate(parameters.values(TENTH | given), rate)
+        found = summary.figures(in_model(settings, kept))
+        return {name: found[name] for name in table.FIGURES}
+
+    def test_each_moves_a_figure(self):
+        for side, kept in (('room', promises.KEPT), ('1992', frozenset())):
+            base = self.figures(kept, screen=3)
+            for it in promises.ALL:
+                turned = self.figures(kept ^ {it.name}, screen=3)
+                self.check(f'{side}, {it.name}', turned == base, False)
+
+    def test_what_each_moves(self):
+        base = self.figures(promises.KEPT)
+        for name, figure in (('orders', 'at_two'), ('links', 'taken_twice')):
+            turned = self.figures(promises.KEPT - {name})
+            self.check(f'{name}: {figure}', turned[figure] > base[figure], True)
+        self.check('at two', base['at_two'], 0)
+
+    def test_limits_are_of_both_sides(self):
+        for kept in (promises.KEPT, frozenset()):
+            base = self.figures(kept)
+            for name, value in (('slow', 1), ('desks', 1), ('screen', 0), ('clear', 900)):
+                self.check(f'{name}, {len(kept)} promises',
+                           self.figures(kept, **{name: value}) == base, False)
 
     def test_without_errors(self):
-        figures = self.played(0)
-        for name in ('at_two', 'acted_again', 'typed_again', 'gone', 'orders_to_busy'):
-            self.check(name, figures[name], 0)
+        """Without errors and stops the caricature does as well as the room: it is no straw man."""
+        found, room = (self.figures(kept, rate=0, stops=0)
+                       for kept in (frozenset(), promises.KEPT))
+        self.check('never reached', found['never_reached'], 0)
+        self.check('in time', found['sent_in_time'] >= room['sent_in_time'] - 1, True)
 
-    def test_with_errors(self):
-        figures = self.played(RATE)
-        for name in ('at_two', 'acted_again', 'typed_made', 'orders_to_busy'):
-            self.check(name, figures[name] > 0, True)
+
+class Lists(TestCase):
+    """What is on a screen of two lines, by hand."""
+
+    def look(self, shown, ranks, kept, now=0):
+        settings = parameters.at_rate(parameters.values({'screen': 2, 'nag': 100}), 1)
+        lines = [Line(rank, 0, rank, 'A1') for rank in ranks]
+        return [(it.rank, needs) for it, needs in shown.look(lines, now, settings, kept)]
+
+    def test_exact_queue(self):
+        shown = List()
+        self.check('all', self.look(shown, [1, 2, 4], {'queue', 'stay'}),
+                   [(1, True), (2, True), (4, True)])
+        self.check('all wait', shown.waiting, 3)
+
+    def test_queue_that_scrolls(self):
+        shown = List()
+        self.check('the first two', self.look(shown, [1, 2, 4], {'queue'}),
+                   [(1, True), (2, True)])
+        self.check('the last is never seen', self.look(shown, [1, 4], {'queue'}), [(1, True)])
+        self.check('but waits', shown.waiting, 2)
+
+    def test_log(self):
+        shown = List()
+        self.check('the newest two', self.look(shown, [1, 2, 4], set()), [(2, True), (4, True)])
+        self.check('one is over', self.look(shown, [1, 4], set()), [(2, False), (4, True)])
+        self.check('again', self.look(shown, [1, 4], set(), 100), [(1, True), (4, True)])
+        shown.take_off(Line(1, 0, 1, 'A1'))
+        self.check('taken off', self.look(shown, [1, 4], set(), 101), [(4, True)])
+
+    def test_log_that_stays(self):
+        self.check('all', self.look(List(), [1, 2, 4], {'stay'}),
+                   [(1, True), (2, True), (4, True)])
+
+
+class Cells(TestCase):
+    def test_median_and_interval(self):
+        found = table.cell([5, 1, 9, 3, 7], [0, 0, 9, 0, 0])
+        self.check('cell', (found.median, found.least, found.most, found.matters),
+                   (5, 3, 7, False))
+        self.check('it matters', table.cell([2] * 10, [1] * 9 + [2]).matters, True)
+        self.check('it does not', table.cell([2] * 10, [1] * 8 + [2] * 2).matters, False)

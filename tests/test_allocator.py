@@ -112,7 +112,7 @@ class PlayedRoom(http.server.ThreadingHTTPServer):
     def __init__(self, answer_of):
         super().__init__(('127.0.0.1', 0), PlayedAnswer)
         self.answer_of, self.port = answer_of, self.server_address[1]
-        self.asked, self.at_once, self.most = [], 0, 0
+        self.asked, self.at_once, self.most, self.moment = [], 0, 0, NOW
         self.lock = threading.Lock()
         threading.Thread(target=self.serve_forever, daemon=True).start()
 
@@ -137,7 +137,7 @@ class PlayedAnswer(http.server.BaseHTTPRequestHandler):
             content = {'error': 'Refused', 'number': content}
         content = json.dumps(content).encode()
         self.send_response_only(status)
-        self.send_header('Date', self.date_time_string(NOW))
+        self.send_header('Date', self.date_time_string(room.moment))
         self.send_header('Content-Length', str(len(content)))
         self.end_headers()
         self.wfile.write(content)
@@ -330,6 +330,36 @@ class Played(TestCase):
         refresh(2)
         self.check('sent once', posted(room)[before:], [('/incidents/3/close', '')])
 
+    def test_sent_already(self):
+        """The answer to a sending is lost: a second Enter says that it was sent, and u takes it
+        back. What another sent is refused as ever."""
+        one = vehicle('A1')
+        lists = Lists(
+            {'GET /incidents/3/propose': (200, {'proposals': [
+                {'breaks': False, 'distance': 1, 'kind': 1, 'vehicle': 'A1'}]}),
+             'POST /incidents/3/mobilise': (None, None),
+             'POST /vehicles/A1/standdown': (200, {'done': True})},
+            incidents=[incident(3)], vehicles=[one])
+        room = self.show(lists)
+        BROWSER.press('3', 'Enter')
+        until(lambda: BROWSER.is_shown('.choice'))
+        BROWSER.press('Enter')
+        self.check_comes('no answer', lambda: words_of('.drawer .bad').startswith(
+            'No answer came.'), True)
+        one |= {'status': 2, 'incident': 3}
+        lists.answers['POST /incidents/3/mobilise'] = (409, 5)
+        BROWSER.press('Enter')
+        self.check_comes('it was sent', lambda: words_of('.incidents .said'),
+                         'A1 was sent to incident 3 already. u takes it back: stand A1 down.')
+        BROWSER.press('Escape', 'u')
+        self.check_comes('taken back', lambda: [it[0] for it in posted(room)][2:],
+                         ['/vehicles/A1/standdown'])
+        BROWSER.press('3', 'Enter')
+        until(lambda: BROWSER.is_shown('.choice'))
+        BROWSER.press('Enter')
+        self.check_comes('another refusal', lambda: words_of('.drawer .bad'),
+                         "The vehicle's status does not allow this now. (5)")
+
     def test_moved(self):
         """What acts at once does nothing where the list moved under the person's fingers."""
         offers = [loan(f'B{it}', 2, 1) for it in range(9)]
@@ -519,7 +549,8 @@ class Played(TestCase):
         self.check('served, or less urgent', BROWSER.is_shown('#alarm'), False)
         lists.lists['incidents'].append(incident(1, 1))
         self.check('it shows', until(lambda: BROWSER.is_shown('#alarm')), True)
-        self.check('which', 'incident 1 at TQ 300 800' in words_of('#alarm'), True)
+        self.check_comes('which', lambda: words_of('#alarm .words'),
+                         '1 of class 1, nobody sent: oldest 1, 1:00')
         BROWSER.press('ArrowDown')
         self.check('it sounds', until(lambda: BROWSER.run('return tones') > 2), True)
         self.check('a key is no look', BROWSER.is_shown('#alarm'), True)
@@ -533,8 +564,8 @@ class Played(TestCase):
         refresh(2)
         self.check('it is silent', BROWSER.run('return tones'), before)
         lists.lists['incidents'].append(incident(2, 1))
-        self.check_comes('the next one', lambda: [
-            f'incident {it}' in words_of('#alarm') for it in (2, 1)], [True, False])
+        self.check_comes('the next one', lambda: words_of('#alarm .words'),
+                         '1 of class 1, nobody sent: oldest 2, 1:00')
         lists.lists['incidents'][-1]['lack'] = (0, 0, 0)
         self.check('somebody is sent', until(lambda: not BROWSER.is_shown('#alarm')), True)
 

@@ -149,10 +149,8 @@ class Known(TestCase):
 BESIDE = {
     'examples/1992': {
         'examples/1992/play.py FOLDER': ('1992', 'play.py'),
-        'examples/1992/play.py FOLDER --set lost=0.02 --set screen=40': ('1992', '--set'),
-        'cp FOLDER/before.db copy.db': ('1992', "'before.db'"),
-        'examples/1992/play.py FOLDER --rates 1 --days 10 --set calls=25000 --set vehicles=3000 '
-        '--set send=1 --set ring=3': (None, 'it takes an hour and a half')},
+        'examples/1992/play.py FOLDER --rate 1 --set slow=0 --set screen=40': ('1992', '--set'),
+        'cp FOLDER/before.db copy.db': ('1992', "'before.db'")},
     'examples/backup': {
         'sudo systemctl stop dispatch-room': ('backup', "'begin'"),
         'sudo cp dispatch-room-backup.service dispatch-room-backup.timer /etc/systemd/system/':
@@ -184,7 +182,12 @@ BESIDE = {
         '. /etc/dispatch-room-three/companion.env': ('three_network', "'user'"),
         'companion.py begin room.db /var/lib/dispatch-room-three/room $REACH':
             ('three_network', "'begin'"),
-        'companion.py enrol fleet.csv $REACH': ('three_rooms', "'enrol'")},
+        'companion.py enrol fleet.csv $REACH': ('three_rooms', "'enrol'"),
+        'companion.py replace 3 $REACH': ('three_network', "'replace'"),
+        'companion.py drop-list $REACH': ('three_repair', "'drop-list'"),
+        'prepare.py prepared 192.0.2.1 192.0.2.2 192.0.2.3 --renew':
+            ('three_certificates', "'--renew'"),
+        'scrape_configs:': ('three_watched', 'scrape_configs')},
     'examples/wall': {
         'examples/wall/wall.py 127.0.0.1:8080 examples/plan.csv deskone1 desktwo2':
             ('wall', "'wall.py'"),

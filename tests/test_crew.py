@@ -21,10 +21,12 @@ from room import PATIENT, PROGRAM, TOP, TestCase, ask, call, free_port, made, me
 EVERY = 'EVERY_PLACE' in os.environ
 CUTS, CUT_FOR = (30, 5.0) if EVERY else (3, 1.5)  # moments, seconds
 REPORT_BYTES = 3000  # a report and its answer with what a browser sends beside them, some
-AGAIN_AFTER = 0.8  # seconds from one press to the next, for the page takes two taps as one
+RESTS = 3.2  # seconds for which the page takes no other press of a button that was pressed, some
+HELD = 5  # seconds in which a press can be taken back
 # A point of the Ordnance Survey's test data for OSTN15 (TP09, in London): degrees of ETRS89, and
 # metres of the National Grid, here cut to 10 m as the page does.
 STANDS, STANDS_AT = (51.48936564950, -0.11992557180), (530620, 178380)
+MAPPED = 51.503991, -0.128354  # TQ 30000 80000 by PROJ, as NATIONAL_GRID of test_taker has it
 BUTTONS = ['position', 'mobile', 'scene', 'leave', 'hospital', 'return', 'home']
 OUTCOMES = ['normal', 'skipped', 'wrong', 'late', 'stale']
 YEAR_BEGAN = 1767225600  # 2026, from whose seconds a page that knows no number begins
@@ -37,6 +39,19 @@ GIVEN_LAST = """return new Promise((resolve) => {
     const store = request.result;
     const last = store.transaction('last').objectStore('last').get('/report crewofa1');
     last.onsuccess = () => { store.close(); resolve(last.result.number); };
+  };
+});"""
+# All that the browser keeps, as one text.
+LEFT = """return new Promise((resolve) => {
+  const request = indexedDB.open('desks outbox');
+  request.onsuccess = () => {
+    const names = ['messages', 'last'];
+    const stores = request.result.transaction(names);
+    const found = names.map((name) => stores.objectStore(name).getAll());
+    stores.oncomplete = () => {
+      request.result.close();
+      resolve(JSON.stringify([found.map((it) => it.result), { ...localStorage }]));
+    };
   };
 });"""
 BROWSER = None
@@ -100,7 +115,7 @@ class Served(TestCase):
         self.enterContext(companion(self.room_port, listen=f'127.0.0.2:{port}'))
         self.line = self.enterContext(Losing(('127.0.0.2', port), port))
         self.address = f'http://localhost:{port}/'
-        self.pressed, self.last_press = [], 0
+        self.pressed, self.last_press = [], {}
         BROWSER.stand_at(*STANDS)
 
     # -- the others in the room
@@ -115,8 +130,8 @@ class Served(TestCase):
         self.ask('deskone1', 'POST /vehicles/A1/duty',
                  f'{{"place":"TQ303804","until":{int(time.time()) + 3600}}}')
 
-    def mobilise(self):
-        self.ask('deskone1', 'POST /incidents/1/mobilise', '{"vehicle":"A1"}')
+    def mobilise(self, incident=1):
+        self.ask('deskone1', f'POST /incidents/{incident}/mobilise', '{"vehicle":"A1"}')
 
     def send_out(self):
         """A vehicle on duty, and its first order."""
@@ -141,12 +156,18 @@ class Served(TestCase):
     def is_placed(self):
         return BROWSER.text('#fix').startswith('By the phone')
 
+    def is_kept(self):
+        """Whether the browser has the page's files."""
+        return BROWSER.run("return navigator.serviceWorker.getRegistration('/desks/crew.html')"
+                           ".then((it) => Boolean(it?.active) && caches.open('desks crew'))"
+                           ".then((it) => it && it.keys()).then((it) => it.length > 5)")
+
     def tap(self, button):
-        """Presses a button as soon as the page takes another one, and waits until it is kept."""
-        time.sleep(max(0, self.last_press + AGAIN_AFTER - time.monotonic()))
+        """Presses a button as soon as the page takes it again, and waits until it is kept."""
+        time.sleep(max(0, self.last_press.get(button, 0) + RESTS - time.monotonic()))
         before = BROWSER.run(SHOWN_LAST)
         BROWSER.click(f'[data-button={button}]:enabled')
-        self.last_press = time.monotonic()
+        self.last_press[button] = time.monotonic()
         self.pressed.append(button)
         until(lambda: BROWSER.run(SHOWN_LAST) > before)
 
@@ -197,37 +218,63 @@ def outcomes():
 TABLE = outcomes()
 
 
-def normal_at(status, is_acknowledged=True):
-    cells = TABLE[status]
-    found = {it for it in BUTTONS if cells[it] in ('normal', 'stays')}
-    return found if status != 'mobilised' or is_acknowledged else found - {'scene'}
+# What a button says of itself where the table calls it so, and which one is large at a status.
+NOTES = {'skipped': 'skips a button', 'wrong': 'does not fit now'}
+LARGE = {'at scene': 'leave', 'leaving': 'hospital', 'at hospital': 'return', 'returning': 'home'}
 
 
-def shown(where):
-    return BROWSER.run(f"return [...document.querySelectorAll('#{where} button')]"
-                       ".map((it) => it.dataset.button)")
+def notes_at(status, is_acknowledged=True):
+    """What is said of each button that is not normal."""
+    cells = dict(TABLE[status])
+    if status == 'mobilised' and not is_acknowledged:
+        cells['scene'] = 'skipped'
+    return {it: NOTES[cells[it]] for it in BUTTONS if cells[it] in NOTES}
+
+
+def notes():
+    said = BROWSER.run("return [...document.querySelectorAll('#buttons button')]"
+                       ".map((it) => [it.dataset.button, it.querySelector('small').textContent])")
+    return {button: words for button, words in said if words in NOTES.values()}
+
+
+def large():
+    """The button that stands out; none where that is empty."""
+    return BROWSER.run("return [...document.querySelectorAll('#buttons .main')]"
+                       ".map((it) => it.dataset.button).join()")
+
+
+def places(css='#buttons button'):
+    """Where the buttons stand on the screen."""
+    return BROWSER.run("return [...document.querySelectorAll(arguments[0])].map((it) => {"
+                       "const { x, y, width, height } = it.getBoundingClientRect();"
+                       "return [x, y, width, height]; })", css)
 
 
 class Turn(Served):
-    def check_front(self, status, is_acknowledged=True):
-        """The status in words, and in front what the table calls normal at it."""
+    def check_buttons(self, status, is_acknowledged=True):
+        """The status in words, what the table says of each button, and which one is large."""
         self.check_comes('the status', lambda: BROWSER.text('#status'), status)
-        self.check_comes(f'in front: {status}', lambda: set(shown('front')),
-                         normal_at(status, is_acknowledged))
-        front = shown('front')
-        self.check(f'all seven: {status}', sorted(front + shown('behind')), sorted(BUTTONS))
-        return front
+        self.check_comes(f'the buttons: {status}', notes, notes_at(status, is_acknowledged))
+        wanted = LARGE.get(status, '')
+        if status == 'mobilised':
+            wanted = 'scene' if is_acknowledged else 'mobile'
+        self.check_comes(f'large: {status}', large, wanted)
 
     def test_turn(self):
         """A whole turn, each button once, from off duty to home."""
         self.check('the table has eight statuses', len(TABLE), 8)
         self.sign_in()
-        self.check_front('off duty')
+        self.check_buttons('off duty')
+        stand = places()
         self.send_out()
-        self.check('the first in front', self.check_front('mobilised', False)[0], 'mobile')
+        self.check_buttons('mobilised', False)
         self.check_comes('the order', lambda: BROWSER.text('#order').split('\n'),
-                         ['New order: press Mobile.', 'Class 2', 'Order 1', 'TQ 300 800',
-                          'Incident 1 of division 1'])
+                         ['New order: press Mobile.', 'Class 2', 'Order 1', 'Map',
+                          'TQ 30000 80000', 'Incident 1 of division 1'])
+        self.check('a map of it', [abs(float(it) - wanted) < 0.00001 for it, wanted in zip(
+            re.fullmatch(r'geo:([-.0-9]+),([-.0-9]+)\?q=.*', BROWSER.run(
+                "return document.querySelector('#order a').href")).groups(), MAPPED)],
+            [True, True])
         sizes = BROWSER.run("return [...document.querySelectorAll('body, body *')].map((it) => "
                             "[parseFloat(getComputedStyle(it).fontSize), it.className])")
         self.check('in the largest letters', [max(sizes)[1], max(sizes)[0] >= 40], ['loud', True])
@@ -236,10 +283,11 @@ class Turn(Served):
                                ('home', 'available')]:
             self.tap(button)
             self.check(f'{button} is shown', self.latest()[1], f'Taken: you are {status}.')
-            self.check_front(status)
+            self.check_buttons(status)
+            self.check(f'the buttons stand where they stood: {status}', places(), stand)
         self.ask('deskone1', 'POST /vehicles/A1/lend',
                  f'{{"to":2,"until":{int(time.time()) + 3600}}}')
-        self.check_front('offered')
+        self.check_buttons('offered')
         east, north = STANDS_AT
         self.check('the table', self.reports('button, ord, east, north, outcome'),
                    [f'{BUTTONS.index(it)}|1|{east}|{north}|0' for it in self.pressed])
@@ -253,22 +301,52 @@ class Turn(Served):
                          ['No order', 'Wait at standby point 4.'])
 
     def test_two_taps(self):
-        """A finger that taps twice presses once, whatever stands under it then. (The page's clock
-        is stopped meanwhile, for a busy machine may take as long as somebody who presses twice.)"""
+        """A finger that taps twice presses once, also at once after the phone's clock was set back;
+        and trouble moves nothing under it."""
         self.send_out()
         self.sign_in()
-        button = BROWSER.find('[data-button=mobile]')
-        move = {'type': 'pointerMove', 'duration': 0, 'origin': {
-            ELEMENT: button}, 'x': 0, 'y': 0}
-        taps = 2 * [{'type': 'pointerDown', 'button': 0}, {'type': 'pointerUp', 'button': 0},
-                    {'type': 'pause', 'duration': 150}]
-        BROWSER.run('window.clock = Date.now; const now = clock(); Date.now = () => now')
-        BROWSER.act({'type': 'pointer', 'id': 'finger', 'actions': [move, *taps]})
-        BROWSER.run('Date.now = clock')
-        self.pressed.append('mobile')
+        stand = places()
+        BROWSER.run('const now = Date.now; Date.now = () => now() - 3600000')
+        self.tap_twice('mobile', 150)
+        self.check_comes('it rests', lambda: BROWSER.run(
+            "return document.querySelector('[data-button=mobile] small').textContent"), 'pressed')
         self.check('taken', self.latest()[1], 'Taken: you are mobilised.')
-        time.sleep(1.5)
-        self.check('once', len(BROWSER.all('#reports li')), 1)
+        self.tap_twice('scene', 850)
+        self.check('taken, too', self.latest()[1], 'Taken: you are at scene.')
+        self.check('once each', len(BROWSER.all('#reports li')), 2)
+        self.line.cut()
+        self.check('trouble is said', bool(until(lambda: BROWSER.text('#trouble'))), True)
+        self.check('and nothing moves', places(), stand)
+        self.line.mend()
+        self.check_once()
+
+    def tap_twice(self, button, milliseconds):
+        move = {'type': 'pointerMove', 'duration': 0, 'origin': {
+            ELEMENT: BROWSER.find(f'[data-button={button}]')}, 'x': 0, 'y': 0}
+        taps = 2 * [{'type': 'pointerDown', 'button': 0}, {'type': 'pointerUp', 'button': 0},
+                    {'type': 'pause', 'duration': milliseconds}]
+        BROWSER.act({'type': 'pointer', 'id': 'finger', 'actions': [move, *taps]})
+        self.pressed.append(button)
+
+    def test_take_back(self):
+        """A press is sent after five seconds, and taken back before. (The page's clock is stopped
+        meanwhile, for a busy machine may take as long.)"""
+        self.send_out()
+        self.sign_in()
+        BROWSER.run('window.clock = performance.now.bind(performance); const now = clock();'
+                    'performance.now = () => now')
+        self.tap('scene')
+        self.check_comes('it is shown', lambda: BROWSER.text('#held p'), 'Scene is sent in 5 s.')
+        BROWSER.click('#back')
+        self.pressed.pop()
+        self.check_comes('it is gone', lambda: BROWSER.all('#reports li'), [])
+        self.check_comes('large again', large, 'mobile')
+        BROWSER.run('performance.now = clock')
+        began = time.monotonic()
+        self.tap('mobile')
+        self.latest()
+        self.check('not sooner', time.monotonic() - began >= HELD, True)
+        self.check('nothing can be taken back', BROWSER.is_shown('#back'), False)
         self.check_once()
 
 
@@ -286,6 +364,7 @@ class Words(Served):
                  'Your desk sees that.')]:
             self.tap(button)
             self.check(what, self.latest()[1], words)
+        self.check('the order is no new one', 'New order' in BROWSER.text('#order'), False)
         first = self.number()
         self.tap('position')
         self.latest()
@@ -303,6 +382,37 @@ class Words(Served):
     def number(self):
         """The number of the latest press."""
         return int(self.latest()[0].split('number ')[1])
+
+    def test_sign_out(self):
+        """Signing out is refused while something waits, and leaves nothing of the terminal."""
+        self.send_out()
+        self.sign_in()
+        self.room.close()
+        self.tap('mobile')
+        self.leave()
+        self.check_comes('it is refused', lambda: BROWSER.text('#refused'), 'The crew is not '
+                         'signed out: what waits to be sent would be lost (1). Open its page until '
+                         'the room has answered.')
+        self.room.enter_context(serving_at(self.file, self.room_port))
+        BROWSER.open(f'{self.address}desks/crew.html')
+        self.check('it is sent', self.latest()[1], 'Taken: you are mobilised.')
+        self.leave()
+        self.check_comes('signed out', lambda: BROWSER.all('#signed li'), [])
+        self.check('nothing is left', [it for it in ('crewofa1', 'TQ') if it in BROWSER.run(LEFT)],
+                   [])
+        self.check_once()
+
+    def leave(self):
+        BROWSER.open(f'{self.address}desks/index.html#crew')
+        BROWSER.click('#signed button')
+
+    def test_stood_down(self):
+        self.send_out()
+        self.sign_in()
+        self.ask('deskone1', 'POST /vehicles/A1/standdown')
+        self.check_comes('it is said', lambda: BROWSER.text('#order').split('\n'),
+                         ['Stood down: order 1 was taken away.', 'No order'])
+        self.check_comes('the status', lambda: BROWSER.text('#status'), 'returning')
 
     def test_stale(self):
         """An order that was taken back and given again while the crew heard nothing."""
@@ -490,7 +600,7 @@ class Network(Served):
         self.check('it opens without a network', until(
             lambda: 'Order 1' in BROWSER.text('#order')), True)
         self.check('both wait', self.waits('2 buttons are not'), True)
-        self.check_comes('what is in front is as they will be', lambda: shown('front')[0], 'leave')
+        self.check_comes('what is large is as they will be', large, 'leave')
         until(self.is_placed)
         self.tap('leave')
         self.check('all three wait', self.waits('3 buttons are not'), True)
@@ -499,11 +609,6 @@ class Network(Served):
         BROWSER.open(f'{self.address}desks/crew.html')
         self.check('all are sent', [bool(self.latest()), self.is_all_sent()], [True, True])
         self.check_once()
-
-    def is_kept(self):
-        return BROWSER.run("return navigator.serviceWorker.getRegistration('/desks/crew.html')"
-                           ".then((it) => Boolean(it?.active) && caches.open('desks crew'))"
-                           ".then((it) => it && it.keys()).then((it) => it.length > 5)")
 
     def test_two_tabs(self):
         """Two pages of one crew: each press has a number of its own, and acts once."""
@@ -528,6 +633,68 @@ class Network(Served):
         self.check_once()
 
 
+class Reopened(Served):
+    def open_again(self):
+        """The page, opened again without a network."""
+        BROWSER.open(f'{self.address}desks/crew.html')
+        until(lambda: len(BROWSER.all('#reports li')) >= len(self.pressed))
+
+    def check_shown(self, what, status, wanted):
+        self.check_comes(f'{what}: the status', lambda: BROWSER.text('#status'), status)
+        self.check_comes(f'{what}: large', large, wanted)
+
+    def test_each_status(self):
+        """Opened again without a network at each status, with and without a press that waits, the
+        page shows what the room would say."""
+        self.send_out()
+        self.sign_in()
+        until(self.is_kept)
+        turn = [('mobile', 'mobilised', 'scene'), ('scene', 'at scene', 'leave'),
+                ('leave', 'leaving', 'hospital'), ('hospital', 'at hospital', 'return'),
+                ('return', 'returning', 'home'), ('home', 'available', '')]
+        status, following = 'mobilised', 'mobile'
+        for button, then, after in turn:
+            self.line.cut()
+            self.open_again()
+            self.check_shown(status, status, following)
+            until(self.is_placed)
+            self.tap(button)
+            self.open_again()
+            self.check_shown(f'{status}, {button}', f'{then}, not sent yet', after)
+            self.line.mend()
+            self.latest()
+            status, following = then, after
+            self.check_shown(f'{then}, sent', then, after)
+        ask(self.room_port, call(2, 'TQ400800'))
+        self.mobilise(2)
+        self.check_shown('another order', 'mobilised', 'mobile')
+        self.line.cut()
+        self.open_again()
+        self.check_shown('another order, opened again', 'mobilised', 'mobile')
+        self.check_comes('it is the order', lambda: 'Order 2' in BROWSER.text('#order'), True)
+        self.line.mend()
+        self.check_once()
+
+    def test_home_withheld(self):
+        """Home that was pressed before an order came does not end it."""
+        self.send_out()
+        self.sign_in()
+        for button in ('scene', 'return'):
+            self.tap(button)
+        self.latest()
+        self.line.cut()
+        self.tap('home')
+        ask(self.room_port, call(2, 'TQ400800'))
+        self.mobilise(2)
+        self.line.mend()
+        self.check('it is not sent', self.latest()[1], 'Not sent: order 2 came before it.')
+        self.check_shown('the order', 'mobilised', 'mobile')
+        self.check('the room has it', self.ask('crewofa1', 'GET /order')['status'], 2)
+        self.pressed.pop()
+        self.check('the table', self.reports('button'), [str(BUTTONS.index(it))
+                                                         for it in self.pressed])
+
+
 # ---- for everyone
 
 
@@ -547,7 +714,7 @@ class Everyone(Served):
         self.line.mend()
         until(lambda: not BROWSER.text('#trouble'))
         BROWSER.run('scrollTo(0, 0)')
-        bottoms = "return ['#order .loud', '#front button'].map((it) => " \
+        bottoms = "return ['#order .loud', '#buttons .main'].map((it) => " \
                   "document.querySelector(it).getBoundingClientRect().bottom)"
         self.check_comes('order and button are seen at once', lambda: [
             it <= PHONE[1] for it in BROWSER.run(bottoms)], [True, True])

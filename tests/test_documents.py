@@ -13,12 +13,12 @@ import subprocess
 from room import TOP, TestCase
 
 # How many words a document has at most, as `wc -w` counts them.
-MOST = {'README': 900, 'CONTRIBUTING': 250, 'SECURITY': 350, 'CHANGELOG': 560, 'TUTORIAL': 800,
-        'OPERATING': 2820, 'RULES': 2300, 'HTTP': 2750, 'FILES': 3100, 'ARCHITECTURE': 1200,
-        'DECISIONS': 2580, 'JUDGING': 650, 'PROOFS': 2600, 'PROMISES': 6000, 'SCALE': 600,
+MOST = {'README': 955, 'CONTRIBUTING': 250, 'SECURITY': 350, 'CHANGELOG': 760, 'TUTORIAL': 800,
+        'OPERATING': 2860, 'RULES': 2410, 'HTTP': 2750, 'FILES': 3120, 'ARCHITECTURE': 1225,
+        'DECISIONS': 2745, 'JUDGING': 650, 'PROOFS': 2850, 'PROMISES': 6250, 'SCALE': 600,
         'WORKING': 600}
 # README.md and docs/ together, without what tools write; and the long form of the measurements.
-TOGETHER = 17850
+TOGETHER = 18290
 MOST_OF_BENCH = 4500
 # What a tool writes: it may list crates, and has no figures.
 WRITTEN = ['PROOFS', 'PROMISES']

@@ -590,6 +590,10 @@ class Chained(JournalTestCase):
         for what, text in [('nothing', b''), ('no record', b'list 2\n'),
                            ('an end', chain([self.END]))]:
             self.list.write_bytes(text)
+            self.check(what, verify(self.list), (1, 'nothing was begun\n', ''))
+        for what, text in [('a part of its first line', b'list'),
+                           ('a part of a head', chain(self.bodies[:1])[:-3])]:
+            self.list.write_bytes(text)
             self.check(what, verify(self.list), (1, '', 'refused: record 1\n'))
 
     # what an import leaves in a list: the lines of the fleet's file
@@ -608,7 +612,7 @@ class Chained(JournalTestCase):
         self.list.write_bytes(chain([*self.bodies, self.END, *self.ROWS]))
         self.check('rows at last', verify(self.list), (0, span + 'not ended\n', ''))
         self.list.write_bytes(chain(self.ROWS))
-        self.check('only rows', verify(self.list), (1, '', 'refused: record 1\n'))
+        self.check('only rows', verify(self.list), (1, 'nothing was begun\n', ''))
         for what, text in [
             ('version 1', written(self.found) + b''.join(self.ROWS)),
             ('another word', chain([*self.bodies, b'rows A9\n'])),
@@ -652,6 +656,21 @@ class Chained(JournalTestCase):
             self.check(f'{what}: its records', [it[0] for it in entries(now)][-3:],
                        ['room', 'message', 'answer'])
             self.check(f'{what}: it is whole', verify(self.list)[0], 0)
+
+    def test_served_after_a_truncation(self):
+        """Where a list was truncated, and the service stopped before it saw that, the next start
+        sets aside what was appended, and begins a new list."""
+        between = self.copy()
+        left = b''.join(pieces(self.list.read_bytes())[2:])
+        self.list.write_bytes(left)
+        report = self.serve([QUEUE])[1]
+        aside = self.list.with_name('room.list.truncated.1')
+        self.check('it is reported', report, 'journal: the list was truncated, what is left is set '
+                                             f'aside as {aside}\n')
+        self.check('what is left', aside.read_bytes(), left)
+        self.check('a new list', [it[0] for it in self.entries()], ['room', 'message', 'answer'])
+        self.check('it is replayed', replay(between, self.list.read_bytes()),
+                   (0, b'replayed 1\n', ''))
 
     def test_each_byte(self):
         """A bit that changed anywhere is found at its record."""

@@ -194,6 +194,29 @@ class Calls(Served):
         self.check('sent anew', answer('NEW', 2)[:2], ['NEW', 'Division 1, incident 1'])
         self.check('with its note', self.calls('serial, class, note'), ['2|1|caller is <lost>'])
 
+    def test_full_store(self):
+        """A call that the browser can't keep stays in the form, and the page says so where the
+        answer before stood; an Enter held down sends one call."""
+        self.sign_in()
+        send_call('TQ300800', '2', 'the first')
+        answer('NEW')
+        BROWSER.run("const add = IDBObjectStore.prototype.add; window.mend = () => "
+                    "{ IDBObjectStore.prototype.add = add; };"
+                    "IDBObjectStore.prototype.add = () => "
+                    "{ throw new DOMException('The disk is full.', 'QuotaExceededError'); };")
+        send_call('TQ400800', '1', 'the second')
+        self.check('it is said', answer('NOT SENT')[:2], [
+            'NOT SENT',
+            'This browser could not keep the call: The disk is full. The form still has it.'])
+        form = "return ['place', 'note'].map((it) => document.getElementById(it).value)"
+        self.check('the form has it', BROWSER.run(form), ['TQ400800', 'the second'])
+        self.check('the call before is listed', kept(), 1)
+        BROWSER.run('mend()')
+        BROWSER.press('Enter', 'Enter')
+        self.check('then it is sent', answer('NEW', 2)[:2], ['NEW', 'Division 1, incident 2'])
+        self.check('and the form is empty', BROWSER.run(form), ['', ''])
+        self.check('once', self.calls('note'), ['the first', 'the second'])
+
     def test_everyone(self):
         self.sign_in()
         send_call('TQ300800', '1', 'a call')

@@ -20,7 +20,7 @@ PAUSE = 0.25  # seconds of a terminal between an answer and its next request
 COPY_EVERY = 3000 if EVERY else 200
 LOST = 20  # answers of each member
 QUOTA = 48 << 20  # bytes: a small one, which the list would fill within ten minutes
-SEEN = ['--history', '10000']  # revisions, until which a witness has seen what is dropped
+SEEN = ['--revisions', '10000']  # revisions, until which a witness has seen what is dropped
 
 
 class Disturbed(ThreeTestCase):

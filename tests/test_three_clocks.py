@@ -16,6 +16,7 @@ from room import message
 import clocks
 
 QUESTION = message('deskof01', 'GET /queue')
+TEN_YEARS = 10 * 365 * 86400  # seconds
 NONE = (503, '{"error":"NoAnswer","kept":"no"}')
 
 
@@ -52,6 +53,31 @@ class Clocks(ThreeTestCase):
         self.check('it goes on once it is right', status, 200)
         self.check_moment(number)
 
+    def test_wrong(self):
+        """So does one whose clock is behind, or jumps, by an hour, a day or years; whatever it was
+        set to, the others go on at moments of today, and so does it once it is right."""
+        self.machines.start_all()
+        serial = 0
+        for number, wall in (1, -3600), (2, -TEN_YEARS), (3, 65), (1, 86400), (2, -65):
+            self.machines.shift(number, wall=wall)
+            side = 'ahead of' if wall > 0 else 'behind'
+            self.refuses(number, f's {side} the others')
+            self.check(f'{wall}: it takes none',
+                       exchange(self.machines.address(number), QUESTION, PATIENCE)[1:], NONE)
+            for it in {1, 2, 3} - {number}:
+                serial += 1
+                self.check_moment(self.answered(it, call(serial))[0])
+            self.machines.shift(number)
+            self.machines.wait_for(number)
+        self.jumps()
+
+    def jumps(self):
+        """A clock that goes on jumping lets no record have a wrong moment."""
+        for at, wall in enumerate([-3600, 3600, -TEN_YEARS, 86400] * 3, 1):
+            self.machines.shift(2, wall=wall)
+            exchange(self.machines.address(2), call(100 + at), PATIENCE)
+            self.check_moment(self.answered(3, call(200 + at))[0])
+
     def test_start_at_2099(self):
         """A machine that starts with such a clock takes nothing either; nor does one that starts
         where no other tells its clock, but where its own is trusted by a word."""
@@ -71,7 +97,7 @@ class Clocks(ThreeTestCase):
         self.check('it answers', self.answered(3, call(1))[1], 200)
 
     def test_limit(self):
-        """A minute is allowed, and no more."""
+        """A clock is ahead, or behind, by as much as it is of all others."""
         self.enterContext(unittest.mock.patch.object(clocks, 'passed', lambda: 1000.0))
         others, now = clocks.OtherClocks(), int(time.time())
         self.check('none is heard', others.ahead(now), None)
@@ -81,7 +107,9 @@ class Clocks(ThreeTestCase):
         self.check('ahead of one', others.ahead(now), 61)
         others.hear(3, 7, 0)
         others.hear(3, 8, now + 5)
-        self.check('and of both', others.ahead(now), -5)
+        self.check('between both', others.ahead(now), 0)
+        self.check('ahead of both', others.ahead(now + 66), 61)
+        self.check('behind both', others.ahead(now - 122), -61)
 
     def test_slept(self):
         """A machine that slept for a minute keeps nothing of what was asked before: it knows by the

@@ -29,7 +29,7 @@ class Quota(ThreeTestCase):
         super().setUp()
         self.machines.member_words = [f'--quota-backend-bytes={QUOTA}']
         for it in self.machines.machines:
-            self.machines.words[it] = ['--history', '10', '--away-after', '2']
+            self.machines.words[it] = ['--revisions', '10', '--away-after', '2']
 
     def fill(self, part, prefix='stray'):
         """Puts what is no entry, and is of nobody, until so much of the quota is used. (What is put
@@ -126,11 +126,11 @@ class Quota(ThreeTestCase):
             self.answered(1, call(it))
         self.machines.until(lambda: self.machines.list().ends()[0] >= 60, 'records go')
         self.machines.start('companion', 3)
-        self.check('it is not played', self.machines.ended(3), 1)
-        self.check('and says so', 'bring a copy of another machine' in self.machines.said(), True)
+        self.machines.until(lambda: 'bring a copy of another machine'
+                            in self.machines.health(3).get('refuses', ''), 'it says so')
         copy, folder = self.newest(1).file, self.machines.machines[3].folder / 'room'
-        (folder / copy.name).write_bytes(copy.read_bytes())
-        self.machines.start('companion', 3)
+        (folder / 'brought').write_bytes(copy.read_bytes())
+        (folder / 'brought').rename(folder / copy.name)
         self.machines.wait_for(3)
         self.check('it answers', self.answered(3, call(200))[1], 200)
         out = list(self.machines.list().values(f'{kept_list.ROOM}out/'))

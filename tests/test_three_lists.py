@@ -6,14 +6,15 @@ import dataclasses
 import json
 import shutil
 import subprocess
+import unittest.mock
 
 from listed import ThreeTestCase
 from room import PATIENCE, message
 
+import comparison
 import copies
 import entries
 import kept_list
-import upkeep
 from entries import Place, Record
 
 QUESTION = message('deskof01', 'GET /queue')
@@ -78,17 +79,61 @@ class Entries(ThreeTestCase):
             self.check(name, Record('a', content).is_whole(), wanted)
         self.check('another kind', Record('a', whole, 'other').is_whole(), False)
 
-    def test_differences(self):
-        """Which copies differ, and which machine is the odd one."""
-        same = {3000: {1: 'a', 2: 'a', 3: 'a'}, 6000: {1: 'b', 3: 'b'}}
-        self.check('none', upkeep.difference(same), '')
-        odd = same | {9000: {1: 'c', 2: 'd', 3: 'c'}}
-        self.check('one', upkeep.difference(odd),
-                   'the rooms differ at record 9000: machine 1 has c, machine 2 has d')
-        self.check('of which is machine 2', [upkeep.last_agreed(odd, it) for it in (1, 2, 3)],
-                   [None, 3000, None])
-        two = {3000: {1: 'c', 2: 'd'}}
-        self.check('of two neither is', [upkeep.last_agreed(two, it) for it in (1, 2)], [None] * 2)
+
+class Differences(ThreeTestCase):
+    def setUp(self):
+        super(ThreeTestCase, self).setUp()
+        self.enterContext(unittest.mock.patch.object(comparison, 'WAITS', 0))
+        self.it = comparison.Comparison(3)
+
+    def note(self, *noted):
+        for it in noted:
+            self.it.note(*it)
+
+    def stops(self, silent=()):
+        """Whether it stops as the odd one, and whether it takes nothing."""
+        text = self.it.judge(set(silent))
+        return bool(self.it.odd), bool(text)
+
+    def test_odd(self):
+        """One that differs from both others stops, and stays so; it was as they last at 20."""
+        self.note((2, 'answers', 20, True), (3, 'answers', 10, True))
+        self.check('all are the same', self.stops(), (False, False))
+        self.note((2, 'answers', 30, False))
+        self.check('it differs from one', self.stops(), (False, True))
+        self.note((3, 'answers', 31, False))
+        self.check('it is the odd one', self.stops(), (True, True))
+        self.check('from where on', self.it.last_agreed(), 20)
+        self.note((3, 'answers', 40, True), (2, 'answers', 40, True))
+        self.check('and stays it', self.stops(), (True, True))
+
+    def test_last_agreed(self):
+        """A copy that is the same shows that all answers before it were."""
+        self.note((2, 'answers', 25, True), (2, 'rooms', 30, True))
+        self.note((2, 'answers', 33, False), (3, 'answers', 33, False))
+        self.check('it is the odd one', self.stops(), (True, True))
+        self.check('from where on', self.it.last_agreed(), 30)
+
+    def test_other_is_odd(self):
+        """One goes on where the third has the same as it, until then not, unless the other is
+        silent; and the other counts again once it has the same."""
+        self.note((2, 'answers', 30, False), (3, 'answers', 29, True))
+        self.check('the third may be as either', self.stops(), (False, True))
+        self.check('the other is silent', self.stops([2]), (False, False))
+        self.note((3, 'answers', 30, True))
+        self.check('the third is as this one', self.stops(), (False, False))
+        self.check('which is known', self.it.first_differing(), {2: (30, 'answers')})
+        self.note((2, 'answers', 29, True))
+        self.check('the same before shows nothing', 2 in self.it.first_differing(), True)
+        self.note((2, 'answers', 35, True))
+        self.check('it was begun anew', self.it.first_differing(), {})
+
+    def test_copies(self):
+        """A copy that differs shows it too, whatever the answers are."""
+        self.note((2, 'answers', 99, True), (3, 'answers', 99, True))
+        self.note((2, 'rooms', 30, True), (2, 'rooms', 60, False), (3, 'rooms', 60, False))
+        self.check('it is the odd one', self.stops(), (True, True))
+        self.check('from where on', self.it.last_agreed(), 30)
 
 
 class Lists(ThreeTestCase):
@@ -115,10 +160,6 @@ class Lists(ThreeTestCase):
             kept.keep(begun, 9, [a])
         self.check('a list that has gone on is not begun again',
                    kept.begin(entries.first_entry('0' * 64)), None)
-        kept.change([], [kept_list.put(kept_list.STOPPED, 'why')])
-        found = kept.keep(second.place, 9, [a])
-        self.check('nothing is put where it is stopped',
-                   (found.entries, found.stopped), ([], 'why'))
 
     def test_foreign(self):
         """What is no entry is reported and left out by each machine, wherever it stands."""
@@ -144,6 +185,86 @@ class Lists(ThreeTestCase):
         self.check('a machine starts over it', self.answered(2, QUESTION)[0] >= 4, True)
         self.check('the companions end well', self.machines.stop_companions(), [0, 0, 0])
 
+    def test_foreign_head(self):
+        """A head that names what is not there ends no companion: each says so, and one command puts
+        it in order."""
+        self.machines.start_all()
+        number = self.answered(1, call(1))[0]
+        kept = self.machines.list()
+        kept.change([], [kept_list.put(kept_list.HEAD, f'{number + 5} {"0" * 64}')])
+        self.each_refuses('its head names another record')
+        self.check('mended', self.machines.companion_does(2, 'mend'),
+                   (0, f'the list ends at record {number}, and 0 values are deleted\n'))
+        self.machines.wait_for_all()
+        self.check('it goes on', self.answered(3, call(2))[:2], (number + 1, 200))
+        kept.change([], [kept_list.put(kept_list.HEAD, kept.entry(number).place.text())])
+        self.check('a head that went back is mended', self.answered(1, call(3))[:2],
+                   (number + 2, 200))
+        self.check('the companions end well', self.machines.stop_companions(), [0, 0, 0])
+
+    def each_refuses(self, text):
+        for it in self.machines.machines:
+            self.machines.until(lambda: text in self.machines.health(it).get('refuses', ''),
+                                f'{it} says: {text}')
+
+    def test_entry_without_head(self):
+        """An entry behind the last one, whose head was not moved, is taken by all alike."""
+        self.machines.start_all()
+        number = self.answered(1, call(1))[0]
+        kept = self.machines.list()
+        entry = entries.entry_behind(kept.entry(number).place, 0, [Record('stray', call(2))])
+        kept.change([], [kept_list.put(kept_list.key_of(number + 1), entry.text)])
+        for serial, it in enumerate([2, 3, 1], 3):
+            self.check(f'call {serial}', self.answered(it, call(serial))[:2], (serial, 200))
+        last = self.level()
+        self.check('the companions end well', self.machines.stop_companions(), [0, 0, 0])
+        self.check('all have it', [self.newest(it).number for it in self.machines.machines],
+                   [last] * 3)
+        self.check('and are one room', len({self.newest(it).room
+                                            for it in self.machines.machines}), 1)
+
+    def test_entry_deleted(self):
+        """A machine that needs an entry that was deleted says so, and gets a copy of another; where
+        all need it, one command ends the list before it."""
+        self.machines.start_all()
+        self.machines.kill('companion', 3)
+        for it in range(1, 7):
+            self.answered(1, call(it))
+        kept = self.machines.list()
+        kept.change([], [kept_list.delete(kept_list.span(kept_list.key_of(4)))])
+        self.machines.start('companion', 3)
+        gone = 'record 4 of the list is gone'
+        self.machines.until(lambda: gone in self.machines.health(3).get('refuses', ''), gone)
+        self.check('others go on', self.answered(2, call(7))[:2], (7, 200))
+        # (a machine reports each second what it has played)
+        self.machines.until(lambda: 'has played 7: bring'
+                            in self.machines.companion_does(1, 'mend')[1],
+                            'their records are not dropped')
+        self.check('machine 2 ends with a copy', self.machines.stop_companions(2), [0])
+        self.machines.kill('companion', 3)
+        copy = self.newest(2).file
+        shutil.copy(copy, self.machines.machines[3].folder / 'room' / copy.name)
+        for it in 2, 3:
+            self.machines.start('companion', it)
+            self.machines.wait_for(it)
+        self.check('it has all', self.answered(3, QUESTION)[0], 7)
+        for it in self.machines.machines:
+            self.machines.kill('companion', it)
+            for newer in copies.copies_in(self.machines.machines[it].folder / 'room')[:-1]:
+                newer.file.unlink()
+        copy = copies.copies_in(self.machines.machines[1].folder / 'room')[0].file
+        for it in 2, 3:
+            folder = self.machines.machines[it].folder / 'room'
+            shutil.rmtree(folder)
+            folder.mkdir()
+            shutil.copy(copy, folder / copy.name)
+        for it in self.machines.machines:
+            self.machines.start('companion', it)
+        self.each_refuses(gone)
+        self.machines.until(lambda: self.machines.companion_does(1, 'mend')[0] == 0, 'it is mended')
+        self.machines.wait_for_all()
+        self.check('the list ends before it', self.answered(2, call(8))[:2], (4, 200))
+
     def test_went_back(self):
         """Where etcd is restored from yesterday, a room that has played more stops, says so, and is
         made anew from a copy that is in the list."""
@@ -156,7 +277,7 @@ class Lists(ThreeTestCase):
         self.etcdctl(1, 'snapshot', 'save', saved)
         for it in 4, 5, 6:
             self.check(f'call {it}', self.answered(2, call(it))[1], 200)
-        self.reported(self.level() // 2 * 2)
+        self.copied(self.level() - 1)
         self.restore(saved)
         for it in self.machines.machines:
             status = self.machines.ended(it)
@@ -176,18 +297,21 @@ class Lists(ThreeTestCase):
                    for it in self.machines.machines}, {self.newest(1).digest})
 
     def test_no_copy(self):
-        """A machine none of whose copies is in the list does not start, and touches nothing."""
+        """A machine none of whose copies is in the list says so, touches nothing, and goes on once
+        it has one."""
         self.machines.start_all()
         self.machines.stop_companions()
         folder = self.machines.machines[1].folder / 'room'
-        before = copies.copies_in(folder)
-        copy = before[0]
-        copy.file.rename(copies.copy_at(folder, Place(copy.number + 5, copy.digest),
-                                        copy.answers, copy.room).file)
+        copy = copies.copies_in(folder)[0]
+        other = copies.copy_at(folder, Place(copy.number + 5, copy.digest), copy.answers, copy.room)
+        copy.file.rename(other.file)
         self.machines.start('companion', 1)
-        self.check('status', self.machines.ended(1), 1)
-        self.check('it says so', 'bring a copy of another machine' in self.machines.said(), True)
-        self.check('the copy is there', len(copies.copies_in(folder)), 1)
+        self.machines.until(lambda: 'bring a copy of another machine'
+                            in self.machines.health(1).get('refuses', ''), 'it says so')
+        self.check('the copy is there', [it.file for it in copies.copies_in(folder)], [other.file])
+        other.file.rename(copy.file)
+        self.machines.start('companion', 2)
+        self.machines.wait_for(1)
 
     def etcdctl(self, number, *words):
         command = ['etcdctl', '--endpoints', self.machines.machines[number].etcd,

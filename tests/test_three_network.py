@@ -8,6 +8,7 @@ import os
 import pathlib
 import re
 import shlex
+import shutil
 import signal
 import subprocess
 import sys
@@ -22,6 +23,7 @@ import copies
 
 NUMBERS = 1, 2, 3
 ADDRESSES = [f'10.99.56.{it}' for it in NUMBERS]
+README = (THREE / 'README.md').read_text()
 CALL = json.dumps({'class': 2, 'needs': [1, 0, 0], 'note': '', 'place': 'TQ300800', 'serial': 1})
 
 
@@ -80,6 +82,7 @@ class Network(TestCase):
     def setUp(self):
         super().setUp()
         self.spaces, self.processes = Namespaces(), {}
+        self.of_units = {'start': self.start, 'stop': self.stop}
         self.addCleanup(self.spaces.close)
         self.addCleanup(self.end)
         self.spaces.make()
@@ -129,10 +132,30 @@ class Network(TestCase):
             self.spaces.inside(number, *command), env=os.environ | environment | {'PATH': path},
             stdin=subprocess.DEVNULL, stdout=self.output, stderr=self.output)
 
-    def companion_does(self, number, *words):
-        reach = shlex.split(self.environment(number, 'companion.env')['REACH'])
-        command = [sys.executable, THREE / 'companion.py', *words, *reach]
-        return done(*self.spaces.inside(number, *command))
+    def does(self, number, line):
+        """What comes of a line that an administrator types on a machine, by the words of its
+        REACH. What it says of the units is done by this test."""
+        words = line.split()
+        if words[:2] == ['sudo', 'systemctl']:
+            for it in words[3:]:
+                self.of_units[words[2]](number, it.removeprefix('dispatch-room-'))
+            return None
+        line = self.here(number, line).replace('sudo ', '').replace('room.db', str(self.first))
+        path = self.folder / f'here{number}'
+        path.write_text(f'REACH="{self.environment(number, "companion.env")["REACH"]}"\n{line}\n')
+        return done(*self.spaces.inside(number, 'sh', '-e', path),
+                    env=os.environ | {'PATH': f'{THREE}:{os.environ["PATH"]}'})
+
+    def does_recipe(self, number, name):
+        """Does what the one line of the README says that has the companion's command of a name."""
+        [line] = re.findall(f'^    (companion\\.py {name} .*?)(?:   .*)?$', README, re.M)
+        return self.does(number, line)
+
+    def stop(self, number, name):
+        process = self.processes.pop((number, name), None)
+        if process:
+            process.terminate()
+            process.wait(PATIENCE)
 
     def until(self, what, holds):
         until = time.monotonic() + PATIENCE
@@ -153,11 +176,11 @@ class Network(TestCase):
     def start_all(self):
         for it in NUMBERS:
             self.start(it, 'member')
-        self.until('a user', lambda: self.companion_does(1, 'user').returncode == 0)
+        self.until('a user', lambda: self.does_recipe(1, 'user').returncode == 0)
         for it in NUMBERS:
             room = self.folder / f'state{it}' / 'room'
-            self.until(f'{it} begins', lambda: copies.copies_in(room) or self.companion_does(
-                it, 'begin', self.first, room).returncode == 0)
+            self.until(f'{it} begins', lambda: copies.copies_in(room)
+                       or self.does_recipe(it, 'begin').returncode == 0)
             self.start(it, 'companion')
         for it in NUMBERS:
             self.until(f'{it} serves', lambda: self.serves(it))
@@ -189,12 +212,34 @@ class Network(TestCase):
         self.until('3 is back', lambda: self.serves(3))
         self.check('it is level', self.answered(3, '/incidents', *ask),
                    self.answered(1, '/incidents', *ask))
+        self.replace()
+        self.check('a new one is level', self.answered(3, '/incidents', *ask),
+                   self.answered(1, '/incidents', *ask))
         for it in NUMBERS:
             self.processes[it, 'companion'].send_signal(signal.SIGTERM)
         self.check('all end well', [self.processes[it, 'companion'].wait(PATIENCE)
                                     for it in NUMBERS], [0, 0, 0])
         newest = [copies.copies_in(self.folder / f'state{it}' / 'room')[0] for it in NUMBERS]
         self.check('three equal rooms', len({dump(it.file) for it in newest}), 1)
+
+    def replace(self):
+        """Machine 3 has a new disk, and comes back by what the README and its command say."""
+        for it in 'companion', 'member':
+            self.processes.pop((3, it)).kill()
+        state = self.folder / 'state3'
+        shutil.rmtree(state)
+        found = []
+        self.until('a new member', lambda: found.append(self.does_recipe(1, 'replace'))
+                   or found[-1].returncode == 0)
+        copy = copies.copies_in(self.folder / 'state1' / 'room')[0].file
+        (state / 'room').mkdir(mode=0o700, parents=True)
+        shutil.copy(copy, state / 'room' / copy.name)
+        lines = re.findall('^(?:sudo|echo) .*', found[-1].stdout, re.M)
+        self.check('four lines to type', len(lines), 4)
+        for it in lines:
+            output = self.does(3, it)
+            self.check(it, output and output.returncode, output and 0)
+        self.until('3 is back', lambda: self.serves(3))
 
     def strangers(self):
         """etcd without a certificate, with one and no password, and from another machine. (What is

@@ -1,5 +1,6 @@
-"""Rooms of three machines that differ, by a bit or by a version of the program, and what is played
-on all of them that is no message: vehicles that are enrolled, and tokens that are changed."""
+"""Rooms of three machines that differ, by a bit or by a version of the program: the odd one takes
+no more, and the others go on. And what is played on all of them that is no message: vehicles that
+are enrolled, and tokens that are changed."""
 # needs: etcd-server sqlite3
 # builds: dispatch_room
 import json
@@ -35,21 +36,18 @@ class Rooms(ThreeTestCase):
             found.append(self.answered(number, call(self.serial))[1])
         return found
 
-    def copied(self, record):
-        self.machines.until(lambda: all(self.machines.health(it).get('copy') == record
-                                        for it in self.machines.machines), f'copies of {record}')
-
-    def until_stopped(self, record):
-        """Waits until each machine says so: which two it names depends on who has reported first.
-        Which is the odd one is known once all three have."""
-        text = f'the rooms differ at record {record}: '
-        for it in self.machines.machines:
-            self.machines.until(lambda: text in self.machines.health(it).get('refuses', ''),
-                                f'machine {it} is stopped')
-        self.reported(record)
-        self.check('none takes more',
-                   {exchange(it, call(99), PATIENCE)[1:] for it in self.addresses()},
-                   {(503, '{"error":"NoAnswer","kept":"no"}')})
+    def until_odd(self, number):
+        """Waits until a machine stops by itself, as it differs; the others go on."""
+        text = 'this room differs from those of all others at record '
+        self.machines.until(lambda: text in self.machines.health(number).get('refuses', ''),
+                            f'machine {number} is stopped')
+        self.check('it takes no more', exchange(self.machines.address(number), call(99), PATIENCE)
+                   [1:], (503, '{"error":"NoAnswer","kept":"no"}'))
+        others = [it for it in self.machines.machines if it != number]
+        for it in others:
+            self.check('another goes on', self.calls(3, it), [200] * 3)
+            self.machines.until(lambda: self.machines.health(it).get('others', {}).get(
+                str(number), {}).get('differs'), 'it names the odd one')
 
     def flip(self, file):
         """Changes a bit of a file, past the program that has it open."""
@@ -62,63 +60,86 @@ class Rooms(ThreeTestCase):
     def test_copy(self):
         """A copy that changed on the disk is not played: the one before is."""
         self.machines.start_all()
-        self.check('ten calls', self.calls(10), [200] * 10)
-        self.copied(10)
+        self.check('calls', self.calls(30), [200] * 30)
+        self.copied(30)
         self.machines.kill('companion', 2)
         self.flip(self.newest(2).file)
+        self.machines.start('companion', 2)
+        self.check('it ends', self.machines.ended(2), 3)
         self.machines.start('companion', 2)
         self.machines.wait_for(2)
         self.check('it is set aside', 'not the room of the list any more' in self.machines.said(),
                    True)
-        self.check('ten more', self.calls(10, 2), [200] * 10)
-        self.copied(20)
+        self.check('more calls', self.calls(30, 2), [200] * 30)
+        self.copied(60)
 
-    def go_on(self):
-        done = self.machines.companion_does(3, 'go-on')
-        self.machines.wait_for_all()
-        return done
+    def start_again(self, number, how):
+        """Ends the companion of a machine that was the odd one, and starts it."""
+        how(number)
+        self.machines.start('companion', number)
+        self.machines.wait_for(number)
+        self.check('its copies since are set aside',
+                   'not the room of the list any more' in self.machines.said(), True)
+        self.check('it goes on', self.calls(30, number), [200] * 30)
 
     def test_bit(self):
-        """A bit of one room's file changes: the next copies differ, none takes more, and the odd
-        one plays anew from a copy on which all agree."""
+        """A bit of one room's file changes: its next copy of a record of which all have one
+        differs, it takes no more, and plays anew from a copy on which all agree."""
         self.machines.start_all()
-        self.check('ten calls', self.calls(10), [200] * 10)
-        self.copied(10)
-        self.flip(next((self.machines.machines[2].folder / 'room' / 'work').glob('run.*/room.db')))
-        self.check('ten more', self.calls(10), [200] * 10)
-        self.until_stopped(20)
-        status, printed = self.machines.companion_does(1, 'go-on')
-        self.check('they do not go on so', (status, 'the rooms differ at record 20' in printed),
-                   (1, True))
-        self.check('machine 2 ends well', self.machines.stop_companions(2), [0])
-        self.machines.start('companion', 2)
-        self.machines.until(lambda: 'not the room of the list any more' in self.machines.said(),
-                            'its copy is set aside')
-        self.machines.until(lambda: self.machines.companion_does(1, 'go-on')[0] == 0,
-                            'they agree again')
-        self.check('they go on', self.go_on(), (0, 'the machines go on\n'))
-        self.check('ten more', self.calls(10, 2), [200] * 10)
+        self.check('calls', self.calls(30), [200] * 30)
         self.copied(30)
+        self.flip(next((self.machines.machines[2].folder / 'room' / 'work').glob('run.*/room.db')))
+        self.check('more calls', self.calls(30), [200] * 30)
+        self.until_odd(2)
+        copied = self.machines.health(2)['copy']
+        self.check('many more calls', self.calls(60), [200] * 60)
+        self.machines.until(lambda: self.machines.health(2).get('behind') == 0, 'it plays on')
+        self.check('it makes no copy', self.machines.health(2)['copy'], copied)
+        self.start_again(2, self.machines.stop_companions)
+        self.copied(150)
+        self.level()
+        self.check('the companions end well', self.machines.stop_companions(), [0, 0, 0])
         self.check('the three are equal', len({dump(self.newest(it).file)
                                                for it in self.machines.machines}), 1)
 
-    def test_version(self):
+    def other_version(self, number):
         """One machine has another version of the program, which answers one message of seven
-        otherwise: that is noticed with the next copies."""
+        otherwise."""
         other = self.folder / 'other'
         other.write_text(f'#!/bin/sh\nexec {sys.executable} {OTHER} {PROGRAM} 7 "$@"\n')
         other.chmod(0o700)
-        self.machines.programs[3] = other
+        self.machines.programs[number] = other
+
+    def test_version(self):
+        """A machine with another version is the odd one, long before a copy shows it."""
+        self.machines.copy_every = 100_000
+        self.other_version(3)
         self.machines.start_all()
-        self.check('ten calls', self.calls(10), [200] * 10)
-        self.until_stopped(10)
+        self.check('calls', self.calls(10), [200] * 10)
+        self.until_odd(3)
         del self.machines.programs[3]
         self.machines.kill('companion', 3)
         self.machines.start('companion', 3)
-        self.machines.until(lambda: self.machines.companion_does(1, 'go-on')[0] == 0,
-                            'they agree again')
-        self.check('they go on', self.go_on(), (0, 'the machines go on\n'))
-        self.check('calls', self.calls(10, 3), [200] * 10)
+        self.machines.wait_for(3)
+        self.check('it goes on', self.calls(10, 3), [200] * 10)
+
+    def test_two(self):
+        """Of two that differ neither is known to be right, so both take nothing, until a third
+        shows it, or one is ended."""
+        self.other_version(2)
+        self.machines.start_all()
+        self.machines.kill('companion', 3)
+        self.check('calls', self.calls(10), [200] * 10)
+        for it in 1, 2:
+            self.machines.until(lambda: 'and no third shows which is right'
+                                in self.machines.health(it).get('refuses', ''), f'{it} waits')
+        self.machines.kill('companion', 2)
+        self.machines.wait_for(1)
+        self.machines.start('companion', 2)
+        self.machines.start('companion', 3)
+        self.machines.wait_for(3)
+        self.check('two go on', self.calls(10, 3), [200] * 10)
+        self.until_odd(2)
 
     def test_upgrade(self):
         """The same version, machine by machine: the others go on meanwhile."""
@@ -139,13 +160,18 @@ class Rooms(ThreeTestCase):
         crew = message('crewofnew1', 'GET /order')
         self.check('no such crew', self.answered(1, crew)[1], 403)
         self.check('calls', self.calls(3), [200] * 3)
+        other = self.folder / 'other.csv'
+        other.write_text('hello\n')
+        before = self.machines.list().ends()
+        self.check('no fleet', self.machines.companion_does(2, 'enrol', other)[0], 1)
+        self.check('is not put', self.machines.list().ends(), before)
         self.check('enrolled', self.machines.companion_does(2, 'enrol', fleet),
                    (0, 'NEW1 added\nrow 2 bad\n'))
         for it in self.machines.machines:
             self.machines.wait_for(it)
             self.check('a crew', self.answered(it, crew)[1], 200)
-        self.check('calls', self.calls(6), [200] * 6)
-        self.copied(10)
+        self.check('calls', self.calls(26), [200] * 26)
+        self.copied(30)
         self.check('the three are equal', len({dump(self.newest(it).file)
                                                for it in self.machines.machines}), 1)
 
@@ -154,9 +180,9 @@ class Rooms(ThreeTestCase):
         self.machines.start_all()
         does = self.machines.companion_does
         self.check('no such token', does(1, 'token', 'nobodyhas1', 'takernew01'),
-                   (0, 'refused: no such terminal\n'))
+                   (1, 'companion: refused: no such terminal\n'))
         self.check('one that is given', does(1, 'token', 'takerat01', 'takerat02'),
-                   (0, 'refused: the token is given\n'))
+                   (1, 'companion: refused: the token is given\n'))
         self.check('no token', does(1, 'token', 'takerat01', 'a b')[0], 1)
         self.check('changed', does(1, 'token', 'takerat01', 'takernew01'), (0, 'changed\n'))
         for serial, it in enumerate(self.machines.machines, 1):

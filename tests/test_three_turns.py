@@ -1,8 +1,11 @@
-"""The turns by which companions of three machines put, and how the connection to a member of etcd
-is read."""
+"""The turns by which companions of three machines put, how the connection to a member of etcd is
+read, and for how long a room that opens is waited for."""
 # needs: python3
 import asyncio
+import itertools
+import os
 import sys
+import time
 import types
 import unittest.mock
 
@@ -10,12 +13,19 @@ from room import TOP, TestCase
 
 sys.path.insert(0, str(TOP / 'examples' / 'three'))
 import channel  # noqa: E402
+import copies  # noqa: E402
 import etcd  # noqa: E402
+import played_room  # noqa: E402
 import turns  # noqa: E402
 
 WHOLE = b'HTTP/1.1 200 OK\r\nContent-Length: 2\r\n\r\n{}'
 CHUNKS = (b'HTTP/1.1 200 OK\r\nTransfer-Encoding: chunked\r\n\r\n'
           b'3\r\n{"a\r\n5\r\n": 1}\r\n0\r\n\r\n')
+OPENS_LATE = """import sys, time
+time.sleep(6)
+print('answer 200 2\\nok\\n', end='', flush=True)
+sys.stdin.read()
+"""
 
 
 class Turns(TestCase):
@@ -108,3 +118,44 @@ class Wires(TestCase):
             server.close()
             return printed
         self.check('what it returns', asyncio.run(ask()), ['etcd: timed out', {}])
+
+
+class Opening(TestCase):
+    def opened(self, worked):
+        """What comes of a program that answers after six seconds, where three are allowed and it
+        has worked so much at each look."""
+        program, taken = self.folder / 'program', []
+        program.write_text(f'#!{sys.executable}\n{OPENS_LATE}')
+        program.chmod(0o700)
+        copy = copies.Copy(self.folder / 'copy.db', 0, '', '', 'x')
+        copy.file.write_bytes(b'')
+
+        async def play():
+            room = played_room.PlayedRoom(str(program), copy, self.folder, taken.extend)
+            try:
+                await room.start()
+                room.send(0, [types.SimpleNamespace(content=b'')], True)
+                while not taken:
+                    room.look()
+                    await asyncio.sleep(0.05)
+            except played_room.Ended as reason:
+                return str(reason)
+            finally:
+                await room.drop()
+            return 'it answered'
+        with (unittest.mock.patch.object(played_room, 'OPENS_WITHIN', 3.0),
+              unittest.mock.patch.object(played_room, 'worked', worked)):
+            return asyncio.run(play())
+
+    def test_as_long_as_it_goes_on(self):
+        count = itertools.count(1)
+        self.check('it works', self.opened(lambda _: next(count)), 'it answered')
+        self.check('it hangs', self.opened(lambda _: 7), 'the room is silent')
+
+    def test_worked(self):
+        """Ticks of the processor are counted."""
+        before, until = played_room.worked(os.getpid()), time.process_time() + 0.1
+        while time.process_time() < until:
+            pass
+        self.check('more', played_room.worked(os.getpid()) > before, True)
+        self.check('none', played_room.worked(0), 0)

@@ -110,6 +110,11 @@ def unless_silent(asks):
     return found
 
 
+def without_moments(answer):
+    """An answer's status and body, whose moments are of another second each time."""
+    return answer[0], re.sub(r'\b\d{10}\b', '-', answer[1])
+
+
 class Undisturbed(ThreeTestCase):
     def test_sent_twice(self):
         """What examples/three/README.md says of what is sent again to another machine."""
@@ -122,6 +127,19 @@ class Undisturbed(ThreeTestCase):
                 self.check(f'{line}, again', again[1:], first[1:])
             else:
                 self.check(f'{line}, again', json.loads(again[2]).get('number'), number)
+
+    def test_history(self):
+        """The paths that pages ask of a room with history are there, as one room answers them."""
+        self.machines.start_all()
+        asked = [call_at(1, 'TQ300800'), message(TAKER, 'GET /last'),
+                 message(DESK, 'GET /incidents/1'), message(DESK, 'GET /incidents/9')]
+        plain = self.folder / 'plain.db'
+        shutil.copy(self.first, plain)
+        with serving(plain, len(asked), '--history') as (port, _):
+            for sent in asked:
+                one, three = exchange(('127.0.0.1', port), sent, PATIENCE), self.answered(1, sent)
+                self.check(f'{sent[:30]}', without_moments(three[1:]), without_moments(one[1:]))
+                self.check('it is a path', '"NoPath"' in three[2], False)
 
     def test_majority(self):
         """With one member of three there is no answer, and all goes on with two."""

@@ -119,6 +119,26 @@ class TurnedBits(JournalTestCase):
             with self.subTest(f'byte {at}, bit {bit}'):
                 self.assertEqual((status, now + aside == found, beside), (6, True, {}))
 
+    def test_truncated(self):
+        """Of a list that was emptied while it was written, what was appended lies beside the new
+        one. One that was truncated otherwise can't be told from a changed one, and is refused."""
+        whole = chain(self.bodies)
+        stood = pieces(whole)
+        for nth in range(1, len(stood)):
+            left = b''.join(stood[nth:])
+            for what, text in {'whole': left, 'cut': left[:-3], 'a line': left[:HEAD]}.items():
+                status, err, now, beside = self.opened(text)
+                with self.subTest(f'{what}, from record {nth}'):
+                    self.assertEqual((status, now.startswith(whole[:len(b'list 2\n' + stood[0])]),
+                                      beside), (0, True, {'room.list.truncated.1': text}))
+                    self.assertIn(f'what is left is set aside as {self.list}.truncated.1\n', err)
+            self.refused(f'less than a line, from record {nth}', left[:HEAD - 1])
+            if nth + 1 < len(stood):
+                lost = b''.join(stood[:nth] + stood[nth + 1:])
+                self.refused(f'without record {nth}', b'list 2\n' + lost)
+                self.refused(f'record {nth} in part', b'list 2\n' + b''.join(stood[:nth])
+                             + stood[nth][:-9] + b''.join(stood[nth + 1:]))
+
     def test_never_written_over(self):
         """What was set aside stays as it is."""
         whole = chain(self.bodies)

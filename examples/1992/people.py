@@ -8,8 +8,7 @@ import random
 DAY = 86_400
 # How many calls come in an hour of the day, beside each other (an assumption).
 HOURS = [6, 5, 4, 4, 3, 3, 4, 6, 8, 10, 11, 11, 11, 11, 11, 11, 11, 11, 12, 12, 11, 10, 9, 8]
-# When the shifts of each ten vehicles of a division begin (an assumption), and how long all are.
-SHIFTS = [7, 7, 7, 7, 7, 11, 11, 19, 19, 19]
+BY_DAY, BY_NIGHT = 7 * 3600, 19 * 3600  # when shifts begin (an assumption), and how long all are
 LASTS = 12 * 3600
 STAGGER = 3600  # seconds over which the beginnings of shifts are spread
 WEST, SOUTH, WIDTH, HEIGHT = 510_000, 160_000, 39_999, 38_999  # of the whole city, in metres
@@ -20,9 +19,10 @@ Place = tuple[int, int]
 
 
 class City:
-    """The city and its three divisions: North West, North East, South."""
+    """The city as one division, or as three: North West, North East, South."""
 
-    def __init__(self, side: int):
+    def __init__(self, side: int, divisions: int):
+        self.divisions = range(1, 4 if divisions > 1 else 2)
         shrunk = lambda at, middle: middle + (at - middle) * side // 100
         self.west, self.east = (shrunk(it, MIDDLE[0]) for it in (WEST, WEST + WIDTH))
         self.south, self.north = (shrunk(it, MIDDLE[1]) for it in (SOUTH, SOUTH + HEIGHT))
@@ -30,12 +30,16 @@ class City:
 
     def areas(self) -> dict[int, tuple[int, int, int, int]]:
         """Of each division west, south, east and north."""
+        if len(self.divisions) == 1:
+            return {1: (self.west, self.south, self.east, self.north)}
         return {1: (self.west, self.split, MIDDLE[0] - 1, self.north),
                 2: (MIDDLE[0], self.split, self.east, self.north),
                 3: (self.west, self.south, self.east, self.split - 1)}
 
     def division_of(self, place: Place) -> int:
         east, north = place
+        if len(self.divisions) == 1:
+            return 1
         return 3 if north < self.split else 1 if east < MIDDLE[0] else 2
 
     def place(self, draws: random.Random) -> Place:
@@ -117,6 +121,20 @@ def emergency(settings, city, hospitals, number, midnight) -> Emergency:
 
 
 # ---- who calls
+
+
+def other_calls(settings, days: int) -> list[int]:
+    """The moments of calls about something else, which take call takers' time alone."""
+    draws = stream(settings, 'other calls')
+    return [day * DAY + draws.choices(range(24), HOURS)[0] * 3600 + draws.randrange(3600)
+            for day in range(days) for _ in range(settings.other_calls)]
+
+
+def stops(settings, days: int) -> list[int]:
+    """The moments at which the system stops, in the hours of most calls."""
+    draws = stream(settings, 'stops')
+    return [day * DAY + draws.randrange(9 * 3600, 21 * 3600)
+            for day in range(days) for _ in range(settings.stops)]
 
 
 @dataclasses.dataclass(frozen=True)
@@ -213,9 +231,11 @@ def crews(settings, city: City) -> dict[str, Crew]:
     found = {}
     for number in range(settings.vehicles):
         draws, callsign = stream(settings, 'vehicle', number), f'A{number + 1:03}'
-        home = city.place_in(number % 3 + 1, draws)
-        begins = SHIFTS[number // 3 % 10] * 3600 + draws.randrange(STAGGER)
+        home = city.place_in(number % len(city.divisions) + 1, draws)
+        # (37 is prime to 100, so that shares are spread over the callsigns)
+        is_by_day = number * 37 % 100 < 100 * settings.by_day
+        begins = (BY_DAY if is_by_day else BY_NIGHT) + draws.randrange(STAGGER)
         found[callsign] = Crew(callsign, city.division_of(home), home, begins,
                                stream(settings, 'habits', callsign),
-                               stream(settings, 'radio', callsign))
+                               stream(settings, 'radio', callsign), place=home)
     return found

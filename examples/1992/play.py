@@ -1,19 +1,18 @@
 #!/usr/bin/env python3
-"""Plays a generated day of 1992 in two systems, the proved room and a model of the system that
-failed, as people and the radio do more and more wrong, and makes a page of it. It wants the built
-program and gnuplot, and asks nothing of the network.
+"""Plays a generated day of 1992 on two sides, the proved room and a model without its promises, and
+makes a page of it: the day as a map, and a table of the promises one at a time, over days that draw
+every assumed number from its range. It wants the built program, and asks nothing of the network.
 
-  play.py FOLDER                                makes FOLDER/index.html, with pictures and numbers
-  play.py FOLDER --set lost=0.02 --set calls=3000     the same with other parameters
-  play.py FOLDER --rates 1 --days 10 --set calls=25000 --set vehicles=3000
+  play.py FOLDER                                      makes FOLDER/index.html and FOLDER/1992.svg
+  play.py FOLDER --rate 1 --set slow=0                the assumed errors, and nothing slows
+  play.py FOLDER --seeds 3 --rates 1,4 --set calls=3000
 
 Beside the page stand the day's list (day.list) and the room before it (before.db): a copy of that
-room and `dispatch_room replay COPY <day.list` play the day once more."""
+room and `dispatch_room replay COPY <day.list` play the day once more, over each stop."""
 import argparse
 import concurrent.futures
 import csv
 import functools
-import os
 import pathlib
 import shutil
 import sys
@@ -21,15 +20,16 @@ import tempfile
 
 import page
 import parameters
-import pictures
+import promises
 import summary
-from model_1992 import Model1992
+import table
+from model import Model
 from proved_room import NoRoom, ProvedRoom
+from story import Story
 from world import World
 
 HERE = pathlib.Path(__file__).resolve().parent
 BUILT = HERE.parent.parent / 'crates' / 'dispatch_room' / 'out' / 'dispatch_room'
-RATES = 0, 0.5, 1, 2, 3
 KEPT = 'day.list', 'before.db', 'plan.csv', 'fleet.csv'
 # The room of a day lies in memory where there is such a folder: else each change waits for a disk.
 MEMORY = pathlib.Path('/dev/shm')
@@ -52,105 +52,77 @@ def words():
     parser.add_argument('folder', metavar='FOLDER', type=pathlib.Path, help='where the page goes')
     parser.add_argument('--set', metavar='NAME=VALUE', type=parameters.setting, action='append',
                         default=[], help='another value of a parameter; the page names them all')
-    parser.add_argument('--rates', type=rates, default=RATES, metavar='RATE,..',
-                        help='how many times the errors of the table (0,0.5,1,2,3)')
-    parser.add_argument('--days', type=int, default=1, help='how many days (%(default)s)')
+    parser.add_argument('--rate', type=float, default=2, help='how many times the assumed errors '
+                        '(%(default)s)')
+    parser.add_argument('--rates', type=rates, default=table.RATES, metavar='RATE,..',
+                        help='the same, for the picture of where a side fails')
+    parser.add_argument('--seeds', type=int, default=20, help='days of the table (%(default)s)')
     parser.add_argument('--program', default=str(BUILT if BUILT.exists() else 'dispatch_room'),
                         help='the program (the one built in this tree, or on the PATH)')
     return parser.parse_args()
 
 
-def look_for_programs(program: str) -> None:
-    """Looks before the days are played whether all is there that they want."""
-    if not shutil.which(program):
-        raise NoRoom(f'{program}: there is no such program; ./dispatch_room builds it')
-    pictures.look_for_gnuplot()
-
-
 # ---- runs
 
 
-def played_in_room(settings, days: int, program: str, folder: pathlib.Path) -> World:
-    """A world that was played in the room, with what the room cost."""
-    world = World(settings, days, functools.partial(ProvedRoom, program=program, folder=folder))
+def played(settings, room) -> World:
+    """The day of the map, on a side."""
+    world = World(settings, 1, room)
+    world.story = Story(world)
     world.play()
-    world.cost = world.system.room.end()
     return world
 
 
-def run_room(values, rate: float, days: int, program: str, keep: pathlib.Path | None) -> dict:
-    """What comes of days in the room at a rate; its files are kept in a folder if one is given."""
+def played_in_room(settings, program: str, keep: pathlib.Path) -> World:
+    """The same in the program. The files of its day are kept in a folder."""
     with tempfile.TemporaryDirectory(dir=MEMORY if MEMORY.is_dir() else None) as name:
         folder = pathlib.Path(name)
-        settings = parameters.at_rate(values, rate)
-        world = played_in_room(settings, days, program, folder)
-        for file in KEPT if keep else ():
+        world = played(settings, functools.partial(ProvedRoom, program=program, folder=folder))
+        world.cost = world.desks.room.room.end()
+        for file in KEPT:
             shutil.copy(folder / file, keep / file)
-    return summary.of_room(world) | {'cost': world.cost}
+    return world
 
 
-def run_model(values, rate: float, days: int) -> dict:
-    world = World(parameters.at_rate(values, rate), days, Model1992)
-    world.play()
-    return summary.of_model(world)
-
-
-def run_all(given, values) -> dict[tuple[str, float], dict]:
-    """What comes of every run, by system and rate; as many at once as there are processors."""
-    shown = shown_rate(given.rates)
-    with concurrent.futures.ProcessPoolExecutor(len(os.sched_getaffinity(0))) as pool:
-        runs = {('room', rate): pool.submit(run_room, values, rate, given.days, given.program,
-                                            given.folder if rate == shown else None)
-                for rate in given.rates}
-        runs |= {('1992', rate): pool.submit(run_model, values, rate, given.days)
-                 for rate in given.rates}
-        return {key: it.result() for key, it in runs.items()}
-
-
-def shown_rate(found) -> float:
-    """The rate of the day that is shown: the assumed one where it is among them."""
-    return 1 if 1 in found else found[-1]
-
-
-# ---- what is written
-
-
-def write_table(path: pathlib.Path, rows: list[dict]) -> None:
+def write_table(path: pathlib.Path, found: list[dict]) -> None:
     with path.open('w', newline='') as file:
-        table = csv.DictWriter(file, list(rows[0]), lineterminator='\n')
-        table.writeheader()
-        table.writerows(rows)
+        writer = csv.DictWriter(file, list(found[0]), lineterminator='\n')
+        writer.writeheader()
+        writer.writerows(found)
 
 
-def write_numbers(folder: pathlib.Path, found, shown: float) -> None:
-    for system in ('room', '1992'):
-        write_table(folder / f'day-{system}.csv', found[system, shown]['samples'])
-        write_table(folder / f'hours-{system}.csv', found[system, shown]['hours'])
-        rows = [{'rate': f'{rate:g}'} | it['figures'] for (name, rate), it in found.items()
-                if name == system]
-        write_table(folder / f'rates-{system}.csv', rows)
+def write_days(folder: pathlib.Path, found: table.Table) -> None:
+    """Every day that was played, a row each."""
+    names = [it.name for it in promises.ALL]
+    write_table(folder / 'days.csv', [
+        {'kept': ' '.join(it for it in names if it in day.kept), 'rate': day.rate,
+         'seed': day.seed, 'slows': 'no' if ('slow', 0) in day.given else 'yes'} | figures
+        for day, figures in found.found.items()])
 
 
 def main() -> int:
     given = words()
     values = parameters.values(given.set)
+    settings = parameters.at_rate(values, given.rate)
     try:
-        look_for_programs(given.program)
+        if not shutil.which(given.program):
+            raise NoRoom(f'{given.program}: there is no such program; ./dispatch_room builds it')
         given.folder.mkdir(parents=True, exist_ok=True)
-        found = run_all(given, values)
-        shown = shown_rate(given.rates)
-        write_numbers(given.folder, found, shown)
-        pictures.draw(given.folder)
-        page.write(given.folder, found, shown, values)
-    except (NoRoom, pictures.NoPicture, page.NoSentence, OSError) as fault:
+        with concurrent.futures.ThreadPoolExecutor(1) as beside:
+            room = beside.submit(played_in_room, settings, given.program, given.folder)
+            found = table.Table(given.seeds, given.rate, given.set, given.rates)
+            sides = {'room': room.result(),
+                     '1992': played(settings, lambda it: Model(it, frozenset()))}
+        page.write(given.folder, found, sides, values)
+        write_days(given.folder, found)
+        write_table(given.folder / 'day.csv', [
+            {'side': name} | summary.figures(it) for name, it in sides.items()])
+    except (NoRoom, page.NoClause, OSError) as fault:
         print(f'play.py: {fault}', file=sys.stderr)
         return 1
-    for (system, rate), it in found.items():
-        if system == 'room':
-            seconds, memory = it['cost']
-            print(f'rate {rate:g}: {it["figures"]["messages"]} messages, '
-                  f'{seconds:.1f} processor seconds of the room, {memory // 1024} MiB')
-    print(given.folder / 'index.html')
+    seconds, memory = sides['room'].cost
+    print(f'{sides["room"].desks.room.room.messages} messages, {seconds:.1f} processor seconds of '
+          f'the room, {memory // 1024} MiB\n{given.folder / "index.html"}')
     return 0
 
 

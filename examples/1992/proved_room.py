@@ -1,5 +1,5 @@
-"""The proved room as a system: the program plays a list that is written as the day goes, each
-message at its moment, and answers at once, so desks and crews act on what the room answers."""
+"""The proved room: the program plays a list that is written as the day goes, each message at its
+moment, and answers at once, so desks and crews act on what it answers."""
 import json
 import os
 import pathlib
@@ -8,9 +8,9 @@ import subprocess
 import sys
 
 import people
-from desks import DIVISIONS, System
 from exchanges import Exchange, Watch
-from people import Call, Crew, Order, Report
+from people import Call, Crew, Order, Place, Report
+from rooms import ON_JOB, Incident, Line, Room
 
 HERE = pathlib.Path(__file__).resolve().parent
 sys.path.append(str(HERE.parent / 'three'))
@@ -18,8 +18,6 @@ sys.path.append(str(HERE.parent / 'three'))
 import digest  # noqa: E402
 
 MIDNIGHT = 720_057_600  # of 26 October 1992
-ON_JOB, FREE = (2, 3, 4, 5), (1, 6)
-STATUS = {'mobile': 2, 'scene': 3, 'leave': 4, 'hospital': 5}
 
 
 class NoRoom(Exception):
@@ -73,10 +71,19 @@ class PlayedRoom:
         self.command('import', self.room, folder / 'fleet.csv')
         shutil.copy(self.room, folder / 'before.db')
         self.list = (folder / 'day.list').open('wb')
-        pipe = subprocess.PIPE
-        self.process = subprocess.Popen([program, 'replay', self.room, '--answers'], stdin=pipe,
-                                        stdout=pipe, stderr=pipe)
-        self.put(digest.head_of(folder / 'before.db').encode())
+        self.start()
+
+    def start(self) -> None:
+        """Starts the program over the room as it stands in the file."""
+        head, pipe = digest.head_of(self.room).encode(), subprocess.PIPE
+        self.process = subprocess.Popen([self.program, 'replay', self.room, '--answers'],
+                                        stdin=pipe, stdout=pipe, stderr=pipe)
+        self.put(head)
+
+    def kill(self) -> None:
+        """Kills it, without a word before."""
+        self.process.kill()
+        self.process.communicate()
 
     def command(self, *words) -> None:
         try:
@@ -131,13 +138,12 @@ class PlayedRoom:
         return used.ru_utime + used.ru_stime, used.ru_maxrss
 
 
-class ProvedRoom(System):
-    """What desks, call takers and crews do with the room."""
+class ProvedRoom(Room):
+    """What is asked of it, as messages."""
 
     def __init__(self, world, program: str, folder: pathlib.Path):
-        super().__init__(world)
+        self.world = world
         self.room = PlayedRoom(program, folder, world.city, world.crews)
-        self.rung = set()  # vehicles that acknowledged nothing, and of which order a desk spoke
 
     def ask(self, token: str, line: str, body: dict | None = None) -> Exchange:
         return self.room.ask(self.world.now, token, line, body)
@@ -145,123 +151,76 @@ class ProvedRoom(System):
     def desk_asks(self, crew: Crew, verb: str, body: dict | None = None) -> Exchange:
         return self.ask(desk(crew.division), f'POST /vehicles/{crew.callsign}/{verb}', body)
 
-    # ---- what reaches it
+    # ---- callers and crews
 
-    def call(self, call: Call) -> tuple:
+    def call(self, call: Call) -> tuple[int, int]:
         body = {'class': call.grade, 'needs': [call.needs, 0, 0], 'note': '',
                 'place': reference(call.place), 'serial': call.serial}
         answer = self.ask(taker(call.position), 'POST /call', body).content
         return answer['division'], answer['incident']
 
-    def report(self, crew: Crew, report: Report) -> None:
-        self.ask(crew_of(crew.callsign), 'POST /report', {
+    def report(self, crew: Crew, report: Report) -> int:
+        return self.ask(crew_of(crew.callsign), 'POST /report', {
             'button': report.button, 'number': report.number, 'order': report.order,
-            'place': reference(report.place)})
-
-    def sign_on(self, crew: Crew) -> None:
-        self.desk_asks(crew, 'duty', {'place': reference(crew.where(self.world.now)),
-                                      'until': MIDNIGHT + crew.until})
-
-    def sign_off(self, crew: Crew) -> None:
-        """Its crew presses Home before the eyes of its desk, which then ends the shift."""
-        if not crew.is_unlisted:
-            crew.reports += 1
-            self.report(crew, Report(crew.reports, 'home', crew.heard, crew.place))
-            self.desk_asks(crew, 'off')
+            'place': reference(report.place)}).content['status']
 
     def terminal(self, crew: Crew) -> tuple[Order | None, int]:
-        """What a crew's terminal shows: its order, and its status."""
         shown = self.ask(crew_of(crew.callsign), 'GET /order').content
         order = shown['order']
         return order and Order(order['order'], (order['division'], order['incident']),
                                tuple(order['place'])), shown['status']
 
-    def shown(self, crew: Crew, order: Order) -> Order | None:
-        return self.terminal(crew)[0]
+    # ---- shifts and orders
 
-    # ---- what its desks do
+    def on_duty(self, crew: Crew, place: Place) -> None:
+        self.desk_asks(crew, 'duty', {'place': reference(place), 'until': MIDNIGHT + crew.until})
 
-    def send_next(self, division: int) -> int | None:
-        incidents = self.ask(desk(division), 'GET /incidents').content['incidents']
-        lacking = [it for it in incidents if it['lack'][0]]
-        if not lacking:
-            return None
-        first = min(lacking, key=lambda it: (it['class'], it['opened'], it['number']))
-        path = f'/incidents/{first["number"]}'
-        proposals = self.ask(desk(division), f'GET {path}/propose').content['proposals']
-        if not proposals:
-            return None
-        name = proposals[0]['vehicle']
-        answer = self.ask(desk(division), f'POST {path}/mobilise', {'vehicle': name}).content
-        order = Order(answer['order'], (division, first['number']), tuple(first['place']))
-        self.world.ordered(self.world.crews[name], order)
-        return self.settings.send
+    def off_duty(self, crew: Crew) -> None:
+        self.desk_asks(crew, 'off')
 
-    def see_to_exception(self, division: int) -> int | None:
-        for it in self.queue(division):
-            crew = self.world.crews.get(it['vehicle'])
-            if it['rank'] == 4:
-                self.ask(desk(division), f'POST /queue/{crew.callsign}/{it["number"]}/clear')
-                self.mend(crew)
-                return self.settings.clear
-            if it['rank'] == 2 and (crew.callsign, it['since']) not in self.rung:
-                self.rung.add((crew.callsign, it['since']))
-                self.mend(crew)
-                return self.settings.clear
-        return None
+    def stand_down(self, crew: Crew) -> None:
+        self.desk_asks(crew, 'standdown')
 
-    def queue(self, division: int) -> list[dict]:
-        return self.ask(desk(division), 'GET /queue').content['queue']
+    def lacking(self, division: int) -> list[Incident]:
+        rows = self.ask(desk(division), 'GET /incidents').content['incidents']
+        return [Incident((division, it['number']), tuple(it['place']), it['class'],
+                         it['opened'] - MIDNIGHT) for it in rows if it['lack'][0]]
 
-    # ---- a desk that speaks to a crew puts right what stands in the room, as far as it can
+    def proposed(self, incident: Incident) -> str | None:
+        division, number = incident.key
+        line = f'GET /incidents/{number}/propose'
+        found = self.ask(desk(division), line).content.get('proposals')
+        return found[0]['vehicle'] if found else None
 
-    def speak(self, crew: Crew, order: Order | None) -> None:
-        if order is None and crew.stage == 'free' and crew.is_unlisted:
-            crew.is_unlisted = False
-            self.sign_on(crew)
-        elif order and not crew.is_unlisted:
-            self.mend(crew)
+    def mobilise(self, incident: Incident, vehicle: str) -> int | None:
+        division, number = incident.key
+        line = f'POST /incidents/{number}/mobilise'
+        return self.ask(desk(division), line, {'vehicle': vehicle}).content.get('order')
 
-    def mend(self, crew: Crew) -> None:
-        """A crew reads its terminal to its desk, and presses what is missing. One that is busy and
-        can't show it so is off duty in the room until it is free."""
-        order, status = self.terminal(crew)
-        if crew.stage == 'off' or crew.is_unlisted:
-            return
-        if crew.is_busy:
-            self.mend_busy(crew, order, status)
-        elif status == 2 and order.number > crew.heard:
-            self.world.hear(crew, order)
-        elif status in ON_JOB:
-            self.world.send(crew, 'home')
-
-    def mend_busy(self, crew: Crew, order: Order | None, status: int) -> None:
-        is_other = status == 2 and order.number != crew.heard
-        if is_other:
-            self.desk_asks(crew, 'standdown')
-        if status in FREE or is_other:
-            self.desk_asks(crew, 'off')
-            crew.is_unlisted = True
-        elif STATUS[crew.stage] > status or crew.stage == 'mobile':
-            self.world.send(crew, crew.stage)
-
-    # ---- what is known of it
-
-    def known(self) -> dict[str, tuple]:
-        """What stands on the desks' screens. They close what is done as they look at it."""
-        found = {}
-        for division in DIVISIONS:
-            vehicles = self.ask(desk(division), 'GET /vehicles').content['vehicles']
-            self.close_done(division, {it['incident'] for it in vehicles})
-            found |= {it['vehicle']: (it['status'] in ON_JOB, tuple(it['place']))
-                      for it in vehicles if it['status']}
-        return found
-
-    def close_done(self, division: int, worked_on: set) -> None:
+    def close_done(self, division: int) -> None:
+        rows = self.ask(desk(division), 'GET /vehicles').content['vehicles']
+        worked_on = {it['incident'] for it in rows}
         for it in self.ask(desk(division), 'GET /incidents').content['incidents']:
             if not any(it['lack']) and it['number'] not in worked_on:
                 self.ask(desk(division), f'POST /incidents/{it["number"]}/close')
 
-    def seen(self) -> dict[str, int]:
-        unseen = sum(it['rank'] == 4 for division in DIVISIONS for it in self.queue(division))
-        return {'unseen': unseen, 'gone': 0}
+    # ---- what desks see
+
+    def lines(self, division: int) -> list[tuple[Line, bool]]:
+        rows = self.ask(desk(division), 'GET /queue').content['queue']
+        return [(Line(it['rank'], it['since'] - MIDNIGHT, it['number'], it['vehicle']), True)
+                for it in rows]
+
+    def clear(self, division: int, line: Line) -> None:
+        self.ask(desk(division), f'POST /queue/{line.vehicle}/{line.number}/clear')
+
+    def vehicles(self, division: int) -> dict[str, tuple[bool, Place]]:
+        rows = self.ask(desk(division), 'GET /vehicles').content['vehicles']
+        return {it['vehicle']: (it['status'] in ON_JOB, tuple(it['place']))
+                for it in rows if it['status']}
+
+    # ---- a stop
+
+    def stop(self) -> None:
+        self.room.kill()
+        self.room.start()

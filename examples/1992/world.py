@@ -1,15 +1,16 @@
 """The day as it truly goes: callers call, crews drive and press buttons, and the radio loses some
-of it. What is done with all that is the business of a system, which is given: the proved room, or
-the model of 1992. A life is a generator that gives the seconds until it goes on."""
+of it. What is done with all that is the business of desks and of the room that they ask, which is
+given. A life is a generator that gives the seconds until it goes on."""
 import collections
 import dataclasses
 import heapq
 import itertools
 
 import people
+from desks import Desks
 from people import DAY, Call, Crew, Emergency, Order, Report, distance
 
-SAMPLE = 300  # seconds between two looks at how things are
+SAMPLE = 600  # seconds between two looks at how things are
 TAIL = 3600  # seconds after the last day's end, in which what was begun may end
 IN_TIME = 180  # seconds within which a first vehicle is to be sent
 WITHIN = 840  # seconds within which it is to be there
@@ -17,9 +18,10 @@ WITHIN = 840  # seconds within which it is to be there
 
 @dataclasses.dataclass
 class Counts:
-    """What is counted of a day, beside what a system counts of itself."""
+    """What is counted of a day."""
     calls: int = 0  # those of people, each once
     calls_again: int = 0  # of them those of callers whom nobody had reached
+    answered_late: int = 0  # those that waited for a call taker for a minute
     typed_again: int = 0
     typed_made: int = 0  # of these, those that made an incident of their own
     presses: int = 0
@@ -33,18 +35,19 @@ class Counts:
 
 
 class World:
-    def __init__(self, settings, days: int, system):
+    def __init__(self, settings, days: int, room):
         self.settings, self.days, self.end = settings, days, days * DAY
-        self.city = people.City(settings.side)
+        self.city = people.City(settings.side, settings.divisions)
         self.emergencies = people.emergencies(settings, self.city, days)
         self.crews = people.crews(settings, self.city)
         self.now, self.coming, self.turns = 0, [], itertools.count()
         self.serials, self.counts = itertools.count(), Counts()
         self.about = collections.defaultdict(list)  # emergencies by the key of their incident
+        self.takers = [0] * max(1, settings.takers)  # when each is free again
         self.arrived = set()  # reports that have reached the system
         self.live = {}  # emergencies that want a crew, or to which one is on its way
         self.samples = []
-        self.system = system(self)
+        self.desks = Desks(self, room(self))
 
     def play(self) -> None:
         for crew in self.crews.values():
@@ -53,7 +56,11 @@ class World:
         for it in self.emergencies:
             for nth, (after, place) in enumerate(it.callers):
                 self.start(self.caller(it, nth, place), it.at + after)
-        for life in self.system.lives():
+        for at in people.other_calls(self.settings, self.days):
+            self.start(self.other_caller(), at)
+        for at in people.stops(self.settings, self.days):
+            self.start(self.stopping(), max(0, at - self.settings.unsaved))
+        for life in self.desks.lives():
             self.start(life)
         self.start(self.sampler())
         while self.coming and self.coming[0][0] < self.end + TAIL:
@@ -65,7 +72,25 @@ class World:
     def start(self, life, after: int = 0) -> None:
         heapq.heappush(self.coming, (self.now + after, next(self.turns), life))
 
+    def stopping(self):
+        """The system stops, and what it hadn't saved by now is gone."""
+        self.desks.room.save()
+        yield self.settings.unsaved
+        self.desks.room.stop()
+
     # ---- callers
+
+    def taken(self) -> int:
+        """The seconds until a call that comes now is answered and taken."""
+        begins = max(self.now, heapq.heappop(self.takers))
+        ends = begins + self.desks.slowed(self.settings.taking)
+        heapq.heappush(self.takers, ends)
+        self.counts.answered_late += begins - self.now >= 60
+        return ends - self.now
+
+    def other_caller(self):
+        self.taken()
+        yield from ()
 
     def caller(self, it: Emergency, nth: int, place):
         """Calls, and the first one again as long as nobody has come."""
@@ -77,6 +102,7 @@ class World:
                 return
             self.counts.calls += 1
             self.counts.calls_again += times > 0
+            yield self.taken()
             self.take_call(it, place, draws.random() < self.settings.typed_twice)
             yield draws.randint(*again)
 
@@ -92,8 +118,8 @@ class World:
         yield from ()
 
     def enter(self, call: Call, it: Emergency) -> bool:
-        """Has a system take a call; gives whether that made an incident."""
-        found = self.about[self.system.call(call)]
+        """Has the room take a call; gives whether that made an incident."""
+        found = self.about[self.desks.call(call)]
         is_new = not found
         if it not in found:
             self.counts.joined += bool(found)
@@ -105,27 +131,27 @@ class World:
     # ---- orders
 
     def ordered(self, crew: Crew, order: Order) -> None:
-        """A system has sent a vehicle: the radio brings the order to it."""
+        """A desk has sent a vehicle: the radio brings the order to it."""
         self.counts.orders += 1
         for it in self.about[order.incident]:
             it.ordered = self.now if it.ordered is None else it.ordered
-        self.start(self.bringing(crew, order), 2)
+        self.start(self.bringing(crew), 2)
 
-    def bringing(self, crew: Crew, order: Order):
+    def bringing(self, crew: Crew):
         for _ in range(self.settings.tries):
             if crew.radio.random() >= self.settings.lost:
-                self.hear(crew, order)
+                self.hear(crew)
                 return
             yield self.settings.resend
 
-    def hear(self, crew: Crew, order: Order) -> None:
+    def hear(self, crew: Crew) -> None:
         """A crew hears what its terminal shows: it sets out, or says that it can't."""
-        order = self.system.shown(crew, order)
+        order = self.desks.shown(crew)
         if order is None or crew.stage == 'off' or order.number <= crew.heard:
             return
         if crew.is_busy:
             self.counts.orders_to_busy += 1
-            self.system.ring(crew, order)
+            self.desks.ring(crew, order)
             return
         crew.order, crew.heard, crew.stage = order, order.number, 'mobile'
         crew.job += 1
@@ -148,7 +174,7 @@ class World:
         yield from self.help(crew, it)
         crew.order, crew.stage = None, 'free'
         if crew.is_unlisted:
-            self.system.ring(crew, None)
+            self.desks.ring(crew, None)
         else:
             self.press(crew, 'return')
         yield from self.go_home(crew, crew.job)
@@ -200,14 +226,14 @@ class World:
         yield max(begins, 0)
         crew.stage, crew.place, crew.until, crew.is_unlisted = 'free', crew.home, ends, False
         crew.job += 1
-        self.system.sign_on(crew)
+        self.desks.sign_on(crew)
         self.start(self.go_home(crew, crew.job), self.settings.wonder)
         yield ends - self.now
         while crew.stage != 'free':
             yield 60
         crew.stage, crew.place, crew.way = 'off', crew.home, None
         crew.job += 1
-        self.system.sign_off(crew)
+        self.desks.sign_off(crew)
 
     # ---- buttons
 
@@ -250,7 +276,7 @@ class World:
         self.counts.reports += 1
         self.counts.repeated += (crew.callsign, report.number) in self.arrived
         self.arrived.add((crew.callsign, report.number))
-        self.system.report(crew, report)
+        self.desks.report(crew, report)
 
     # ---- how things are
 
@@ -260,16 +286,17 @@ class World:
             yield SAMPLE
 
     def now_seen(self) -> dict[str, int]:
-        known = self.system.known()
+        known = self.desks.known()
         on_duty = [it for it in self.crews.values() if it.stage != 'off' and it.callsign in known]
         self.live = {key: it for key, it in self.live.items() if it.coming or it.wanting}
+        waiting = [it for it in self.live.values() if it.coming < it.wanting]
+        sought = {it.number for key in self.desks.lacking() for it in self.about[key]}
         return {
             'moment': self.now,
-            'waiting': sum(it.coming < it.wanting for it in self.live.values()),
-            'doubled': sum(it.coming > it.wanting for it in self.live.values()),
-            'free': sum(not it.is_busy for it in on_duty),
+            'waiting': len(waiting),
+            'forgotten': sum(it.incidents > 0 and it.number not in sought for it in waiting),
             'mistaken': sum(known[it.callsign][0] != it.is_busy for it in on_duty),
             'elsewhere': sum(distance(known[it.callsign][1], it.where(self.now)) > 3000
                              for it in on_duty),
-            'taken_twice': self.counts.taken_twice,
-        } | self.system.seen()
+            'lines': self.desks.waiting,
+        }

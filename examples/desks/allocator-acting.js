@@ -9,6 +9,7 @@ export const refusalWords = (answer) =>
 
 export class Acting {
   #undone = []; // what can be taken back, the last at the end
+  #unsure = ''; // the last request that got no answer
 
   constructor(reading, drawer) {
     Object.assign(this, { reading, drawer });
@@ -49,17 +50,22 @@ export class Acting {
       button: form.isEmpty ? '' : action.button });
   }
 
-  /** Asks the room for it; gives words where it was not done. */
+  /** Asks the room for it; gives words where it was not done. What is refused may have been done by
+      the same request before, whose answer was lost. */
   async #do(action, panel, target, values) {
     const room = this.reading.room();
     const request = action.request(target, values, room);
     if (request.words) return request.words;
     const undo = action.undo?.(target, values, room);
     const answer = await this.reading.act(request.path, request.body);
-    if (!answer.ok) return refusalWords(answer);
+    const asked = JSON.stringify(request);
+    const wasUnsure = this.#unsure === asked;
+    this.#unsure = answer.isUnanswered ? asked : '';
+    const already = !answer.ok && wasUnsure ? await action.already?.(target, values) : '';
+    if (!answer.ok && !already) return refusalWords(answer);
     this.#undone.push({ panel, undo });
     const back = undo ? ` u takes it back: ${undo.words}.` : '';
-    panel.say(action.done(target, values, answer.content) + back);
+    panel.say((already || action.done(target, values, answer.content)) + back);
     return '';
   }
 

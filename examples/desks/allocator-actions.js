@@ -8,6 +8,7 @@
 // title        what stands over the form, and `button` on its button
 // request      what is asked of the room, or { words } of what is wrong in the form
 // done, undo   the words of what was done, and what takes it back
+// already      the words where it was done by the same request before, whose answer was lost
 // isRepeated   whether the form opens again after it was done
 
 import { INCIDENTS } from './allocator-incidents.js';

@@ -1,20 +1,25 @@
-// The alarm: an incident of class 1 to which nobody is sent sounds and shows until somebody looks.
+// The alarm: incidents of class 1 to which nobody is sent sound and show, in one line however many
+// they are. One that somebody looks at is silent for two minutes, and then calls again.
 
 import { element, fill, setText } from './nodes.js';
-import { clock, isUnserved, reference } from './allocator-words.js';
+import { isUnserved, since, urgentFirst } from './allocator-words.js';
 
 const URGENT = 1; // the class that sounds
 const EVERY = 1200; // milliseconds from a tone to the next
 const TONES = [[880, 0], [660, 0.25]]; // hertz, and seconds after the beginning
 const LENGTH = 0.2; // seconds of a tone
+const LOOKED = 120; // seconds for which an incident is silent that somebody looked at
 
 export class Alarm {
-  #looked = new Set(); // numbers of incidents that somebody looked at while nobody was sent
+  #silentUntil = new Map(); // of an incident that somebody looked at, by the room's clock
   #calling = [];
   #sound = new AudioContext();
 
   constructor(node, look) {
-    this.words = element('span', { class: 'words' });
+    this.count = element('span');
+    this.oldest = element('span');
+    this.words = element('span', { class: 'words' }, this.count,
+      element('span', { class: 'more' }, ', nobody sent'), this.oldest);
     this.silence = element('span', { class: 'silence' });
     const button = element('button', { type: 'button', onclick: look }, 'Look ',
       element('kbd', {}, 'v'));
@@ -24,35 +29,35 @@ export class Alarm {
     setInterval(() => this.#beat(), EVERY);
   }
 
-  /** The first incident that calls; null where none does. */
+  /** The oldest incident that calls; null where none does. */
   get first() {
     return this.#calling[0]?.number ?? null;
   }
 
-  note({ incidents }) {
+  note({ incidents, moment }) {
     const alone = incidents.filter((it) => it.class === URGENT && isUnserved(it));
-    const numbers = new Set(alone.map((it) => it.number));
-    this.#looked = new Set([...this.#looked].filter((it) => numbers.has(it)));
-    this.#calling = alone.filter((it) => !this.#looked.has(it.number));
-    this.#show();
+    const isSilent = (it) => this.#silentUntil.get(it.number) > moment;
+    this.#silentUntil = new Map(alone.filter(isSilent).map((it) =>
+      [it.number, this.#silentUntil.get(it.number)]));
+    this.#calling = alone.filter((it) => !isSilent(it)).sort(urgentFirst);
+    this.#show(moment);
   }
 
   /** Somebody looked at an incident. */
-  looked(number) {
-    this.#looked.add(number);
+  looked(number, moment) {
+    this.#silentUntil.set(number, moment + LOOKED);
     this.#calling = this.#calling.filter((it) => it.number !== number);
-    this.#show();
+    this.#show(moment);
   }
 
-  #show() {
-    const isCalling = this.#calling.length > 0;
-    const names = this.#calling.map((it) =>
-      `incident ${it.number} at ${reference(it.place)} since ${clock(it.opened)}`);
-    setText(this.words, isCalling ? `Class 1, nobody sent: ${names.join('; ')}` : '');
-    if (this.node.hidden === isCalling) this.node.hidden = !isCalling;
-    document.title = `${isCalling ? '(!) ' : ''}Allocator`;
-    setText(this.silence, this.#sound.state === 'running' ? ''
-      : 'It is silent: this browser lets a page sound after a key or a click.');
+  #show(moment) {
+    const [oldest] = this.#calling;
+    setText(this.count, oldest ? `${this.#calling.length} of class 1` : '');
+    setText(this.oldest, oldest ? `: oldest ${oldest.number}, ${since(oldest.opened, moment)}`
+      : '');
+    if (this.node.hidden === Boolean(oldest)) this.node.hidden = !oldest;
+    document.title = `${oldest ? '(!) ' : ''}Allocator`;
+    setText(this.silence, this.#sound.state === 'running' ? '' : 'Silent until a key or a click.');
   }
 
   /** Two tones, where the browser lets the page sound. */

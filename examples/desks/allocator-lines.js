@@ -1,7 +1,7 @@
 // The lines of the lists: the queue, incidents, vehicles, points, and offers and loans.
 
 import { KINDS, STATUSES, classWords, clock, farFrom, isEligible, isUnserved, line, since, sum,
-  vehicles } from './allocator-words.js';
+  urgentFirst, vehicles } from './allocator-words.js';
 import { entryWords } from '../wall/words.js';
 
 const KIND_WORDS = KINDS.map((it) => it.split(' ')[0]);
@@ -28,7 +28,7 @@ function queueLine(room, entry) {
 
 export const queueLines = (room) => room.queue.map((it) => queueLine(room, it));
 
-// ---- incidents, with what they lack
+// ---- incidents, with what they lack; those that lack nothing come last
 
 const sentWords = (room, number) =>
   room.sentTo(number).map((it) => `${it.vehicle} ${STATUSES[it.status]}`).join(', ');
@@ -40,9 +40,13 @@ export function incidentWhy(room, it) {
     .filter(Boolean).join('; ');
 }
 
+const lackingFirst = (one, other) => Boolean(sum(other.lack)) - Boolean(sum(one.lack))
+  || urgentFirst(one, other);
+
 export function incidentLines(room) {
-  return room.incidents.map((it) => line(`${it.number}`, { age: since(it.opened, room.moment),
-    sign: classWords(it), what: `Incident ${it.number}`, why: incidentWhy(room, it),
+  return [...room.incidents].sort(lackingFirst).map((it) => line(`${it.number}`, {
+    age: since(it.opened, room.moment), sign: classWords(it), what: `Incident ${it.number}`,
+    why: incidentWhy(room, it),
     place: it.place, level: sum(it.lack) ? 'urgent' : '', target: { incident: it.number } }));
 }
 

@@ -110,6 +110,7 @@ export class Panel {
     setText(this.page, pages > 1 ? `page ${first / rows + 1} of ${pages}` : '');
     for (const it of this.turns) it.hidden = pages < 2;
     setText(this.none, this.lines.length ? '' : 'nothing');
+    this.node.classList.toggle('empty', !this.lines.length);
   }
 
   drawRows(lines, first) {

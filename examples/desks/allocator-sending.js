@@ -26,6 +26,15 @@ function nearestLacking(room, it) {
 const mobilise = (incident, vehicle) => incidentAsk({ incident }, 'mobilise', { vehicle });
 const sentWords = (incident, vehicle, order) =>
   `${vehicle} is sent to incident ${incident}: order ${order}.`;
+
+/** Says where a vehicle was sent already, by a request whose answer was lost. */
+async function alreadySent(incident, vehicle) {
+  const answer = await askInTurn('/vehicles');
+  const isSent = answer.ok && answer.content.vehicles.some((it) =>
+    it.vehicle === vehicle && it.incident === incident);
+  return isSent ? `${vehicle} was sent to incident ${incident} already.` : '';
+}
+
 const takenBack = (vehicle) =>
   ({ words: `stand ${vehicle} down`, requests: [vehicleAsk({ vehicle }, 'standdown')] });
 
@@ -35,6 +44,7 @@ export const SENDING = [
     form: proposals,
     request: (it, { vehicle }) => mobilise(it.incident, vehicle),
     done: (it, { vehicle }, { order }) => sentWords(it.incident, vehicle, order),
+    already: (it, { vehicle }) => alreadySent(it.incident, vehicle),
     undo: (it, { vehicle }) => takenBack(vehicle) },
   { key: 'g', name: 'send it to an incident', of: 'vehicle', button: 'Send', fits: isFree,
     title: (it) => `Send ${it.vehicle}`,
@@ -42,6 +52,7 @@ export const SENDING = [
       'the nearest that lacks its kind')] }),
     request: (it, { into }) => mobilise(Number(into), it.vehicle),
     done: (it, { into }, { order }) => sentWords(Number(into), it.vehicle, order),
+    already: (it, { into }) => alreadySent(Number(into), it.vehicle),
     undo: (it) => takenBack(it.vehicle) },
   { key: 's', name: 'stand down', of: 'vehicle', button: 'Stand down',
     fits: (room, it) => vehicleAt(room, it)?.status === 2,

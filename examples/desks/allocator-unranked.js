@@ -2,7 +2,7 @@
 // through every state: which the queue shows, which stands here, and which stands in a list only.
 
 import { KINDS, STATUSES, classWords, clock, isEligible, isUnserved, line, servedOf, since, sum,
-  vehicles } from './allocator-words.js';
+  urgentFirst, vehicles } from './allocator-words.js';
 
 const QUIET = 180; // seconds that an incident is not in the queue though nobody is sent
 
@@ -15,9 +15,6 @@ export function unrankedLines(room, marks) {
 const ofIncident = (room, sort, why, level = '') => (it) => line(`${sort} ${it.number}`, {
   age: since(it.opened, room.moment), sign: classWords(it), what: `Incident ${it.number}`,
   why: why(it), place: it.place, level, target: { incident: it.number } });
-
-const urgentFirst = (one, other) =>
-  one.class - other.class || one.opened - other.opened || one.number - other.number;
 
 /** Incidents to which nobody is sent, before the queue shows them. */
 function unsent(room) {

@@ -26,6 +26,9 @@ export const servedOf = ({ needs, lack }) => needs.map((it, kind) => it - lack[k
 
 export const isUnserved = (incident) => !servedOf(incident).some(Boolean);
 
+export const urgentFirst = (one, other) =>
+  one.class - other.class || one.opened - other.opened || one.number - other.number;
+
 /** A line of a list: all lists have the same parts, so that they are drawn alike. `place` is in
     metres, `level` is urgent, warn, free or nothing, and `target` is what the keys act on. */
 export const line = (key, parts) =>

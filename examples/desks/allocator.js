@@ -14,7 +14,7 @@ import { LISTS, Reading, readOn } from './allocator-reading.js';
 import { Stays } from './allocator-since.js';
 import { unrankedLines } from './allocator-unranked.js';
 import { clock, isEligible, lineWords, sum } from './allocator-words.js';
-import { byId, setText } from './nodes.js';
+import { byId, element, setText } from './nodes.js';
 import { signedIn } from './sign.js';
 
 const STALE = 6; // seconds without an answer after which the page says so in large words
@@ -131,7 +131,7 @@ function turned() {
   incidentPage.turnTo(number > 0 ? number : null);
   byId('lists').hidden = number > 0;
   if (number > 0) {
-    alarm.looked(number);
+    alarm.looked(number, reading.moment);
     noteCalls(reading.room());
     incidentPage.read(reading);
   }
@@ -157,7 +157,7 @@ function look() {
 
 function begin(action, where, target) {
   const { incident } = target ?? where.line?.target ?? {};
-  if (action === ACTIONS[0] && incident) alarm.looked(incident);
+  if (action === ACTIONS[0] && incident) alarm.looked(incident, reading.moment);
   return acting.begin(action, where, target);
 }
 
@@ -249,7 +249,9 @@ function pressed(event) {
 // ---- the beginning
 
 function start() {
-  byId('lists').append(...Object.values(panels).map((it) => it.node));
+  const { queue, incidents, ...others } = panels;
+  byId('lists').append(queue.node, incidents.node, element('div', { class: 'others' },
+    ...Object.values(others).map((it) => it.node)));
   byId('lists').after(incidentPage.node);
   for (const it of Object.values(panels)) {
     it.node.addEventListener('focusin', () => { current = it; });

@@ -20,12 +20,23 @@ const placeOf = ({ content, about }) => (about?.name ? `${about.name} · ${conte
 export function showAnswer(node, call) {
   const [large, words, look] = call ? wordsOf(call)
     : ['READY', 'A call is sent by Enter.', 'quiet'];
-  const key = call ? `${call.number} ${large}` : large;
-  if (node.dataset.shown === key) return; // so that it is read aloud once
+  show(node, `${call?.number} ${large}`, [large, words, look],
+    call ? `Call ${call.number}: ${placeOf(call)}` : '');
+}
+
+/** Says in the same place that the call of the form could not be kept. */
+export function showUnkept(node, fault) {
+  show(node, `NOT SENT ${fault}`, ['NOT SENT',
+    `This browser could not keep the call: ${fault} The form still has it.`, 'bad'],
+  'Send it again, or open the page anew and type it again.');
+}
+
+/** Shows large words, what follows them, and how they look; once, so that it is read aloud once. */
+function show(node, key, [large, words, look], more) {
+  if (node.dataset.shown === key) return;
   node.dataset.shown = key;
   fill(node, element('p', { class: `${look} loud` }, large), element('div', {},
-    element('p', { class: 'words' }, words),
-    call && element('p', { class: 'quiet' }, `Call ${call.number}: ${placeOf(call)}`)));
+    element('p', { class: 'words' }, words), more && element('p', { class: 'quiet' }, more)));
 }
 
 /** A line for each call; `takeAgain` puts one that was refused back into the form. */

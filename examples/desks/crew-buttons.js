@@ -1,8 +1,9 @@
-// The seven buttons, and what the room's table makes of each at each status (docs/RULES.md,
-// "Reports"). The page only guesses by it which come next; what they do is the room's to say.
+// The seven buttons, and what the room's rules make of each (docs/RULES.md, "Reports"). The page
+// only guesses by them what a press will come to; what it does is the room's to say.
 //
-//   expected({ status: 3, isAcknowledged: true }, 'leave')   'normal', 'skipped' or 'wrong'
-//   after({ status: 3, isAcknowledged: true }, 'leave')      { status: 4, isAcknowledged: true }
+//   expected({ status: 3, order: 7, last: 7, isAcknowledged: true }, { button: 'leave', order: 7 })
+//            'normal', 'skipped', 'wrong', 'stale', or 'withheld', which this page does not send
+//   after(now, 'leave')      what a vehicle is at once the button acted
 
 // In the order of a turn; what the status is after each that acts, where it sets one.
 export const BUTTONS = [
@@ -16,6 +17,8 @@ export const BUTTONS = [
 ];
 
 const [OFF_DUTY, MOBILISED, OFFERED] = [0, 2, 7];
+const OF_ANY_ORDER = ['home', 'position'];
+const ENDS_TURN = ['return', 'home'];
 
 // What is normal and what is skipped beside it at a status; all else is wrong. `position` is normal
 // but off duty, and at status 2 what is not normal is skipped.
@@ -28,37 +31,29 @@ const TABLE = {
   7: { normal: ['home'], skipped: [] },
 };
 
-/** What the table makes of a button. */
-export function expected({ status, isAcknowledged }, button) {
-  if (status === OFF_DUTY) return 'wrong';
+/** Whether a press was made before the vehicle's order came, which it would end unseen: the room
+    takes Home with any order. */
+export const isWithheld = (now, { button, order }) =>
+  button === 'home' && now.order !== null && order < now.order;
+
+/** What a press comes to, with the order that the crew saw as it pressed. */
+export function expected(now, { button, order }) {
+  if (!OF_ANY_ORDER.includes(button) && order !== now.last) return 'stale';
+  if (isWithheld(now, { button, order })) return 'withheld';
+  if (now.status === OFF_DUTY) return 'wrong';
   if (button === 'position') return 'normal';
-  if (status === MOBILISED) {
-    return button === 'mobile' || (button === 'scene' && isAcknowledged) ? 'normal' : 'skipped';
+  if (now.status === MOBILISED) {
+    return button === 'mobile' || (button === 'scene' && now.isAcknowledged) ? 'normal' : 'skipped';
   }
-  const { normal, skipped } = TABLE[status];
+  const { normal, skipped } = TABLE[now.status];
   if (normal.includes(button)) return 'normal';
   return skipped.includes(button) ? 'skipped' : 'wrong';
 }
 
-/** What a vehicle is at after a button. */
+/** What a vehicle is at after a button that acted. */
 export function after(now, button) {
-  if (expected(now, button) === 'wrong') return now;
   if (button === 'mobile') return { ...now, isAcknowledged: true };
   const { sets } = BUTTONS.find((it) => it.name === button);
-  const keeps = sets === undefined || (now.status === OFFERED && button === 'home');
-  return keeps ? now : { ...now, status: sets };
-}
-
-/** Whether a button that is normal leads on, and does not only say the same again. */
-function leadsOn(now, { name }) {
-  const then = after(now, name);
-  return then.status !== now.status || then.isAcknowledged !== now.isAcknowledged;
-}
-
-/** The buttons that are normal now, those first that lead on, and the others. */
-export function inFront(now) {
-  const isNormal = (it) => expected(now, it.name) === 'normal';
-  const lead = BUTTONS.filter((it) => isNormal(it) && leadsOn(now, it));
-  const stay = BUTTONS.filter((it) => isNormal(it) && !leadsOn(now, it));
-  return { front: [...lead, ...stay], behind: BUTTONS.filter((it) => !isNormal(it)) };
+  if (sets === undefined || (now.status === OFFERED && button === 'home')) return now;
+  return { ...now, status: sets, order: ENDS_TURN.includes(button) ? null : now.order };
 }

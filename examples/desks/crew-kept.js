@@ -1,12 +1,15 @@
-// What the crew's page keeps for when it is opened without a network: its own files, and the order
-// that it showed last. What was pressed is in the outbox.
+// What the crew's page keeps for when it is opened without a network: its own files, and what it
+// heard last. What was pressed is in the outbox.
 //
-//   keepFiles()               keeps the page's files; crew-worker.js gives them back
-//   keepRoom(token, room)     keeps what the room answered last, and when
-//   lastRoom(token)           gives it back: { room, heard }, or null and 0
+//   keepFiles()                keeps the page's files; crew-worker.js gives them back
+//   keepRoom(token, kept)      keeps what crew-view.js made of the room's last answer, and when
+//   lastRoom(token)            gives it back: { kept, ago }, in milliseconds; null and 0 if none
+//   roomName(token)            the name under which it is kept
+//   forgetRoom(token)          forgets it
 
 const FILES = 'desks crew';
-const nameOf = (token) => `desks crew told ${token}`;
+
+export const roomName = (token) => `desks crew heard ${token}`;
 
 /** A browser that keeps no files shows the page only with a network. */
 export async function keepFiles() {
@@ -20,12 +23,23 @@ export async function keepFiles() {
   }
 }
 
-export function keepRoom(token, room) {
-  localStorage.setItem(nameOf(token), JSON.stringify({ told: room, heard: Date.now() }));
+/** A browser whose store is full shows the page only once the room answers. */
+export function keepRoom(token, kept) {
+  try {
+    localStorage.setItem(roomName(token), JSON.stringify({ kept, at: Date.now() }));
+  } catch (fault) {
+    forgetRoom(token);
+    console.warn(`What the room said is not kept: ${fault}`);
+  }
 }
 
+export function forgetRoom(token) {
+  localStorage.removeItem(roomName(token));
+}
+
+/** The phone's clock may have been set back meanwhile: then it is as if it had just been heard. */
 export function lastRoom(token) {
-  const { told: room, heard } = JSON.parse(localStorage.getItem(nameOf(token)))
-    ?? { told: null, heard: 0 };
-  return { room, heard };
+  const found = JSON.parse(localStorage.getItem(roomName(token)));
+  return found ? { kept: found.kept, ago: Math.max(0, Date.now() - found.at) }
+    : { kept: null, ago: 0 };
 }

@@ -22,7 +22,7 @@ const labelOf = (name) => BUTTONS.find((it) => it.name === name).label;
 /** What became of a report; nothing while it waits. */
 export function outcomeWords({ answer }) {
   if (!answer) return '';
-  if (!answer.ok) return `Refused: ${answer.words}`;
+  if (!answer.ok) return answer.isWithheld ? answer.words : `Refused: ${answer.words}`;
   return OUTCOMES[answer.content.outcome](answer.content);
 }
 

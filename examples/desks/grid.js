@@ -4,6 +4,7 @@
 //   read('TQ30380')           { fault: 'length', words: 'A place has six, eight or ten digits.' }
 //   reference([530300, 180400], 6)      'TQ303804'; 8 and 10 digits too; '' outside the squares
 //   gridOf(52.65798, 1.71605)           [651409.., 313177..] metres east and north, from WGS84
+//   positionOf([651409, 313177])        the latitude and longitude of it
 //   distance(place, other)    whole metres, rounded down, as the room has it
 //
 // The room's squares and its rule of spaces are docs/RULES.md, "Places". The transformation is the
@@ -63,6 +64,7 @@ const AIRY = { a: 6377563.396, b: 6356256.909 }; // Airy 1830, metres
 const WGS84 = { a: 6378137, b: 6356752.3142 };
 const SECOND = Math.PI / 180 / 3600; // radians
 const DEGREE = Math.PI / 180;
+const DEGREE_NORTH = 111200; // metres of a degree of latitude, some
 
 // From WGS84 to OSGB36: metres, parts, radians.
 const SHIFT = { x: -446.448, y: 125.157, z: -542.06, scale: 20.4894e-6,
@@ -77,6 +79,18 @@ const eccentricity = ({ a, b }) => 1 - (b * b) / (a * a);
 /** Metres east and north on the National Grid of a position by satellite, in degrees. */
 export function gridOf(latitude, longitude) {
   return project(...osgb36Of(latitude * DEGREE, longitude * DEGREE));
+}
+
+/** The position by satellite of metres on the National Grid, in degrees: what `gridOf` brings
+    there, come nearer by as many degrees as it is off. */
+export function positionOf([east, north]) {
+  let [latitude, longitude] = [51.5, -0.5];
+  for (let round = 0; round < 20; round += 1) {
+    const [wide, high] = gridOf(latitude, longitude);
+    latitude += (north - high) / DEGREE_NORTH;
+    longitude += (east - wide) / (DEGREE_NORTH * Math.cos(latitude * DEGREE));
+  }
+  return [latitude, longitude];
 }
 
 /** WGS84 to OSGB36, both in radians, at the ellipsoid's height. */

@@ -1,6 +1,9 @@
-// Signing in: the room is asked whether it knows the terminal, before its token is kept.
+// Signing in: the room is asked whether it knows the terminal, before its token is kept. Signing
+// out: the browser forgets the token and all that was kept with it, once nothing waits to be sent.
 
+import { forgetRoom } from './crew-kept.js';
 import { byId, element, fill } from './nodes.js';
+import { emptyOutbox } from './outbox.js';
 import { ask } from './room.js';
 import { KINDS, signIn, signOut, token } from './sign.js';
 
@@ -26,6 +29,8 @@ async function submitted(event) {
   const { kind: { value: wanted }, token: { value: text } } = event.target.elements;
   const found = await kindOf(text);
   if (found.kind === wanted) {
+    const before = token(wanted);
+    if (before !== null && before !== text && !await leave(wanted)) return;
     signIn(wanted, text);
     location.assign(PAGES[wanted][0]);
   } else {
@@ -34,11 +39,27 @@ async function submitted(event) {
   }
 }
 
+/** Signs a kind out, and whether that could be. */
+async function leave(kind) {
+  const name = PAGES[kind][1].toLowerCase();
+  const waiting = await emptyOutbox(token(kind));
+  if (waiting) {
+    byId('refused').textContent = `The ${name} is not signed out: what waits to be sent would be `
+      + `lost (${waiting}). Open its page until the room has answered.`;
+    return false;
+  }
+  forgetRoom(token(kind));
+  signOut(kind);
+  byId('refused').textContent = '';
+  draw();
+  return true;
+}
+
 function draw() {
   const signed = KINDS.filter((kind) => token(kind) !== null);
   fill(byId('signed'), ...signed.map((kind) => element('li', { class: 'panel row' },
     element('a', { href: PAGES[kind][0], class: 'target' }, PAGES[kind][1]),
-    element('button', { type: 'button', onclick: () => { signOut(kind); draw(); } },
+    element('button', { type: 'button', onclick: () => leave(kind) },
       `Sign out the ${PAGES[kind][1].toLowerCase()}`))));
 }
 

@@ -5,11 +5,20 @@
 //   const outbox = await openOutbox({ token, path: '/call', member: 'serial', changed });
 //   await outbox.put({ class: 2, needs, note, place }, about)   numbers it, keeps it, sends it
 //   await outbox.messages()      the kept ones in the order of their numbers: { number, content,
-//                                about, answer, passedOver }; answer is null while it waits, else
-//                                as room.js gives it. The last 50 that were answered stay.
+//                                about, isTried, answer, passedOver }; answer is null while it
+//                                waits, else as room.js gives it. The last 50 answered ones stay.
+//   await outbox.takeBack(17)    drops a message that no tab has begun to send; whether it did
+//   outbox.heldFor(message)      the milliseconds for which it can be taken back
+//   await outbox.alone(work)     does something while no tab sends
 //   outbox.state                 'asking' the room for its greatest number, 'unknown', or 'ready'
 //   await outbox.startAfter(17)  where it is 'unknown': the greatest number used, 0 if none
 //   outbox.trouble               why the last try got no answer, as room.js gives it; else null
+//
+// `emptyOutbox(token)` forgets what a terminal has, unless something waits.
+//
+// With `hold` a message is sent so many milliseconds after this tab first saw it, not sooner. What
+// `refuse(message)` gives, asked just before it is sent, becomes its answer, and it is not sent; an
+// unanswered question there is as one to the room.
 //
 // `changed()` is called after each change, of another tab too; `about` is the page's own, kept
 // beside the message and not sent: know a message by it, for its number may change while it waits.
@@ -24,6 +33,7 @@ import { ask } from './room.js';
 const AGAIN_AFTER = 1000; // milliseconds from a try without an answer to the next
 const ANSWERED_KEPT = 50;
 const NO_PATH = 36;
+const PATHS = ['/call', '/report']; // of all outboxes
 const REUSED = [17, 18];
 // Refusals after which the same message may still be taken: it waits, and is sent again.
 const SENT_AGAIN = [38, 41, 42];
@@ -48,8 +58,9 @@ async function openStore() {
 const rangeOf = (box) => IDBKeyRange.bound([box, 0], [box, Infinity]);
 
 class Outbox {
-  constructor(store, { token, path, member, changed = () => {} }) {
-    Object.assign(this, { store, token, path, member, changed });
+  constructor(store, { token, path, member, changed = () => {}, hold = 0, refuse = null }) {
+    Object.assign(this, { store, token, path, member, changed, hold, refuse });
+    this.seenAt = new Map(); // when this tab first saw a number, by a clock that nobody sets
     this.box = `${path} ${token}`;
     this.state = 'asking';
     this.trouble = null;
@@ -144,12 +155,55 @@ class Outbox {
 
   message(number, content, about, passedOver) {
     const body = JSON.stringify({ ...content, [this.member]: number });
-    return { box: this.box, number, content, about, body, passedOver, answer: null };
+    return { box: this.box, number, content, about, body, passedOver, isTried: false,
+      answer: null };
   }
 
   async messages() {
-    return done(this.store.transaction('messages').objectStore('messages')
+    const found = await done(this.store.transaction('messages').objectStore('messages')
       .getAll(rangeOf(this.box)));
+    for (const { number } of found) {
+      if (!this.seenAt.has(number)) this.seenAt.set(number, performance.now());
+    }
+    return found;
+  }
+
+  heldFor({ number, isTried, passedOver, answer }) {
+    if (isTried || answer || passedOver.length) return 0;
+    return Math.max(0, this.seenAt.get(number) + this.hold - performance.now());
+  }
+
+  async takeBack(number) {
+    const isBack = await this.changeUntried(number, (messages) => messages.delete([this.box,
+      number]));
+    this.announce();
+    return isBack;
+  }
+
+  /** Changes a message in the store, unless some tab has begun to send it. */
+  changeUntried(number, work) {
+    return this.change(async (messages) => {
+      const found = await done(messages.get([this.box, number]));
+      if (!found || found.isTried) return false;
+      await done(work(messages, found));
+      return true;
+    });
+  }
+
+  /** Forgets what is kept, unless something waits; gives how many wait. */
+  empty() {
+    return this.change(async (messages, last) => {
+      const all = await done(messages.getAll(rangeOf(this.box)));
+      const waiting = all.filter((it) => !it.answer).length;
+      if (waiting) return waiting;
+      last.delete(this.box);
+      await done(messages.delete(rangeOf(this.box)));
+      return 0;
+    });
+  }
+
+  alone(work) {
+    return navigator.locks.request(this.others.name, work);
   }
 
   // ---- sending
@@ -159,9 +213,9 @@ class Outbox {
     if (this.isSending) return;
     this.isSending = true;
     try {
-      let tried;
-      while ((tried = await navigator.locks.request(this.others.name, () => this.sendFirst()))) {
-        if (tried === 'no answer') await this.pause();
+      let next;
+      while ((next = await this.alone(() => this.sendFirst())) !== null) {
+        if (next) await this.pause(next);
       }
     } finally {
       this.isSending = false;
@@ -169,21 +223,34 @@ class Outbox {
     if ((await this.messages()).some((it) => !it.answer)) this.send();
   }
 
-  /** Sends the first message that waits: gives 'answered', 'no answer', or '' where none waits. */
+  /** Sends the first message that waits; gives the milliseconds until the next, null where none
+      waits. */
   async sendFirst() {
     const first = (await this.messages()).find((it) => !it.answer);
-    if (!first) return '';
-    const answer = await ask(this.path, first.body, { token: this.token });
+    if (!first) return null;
+    const held = this.heldFor(first);
+    if (held) return held;
+    const answer = await this.refuse?.(first) ?? await this.post(first);
+    if (!answer) return 0; // it was taken back
     if (answer.isUnanswered || SENT_AGAIN.includes(answer.number)) {
       this.trouble = answer;
       this.say();
-      return 'no answer';
+      return AGAIN_AFTER;
     }
     this.trouble = null;
     if (REUSED.includes(answer.number)) await this.passOver();
     else await this.keep(first, answer);
     this.announce();
-    return 'answered';
+    return 0;
+  }
+
+  /** Marks a message as one that may have reached the room, and sends it. */
+  async post({ number, body, isTried }) {
+    const isThere = isTried || await this.changeUntried(number, (messages, it) =>
+      messages.put({ ...it, isTried: true }));
+    if (!isThere) return null;
+    this.announce();
+    return ask(this.path, body, { token: this.token });
   }
 
   async keep(message, answer) {
@@ -211,9 +278,9 @@ class Outbox {
     });
   }
 
-  pause() {
+  pause(milliseconds = AGAIN_AFTER) {
     return new Promise((resolve) => {
-      const timer = setTimeout(resolve, AGAIN_AFTER);
+      const timer = setTimeout(resolve, milliseconds);
       this.wake = () => { clearTimeout(timer); resolve(); };
     });
   }
@@ -225,4 +292,12 @@ export async function openOutbox(options) {
   const outbox = new Outbox(await openStore(), options);
   outbox.open();
   return outbox;
+}
+
+/** Forgets all messages of a terminal and its numbers, unless some wait; gives how many wait. */
+export async function emptyOutbox(token) {
+  const boxes = PATHS.map((path) => new Outbox(null, { token, path }));
+  const store = await openStore();
+  const counts = await Promise.all(boxes.map((it) => Object.assign(it, { store }).empty()));
+  return counts.reduce((all, it) => all + it);
 }

@@ -5,7 +5,8 @@
 //
 // Tokens are kept in localStorage, one a kind, and not in sessionStorage: what waits in the outbox
 // has to be sent with the same token by a page that was closed and is opened again. So whoever has
-// the machine's account has its terminals; sign out on a machine that others use.
+// the machine's account has its terminals; sign out on a machine that others use. Then the browser
+// forgets the token and all that was kept with it; while something waits, it can not be done.
 
 export const KINDS = ['taker', 'desk', 'crew'];
 const nameOf = (kind) => `desks token ${kind}`;

@@ -1,7 +1,7 @@
 // The call taker's page: a call is numbered and kept before it is sent, and what the room answered
 // to it is shown in large letters.
 
-import { showCalls, showAnswer } from './calls.js';
+import { showAnswer, showCalls, showUnkept } from './calls.js';
 import { areasMap, divisionOf } from './map.js';
 import { byId, setText } from './nodes.js';
 import { openOutbox } from './outbox.js';
@@ -14,6 +14,8 @@ const form = byId('call');
 const classes = [...document.getElementsByName('class')];
 const counts = [...document.getElementsByName('needs')];
 let outbox = null;
+let isKeeping = false; // a call is being kept, which Enter can not begin twice
+let unkept = ''; // why the call of the form could not be kept
 let areas = [];
 let showOnMap = () => {};
 
@@ -57,7 +59,7 @@ function wrongs() {
   return found.filter(([, words]) => words);
 }
 
-/** Sends the call of the form, and makes the form ready for the next one. */
+/** Keeps the call of the form, which is sent then, and makes the form ready for the next one. */
 async function submitted(event) {
   event.preventDefault();
   place.take();
@@ -67,10 +69,24 @@ async function submitted(event) {
   if (wrong.length) return wrong[0][2].focus();
   if (outbox?.state !== 'ready') return say('note', "The position's last serial is not known yet.");
   const { place: where, name } = place.value();
-  const call = { class: chosenClass(), needs: needs(),
-    note: byId('note').value, place: where };
-  clear();
-  return outbox.put(call, { name, id: crypto.randomUUID(), made: Date.now() });
+  return keep({ class: chosenClass(), needs: needs(), note: byId('note').value, place: where },
+    { name, id: crypto.randomUUID(), made: Date.now() });
+}
+
+/** The form is cleared only once the call is kept: else it stays, and the page says so where the
+    answer of the call before stood. */
+async function keep(call, about) {
+  if (isKeeping) return;
+  isKeeping = true;
+  try {
+    await outbox.put(call, about);
+    unkept = '';
+    clear();
+  } catch (fault) {
+    unkept = fault.message || fault.name;
+  }
+  isKeeping = false;
+  draw();
 }
 
 function clear() {
@@ -110,6 +126,7 @@ function entered(event) {
 
 async function draw() {
   if (!outbox) return;
+  if (unkept) return showUnkept(byId('answer'), unkept);
   const calls = await outbox.messages();
   const waiting = calls.filter((it) => !it.answer);
   setText(byId('waiting'), waiting.length ? `Calls not yet answered: ${waiting.length}` : '');

@@ -3,7 +3,7 @@ moments that the other machines report."""
 import dataclasses
 import time
 
-AHEAD = 60  # seconds that a record's moment may be above what the others report
+APART = 60  # seconds that a moment may be above, or below, what all others report
 LAST_MOMENT = 4_102_444_799  # the end of 2099
 
 
@@ -35,11 +35,13 @@ class OtherClocks:
         self.heard: dict[int, Heard] = {}
         self.began = passed()
 
-    def hear(self, machine: int, revision: int, reported: int) -> None:
+    def hear(self, machine: int, revision: int, reported: int) -> bool:
+        """Hears what a machine gave; whether it is of now."""
         before = self.heard.get(machine)
         if before and before.revision == revision:
-            return
+            return False
         self.heard[machine] = Heard(revision, reported, passed(), before is not None)
+        return before is not None
 
     def silent_for(self, machine: int) -> float:
         """Seconds since a machine was heard of."""
@@ -47,7 +49,7 @@ class OtherClocks:
         return passed() - (heard.at if heard else self.began)
 
     def ahead(self, now: int) -> int | None:
-        """By how many seconds a moment of this machine is above the clocks of all others, none
-        where no other was heard."""
-        clocks = [it.moment + passed() - it.at for it in self.heard.values() if it.is_fresh]
-        return now - int(max(clocks)) if clocks else None
+        """By how many seconds a moment of this machine is above the clocks of all others, or below
+        them as a negative number; 0 between them, and none where no other was heard."""
+        clocks = [int(it.moment + passed() - it.at) for it in self.heard.values() if it.is_fresh]
+        return max(now - max(clocks), 0) or min(now - min(clocks), 0) if clocks else None

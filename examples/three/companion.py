@@ -8,7 +8,9 @@ the room answers its record. It is not proved; the room that plays is.
   companion.py enrol FLEET                           enrols vehicles on all machines
   companion.py token OLD NEW                         gives a terminal another token
   companion.py leave-out N                           lets the list go on without a machine
-  companion.py go-on                                 lets the machines take more, that differed
+  companion.py replace N                             makes a machine's member of etcd a new one
+  companion.py mend                                  has the list end where its entries do
+  companion.py drop-list                             ends the list, for another one
   companion.py user                                  has etcd take nothing without its user"""
 import argparse
 import asyncio
@@ -22,53 +24,47 @@ import time
 
 import copies
 import digest
+import repair
 import words
 from copies import Copy
-from entries import MOST_FLEET, Place, Record, first_entry
-from etcd import Member, PatientMember, Unreached
-from health import Health
-from keeping import ETCD_WITHIN, TRY_EVERY, Keeping
-from kept_list import HEAD, STOPPED, KeptList, Lost, delete, head_of, put, span
+from entries import MOST_FLEET, Entry, Place, Record, first_entry
+from etcd import Unreached
+from health import Health, Starting
+from keeping import TRY_EVERY, Keeping
+from kept_list import HEAD, KeptList, Lost, delete, head_of, span
 from machine import Machine, Settings
 from played_room import Changed, Ended
 from playing import Playing
 from said import say
-from upkeep import OUT, OUTCOMES, WORDS, Upkeep, difference, last_agreed, reported_digests
+from terminals import Connections
+from upkeep import OUT, OUTCOMES, Upkeep
+from words import WAITS, Refused, kept_list, patient_list
 
-WAITS = 60.0  # seconds that a command waits for the machines
-HEARS = 10.0  # seconds in which a machine that runs reports on itself
+STARTS_EVERY = 1.0  # seconds between two looks at the list, before it has a copy's record
+FLEET_HEAD = b'callsign,division,kind,place,token'
 LOST = 3  # the status where another start finds a copy that is whole and in the list
-
-
-class Refused(Exception):
-    """Why the companion does nothing."""
 
 
 class NoCopy(Exception):
     """No copy of this machine is in the list."""
 
 
-def kept_list(given: argparse.Namespace) -> KeptList:
-    return KeptList(Member(words.reach_of(given), ETCD_WITHIN))
-
-
-def patient_list(given: argparse.Namespace) -> KeptList:
-    return KeptList(PatientMember(words.reach_of(given), ETCD_WITHIN, WAITS))
-
-
 def begin(given: argparse.Namespace) -> None:
     """Makes a room's file the first copy of this machine, and begins the list where it has not
-    begun. Each machine does so with the same bytes."""
+    begun. Each machine does so with the same bytes. Copies of another list are kept aside."""
     copies.make_folder(given.folder)
-    if copies.copies_in(given.folder):
-        raise Refused(f'{given.folder} has a copy')
+    kept, before = kept_list(given), copies.copies_in(given.folder)
+    if any(is_listed(kept, it) for it in before):
+        raise Refused(f'{given.folder} has a copy of the list')
     if not copies.is_alone(given.room):
         raise Refused(f'{given.room} is not closed: it has a log')
     content = given.room.read_bytes()
     first = first_entry(hashlib.sha256(content).hexdigest())
-    found = kept_list(given).begin(first)
+    found = kept.begin(first)
     if not found or found.text != first.text:
         raise Refused('the list is of another room, or has gone on: bring a copy of a machine')
+    for it in before:
+        say(f'not of this list: {copies.set_aside(it)}')
     part = given.folder / 'part'
     part.write_bytes(content)
     copies.keep(part, copies.copy_at(given.folder, first.place, copies.NO_ANSWERS,
@@ -94,13 +90,13 @@ def put_record(given: argparse.Namespace, record: Record) -> None:
     while True:
         place = last_place(kept)
         found = kept.keep(place, place.moment, [record])
-        if found.stopped:
-            raise Refused(found.stopped)
         if found.entries and record in found.entries[0].records:
             break
     number = found.entries[0].number
     while time.monotonic() < until:
         for _, outcome, _ in kept.values(f'{OUTCOMES}{number:012}'):
+            if outcome.startswith(b'refused: '):
+                raise Refused(outcome.decode(errors='replace').strip())
             print(outcome.decode(errors='replace'), end='')
             return
         time.sleep(TRY_EVERY)
@@ -109,6 +105,8 @@ def put_record(given: argparse.Namespace, record: Record) -> None:
 
 def enrol(given: argparse.Namespace) -> None:
     content = given.fleet.read_bytes()
+    if content.partition(b'\n')[0].strip() != FLEET_HEAD:
+        raise Refused(f'{given.fleet} does not begin as a fleet: {FLEET_HEAD.decode()}')
     if len(content) > MOST_FLEET:
         raise Refused(f'{given.fleet} has more than {MOST_FLEET} bytes: enrol it in parts')
     put_record(given, Record(secrets.token_hex(8), content, 'fleet'))
@@ -121,89 +119,55 @@ def token(given: argparse.Namespace) -> None:
     put_record(given, record)
 
 
-def word_of(kept: KeptList, machine: int) -> list:
-    """What a machine last reported of itself."""
-    return [it for it in kept.values(WORDS) if it[0] == str(machine)]
-
-
-def leave_out(given: argparse.Namespace) -> None:
-    """Takes a machine out of the count of those whose copies keep records in the list."""
-    kept, until = kept_list(given), time.monotonic() + HEARS
-    word = word_of(kept, given.number)
-    while time.monotonic() < until:
-        time.sleep(TRY_EVERY)
-        if word != word_of(kept, given.number):
-            raise Refused(f'machine {given.number} is not away')
-    kept.change([], [put(f'{OUT}{given.number}', b'')])
-    print(f'machine {given.number} is left out until it has a copy again')
-
-
-def user(given: argparse.Namespace) -> None:
-    """Makes the user whose name and password are given, and has etcd take nothing else."""
-    member = Member(words.reach_of(given), WAITS)
-    try:
-        member.take_token()
-    except Unreached:  # none is wanted yet
-        for path, asked in (
-                ('user/add', {'name': given.user, 'password': member.reach.password}),
-                ('role/add', {'name': 'root'}),
-                ('user/grant', {'user': given.user, 'role': 'root'})):
-            try:
-                member.ask_once(f'/v3/auth/{path}', asked)
-            except Unreached as error:
-                if 'already exists' not in str(error):
-                    raise
-        member.ask_once('/v3/auth/enable', {})
-    print(f'etcd takes nothing without its user {given.user}')
-
-
-def go_on(given: argparse.Namespace) -> None:
-    kept = patient_list(given)
-    differs = difference(reported_digests(kept))
-    if differs:
-        raise Refused(differs)
-    kept.change([], [delete(span(STOPPED))])
-    print('the machines go on')
-
-
 # ---- serving
+
+
+def is_listed(kept: KeptList, copy: Copy) -> Entry | None:
+    """The entry behind which a copy was made, where that is in the list."""
+    entry = kept.entry(copy.number)
+    return entry if entry and entry.place.digest == copy.digest else None
 
 
 def copy_in_list(kept: KeptList, given: argparse.Namespace) -> tuple[Copy, Place]:
     """The newest copy of a folder that is in the list. Those that are newer are set aside: the list
-    went back behind them, the other machines agree on something else, or the file has changed."""
-    kept.change([], [delete(span(f'{OUT}{given.machine}'))])
-    agreed = None
-    if any(kept.values(STOPPED)):
-        agreed = last_agreed(reported_digests(kept), given.machine)
-    found = copies.copies_in(given.folder)
+    went back behind them, or the others agree on something else."""
+    agreed, found = copies.last_agreed(given.folder), copies.copies_in(given.folder)
     for nth, copy in enumerate(found):
-        entry = kept.entry(copy.number)
-        is_listed = entry and entry.place.digest == copy.digest
-        if (is_listed and (agreed is None or copy.number <= agreed)
-                and digest.of_file(copy.file) == copy.room):
-            for newer in found[:nth]:
-                say(f'not the room of the list any more: {copies.set_aside(newer)}')
-            return copy, entry.place
+        if copy.number <= agreed and is_listed(kept, copy):
+            kept.change([], [delete(span(f'{OUT}{given.machine}'))])  # it counts from now on
+            if entry := is_listed(kept, copy):
+                for newer in found[:nth]:
+                    say(f'not the room of the list any more: {copies.set_aside(newer)}')
+                copies.note_agreed(given.folder, None)
+                return copy, entry.place
     first, last = kept.ends()
     raise NoCopy(f'the list has records {first} to {last}, and {given.folder} no copy of one of '
                'them: bring a copy of another machine')
 
 
-def place_to_begin(given: argparse.Namespace) -> tuple[Copy, Place]:
+async def place_to_begin(given: argparse.Namespace, starting: Starting) -> tuple[Copy, Place]:
+    """Where the room begins, once etcd answers and the list has a copy's record."""
     while True:
         try:
-            return copy_in_list(kept_list(given), given)
-        except Unreached as error:
+            return await asyncio.to_thread(copy_in_list, kept_list(given), given)
+        except (NoCopy, Unreached) as error:
+            starting.why = str(error)
             say(error)
-            time.sleep(TRY_EVERY)
+            await asyncio.sleep(STARTS_EVERY)
 
 
-async def run(given: argparse.Namespace, copy: Copy, place: Place) -> None:
-    settings = Settings(given.machine, given.of, given.listen, given.deadline, given.trust_clock,
-                        given.log, given.history, given.away_after)
-    how = Playing(given.program, given.folder, given.work, given.copy_every)
-    machine, reach = Machine(settings, how, copy, place), words.reach_of(given)
+async def run(given: argparse.Namespace) -> None:
+    starting = Starting(given.machine)
+    connections = Connections(starting.take)
+    connections.listen(*given.listen)
+    sweeping = asyncio.create_task(connections.sweep())
+    copy, place = await place_to_begin(given, starting)
+    settings = Settings(given.machine, given.of, given.deadline, given.trust_clock, given.log,
+                        given.revisions, given.away_after)
+    how = Playing(given.program, given.folder, given.work, given.copy_every,
+                  given.copy_every * given.machine // given.of)
+    machine = Machine(settings, how, copy, place, connections)
+    reach = words.reach_of(given)
     keeping, upkeep = Keeping(machine, reach), Upkeep(machine, reach)
     Health(machine, upkeep)
     for it in signal.SIGTERM, signal.SIGINT:
@@ -211,25 +175,25 @@ async def run(given: argparse.Namespace, copy: Copy, place: Place) -> None:
     writing = [functools.partial(keeping.keep_asks, it) for it in keeping.writing]
     await machine.serve(keeping.catch_up, keeping.hear, keeping.watch_over, keeping.follow,
                         keeping.answer_questions, *writing, upkeep.run)
+    sweeping.cancel()
 
 
 def serve(given: argparse.Namespace) -> None:
     """Serves the newest copy of a folder, which no other does meanwhile."""
     if not 1 <= given.machine <= given.of:
         raise Refused(f'there is no machine {given.machine} of {given.of}')
-    with copies.alone(given.folder):
-        if not copies.copies_in(given.folder):
-            raise Refused(f'{given.folder} has no copy of a room')
-        given.work = given.work or given.folder / 'work'
-        copies.make_folder(given.work)
-        with copies.alone(given.work):
-            copies.drop_runs(given.work)
-            copies.drop_runs(given.folder)
-            asyncio.run(run(given, *place_to_begin(given)))
+    copies.make_folder(given.folder)
+    given.work = given.work or given.folder / 'work'
+    copies.make_folder(given.work)
+    with copies.alone(given.folder), copies.alone(given.work):
+        copies.drop_runs(given.work)
+        copies.drop_runs(given.folder)
+        asyncio.run(run(given))
 
 
 COMMANDS = {'begin': begin, 'serve': serve, 'enrol': enrol, 'token': token,
-            'leave-out': leave_out, 'go-on': go_on, 'user': user}
+            'leave-out': repair.leave_out, 'replace': repair.replace,
+            'drop-list': repair.drop_list, 'mend': repair.mend, 'user': repair.user}
 
 
 def main(line: list[str]) -> int:
@@ -241,7 +205,7 @@ def main(line: list[str]) -> int:
     except* (Lost, Changed) as error:
         say(error.exceptions[0])
         status = LOST
-    except* (Refused, NoCopy, Unreached, Ended, OSError) as error:
+    except* (Refused, Unreached, Ended, OSError) as error:
         say(error.exceptions[0])
         status = 1
     return status

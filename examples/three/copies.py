@@ -11,7 +11,7 @@ import shutil
 
 from entries import Place
 
-KEPT = 5  # copies, for where the list goes back
+KEPT = 6  # copies, for where the list goes back, and one that all machines have made among them
 LEAST_LOG = 32 + 24 + 512  # bytes of SQLite's log with one page of the smallest size
 NO_ANSWERS = '0' * 64
 
@@ -100,8 +100,8 @@ def keep(file: pathlib.Path, copy: Copy) -> None:
 
 
 def set_aside(copy: Copy) -> pathlib.Path:
-    """Keeps a copy that is not in the list any more out of the way. A link takes no name that a file
-    has: the first that is free, of lost.NAME, lost.NAME.1 and so on."""
+    """Keeps a copy that is not in the list any more out of the way. A link takes no name that a
+    file has: the first that is free, of lost.NAME, lost.NAME.1 and so on."""
     name = f'lost{copy.file.name.removeprefix("copy")}'
     for number in itertools.count():
         aside = copy.file.with_name(f'{name}.{number}' if number else name)
@@ -110,6 +110,21 @@ def set_aside(copy: Copy) -> pathlib.Path:
             copy.file.unlink()
             break
     return aside
+
+
+def note_agreed(folder: pathlib.Path, number: int | None) -> None:
+    """Notes for the next start from which record on the others agree on something else, or that
+    they do not any more."""
+    if number is None:
+        (folder / 'agreed').unlink(missing_ok=True)
+    else:
+        (folder / 'agreed').write_text(f'{number}\n')
+
+
+def last_agreed(folder: pathlib.Path) -> float:
+    """The last record up to which a copy is good, for all that was noted."""
+    file = folder / 'agreed'
+    return int(file.read_text()) if file.exists() else float('inf')
 
 
 def drop_part(part: pathlib.Path) -> None:

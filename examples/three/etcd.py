@@ -4,10 +4,12 @@ import base64
 import dataclasses
 import http.client
 import json
-import pathlib
 import re
 import ssl
 import time
+import typing
+
+from certificates import Secured
 
 TOKEN_WITHIN = 10.0  # seconds
 ASKS_AGAIN_AFTER = 0.2  # seconds
@@ -30,18 +32,24 @@ class Reach:
     """How a member is reached, and the token that its user has at the time."""
     host: str
     port: int
-    context: ssl.SSLContext | None = None
+    secured: Secured | None = None
     user: str = ''
     password: str = ''
     token: str = ''
 
+    @property
+    def context(self) -> ssl.SSLContext | None:
+        return self.secured and self.secured.context
 
-def context_of(authority: pathlib.Path, certificate: pathlib.Path,
-               key: pathlib.Path) -> ssl.SSLContext:
-    """TLS to a member whose certificate is of this authority, with a certificate of one's own."""
-    context = ssl.create_default_context(cafile=authority)
-    context.load_cert_chain(certificate, key)
-    return context
+
+class Sizes(typing.NamedTuple):
+    """Bytes of a member's file, those in use, and the quota; whether there is a leader, and it is
+    this member."""
+    file: int = 0
+    used: int = 0
+    quota: int = 0
+    has_leader: int = 0
+    leads: int = 0
 
 
 def coded(text: str | bytes) -> str:
@@ -116,14 +124,12 @@ class Member:
 
     # ---- how full it is
 
-    def sizes(self) -> tuple[int, int, int]:
-        """Bytes of its file, those of them in use, and the quota."""
+    def sizes(self) -> Sizes:
         text = self.exchange('GET', '/metrics').decode()
         found = dict(re.findall(r'^(etcd_\w+) (\S+)$', text, re.M))
-        names = ('etcd_mvcc_db_total_size_in_bytes', 'etcd_mvcc_db_total_size_in_use_in_bytes',
-                 'etcd_server_quota_backend_bytes')
-        file, used, quota = (int(float(found.get(it, 0))) for it in names)
-        return file, used, quota
+        return Sizes(*(int(float(found.get(it, 0))) for it in (
+            'etcd_mvcc_db_total_size_in_bytes', 'etcd_mvcc_db_total_size_in_use_in_bytes',
+            'etcd_server_quota_backend_bytes', 'etcd_server_has_leader', 'etcd_server_is_leader')))
 
     def compact(self, revision: int) -> None:
         """Lets go of what keys had before a revision."""

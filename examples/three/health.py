@@ -1,6 +1,7 @@
 """How a machine is: for who asks GET /health, Prometheus at GET /metrics, and the log of what
 terminals asked, in the lines of a room that is served."""
 import bisect
+import collections.abc
 import contextlib
 import json
 import pathlib
@@ -10,13 +11,45 @@ import time
 
 import clocks
 import messages
-from asks import Ask
+from asks import Ask, no_answer
 from clocks import passed
 from machine import Machine
+from messages import Request
+from terminals import Reply
 from upkeep import WARNED, Upkeep
 
 BUCKETS = .001, .002, .005, .01, .02, .05, .1, .2, .5, 1, 2, 5  # seconds
 ROLES = 'desk', 'position'
+MOST_KEYS = 10  # of foreign values, that are named
+METRICS = 'text/plain; version=0.0.4'
+
+
+def gauges(name: str, label: str, values: dict) -> collections.abc.Iterator[str]:
+    """The lines of gauges by their own names, or of one by a label. What is not known has none."""
+    if label:
+        yield f'# TYPE dispatch_room_{name} gauge'
+    for key, value in values.items():
+        if value is not None and label:
+            yield f'dispatch_room_{name}{{{label}="{key}"}} {value + 0}'
+        elif value is not None:
+            yield from (f'# TYPE dispatch_room_{key} gauge', f'dispatch_room_{key} {value + 0}')
+
+
+class Starting:
+    """What is answered while the companion has no place in the list yet: why."""
+
+    def __init__(self, machine: int):
+        self.machine, self.why = machine, 'it is starting'
+
+    def take(self, request: Request, reply: Reply) -> None:
+        if request.message:
+            reply(no_answer('no'))
+        elif request.path == '/metrics':
+            reply(messages.answer_of(200, '# TYPE dispatch_room_serving gauge\n'
+                                     'dispatch_room_serving 0\n', METRICS))
+        else:
+            reply(messages.answer_of(503, json.dumps({'machine': self.machine,
+                                                      'refuses': self.why})))
 
 
 class Health:
@@ -36,17 +69,24 @@ class Health:
     def state(self) -> dict:
         """How the machine is, in numbers and a word."""
         machine, upkeep = self.machine, self.upkeep
-        file, used, quota = upkeep.sizes
-        others = {str(it): upkeep.words.get(it, {}) | {
-            'behind': machine.player.played - upkeep.words.get(it, {}).get('played', 0),
-            'silent': round(machine.clocks.silent_for(it), 1)} for it in upkeep.others}
+        etcd = upkeep.sizes
+        differing = upkeep.comparison.first_differing()
+        words = {it: upkeep.words.get(it, {}) for it in upkeep.others}
+        others = {str(it): {
+            'clock': word.get('clock'), 'copy': word.get('copy'),
+            'behind': machine.player.played - word.get('played', 0),
+            'silent': round(machine.clocks.silent_for(it), 1),
+            'differs': differing.get(it, (None,))[0]} for it, word in words.items()}
         return {'machine': machine.settings.machine, 'refuses': machine.why_not(),
                 'record': machine.tail.place.number, 'behind': machine.behind(),
                 'copy': machine.tail.copy.number, 'copied': round(passed() - upkeep.copied, 1),
+                'uncopied': machine.player.uncopied, 'free': upkeep.free,
+                'days': upkeep.days,
+                'lost': upkeep.lost,
                 'waiting': len(machine.unanswered),
                 'ahead': machine.clocks.ahead(clocks.moment()), 'foreign': len(machine.foreign),
-                'etcd': {'file': file, 'used': used, 'quota': quota,
-                         'warned': bool(quota) and used > WARNED * quota},
+                'foreign_keys': sorted(machine.foreign)[:MOST_KEYS],
+                'etcd': etcd._asdict() | {'warned': etcd.used > WARNED * etcd.quota > 0},
                 'others': others}
 
     def health(self) -> bytes:
@@ -57,22 +97,33 @@ class Health:
     # ---- metrics
 
     def metrics(self) -> bytes:
+        """All that the machine's health has, in numbers."""
         state, lines = self.state(), []
-        gauges = {'serving': int(not state['refuses']), 'record': state['record'],
-                  'records_behind': state['behind'], 'copy_record': state['copy'],
-                  'copy_age_seconds': state['copied'], 'foreign_values': state['foreign'],
-                  'waiting': state['waiting'], 'etcd_used_bytes': state['etcd']['used'],
-                  'etcd_file_bytes': state['etcd']['file'],
-                  'etcd_quota_bytes': state['etcd']['quota']}
-        if state['ahead'] is not None:
-            gauges['clock_ahead_seconds'] = state['ahead']
-        for name, value in gauges.items():
-            lines += [f'# TYPE dispatch_room_{name} gauge', f'dispatch_room_{name} {value}']
+        etcd, others = state['etcd'], state['others']
+
+        def of_others(name: str) -> dict:
+            return {it: by[name] for it, by in others.items()}
+        for name, label, values in (
+                ('', '', {
+                    'serving': not state['refuses'], 'record': state['record'],
+                    'records_behind': state['behind'], 'waiting': state['waiting'],
+                    'copy_record': state['copy'], 'copy_age_seconds': state['copied'],
+                    'copy_failed': bool(state['uncopied']), 'lost_copies': state['lost'],
+                    'clock_ahead_seconds': state['ahead'], 'foreign_values': state['foreign'],
+                    'etcd_used_bytes': etcd['used'], 'etcd_file_bytes': etcd['file'],
+                    'etcd_quota_bytes': etcd['quota'], 'etcd_has_leader': etcd['has_leader'],
+                    'etcd_leads': etcd['leads']}),
+                ('free_bytes', 'folder', state['free']),
+                ('certificate_days', 'name', state['days']),
+                ('other_records_behind', 'machine', of_others('behind')),
+                ('other_silent_seconds', 'machine', of_others('silent')),
+                ('other_differs_from_record', 'machine', of_others('differs'))):
+            lines += gauges(name, label, values)
         lines.append('# TYPE dispatch_room_answers_total counter')
         lines += [f'dispatch_room_answers_total{{status="{status}"}} {count}'
                   for status, count in sorted(self.answers.items())]
         lines += self.histogram()
-        return messages.answer_of(200, '\n'.join(lines) + '\n', 'text/plain; version=0.0.4')
+        return messages.answer_of(200, '\n'.join(lines) + '\n', METRICS)
 
     def histogram(self) -> list[str]:
         name, total = 'dispatch_room_answer_seconds', 0

@@ -43,6 +43,7 @@ class Keeping:
         self.put = float('-inf')  # when the last one was put
         self.is_sound = True  # no entry was refused that others on their way are to stand behind
         self.kept = KeptList(Member(reach, ETCD_WITHIN))  # where it has to be looked at closely
+        self.looking = asyncio.Lock()  # it is one connection
         self.to_follow = asyncio.Event()
 
     async def watch_over(self) -> None:
@@ -148,8 +149,11 @@ class Keeping:
     async def found(self, known: Place, answer: dict, is_latest: bool) -> Found:
         """What a look at the list gave. Why it doesn't go on from what is known is looked into
         beside."""
-        return (kept_list.seen(known, answer)
-                or await asyncio.to_thread(self.kept.found, known, answer, is_latest))
+        found = kept_list.seen(known, answer)
+        if not found:
+            async with self.looking:
+                found = await asyncio.to_thread(self.kept.found, known, answer, is_latest)
+        return found
 
     async def read(self, by: Channel, is_latest: bool) -> Found:
         """Learns what the list has, by the member's word or by that of most members."""
@@ -161,10 +165,13 @@ class Keeping:
 
     async def read_all(self) -> None:
         """Learns all that the list has, by the word of most members."""
-        is_all = False
-        while not (is_all or self.machine.is_stopping):
+        while not self.machine.is_stopping:
             try:
-                is_all = (await self.read(self.questioning, True)).is_all
+                found = await self.read(self.questioning, True)
+                if found.is_all:
+                    return
+                if not found.entries:
+                    await asyncio.sleep(READ_EVERY)
             except Unreached as error:
                 say(error)
                 await asyncio.sleep(TRY_EVERY)

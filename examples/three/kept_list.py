@@ -1,6 +1,7 @@
 """The list of one room's records, as the machines keep it in etcd: one key an entry, and one that
 names the last. An entry is put only where the last is the one that its machine has played to. Which
 entry stands where, and what is kept, is etcd's to say."""
+import collections
 import collections.abc
 import dataclasses
 import re
@@ -11,7 +12,6 @@ from etcd import Member, coded, decoded
 ROOM = 'room/2/'  # by the version of what an entry is
 LIST, AFTER_LIST = f'{ROOM}list/', f'{ROOM}list0'
 HEAD = f'{ROOM}head'  # the place of the last entry
-STOPPED = f'{ROOM}stopped'  # why no machine takes more
 MOST_READ = 100  # entries that are read at once
 HEAD_FORM = re.compile(rb'(0|[1-9][0-9]{0,11}) ([0-9a-f]{64})')
 
@@ -23,12 +23,12 @@ class Lost(Exception):
 @dataclasses.dataclass(frozen=True)
 class Found:
     """What a look at the list gave: the entries behind the place that was known, whether they are
-    all, what stands among them and is none, why no machine takes more, and etcd's revision."""
+    all, what stands among them and is none, etcd's revision, and why the list can't go on."""
     entries: list[Entry]
     is_all: bool
     foreign: list[str]
-    stopped: str
     revision: int
+    fault: str = ''
 
 
 def key_of(number: int) -> str:
@@ -79,22 +79,35 @@ def head_of(text: bytes) -> Place | None:
     return Place(int(found[1]), found[2].decode()) if found else None
 
 
-def linked(known: Place, rows: list[tuple[str, bytes]]) -> tuple[list[Entry], list[str]]:
-    """The entries among rows that follow a place, one behind the other, and the keys of all that
-    is none of them. Every machine finds the same."""
-    entries, foreign = [], []
-    for key, text in rows:
+def linked(known: Place | None, rows: list[tuple[str, bytes]]) -> tuple[list[Entry], list[str]]:
+    """The entries among rows that follow a place, one behind the other, or of none the most that
+    do; where several stand behind one, those that go on. And the keys of all that is none of them.
+    Every machine finds the same."""
+    behind: dict[str, list[Entry]] = collections.defaultdict(list)  # by the digest before
+    lengths: dict[str, int] = {}  # of what begins with an entry, by its digest
+
+    def length(entry: Entry | None) -> int:
+        return lengths[entry.place.digest] if entry else 0
+
+    def next_of(place: Place) -> Entry | None:
+        return max((it for it in behind[place.digest] if it.follows(place)), key=length,
+                   default=None)
+    for key, text in reversed(rows):
         try:
             entry = entry_of(text)
         except NoEntry:
-            foreign.append(key)
             continue
-        if key == key_of(entry.number) and entry.follows(known):
-            entries.append(entry)
-            known = entry.place
-        else:
-            foreign.append(key)
-    return entries, foreign
+        if key == key_of(entry.number):
+            lengths[entry.place.digest] = 1 + length(next_of(entry.place))
+            behind[entry.before].append(entry)
+    every = [it for some in behind.values() for it in some]
+    found = next_of(known) if known else max(every, key=length, default=None)
+    entries = []
+    while found:
+        entries.append(found)
+        found = next_of(found.place)
+    keys = {key_of(it.number) for it in entries}
+    return entries, [key for key, _ in rows if key not in keys]
 
 
 # ---- what is asked of etcd, and what its answers say
@@ -108,7 +121,7 @@ def transaction(holds: list[dict], then: list[dict], otherwise: list[dict] = ())
 
 def looks(known: Place, is_serializable: bool) -> list[dict]:
     how = {'serializable': is_serializable}
-    return [get(span(HEAD), **how), get(span(STOPPED), **how),
+    return [get(span(HEAD), **how),
             get(span(key_of(known.number + 1), AFTER_LIST), limit=MOST_READ, **how)]
 
 
@@ -120,29 +133,27 @@ def reading(known: Place, is_latest: bool) -> dict:
 def keeping(known: Place, entry: Entry) -> dict:
     """Has an entry put behind the place that is known, where that is the list's end. Where that is
     asked again after Unreached, for the same place, at most one of both is done."""
-    holds = [is_value(HEAD, known.text()), is_none(span(STOPPED))]
-    return transaction(holds, [put(key_of(entry.number), entry.text),
-                               put(HEAD, entry.place.text())])
+    return transaction([is_value(HEAD, known.text())], [
+        put(key_of(entry.number), entry.text), put(HEAD, entry.place.text())])
 
 
 def kept(entry: Entry, answer: dict) -> Found | None:
     """What there is once an entry was put, nothing where it was not."""
     if not answer.get('succeeded'):
         return None
-    return Found([entry], True, [], '', int(answer['header']['revision']))
+    return Found([entry], True, [], int(answer['header']['revision']))
 
 
 def seen(known: Place, answer: dict) -> Found | None:
     """What looks gave, of one moment; nothing where the list does not end where its entries do."""
-    heads, stops, rows = (it['response_range'] for it in answer['responses'])
-    stopped = ''.join(value.decode(errors='replace') for _, value in pairs(stops))
+    heads, rows = (it['response_range'] for it in answer['responses'])
     entries, foreign = linked(known, pairs(rows))
     last = entries[-1].place if entries else known
     head = head_of(pairs(heads)[0][1]) if heads.get('kvs') else None
     is_all = head is not None and head.text() == last.text()
-    if not is_all and not (rows.get('more') and (head is None or head.number > last.number)):
+    if not is_all and not (rows.get('more') and entries):
         return None
-    return Found(entries, is_all, foreign, stopped, int(answer['header']['revision']))
+    return Found(entries, is_all, foreign, int(answer['header']['revision']))
 
 
 class KeptList:
@@ -163,29 +174,32 @@ class KeptList:
         found = seen(known, answer)
         if found:
             return found
-        heads, stops, rows = (it['response_range'] for it in answer['responses'])
+        heads, rows = (it['response_range'] for it in answer['responses'])
         entries, foreign = linked(known, pairs(rows))
-        if is_latest:
-            self.explain(known, entries[-1].place if entries else known, heads)
-        stopped = ''.join(value.decode(errors='replace') for _, value in pairs(stops))
-        return Found([], False, foreign, stopped, int(answer['header']['revision']))
+        revision = int(answer['header']['revision'])
+        if not is_latest:
+            return Found([], False, [], revision)
+        fault = self.fault(entries[-1].place if entries else known, heads)
+        return Found([], False, [] if fault else foreign, revision, fault)
 
-    def explain(self, known: Place, last: Place, heads: dict) -> None:
-        """Why the list doesn't end where its entries do. Where its head is foreign, nothing was put
-        since, so the head is mended."""
+    def fault(self, last: Place, heads: dict) -> str:
+        """Why the list doesn't end where its entries do, or nothing where its head is foreign, or
+        was not moved, and is mended: nothing was put since."""
+        entry = self.entry(last.number)
         row = (heads.get('kvs') or [{}])[0]
         head = head_of(decoded(row.get('value', '')))
-        if head and head.number < known.number:
-            raise Lost(f'the list went back: it ends at record {head.number}, and this room has '
-                       f'played {known.number}')
-        if head:
-            raise Lost(f'record {last.number + 1} of the list is not behind record {last.number} '
-                       'of this room')
-        entry = self.entry(last.number)
         if not entry or entry.place != last:
-            raise Lost(f'the list is gone, and this room has played {known.number}')
-        revision = int(row.get('mod_revision', 0))
-        self.change([is_of(HEAD, revision)], [put(HEAD, last.text())])
+            raise Lost(f'the list went back: it ends at record {head.number if head else 0}, and '
+                       f'this room has played {last.number}')
+        if not head or head.number < last.number:
+            self.change([is_of(HEAD, int(row.get('mod_revision', 0)))], [put(HEAD, last.text())])
+            return ''
+        entry = self.entry(head.number)
+        if entry and entry.place.text() == head.text():
+            return (f'record {last.number + 1} of the list is gone: bring a copy of another '
+                    'machine, or companion.py mend')
+        return (f'the list ends at record {last.number}, and its head names another record '
+                f'{head.number}: companion.py mend')
 
     def read(self, known: Place, is_latest: bool = False) -> Found:
         return self.found(known, self.member.ask(TXN, reading(known, is_latest)), is_latest)
@@ -199,6 +213,16 @@ class KeptList:
             except NoEntry:
                 return None
         return None
+
+    def rows(self) -> collections.abc.Iterator[tuple[str, bytes]]:
+        """All keys of the list, and what stands there."""
+        first = LIST
+        while first:
+            asked = span(first, AFTER_LIST) | {'limit': MOST_READ}
+            found = self.member.ask('/v3/kv/range', asked)
+            rows = pairs(found)
+            yield from rows
+            first = f'{rows[-1][0]}\0' if found.get('more') else ''
 
     def ends(self) -> tuple[int, int]:
         """The numbers of the first entry and of the head."""

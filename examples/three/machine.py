@@ -21,6 +21,7 @@ AGREES_WITHIN = 5.0  # seconds without a put of this machine, of which there is 
 GONE_AFTER = 1.5  # seconds of silence of the member or the room, until none is asked to wait
 MOST_BEHIND = 2000  # records that the room may be behind by while more are kept
 MOST_WAITING = 1000  # requests
+MOST_FOREIGN = 50  # foreign values that are named
 BEATS_EVERY = 0.1  # seconds between two looks at the clock
 HELD = 1.0  # seconds: a look that comes so late shows that this process was held
 
@@ -32,25 +33,25 @@ class Settings:
     """What a machine is given."""
     machine: int
     of: int
-    listen: tuple[str, int]
     deadline: float
     trusts_clock: bool
     log: bool
-    history: int  # revisions that etcd keeps behind the newest
+    revisions: int  # that etcd keeps behind the newest
     away_after: float  # seconds of another machine's silence, after which it is reported
 
 
 class Machine:
     """One machine: its asks, the list as far as it is known, and the room that plays it."""
 
-    def __init__(self, settings: Settings, how: Playing, copy: Copy, place: Place):
+    def __init__(self, settings: Settings, how: Playing, copy: Copy, place: Place,
+                 connections: Connections):
         self.settings = settings
         self.tail = Tail(copy, place)
         self.player = Player(how, self.tail)
         self.player.give, self.player.lose = self.give, self.lose_questions
         self.player.is_awaited = lambda entry: entry.machine == settings.machine
         self.clocks = OtherClocks()
-        self.connections = Connections(self.take)
+        self.connections = connections
         self.turns = Turns(settings.machine, settings.of)
         self.run, self.asked = f'{settings.machine}-{secrets.token_hex(8)}', 0
         self.unkept: dict[str, Ask] = {}
@@ -61,7 +62,7 @@ class Machine:
         self.reached = self.agreed = self.moved = self.beaten = passed()
         self.held = float('-inf')
         self.revision = 0
-        self.stopped = self.full = ''
+        self.stopped = self.full = self.fault = ''
         self.foreign: set[str] = set()
         self.is_serving = False
         self.own: collections.abc.Callable[[str], bytes] = lambda _: b''
@@ -86,7 +87,7 @@ class Machine:
         if now - self.beaten > HELD:
             self.held = now  # before the next beat, as what came meanwhile is read first
         if self.is_stopping or not self.is_serving:
-            return 'it is not serving'
+            return self.fault or 'it is not serving'
         if now - self.reached > GONE_AFTER:
             return 'etcd is silent'
         if not self.player.is_open:
@@ -97,15 +98,15 @@ class Machine:
             return 'it was held'
         if len(self.unanswered) >= MOST_WAITING:
             return 'too many wait'
-        return (self.stopped or self.full or self.wrong_clock(clocks.moment())
+        return (self.fault or self.stopped or self.full or self.wrong_clock(clocks.moment())
                 or ('most members of etcd are silent' if now - self.agreed > AGREES_WITHIN else ''))
 
     def wrong_clock(self, moment: int) -> str:
         ahead = self.clocks.ahead(moment)
         if ahead is None:
             return '' if self.settings.trusts_clock else 'no other machine tells its clock'
-        if ahead > clocks.AHEAD:
-            return f'the clock is {ahead} s ahead of the others'
+        if abs(ahead) > clocks.APART:
+            return f'the clock is {abs(ahead)} s {"ahead of" if ahead > 0 else "behind"} the others'
         return ''
 
     def behind(self) -> int:
@@ -181,8 +182,11 @@ class Machine:
         if not self.behind():
             self.moved = self.reached
         self.revision = max(self.revision, found.revision)
-        self.stopped = found.stopped
-        for key in set(found.foreign) - self.foreign:
+        if found.is_all or found.entries or found.fault:
+            self.fault = found.fault
+        if found.fault:
+            say(found.fault)
+        for key in list(set(found.foreign) - self.foreign)[:MOST_FOREIGN - len(self.foreign)]:
             say(f'{key!r} is no record, and is left out')
             self.foreign.add(key)
         self.add(found.entries)
@@ -203,17 +207,16 @@ class Machine:
     async def serve(self, catch_up: Doing, hear: Doing, *more: Doing) -> None:
         """Serves terminals until it is stopped."""
         async with asyncio.TaskGroup() as group:
-            endless = [group.create_task(it()) for it in (self.connections.sweep, hear)]
+            hearing = group.create_task(hear())
             for it in self.player.play, self.beat, *more:
                 group.create_task(it())
-            await self.listen(catch_up)
-            for it in endless:
-                it.cancel()
+            await self.answer_all(catch_up)
+            hearing.cancel()
 
-    async def listen(self, catch_up: Doing) -> None:
-        """Takes connections: of who asks how it is at once, and of terminals once the room has all
-        that the list has."""
-        self.connections.listen(*self.settings.listen)
+    async def answer_all(self, catch_up: Doing) -> None:
+        """Answers who asks how it is at once, and terminals once the room has all that the list
+        has."""
+        self.connections.answering = self.take
         await catch_up()
         if not self.is_stopping:
             self.is_serving = True

@@ -20,7 +20,7 @@ from copies import Copy
 from entries import Record
 
 DIGEST = pathlib.Path(__file__).resolve().parent / 'digest.py'
-OPENS_WITHIN = 120.0  # seconds until the first answer: opening reads the whole file
+OPENS_WITHIN = 120.0  # seconds in which a program that opens the file has to do something
 ANSWERS_WITHIN = 10.0  # seconds until any other is
 ENDS_WITHIN = 30.0  # seconds that the program may take to put its log into its file
 DROPS_WITHIN = 0.5  # seconds that one of no more use may take to end by itself
@@ -37,22 +37,27 @@ class Changed(Exception):
     """A copy's file has changed since it was made."""
 
 
-def digest_of(file: pathlib.Path) -> str:
-    """The digest of a file's room, by a process that leaves this one to its work."""
-    done = subprocess.run([sys.executable, DIGEST, file], capture_output=True, text=True)
+def digest_of(program: str, file: pathlib.Path) -> str:
+    """Has the program open a file, test all of it, and put its log into it; gives its digest."""
+    done = subprocess.run([program, 'digest', file], capture_output=True, text=True)
     if done.returncode:
         raise OSError(f'{file}: {done.stderr.strip()[-200:]}')
-    return done.stdout.strip()
+    return done.stdout.split()[1]
 
 
-def close_room(program: str, file: pathlib.Path) -> str:
-    """Has the program open a file, test all of it, and put its log into it; gives its digest."""
-    digest = digest_of(file)
-    done = subprocess.run([program, 'replay', file], input=f'room 2 {digest}\n'.encode(),
-                          capture_output=True)
-    if done.returncode:
-        raise OSError(f'{file}: {done.stderr.decode(errors="replace").strip()}')
-    return digest
+def is_whole(copy: Copy) -> bool:
+    """Whether a copy's file is what it was, looked at beside the program, which did not open it."""
+    done = subprocess.run([sys.executable, DIGEST, copy.file], capture_output=True, text=True)
+    return done.stdout.strip() == copy.room
+
+
+def worked(process: int) -> int:
+    """Ticks of the processor that a process has had."""
+    try:
+        rest = pathlib.Path(f'/proc/{process}/stat').read_text().rpartition(')')[2].split()
+    except OSError:
+        return 0
+    return int(rest[11]) + int(rest[12])
 
 
 class PlayedRoom:
@@ -69,26 +74,25 @@ class PlayedRoom:
         self.waiting: collections.deque = collections.deque()  # what is not answered yet
         self.awaited = 0  # of these the last that somebody waits for, counted from 1
         self.heard = time.monotonic()
-        self.within = OPENS_WITHIN
+        self.within, self.worked = OPENS_WITHIN, 0
 
     async def start(self) -> None:
         """Starts the program over the copy, or where it was ended well over what it left."""
         is_copy = not self.file.exists()
         if is_copy:
             await asyncio.to_thread(shutil.copyfile, self.copy.file, self.file)
-        digest = await asyncio.to_thread(digest_of, self.file)
-        if is_copy and digest != self.copy.room:
-            raise Changed(f'{self.copy.file} is not what it was')
+        digest = self.copy.room if is_copy else await asyncio.to_thread(
+            digest_of, self.program, self.file)
         source, sink = os.pipe()
         self.answers = Answers(source, self.take)
         try:
             self.process = await asyncio.create_subprocess_exec(
-                self.program, 'replay', self.file, '--answers', stdin=asyncio.subprocess.PIPE,
-                stdout=sink, start_new_session=True)
+                self.program, 'replay', self.file, '--answers', '--history',
+                stdin=asyncio.subprocess.PIPE, stdout=sink, start_new_session=True)
         finally:
             os.close(sink)
         self.process.stdin.write(f'room 2 {digest}\n'.encode())
-        self.within, self.heard = OPENS_WITHIN, time.monotonic()
+        self.within, self.worked, self.heard = OPENS_WITHIN, 0, time.monotonic()
 
     def send(self, moment: int, asked: collections.abc.Sequence, is_awaited: bool) -> None:
         """Hands the room what has a message, and whether somebody waits for the answers. They are
@@ -120,6 +124,8 @@ class PlayedRoom:
         the machine sleeps, as it does itself.)"""
         if self.answers.ended.done():
             raise Ended('the room ended')
+        if self.within == OPENS_WITHIN and (has_worked := worked(self.process.pid)) > self.worked:
+            self.worked, self.heard = has_worked, time.monotonic()
         if self.waiting and time.monotonic() - self.heard > self.within:
             raise Ended('the room is silent')
 

@@ -1,5 +1,5 @@
 """Plays the list on one machine's room, and asks it the questions of terminals where they belong;
-makes a copy of it at each of so many records, at the same ones on every machine."""
+makes a copy of it at each of so many records, not at the same ones on every machine."""
 import asyncio
 import collections
 import collections.abc
@@ -13,11 +13,14 @@ import copies
 from clocks import LAST_MOMENT, moment
 from copies import Copy
 from entries import Entry, Place, Record
-from played_room import Ended, PlayedRoom, close_room
+from played_room import Changed, Ended, PlayedRoom, digest_of, is_whole
 from said import say
 
 MOST_HANDED = 300  # messages that the room may have and not have answered
+MOST_KNOWN = 20_000  # records of which the digest of all answers is known
 TRY_EVERY = 0.2  # seconds until what failed is tried again
+COPIES_AGAIN = 10.0  # seconds until a copy that failed is tried again
+COMMON = 3  # every so many copies, there is one behind the same record on all machines
 NOBODY = (b'GET /queue HTTP/1.1\r\nHost: room\r\nX-Terminal: 00000000\r\n'
           b'Content-Length: 0\r\n\r\n')
 
@@ -36,6 +39,14 @@ class Playing:
     folder: pathlib.Path
     work: pathlib.Path
     copy_every: int
+    shift: int  # records by which its copies are before those of a machine without it
+
+    def is_time_to_copy(self, entry: Entry) -> bool:
+        """Machines make copies behind different entries, so that not all are busy with it, or have
+        no space for it, at once; and some behind the same, by which their rooms are compared."""
+        def passes(every: int, shift: int) -> bool:
+            return (entry.number + shift) // every > (entry.first - 1 + shift) // every
+        return passes(self.copy_every, self.shift) or passes(COMMON * self.copy_every, 0)
 
 
 class Tail:
@@ -61,18 +72,18 @@ class Player:
     def __init__(self, how: Playing, tail: Tail):
         self.how, self.tail = how, tail
         self.played = self.sent = tail.copy.number  # answered, and handed to the room
-        self.answers = b''
+        self.answers: dict[int, bytes] = {}  # the digests of all until a record, of the last ones
         self.questions: collections.deque = collections.deque()
         self.changed = asyncio.Event()
-        self.is_stopping = self.wants_copy = self.is_open = False
+        self.is_stopping = self.wants_copy = self.is_open = self.is_odd = False
         self.copying: asyncio.Task | None = None
+        self.uncopied = ''  # why the last copy failed
         # Whether terminals of this machine wait for an entry. And what the machine takes: the
-        # answer of a record, that the room ended with all questions that it had, a copy, what
-        # became of a record that is no message, and a file that no program has open.
+        # answer of a record, that the room ended with all questions that it had, what became of a
+        # record that is no message, and a file that no program has open.
         self.is_awaited: collections.abc.Callable[[Entry], bool] = lambda _: False
         self.give: collections.abc.Callable[[Record, int, bytes], None] = lambda *_: None
         self.lose: collections.abc.Callable[[], None] = lambda: None
-        self.report: collections.abc.Callable[[Copy], None] = lambda *_: None
         self.note: collections.abc.Callable[[int, bytes], None] = lambda *_: None
         self.look_at: collections.abc.Callable[[pathlib.Path], None] = lambda _: None
 
@@ -93,13 +104,18 @@ class Player:
     async def play_from_copy(self) -> None:
         copy = self.tail.copy
         self.played = self.sent = copy.number
-        self.answers = bytes.fromhex(copy.answers)
+        self.answers = {copy.number: bytes.fromhex(copy.answers)}
         room = PlayedRoom(self.how.program, copy, self.how.work, self.take_all)
         try:
             await self.start(room)
             while not self.is_stopping:
                 await self.feed(room)
             await self.end(room)
+        except Ended:
+            if not self.is_open and not await asyncio.to_thread(is_whole, copy):
+                raise Changed(f'not the room of the list any more: {copies.set_aside(copy)}'
+                              ) from None
+            raise
         finally:
             self.is_open = False
             self.questions.clear()
@@ -128,7 +144,7 @@ class Player:
             await self.copy(room, self.place_played())
         elif entry and len(room.waiting) < MOST_HANDED:
             await self.hand(room, entry)
-            if self.is_time_to_copy(entry):
+            if self.how.is_time_to_copy(entry):
                 await self.copy(room, entry.place)
         else:
             self.changed.clear()
@@ -163,8 +179,10 @@ class Player:
             if isinstance(asked, Question):
                 asked.take(self.played, answer)
             else:
+                before = self.answers[self.played]
+                self.answers[self.played + 1] = hashlib.sha256(before + answer).digest()
+                self.answers.pop(self.played - MOST_KNOWN, None)
                 self.played += 1
-                self.answers = hashlib.sha256(self.answers + answer).digest()
                 self.give(asked, self.played, answer)
         if self.played == self.sent:
             self.changed.set()
@@ -177,34 +195,43 @@ class Player:
 
     # ---- copies
 
-    def is_time_to_copy(self, entry: Entry) -> bool:
-        """Every machine makes a copy behind the same entries, so that copies can be compared."""
-        every = self.how.copy_every
-        return entry.number // every > (entry.first - 1) // every
-
     async def copy(self, room: PlayedRoom, place: Place) -> None:
         """Copies the files of the room while it has nothing to do. What is made of them, with a
-        test of every row, takes its time beside the room."""
+        test of every row, takes its time beside the room. A copy that fails stops nothing. Of a
+        room that is the odd one none is made: it would take the place of one that is right."""
+        self.wants_copy = False
+        if self.is_odd:
+            return
         if self.copying:
             await asyncio.wait([self.copying])
-        self.wants_copy = False
         await self.quiet(room)
         part = self.how.folder / f'part.{place.number}'
-        await asyncio.to_thread(copies.take, room.file, part)
-        self.copying = asyncio.create_task(self.keep_copy(part, place, self.answers.hex()))
+        try:
+            await asyncio.to_thread(copies.take, room.file, part)
+        except OSError as error:
+            self.fail_copy(part, place, error)
+            return
+        answers = self.answers[place.number].hex()
+        self.copying = asyncio.create_task(self.keep_copy(part, place, answers))
 
     async def keep_copy(self, part: pathlib.Path, place: Place, answers: str) -> None:
         try:
-            room = await asyncio.to_thread(close_room, self.how.program, part / 'room.db')
+            room = await asyncio.to_thread(digest_of, self.how.program, part / 'room.db')
             copy = copies.copy_at(self.how.folder, place, answers, room)
             await asyncio.to_thread(copies.keep, part / 'room.db', copy)
         except OSError as error:
-            say(f'no copy of record {place.number}: {error}')
+            self.fail_copy(part, place, error)
             return
-        finally:
-            copies.drop_part(part)
+        copies.drop_part(part)
+        self.uncopied = ''
         self.tail.begin_at(copy)
-        await asyncio.to_thread(self.report, copy)
+
+    def fail_copy(self, part: pathlib.Path, place: Place, error: OSError) -> None:
+        """Deletes what a copy that failed has left, and has another one made later."""
+        copies.drop_part(part)
+        self.uncopied = f'no copy of record {place.number}: {error}'
+        say(self.uncopied, 'copy')
+        asyncio.get_running_loop().call_later(COPIES_AGAIN, setattr, self, 'wants_copy', True)
 
     async def end(self, room: PlayedRoom) -> None:
         """Ends the program well, and keeps a copy of what it leaves."""
@@ -213,9 +240,9 @@ class Player:
         if self.copying:
             await asyncio.wait([self.copying])
         if self.played > self.tail.copy.number:
-            place = self.place_played()
-            await self.copy(room, place)
-            await asyncio.wait([self.copying])
+            await self.copy(room, self.place_played())
+            if self.copying:
+                await asyncio.wait([self.copying])
 
     def place_played(self) -> Place:
         """That of the entry that was played last."""

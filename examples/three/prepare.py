@@ -3,7 +3,8 @@
 units of systemd are given. What is in FOLDER/N goes to machine N, as /etc/dispatch-room-three; the
 authority's key stays where it is.
 
-  prepare.py FOLDER 192.0.2.1 192.0.2.2 192.0.2.3"""
+  prepare.py FOLDER 192.0.2.1 192.0.2.2 192.0.2.3
+  prepare.py FOLDER 192.0.2.1 192.0.2.2 192.0.2.3 --renew      makes certificates anew"""
 import argparse
 import ipaddress
 import os
@@ -42,12 +43,14 @@ def main() -> int:
     parser.add_argument('folder', metavar='FOLDER', type=pathlib.Path)
     parser.add_argument('addresses', metavar='ADDRESS', nargs=3, type=ipaddress.ip_address,
                         help='by which the members of etcd reach each other')
+    parser.add_argument('--renew', action='store_true',
+                        help='make certificates anew, which are good beside those of before')
     words = parser.parse_args()
     addresses = [f'[{it}]' if it.version == 6 else str(it) for it in words.addresses]
     os.umask(0o077)
     folders = {words.folder / str(it): str(words.addresses[it - 1]) for it in NUMBERS}
     try:
-        certificates.make_all(words.folder / 'authority', folders)
+        certificates.make_all(words.folder / 'authority', folders, words.renew)
         for number in NUMBERS:
             machine, folder = machine_at(number, addresses), words.folder / str(number)
             (folder / 'member.env').write_text(member_environment(machine))

@@ -1,26 +1,27 @@
-"""What a machine does beside serving: it gives the others its clock and its copies, compares
-copies, and keeps the list short and etcd within its quota."""
+"""What a machine does beside serving: it gives the others its clock and what its room is by,
+compares theirs, and keeps the list short and etcd within its quota."""
 import asyncio
-import collections
 import json
-import threading
+import shutil
 import time
 
 import clocks
+import copies
+from certificates import WARNED as WARNED_DAYS
 from clocks import passed
-from copies import Copy
-from etcd import Member, Reach, Unreached
+from comparison import Comparison
+from etcd import Member, Reach, Sizes, Unreached
 from keeping import ETCD_WITHIN
-from kept_list import ROOM, STOPPED, KeptList, delete, is_none, put, span
+from kept_list import ROOM, KeptList, put
 from machine import Machine
 from said import say
 
 WORDS = f'{ROOM}machines/'  # what each machine reports of itself
-COPIES = f'{ROOM}copies/'  # up to which record each machine has a copy
-DIGESTS = f'{ROOM}digests/'  # of copies, by the number of their last record and the machine
+COPIES = f'{ROOM}copies/'  # up to which record each machine has a copy, and one that is sure
 OUT = f'{ROOM}out/'  # machines that are not counted
 OUTCOMES = f'{ROOM}outcomes/'  # of records that are no messages
 REPORTS_EVERY, REPORTS_WITHIN = 1.0, 5.0  # seconds
+SILENT = 5.0  # seconds without a word of a machine, which then does not count
 MEASURES_EVERY = 5.0  # seconds between two looks at etcd's quota
 COPIES_APART = 10.0  # seconds between copies of a machine whose etcd is half full
 COMPACTS_EVERY = 300.0  # seconds: what machines report of themselves each second is let go
@@ -29,43 +30,14 @@ WARNED, FULL = 0.5, 0.8  # parts of the quota: it is reported, and no more is ta
 WASTED = 0.5  # the part of a member's file in use, below which it is made anew
 
 
-def reported_digests(kept: KeptList) -> dict[int, dict[int, str]]:
-    """The digests that machines have reported, by the record and the machine."""
-    found: dict[int, dict[int, str]] = collections.defaultdict(dict)
-    for key, value, _ in kept.values(DIGESTS):
-        number, _, machine = key.partition('/')
-        if number.isdigit() and machine.isdigit():
-            found[int(number)][int(machine)] = value.decode(errors='replace')
+def reported_copies(kept: KeptList) -> dict[int, tuple[int, int]]:
+    """The last records of each machine's newest copy, and of the newest that is another's too."""
+    found = {}
+    for key, value, _ in kept.values(COPIES):
+        numbers = [int(it) for it in value.split() if it.isdigit()]
+        if key.isdigit() and numbers:
+            found[int(key)] = numbers[0], [*numbers, 0][1]
     return found
-
-
-def difference(reported: dict[int, dict[int, str]]) -> str:
-    """What two machines report differently of one record, or nothing."""
-    for number, by in sorted(reported.items()):
-        one = min(by)
-        for other in sorted(by):
-            if by[other] != by[one]:
-                return (f'the rooms differ at record {number}: machine {one} has {by[one]}, '
-                        f'machine {other} has {by[other]}')
-    return ''
-
-
-def last_agreed(reported: dict[int, dict[int, str]], machine: int) -> int | None:
-    """Where two others differ from a machine and not from each other: the last record before of
-    which it reported the same as they. None where no machine is the odd one."""
-    agreed = 0
-    for number, by in sorted(reported.items()):
-        others = [it for other, it in by.items() if other != machine]
-        if machine in by and len(others) > 1 and set(others) != {by[machine]}:
-            return agreed if len(set(others)) == 1 else None
-        if machine in by and set(others) == {by[machine]}:
-            agreed = number
-    return None
-
-
-def numbers_of(kept: KeptList, prefix: str) -> dict[int, int]:
-    return {int(key): int(value) for key, value, _ in kept.values(prefix)
-            if key.isdigit() and value.isdigit()}
 
 
 class Upkeep:
@@ -76,18 +48,21 @@ class Upkeep:
         self.me = machine.settings.machine
         self.others = [it for it in range(1, machine.settings.of + 1) if it != self.me]
         self.words: dict[int, dict] = {}  # what the other machines last reported
-        self.sizes = 0, 0, 0  # of etcd's file, what of it is in use, and the quota
+        self.comparison = Comparison(machine.settings.of)
+        self.sizes = Sizes()
+        self.lost = 0  # copies that were set aside
+        self.free: dict[str, int] = {}  # bytes of the folders for copies and for the room
+        self.days: dict[str, int] = {}  # until each certificate of this machine ends
         self.measured, self.compacted = float('-inf'), passed()
         self.copied = passed()
-        self.unreported: Copy | None = None  # a copy of which the others have not heard
-        self.reporting = threading.Lock()
-        machine.player.report, machine.player.note = self.report_copy, self.report_outcome
+        self.reported = -1, -1  # the records of copies of which the others have heard
+        machine.player.note = self.report_outcome
 
     async def run(self) -> None:
         while not self.machine.is_stopping:
             try:
                 await asyncio.to_thread(self.tend)
-            except Unreached as error:
+            except (Unreached, OSError) as error:
                 say(error)
             try:
                 async with asyncio.timeout(REPORTS_EVERY):
@@ -99,19 +74,36 @@ class Upkeep:
         """One round of it, on a connection of its own."""
         try:
             self.report_word()
-            self.report_again()
+            self.compare()
+            self.report_copy()
         finally:
             if passed() - self.measured > MEASURES_EVERY:
                 self.measured = passed()
+                self.measure()
                 self.keep_small()
 
-    # ---- clocks
+    def measure(self) -> None:
+        """Looks at the folders and the certificates of this machine."""
+        how, secured = self.machine.player.how, self.kept.member.reach.secured
+        self.free = {name: shutil.disk_usage(it).free
+                     for name, it in (('copies', how.folder), ('work', how.work))}
+        self.lost = len(list(how.folder.glob('lost.*')))
+        if secured:
+            secured.renew()
+            self.days = secured.days()
+        for name, days in self.days.items():
+            if days <= WARNED_DAYS:
+                say(f'the certificate {name} ends in {days} days: prepare.py --renew')
+
+    # ---- what the machines report of themselves
 
     def report_word(self) -> None:
         """Shows the others how this machine is, and hears them."""
         machine = self.machine
-        word = {'clock': clocks.moment(), 'played': machine.player.played,
-                'copy': machine.tail.copy.number}
+        number, made = machine.player.played, copies.copies_in(machine.player.how.folder)
+        answers = machine.player.answers.get(number, b'').hex()
+        word = {'clock': clocks.moment(), 'played': number, 'copy': machine.tail.copy.number,
+                'answers': answers, 'rooms': {str(it.number): it.room for it in made}}
         self.kept.change([], [put(f'{WORDS}{self.me}', json.dumps(word))])
         machine.agreed = passed()  # most members took it
         for key, value, revision in self.kept.values(WORDS):
@@ -124,70 +116,66 @@ class Upkeep:
                     f'or is left out (companion.py leave-out {other})')
 
     def hear(self, other: int, value: bytes, revision: int) -> None:
+        """Hears a machine; what stood there before this one started may be of another list."""
         try:
             word = json.loads(value)
-            self.machine.clocks.hear(other, revision, int(word['clock']))
+            if self.machine.clocks.hear(other, revision, int(word['clock'])):
+                self.compare_with(other, int(word['played']), word.get('answers', ''),
+                                  word.get('rooms', {}))
             self.words[other] = word
-        except (ValueError, KeyError, TypeError):
+        except (ValueError, KeyError, TypeError, AttributeError):
             say(f'what machine {other} reports of itself is no word of a companion')
+
+    def compare_with(self, other: int, number: int, answers: str, rooms: dict[str, str]) -> None:
+        """Compares what a machine reports with this one's room and copies."""
+        own, note = self.machine.player.answers.get(number), self.comparison.note
+        if own and answers:
+            note(other, 'answers', number, own.hex() == answers)
+        for it in reversed(copies.copies_in(self.machine.player.how.folder)):
+            if room := rooms.get(str(it.number)):
+                note(other, 'rooms', it.number, room == it.room)
+
+    def compare(self) -> None:
+        """Takes nothing more where this is the odd one of the machines, or none is known to be."""
+        machine, was_odd = self.machine, self.comparison.odd
+        machine.stopped = self.comparison.judge(
+            {it for it in self.others if machine.clocks.silent_for(it) > SILENT})
+        if self.comparison.odd and not was_odd:
+            machine.player.is_odd = True
+            say(self.comparison.odd)
+            copies.note_agreed(machine.player.how.folder, self.comparison.last_agreed())
 
     # ---- copies
 
-    def report_copy(self, copy: Copy) -> None:
-        """Informs the others of a copy, or where etcd is silent with a later round."""
-        self.copied, self.unreported = passed(), copy
-        with self.reporting:
-            self.report_unreported(KeptList(Member(self.kept.member.reach, REPORTS_WITHIN)))
-
-    def report_again(self) -> None:
-        """Informs the others of a copy of which they have not heard, unless that is under way."""
-        if self.unreported and self.reporting.acquire(blocking=False):
-            try:
-                self.report_unreported(self.kept)
-            finally:
-                self.reporting.release()
-
-    def report_unreported(self, kept: KeptList) -> None:
-        copy = self.unreported
-        try:
-            if copy:
-                self.compare(copy, kept)
-        except Unreached as reason:
-            say(reason)
-        else:
-            self.unreported = None if self.unreported is copy else self.unreported
-
-    def compare(self, copy: Copy, kept: KeptList) -> None:
-        """Gives the others a copy's digests, unless the list went back behind it. Where two differ
-        at one record, none takes more. Records that all machines have in copies go from the
-        list."""
-        entry = kept.entry(copy.number)
-        if not entry or entry.place.digest != copy.digest:
+    def report_copy(self) -> None:
+        """Gives the others the records of the newest copy, unless the list went back behind it, and
+        of the one before, or of an older one that was the last to be as another's. Records that all
+        have in these go from the list."""
+        copy = self.machine.tail.copy
+        made = copies.copies_in(self.machine.player.how.folder)
+        before = made[1].number if len(made) > 1 else 0
+        numbers = copy.number, min(self.comparison.agreed_on('rooms'), before)
+        if numbers == self.reported:
             return
-        digests = f'room {copy.room} answers {copy.answers}'
-        kept.change([], [put(f'{COPIES}{self.me}', str(copy.number)),
-                         put(f'{DIGESTS}{copy.number:012}/{self.me}', digests),
-                         delete(span(f'{OUT}{self.me}'))])
-        differs = difference(reported_digests(kept))
-        if differs:
-            say(differs)
-            kept.change([is_none(span(STOPPED))], [put(STOPPED, differs)])
-        else:
-            self.drop(kept)
+        if numbers[0] != self.reported[0]:
+            self.copied = passed()
+        entry = self.kept.entry(copy.number)
+        if entry and entry.place.digest == copy.digest:
+            self.kept.change([], [put(f'{COPIES}{self.me}', '%d %d' % numbers)])
+            self.drop(self.kept)
+        self.reported = numbers
 
     def drop(self, kept: KeptList, is_urgent: bool = False) -> None:
-        """Lets go of what each machine that counts has in two copies, or where space is short in
-        one: so a machine whose newest is damaged plays on from that before."""
+        """Lets go of what each machine that counts has in two copies, up to one that was as
+        another's, or where space is short in any: so one whose newest is damaged, or whose room is
+        found to differ, plays on from that before."""
         out = {int(key) for key, _, _ in kept.values(OUT) if key.isdigit()}
-        copies, reported = numbers_of(kept, COPIES), reported_digests(kept)
+        reported = reported_copies(kept)
         counted = set(range(1, self.machine.settings.of + 1)) - out
-        if counted and counted <= copies.keys():
-            least = min(copies[it] for it in counted)
-            common = [it for it, by in reported.items() if it < least and counted <= by.keys()]
-            first = least if is_urgent else max(common, default=0)
-            kept.change([], [delete(span(DIGESTS, f'{DIGESTS}{first:012}'))])
-            history = 0 if is_urgent else self.machine.settings.history
-            self.compact(kept, kept.drop_before(first) - history)
+        if counted and counted <= reported.keys():
+            first = min(reported[it][0 if is_urgent else 1] for it in counted)
+            revisions = 0 if is_urgent else self.machine.settings.revisions
+            self.compact(kept, kept.drop_before(first) - revisions)
 
     def report_outcome(self, number: int, outcome: bytes) -> None:
         """Reports what became of a record that is no message."""
@@ -211,16 +199,17 @@ class Upkeep:
     def keep_small(self) -> None:
         """Looks how full etcd is, and makes room where it can."""
         member, machine = self.kept.member, self.machine
-        file, used, quota = self.sizes = member.sizes()
+        self.sizes = member.sizes()
+        file, used, quota = self.sizes[:3]
         alarms = [it for it in member.alarms() if it.get('alarm') == 'NOSPACE']
         if not quota:
             return
         if passed() - self.compacted > COMPACTS_EVERY:
             self.compacted = passed()
-            self.compact(self.kept, machine.revision - machine.settings.history)
+            self.compact(self.kept, machine.revision - machine.settings.revisions)
         machine.full = 'etcd is nearly full' if used > FULL * quota or alarms else ''
         if used > WARNED * quota or alarms:
-            say(f'etcd has {used} bytes in use and a quota of {quota}')
+            say(f'etcd has {used} bytes in use and a quota of {quota}', 'quota')
             machine.player.wants_copy = passed() - self.copied > COPIES_APART
             self.drop(self.kept, True)
         if alarms or file > WARNED * quota and used < WASTED * file and self.is_my_slot():
@@ -242,8 +231,8 @@ class Upkeep:
         finally:
             member.connection.close()
             member.connection.timeout = within
-        file, used, _ = self.sizes = member.sizes()
-        say(f'etcd has given space back: {file} bytes are left')
-        if file < FULL * quota:
+        self.sizes = member.sizes()
+        say(f'etcd has given space back: {self.sizes.file} bytes are left', 'space')
+        if self.sizes.file < FULL * quota:
             for it in alarms:
                 member.disarm(it)

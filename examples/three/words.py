@@ -1,9 +1,18 @@
-"""The words of a companion's command line."""
+"""The words of a companion's command line, and the list that they name."""
 import argparse
 import ipaddress
 import pathlib
 
-from etcd import Reach, context_of
+from certificates import Secured
+from etcd import Member, PatientMember, Reach
+from keeping import ETCD_WITHIN
+from kept_list import KeptList
+
+WAITS = 60.0  # seconds that a command waits for the machines
+
+
+class Refused(Exception):
+    """Why the companion does nothing."""
 
 
 def address(text: str) -> tuple[str, int]:
@@ -44,13 +53,21 @@ def add_etcd(parser: argparse.ArgumentParser) -> None:
 def reach_of(given: argparse.Namespace) -> Reach:
     """The member that is meant. Without certificates it is one of this machine."""
     host, port = given.etcd
-    context = None
+    secured = None
     if given.authority:
-        context = context_of(given.authority, given.certificate, given.key)
+        secured = Secured(given.authority, given.certificate, given.key)
     elif not ipaddress.ip_address(host).is_loopback:
         raise OSError(f'{host} is another machine: that wants --authority, --certificate and --key')
     password = given.password.read_text().strip() if given.password else ''
-    return Reach(host, port, context, given.user, password)
+    return Reach(host, port, secured, given.user, password)
+
+
+def kept_list(given: argparse.Namespace) -> KeptList:
+    return KeptList(Member(reach_of(given), ETCD_WITHIN))
+
+
+def patient_list(given: argparse.Namespace) -> KeptList:
+    return KeptList(PatientMember(reach_of(given), ETCD_WITHIN, WAITS))
 
 
 def add_serve(parser: argparse.ArgumentParser) -> None:
@@ -69,7 +86,7 @@ def add_serve(parser: argparse.ArgumentParser) -> None:
     parser.add_argument('--copy-every', metavar='RECORDS', type=int, default=30_000,
                         help='how often a copy of the room is made, the same on all machines '
                              '(%(default)s)')
-    parser.add_argument('--history', metavar='REVISIONS', type=int, default=1000,
+    parser.add_argument('--revisions', metavar='N', type=int, default=1000,
                         help='that etcd keeps of what was dropped (%(default)s)')
     parser.add_argument('--away-after', metavar='SECONDS', type=float, default=86_400.0,
                         help="of another machine's silence, until it is reported (%(default)s)")
@@ -88,7 +105,9 @@ def words_of(line: list[str], about: str) -> argparse.Namespace:
         'serve': 'serve terminals', 'enrol': 'enrol vehicles on all machines',
         'token': 'give a terminal another token',
         'leave-out': 'let the list go on without a machine',
-        'go-on': 'let the machines take more, that differed',
+        'replace': "make a machine's member of etcd a new one",
+        'mend': 'have the list end where its entries do',
+        'drop-list': 'end the list, for another one',
         'user': 'have etcd take nothing without its user'}.items()}
     for it in found.values():
         add_etcd(it)
@@ -98,7 +117,8 @@ def words_of(line: list[str], about: str) -> argparse.Namespace:
     found['enrol'].add_argument('fleet', metavar='FLEET', type=pathlib.Path)
     found['token'].add_argument('old', metavar='OLD')
     found['token'].add_argument('new', metavar='NEW')
-    found['leave-out'].add_argument('number', metavar='N', type=int)
+    for it in 'leave-out', 'replace':
+        found[it].add_argument('number', metavar='N', type=int, choices=range(1, 10))
     given = parser.parse_args(line)
     if isinstance(given.etcd, str):
         given.etcd = address(given.etcd)

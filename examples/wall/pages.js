@@ -3,6 +3,7 @@
 
 import { htmlNode, keep, set, setText } from './nodes.js';
 import { drawLines, linesOf, wholeLines } from './queues.js';
+import { drawUrgent } from './urgent.js';
 
 const TURN_EVERY = 8000; // milliseconds
 const MOST = 25; // lines that a page can have at most
@@ -10,9 +11,11 @@ const STEPS = { ArrowRight: 1, PageDown: 1, ArrowLeft: -1, PageUp: -1 };
 
 /** A page is as many lines as are seen whole; the next begins after its last. */
 export class Pages {
-  /** `bar` shows what there is to turn to; `changed` is run where another division is chosen. */
-  constructor(bar, sheet, changed) {
-    Object.assign(this, { bar, sheet, changed, division: null, isStopped: false, desks: [] });
+  /** `bar` shows what there is to turn to, `urgent` what does not turn; `changed` is run where
+      another division is chosen. */
+  constructor({ bar, urgent, sheet }, changed) {
+    Object.assign(this, { bar, urgent, sheet, changed, division: null, isStopped: false,
+      desks: [] });
     this.all = htmlNode('button', '', 'all');
     this.all.addEventListener('click', () => this.choose(null));
     this.chips = htmlNode('span', 'chips');
@@ -90,6 +93,7 @@ export class Pages {
       set(node, { 'aria-pressed': chosen.length === 1 && chosen[0] === desk });
       setText(node.count, String(desk.queue.length));
     });
+    drawUrgent(this.urgent, chosen);
     this.drawPage();
   }
 

@@ -18,7 +18,8 @@ let last = { desks: null, areas: [], age: 0, fault: null, came: performance.now(
   now: Date.now() / 1000, since: Date.now() / 1000, offset: -60 * new Date().getTimezoneOffset() };
 let trouble = ''; // why nothing newer came to this page, where it is not the room's fault
 
-const pages = new Pages(byId('pages'), byId('queues'), () => draw(last));
+const pages = new Pages({ bar: byId('pages'), urgent: byId('urgent'), sheet: byId('queues') },
+  () => draw(last));
 const elapsed = () => (performance.now() - last.came) / 1000;
 
 // ---- drawing

@@ -10,7 +10,7 @@ from .definitions import Definitions
 ROWS = TOP / 'tools' / 'promise_files' / 'promises.csv'
 NAMES = TOP / 'tools' / 'promise_files' / 'names.txt'
 # Of which sections a row is, beside those of the crates.
-PROMISES = [str(it) for it in range(1, 13)]
+PROMISES = [str(it) for it in range(1, 15)]
 WITHOUT_MEMORY = 'without memory'
 
 

@@ -8,7 +8,7 @@ ghost use Rattle.std.specs.Prelude.{string_bytes};
 ghost use Rattle.std.specs.IoError.{error_kind};
 ghost use Rattle.dispatch_room_cli.specs.ExitStatus.{status_after};
 ghost use Rattle.dispatch_room_cli.specs.declared.exit_status.Failure.TheVariants.{Memory};
-ghost use Rattle.dispatch_room_commands.specs.DoneTasks.{IsCommand};
+ghost use Rattle.dispatch_room_commands.specs.TaskSteps.{IsCommand};
 ghost use Rattle.dispatch_room_dry_run.specs.DryRunEnds.{IsRun};
 
 use dispatch_room_cli::exit_status::{Failure, end};

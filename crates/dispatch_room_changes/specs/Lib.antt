@@ -6,5 +6,5 @@ pub mod MadeChanges
 pub mod TerminalFiles
 -- what a change of a room's file does in its database
 pub mod ChangeTasks
--- what a change of a room's file comes to
-pub mod DoneChanges
+-- what a change of a room's file does, step after step
+pub mod ChangeSteps

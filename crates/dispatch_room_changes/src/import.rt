@@ -1,10 +1,9 @@
 //! `import`: the rows of a fleet are enrolled in a room.
 ghost use Rattle.std.specs.Prelude.{IfErr, IfOk};
 ghost use Rattle.dispatch_room_csv.specs.FleetFile.{IsFleetText};
-ghost use Rattle.dispatch_room_changes.specs.DoneChanges.{FailsImport, FailsImportOf, IsImport};
-ghost use Rattle.dispatch_room_changes.specs.DoneChanges.{IsImportOf};
-ghost use Rattle.dispatch_room_changes.specs.ChangeTasks.{Enrols, EnrolsNone};
 ghost use Rattle.dispatch_room_changes.specs.TerminalFiles.{GivesNoFleet};
+ghost use Rattle.dispatch_room_changes.specs.ChangeTasks.{Enrols};
+ghost use Rattle.dispatch_room_changes.specs.ChangeSteps.{IsImport, IsImportOf};
 
 use dispatch_room_cli::exit_status::{Done, Failure};
 use dispatch_room_csv::fleet_file::{FleetLine, read_fleet};
@@ -26,10 +25,8 @@ pub fn import<M: Machine, O: Write>(
     fleet: &str,
     out: &mut O,
 ) -> Result<Done, Failure>
-    ensures done { IfOk result (λ done. IsImport (M.surroundings machine) (O.contents out.old)
-        (O.contents out.new) done file.now fleet.now) }
-    ensures undone { IfErr result (λ fault. FailsImport (M.surroundings machine)
-        (O.contents out.old) (O.contents out.new) fault file.now fleet.now) }
+    ensures { IsImport (M.surroundings machine) file.now fleet.now (O.contents out.old)
+        (O.contents out.new) result }
 {
     let host = machine.host();
     let text = machine.read_text(fleet)?;
@@ -44,10 +41,8 @@ fn import_by<M: Machine, O: Write>(
     sheet: Sheet<'_>,
     out: &mut O,
 ) -> Result<Done, Failure>
-    ensures done { IfOk result (λ done. IsImportOf (M.surroundings machine) (O.contents out.old)
-        (O.contents out.new) done file.now sheet.entry.text.now) }
-    ensures undone { IfErr result (λ fault. FailsImportOf (M.surroundings machine)
-        (O.contents out.old) (O.contents out.new) fault file.now sheet.entry.text.now) }
+    ensures { IsImportOf (M.surroundings machine) file.now sheet.entry.text.now (O.contents out.old)
+        (O.contents out.new) result }
 {
     let lines = lines_in(sheet)?;
     let enrolment = Enrolment {
@@ -81,9 +76,7 @@ struct Enrolment<'a> {
 impl<'a> RoomTask for Enrolment<'a> {
     type Done = Done;
 
-    ghost says = { λ work. Enrols work.lines.now };
-
-    ghost refuses = { λ _. EnrolsNone };
+    ghost does = { λ work. Enrols work.lines.now };
 
     fn run<S: Alter + Drop, O: Write>(
         self,

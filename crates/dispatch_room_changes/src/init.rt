@@ -1,9 +1,9 @@
 //! `init`: a room is created in a file, by a plan.
 ghost use Rattle.std.specs.Prelude.{IfErr, IfOk};
 ghost use Rattle.dispatch_room_csv.specs.PlanFile.{IsPlanText};
-ghost use Rattle.dispatch_room_changes.specs.DoneChanges.{FailsInit, FailsInitOf, IsInit, IsInitOf};
-ghost use Rattle.dispatch_room_changes.specs.ChangeTasks.{Creates, CreatesNone};
 ghost use Rattle.dispatch_room_changes.specs.TerminalFiles.{GivesNoPlan};
+ghost use Rattle.dispatch_room_changes.specs.ChangeTasks.{Creates};
+ghost use Rattle.dispatch_room_changes.specs.ChangeSteps.{IsInit, IsInitOf};
 
 use dispatch_room_cli::exit_status::{Done, Failure};
 use dispatch_room_csv::plan_file::{PlanFile, read_plan};
@@ -26,10 +26,8 @@ pub fn init<M: Machine, O: Write>(
     plan: &str,
     out: &mut O,
 ) -> Result<Done, Failure>
-    ensures done { IfOk result (λ done. IsInit (M.surroundings machine) (O.contents out.old)
-        (O.contents out.new) done file.now plan.now) }
-    ensures undone { IfErr result (λ fault. FailsInit (M.surroundings machine) (O.contents out.old)
-        (O.contents out.new) fault file.now plan.now) }
+    ensures { IsInit (M.surroundings machine) file.now plan.now (O.contents out.old)
+        (O.contents out.new) result }
 {
     let host = machine.host();
     let text = machine.read_text(plan)?;
@@ -44,10 +42,8 @@ fn init_by<M: Machine, O: Write>(
     sheet: Sheet<'_>,
     out: &mut O,
 ) -> Result<Done, Failure>
-    ensures done { IfOk result (λ done. IsInitOf (M.surroundings machine) (O.contents out.old)
-        (O.contents out.new) done file.now sheet.entry.text.now) }
-    ensures undone { IfErr result (λ fault. FailsInitOf (M.surroundings machine)
-        (O.contents out.old) (O.contents out.new) fault file.now sheet.entry.text.now) }
+    ensures { IsInitOf (M.surroundings machine) file.now sheet.entry.text.now (O.contents out.old)
+        (O.contents out.new) result }
 {
     let plan = plan_in(sheet)?;
     let creation = Creation { plan: &plan };
@@ -77,9 +73,7 @@ struct Creation<'a> {
 impl<'a> RoomTask for Creation<'a> {
     type Done = Done;
 
-    ghost says = { λ work. Creates work.plan.now };
-
-    ghost refuses = { λ work. CreatesNone work.plan.now };
+    ghost does = { λ work. Creates work.plan.now };
 
     fn run<S: Alter + Drop, O: Write>(
         self,

@@ -1,9 +1,8 @@
 //! A change of a room, made in its file, and first kept in a list, if there is one.
 ghost use Rattle.std.specs.Prelude.{IfErr, OnOk};
-ghost use Rattle.dispatch_room_changes.specs.DoneChanges.{IsMade, IsUnmade};
-ghost use Rattle.dispatch_room_changes.specs.ChangeTasks.{Changes, ChangesKept, HoldsNoRoom};
-ghost use Rattle.dispatch_room_changes.specs.ChangeTasks.{LosesKeptRoom};
 ghost use Rattle.dispatch_room_lists.specs.RoomChanges.{IsTextOf};
+ghost use Rattle.dispatch_room_changes.specs.ChangeTasks.{Changes, ChangesKept};
+ghost use Rattle.dispatch_room_changes.specs.ChangeSteps.{IsMade};
 
 use crate::change_lists::ChangeList;
 use crate::kept_import::opened_list;
@@ -39,10 +38,8 @@ pub fn make_in_file<'a, M: Machine, O: Write, E: Write>(
     err: &mut E,
 ) -> Result<(), Failure>
     requires text { IsTextOf change.now text.now }
-    ensures done { OnOk result (IsMade (M.surroundings machine) (O.contents out.old)
-        (O.contents out.new) place.entry change.now) }
-    ensures undone { IfErr result (λ fault. IsUnmade (M.surroundings machine) (O.contents out.old)
-        (O.contents out.new) fault place.entry change.now) }
+    ensures { IsMade (M.surroundings machine) place.entry change.now text.now (O.contents out.old)
+        (O.contents out.new) result }
 {
     let explainer = machine.host().explainer;
     let file = RoomFile::Kept(place.file);
@@ -75,9 +72,7 @@ struct Making<'a, 'b> {
 impl<'a, 'b> RoomTask for Making<'a, 'b> {
     type Done = ();
 
-    ghost says = { λ work. Changes work.change.now };
-
-    ghost refuses = { λ _. HoldsNoRoom };
+    ghost does = { λ work. Changes work.change.now };
 
     fn run<S: Alter + Drop, O: Write>(
         self,
@@ -102,11 +97,8 @@ struct KeptMaking<'a, 'b, F: Lasting> {
 impl<'a, 'b, F: Lasting + Drop> RoomTask for KeptMaking<'a, 'b, F> {
     type Done = ();
 
-    ghost says = { λ work.
+    ghost does = { λ work.
         ChangesKept F.contents F.lasting work.opened work.change.now work.text.now };
-
-    ghost refuses = { λ work.
-        LosesKeptRoom F.contents F.lasting work.opened work.change.now work.text.now };
 
     fn run<S: Alter + Drop, O: Write>(
         self,

@@ -1,9 +1,8 @@
 //! `import` with a list: a fleet is kept in the list of a room, and then enrolled.
 ghost use Rattle.std.specs.Prelude.{IfErr, IfOk};
-ghost use Rattle.dispatch_room_changes.specs.DoneChanges.{FailsKeptImport, FailsKeptImportOf};
-ghost use Rattle.dispatch_room_changes.specs.DoneChanges.{IsChain, IsKeptImport, IsKeptImportOf};
-ghost use Rattle.dispatch_room_changes.specs.DoneChanges.{LacksChain};
-ghost use Rattle.dispatch_room_changes.specs.ChangeTasks.{EnrolsKept, EnrolsNone};
+ghost use Rattle.dispatch_room_changes.specs.ChangeTasks.{EnrolsKept};
+ghost use Rattle.dispatch_room_changes.specs.ChangeSteps.{IsChain, IsKeptImport, IsKeptImportOf};
+ghost use Rattle.dispatch_room_changes.specs.ChangeSteps.{LacksChain};
 
 use crate::change_lists::ChangeList;
 use crate::import::lines_in;
@@ -30,10 +29,8 @@ pub fn import_kept<'a, M: Machine, O: Write, E: Write>(
     out: &mut O,
     err: &mut E,
 ) -> Result<Done, Failure>
-    ensures done { IfOk result (λ done. IsKeptImport (M.surroundings machine) (O.contents out.old)
-        (O.contents out.new) done file.now fleet.now path.now) }
-    ensures undone { IfErr result (λ fault. FailsKeptImport (M.surroundings machine)
-        (O.contents out.old) (O.contents out.new) fault file.now fleet.now path.now) }
+    ensures { IsKeptImport (M.surroundings machine) file.now fleet.now path.now (O.contents out.old)
+        (O.contents out.new) result }
 {
     let host = machine.host();
     let text = machine.read_text(fleet)?;
@@ -50,10 +47,8 @@ fn import_kept_by<'a, M: Machine, O: Write, E: Write>(
     out: &mut O,
     err: &mut E,
 ) -> Result<Done, Failure>
-    ensures done { IfOk result (λ done. IsKeptImportOf (M.surroundings machine) (O.contents out.old)
-        (O.contents out.new) done file.now path.now sheet.entry.text.now) }
-    ensures undone { IfErr result (λ fault. FailsKeptImportOf (M.surroundings machine)
-        (O.contents out.old) (O.contents out.new) fault file.now path.now sheet.entry.text.now) }
+    ensures { IsKeptImportOf (M.surroundings machine) file.now path.now sheet.entry.text.now (O.contents out.old)
+        (O.contents out.new) result }
 {
     let lines = lines_in(sheet)?;
     let opened = opened_list(machine, path, err)?;
@@ -104,10 +99,8 @@ struct KeptEnrolment<'a, F: Lasting> {
 impl<'a, F: Lasting + Drop> RoomTask for KeptEnrolment<'a, F> {
     type Done = Done;
 
-    ghost says = { λ work. EnrolsKept F.contents F.lasting work.opened work.fleet.lines.now
+    ghost does = { λ work. EnrolsKept F.contents F.lasting work.opened work.fleet.lines.now
         work.fleet.sheet.text.now };
-
-    ghost refuses = { λ _. EnrolsNone };
 
     fn run<S: Alter + Drop, O: Write>(
         self,

@@ -1,15 +1,14 @@
 //! `replan`: a room gets another plan.
 ghost use Rattle.std.specs.Prelude.{IfErr, IfOk};
 ghost use Rattle.dispatch_room_csv.specs.PlanFile.{IsPlanText};
-ghost use Rattle.dispatch_room_changes.specs.DoneChanges.{FailsReplan, FailsReplanBy};
-ghost use Rattle.dispatch_room_changes.specs.DoneChanges.{FailsReplanOf, IsReplan, IsReplanOf};
-ghost use Rattle.dispatch_room_changes.specs.DoneChanges.{IsReplanned};
+ghost use Rattle.dispatch_room_changes.specs.ChangeSteps.{IsReplan, IsReplanOf, IsReplanned};
 
 use crate::init::plan_in;
 use crate::kept_changes::{ChangedFile, make_in_file};
 use dispatch_room_cli::exit_status::{Done, Failure};
 use dispatch_room_csv::plan_file::PlanFile;
 use dispatch_room_csv::sheets::Sheet;
+use dispatch_room_disk::outputs::print;
 use dispatch_room_lists::room_changes::RoomChange;
 use dispatch_room_tcp::hosts::Machine;
 use std::io::Write;
@@ -22,10 +21,8 @@ pub fn replan<M: Machine, O: Write, E: Write>(
     out: &mut O,
     err: &mut E,
 ) -> Result<Done, Failure>
-    ensures done { IfOk result (λ done. IsReplan (M.surroundings machine) (O.contents out.old)
-        (O.contents out.new) done place.entry plan.now) }
-    ensures undone { IfErr result (λ fault. FailsReplan (M.surroundings machine)
-        (O.contents out.old) (O.contents out.new) fault place.entry plan.now) }
+    ensures { IsReplan (M.surroundings machine) place.entry plan.now (O.contents out.old)
+        (O.contents out.new) result }
 {
     let host = machine.host();
     let text = machine.read_text(plan)?;
@@ -41,10 +38,8 @@ fn replan_as<M: Machine, O: Write, E: Write>(
     out: &mut O,
     err: &mut E,
 ) -> Result<Done, Failure>
-    ensures done { IfOk result (λ done. IsReplanOf (M.surroundings machine) (O.contents out.old)
-        (O.contents out.new) done place.entry sheet.entry.text.now) }
-    ensures undone { IfErr result (λ fault. FailsReplanOf (M.surroundings machine)
-        (O.contents out.old) (O.contents out.new) fault place.entry sheet.entry.text.now) }
+    ensures { IsReplanOf (M.surroundings machine) place.entry sheet.entry.text.now (O.contents out.old)
+        (O.contents out.new) result }
 {
     let plan = plan_in(sheet)?;
     replan_by(machine, place, plan, sheet.text, out, err)
@@ -60,15 +55,10 @@ fn replan_by<M: Machine, O: Write, E: Write>(
     err: &mut E,
 ) -> Result<Done, Failure>
     requires text { IsPlanText text.now plan }
-    ensures done { IfOk result (λ done. IsReplanned (M.surroundings machine) (O.contents out.old)
-        (O.contents out.new) done place.entry plan) }
-    ensures undone { IfErr result (λ fault. FailsReplanBy (M.surroundings machine)
-        (O.contents out.old) (O.contents out.new) fault place.entry plan) }
+    ensures { IsReplanned (M.surroundings machine) place.entry text.now plan (O.contents out.old)
+        (O.contents out.new) result }
 {
     let change = RoomChange::Plan(plan);
     make_in_file(machine, place, &change, text, out, err)?;
-    match writeln!(out, "replanned") {
-        Ok(()) => Ok(Done::Whole),
-        Err(_) => Err(Failure::Network),
-    }
+    print(b"replanned\n", out)
 }

@@ -3,19 +3,18 @@
 ghost use Rattle.std.specs.Prelude.{◌≡◌, codes, true, IfErr, IfOk, OnOk, Some};
 ghost use Rattle.room_types.specs.Texts.{Token as TokenText};
 ghost use Rattle.dispatch_room_cli.specs.declared.tasks.Terminals.TheVariants as wanted;
-ghost use Rattle.dispatch_room_changes.specs.DoneChanges.{FailsReissue, FailsSetting};
-ghost use Rattle.dispatch_room_changes.specs.DoneChanges.{FailsSettingBy, FailsSettingOf};
-ghost use Rattle.dispatch_room_changes.specs.DoneChanges.{FailsTerminals, FailsWithText, IsMade};
-ghost use Rattle.dispatch_room_changes.specs.DoneChanges.{IsRandom, IsReissued, IsSet, IsSetting};
-ghost use Rattle.dispatch_room_changes.specs.DoneChanges.{IsSettingOf, IsTerminals, LacksToken};
-ghost use Rattle.dispatch_room_changes.specs.DoneChanges.{is_a_crew, reissue_of};
-ghost use Rattle.dispatch_room_changes.specs.ChangeTasks.{HoldsNoRoom, Lists};
+ghost use Rattle.dispatch_room_changes.specs.ChangeTasks.{Lists};
+ghost use Rattle.dispatch_room_changes.specs.ChangeSteps.{IsMadeAsText, IsRandom, IsReissued};
+ghost use Rattle.dispatch_room_changes.specs.ChangeSteps.{IsRevoked, IsSet, IsSetting, IsSettingOf};
+ghost use Rattle.dispatch_room_changes.specs.ChangeSteps.{IsTerminals, LacksToken, is_a_crew};
+ghost use Rattle.dispatch_room_changes.specs.ChangeSteps.{reissue_of};
 
 use crate::kept_changes::{ChangedFile, make_in_file};
 use crate::terminal_files::terminals_in;
 use dispatch_room_cli::exit_status::{Done, Failure};
 use dispatch_room_cli::tasks::Terminals;
 use dispatch_room_csv::sheets::Sheet;
+use dispatch_room_disk::outputs::print;
 use dispatch_room_disk::room_files::{RoomFile, RoomTask};
 use dispatch_room_lists::change_texts::{terminals_text, token_text};
 use dispatch_room_lists::room_changes::RoomChange;
@@ -39,10 +38,8 @@ pub fn terminals<M: Machine, O: Write, E: Write>(
     out: &mut O,
     err: &mut E,
 ) -> Result<Done, Failure>
-    ensures done { IfOk result (λ done. IsTerminals (M.surroundings machine) (O.contents out.old)
-        (O.contents out.new) done place.entry wanted) }
-    ensures undone { IfErr result (λ fault. FailsTerminals (M.surroundings machine)
-        (O.contents out.old) (O.contents out.new) fault place.entry wanted) }
+    ensures { IsTerminals (M.surroundings machine) place.entry wanted (O.contents out.old)
+        (O.contents out.new) result }
 {
     match wanted {
         Terminals::List => machine.in_file(RoomFile::Kept(place.file), Listing, out),
@@ -59,10 +56,8 @@ fn give_token<M: Machine, O: Write, E: Write>(
     out: &mut O,
     err: &mut E,
 ) -> Result<Done, Failure>
-    ensures done { IfOk result (λ done. IsTerminals (M.surroundings machine) (O.contents out.old)
-        (O.contents out.new) done place.entry (wanted.New who)) }
-    ensures undone { IfErr result (λ fault. FailsReissue (M.surroundings machine)
-        (O.contents out.old) (O.contents out.new) fault place.entry who true) }
+    ensures { IsTerminals (M.surroundings machine) place.entry (wanted.New who) (O.contents out.old)
+        (O.contents out.new) result }
 {
     let token = new_token(machine)?;
     let change = TokenChange {
@@ -85,10 +80,8 @@ fn revoke<M: Machine, O: Write, E: Write>(
     out: &mut O,
     err: &mut E,
 ) -> Result<Done, Failure>
-    ensures done { IfOk result (λ done. IsTerminals (M.surroundings machine) (O.contents out.old)
-        (O.contents out.new) done place.entry (wanted.Revoke who)) }
-    ensures undone { IfErr result (λ fault. FailsReissue (M.surroundings machine)
-        (O.contents out.old) (O.contents out.new) fault place.entry who (is_a_crew who)) }
+    ensures { IsTerminals (M.surroundings machine) place.entry (wanted.Revoke who) (O.contents out.old)
+        (O.contents out.new) result }
 {
     if is_a_crew(&who) {
         return revoke_crew(machine, place, who, out, err);
@@ -105,12 +98,8 @@ fn revoke_crew<M: Machine, O: Write, E: Write>(
     out: &mut O,
     err: &mut E,
 ) -> Result<Done, Failure>
-    ensures done { IfOk result (λ done. (token : TokenText)
-        × IsRandom (M.surroundings machine) token
-        × IsReissued (M.surroundings machine) (O.contents out.old) (O.contents out.new) done
-        place.entry who (Some token) (codes "revoked\n")) }
-    ensures undone { IfErr result (λ fault. FailsReissue (M.surroundings machine)
-        (O.contents out.old) (O.contents out.new) fault place.entry who true) }
+    ensures { IsRevoked (M.surroundings machine) place.entry who true (O.contents out.old)
+        (O.contents out.new) result }
 {
     let token = new_token(machine)?;
     let change = TokenChange {
@@ -134,17 +123,12 @@ fn revoke_by<M: Machine, O: Write, E: Write>(
     out: &mut O,
     err: &mut E,
 ) -> Result<Done, Failure>
-    ensures done { IfOk result (λ done. IsReissued (M.surroundings machine) (O.contents out.old)
-        (O.contents out.new) done place.entry change.who change.token (codes "revoked\n")) }
-    ensures undone { IfErr result (λ fault. FailsWithText (M.surroundings machine)
-        (O.contents out.old) (O.contents out.new) fault place.entry
-        (reissue_of change.who change.token)) }
+    ensures { IsReissued (M.surroundings machine) place.entry change.who change.token
+        (codes "revoked\n") (O.contents out.old)
+        (O.contents out.new) result }
 {
     reissue(machine, place, change, out, err)?;
-    match writeln!(out, "revoked") {
-        Ok(()) => Ok(Done::Whole),
-        Err(_) => Err(Failure::Network),
-    }
+    print(b"revoked\n", out)
 }
 
 // Leaves a user only this token, or none, and prints nothing yet.
@@ -155,11 +139,9 @@ fn reissue<M: Machine, O: Write, E: Write>(
     out: &mut O,
     err: &mut E,
 ) -> Result<(), Failure>
-    ensures done { OnOk result (IsMade (M.surroundings machine) (O.contents out.old)
-        (O.contents out.new) place.entry (reissue_of change.who change.token)) }
-    ensures undone { IfErr result (λ fault. FailsWithText (M.surroundings machine)
-        (O.contents out.old) (O.contents out.new) fault place.entry
-        (reissue_of change.who change.token)) }
+    ensures { IsMadeAsText (M.surroundings machine) place.entry
+        (reissue_of change.who change.token) (O.contents out.old)
+        (O.contents out.new) result }
 {
     let Ok(text) = token_text(machine.host().alloc, &change) else {
         return Err(Failure::Memory);
@@ -177,10 +159,8 @@ pub fn set_terminals<M: Machine, O: Write, E: Write>(
     out: &mut O,
     err: &mut E,
 ) -> Result<Done, Failure>
-    ensures done { IfOk result (λ done. IsSetting (M.surroundings machine) (O.contents out.old)
-        (O.contents out.new) done place.entry csv.now) }
-    ensures undone { IfErr result (λ fault. FailsSetting (M.surroundings machine)
-        (O.contents out.old) (O.contents out.new) fault place.entry csv.now) }
+    ensures { IsSetting (M.surroundings machine) place.entry csv.now (O.contents out.old)
+        (O.contents out.new) result }
 {
     let host = machine.host();
     let text = machine.read_text(csv)?;
@@ -196,10 +176,8 @@ fn set_by<M: Machine, O: Write, E: Write>(
     out: &mut O,
     err: &mut E,
 ) -> Result<Done, Failure>
-    ensures done { IfOk result (λ done. IsSettingOf (M.surroundings machine) (O.contents out.old)
-        (O.contents out.new) done place.entry sheet.entry.text.now) }
-    ensures undone { IfErr result (λ fault. FailsSettingOf (M.surroundings machine)
-        (O.contents out.old) (O.contents out.new) fault place.entry sheet.entry.text.now) }
+    ensures { IsSettingOf (M.surroundings machine) place.entry sheet.entry.text.now (O.contents out.old)
+        (O.contents out.new) result }
 {
     let listed = terminals_in(sheet)?;
     set(machine, place, listed, out, err)
@@ -213,10 +191,8 @@ fn set<M: Machine, O: Write, E: Write>(
     out: &mut O,
     err: &mut E,
 ) -> Result<Done, Failure>
-    ensures done { IfOk result (λ done. IsSet (M.surroundings machine) (O.contents out.old)
-        (O.contents out.new) done place.entry listed) }
-    ensures undone { IfErr result (λ fault. FailsSettingBy (M.surroundings machine)
-        (O.contents out.old) (O.contents out.new) fault place.entry listed) }
+    ensures { IsSet (M.surroundings machine) place.entry listed (O.contents out.old)
+        (O.contents out.new) result }
 {
     let Ok(text) = terminals_text(machine.host().alloc, listed.as_slice()) else {
         return Err(Failure::Memory);
@@ -251,9 +227,7 @@ struct Listing;
 impl RoomTask for Listing {
     type Done = Done;
 
-    ghost says = { λ _. Lists };
-
-    ghost refuses = { λ _. HoldsNoRoom };
+    ghost does = { λ _. Lists };
 
     fn run<S: Alter + Drop, O: Write>(
         self,

@@ -1,10 +1,7 @@
 -- How a command ends: what its words are to the program, and what it has shown.
 use Rattle.std.specs.Prelude.{Bool, Err, List, Ok, Option, Result, false, true, ℕ, ⊤, ◌⊎◌, ◌≡◌}
-use Rattle.std.specs.Io.KnownBytes.{Appends}
 use Rattle.clap.specs.declared.error.ErrorKind.{ErrorKind}
 use Rattle.clap.specs.declared.error.ErrorKind.TheVariants as kind
-use Rattle.dispatch_room_board.specs.Boards.{IsBoard}
-use Rattle.dispatch_room_board.specs.declared.boards.Board.{Board}
 use Rattle.dispatch_room_board.specs.declared.boards.Reached.{Reached}
 use Rattle.dispatch_room_board.specs.declared.boards.Reached.TheVariants as reached
 use Rattle.dispatch_room_cli.specs.declared.tasks.Color.{Color}
@@ -53,17 +50,3 @@ abbrev pub end_of_board : Reached → Result Done Failure
 end_of_board reached.All = Ok Whole
 end_of_board reached.AllButRefused = Ok InPart
 end_of_board reached.Less = Err Network
-
--- the board of what was heard is written, and the command ends so
-abbrev pub PrintsBoard : List ℕ → Bool → Bool → Option (List ℕ) → Option (List ℕ) → Done → Type 0
-PrintsBoard heard proposes colour old new done =
-    (board : Board) × IsBoard heard proposes colour board × Appends old new board.page.text.items
-    × (end_of_board board.reached ≡ Ok done)
-
--- The board of what was heard is not shown, for lack of memory, and nothing is written; or it is
--- one that ends badly, or the output failed.
-abbrev pub FailsToPrint : List ℕ → Bool → Bool → Option (List ℕ) → Option (List ℕ) → Failure
-    → Type 0
-FailsToPrint heard proposes colour old new fault =
-    ((fault ≡ Memory) × (new ≡ old))
-    ⊎ ((fault ≡ Network) × ((board : Board) × IsBoard heard proposes colour board))

@@ -4,5 +4,5 @@ pub mod CommandEnds
 pub mod VerifiedLists
 -- what each command does in a database
 pub mod RoomTasks
--- what a task comes to
-pub mod DoneTasks
+-- what a task says, step after step
+pub mod TaskSteps

@@ -31,6 +31,10 @@ abbrev pub tally_text : Tally → Bool → List ℕ
 tally_text tally has_ended =
     messages_text tally.messages ++ span_text tally.span ++ end_text has_ended
 
+-- or that nothing was begun
+abbrev pub none_text : List ℕ
+none_text = codes "nothing was begun\n"
+
 -- how the program fails by a flaw of a list: as the record at which it is no list, or as a read
 -- that failed
 abbrev pub fails_by : EntryFault → ℕ → Failure

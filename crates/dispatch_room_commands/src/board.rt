@@ -1,13 +1,12 @@
 //! `board`: a served room is asked as a desk, and what the desk sees is shown.
-ghost use Rattle.std.specs.Prelude.{◌≡◌, ◌⊎◌, ℕ, List, IfErr, IfOk, IfSome, SomeIff, false};
-ghost use Rattle.std.specs.Prelude.{is_some, true};
+ghost use Rattle.std.specs.Prelude.{◌≡◌, ◌⊎◌, ℕ, Err, List, IfOk, IfSome, SomeIff, false, is_some};
+ghost use Rattle.std.specs.Prelude.{true};
+ghost use Rattle.dispatch_room_commands.specs.CommandEnds.{IsColour, end_of_board};
+ghost use Rattle.dispatch_room_commands.specs.TaskSteps.{IsBoardOf, PrintsBoard};
 ghost use Rattle.room_types.specs.Texts.{is_token};
 ghost use Rattle.dispatch_room_board.specs.Requests.{requests};
 ghost use Rattle.dispatch_room_board.specs.declared.exchange.TheConstants.{MOST_HEARD};
 ghost use Rattle.dispatch_room_cli.specs.declared.exit_status.Failure.TheVariants.{Memory};
-ghost use Rattle.dispatch_room_commands.specs.CommandEnds.{FailsToPrint, IsColour, PrintsBoard};
-ghost use Rattle.dispatch_room_commands.specs.CommandEnds.{end_of_board};
-ghost use Rattle.dispatch_room_commands.specs.DoneTasks.{FailsBoard, IsBoardOf};
 ghost use Rattle.dispatch_room_tcp.specs.HeardRooms.{IsHeard};
 
 use dispatch_room_board::boards::{Reached, board_of};
@@ -31,10 +30,8 @@ pub fn board<M: Machine, O: Write>(
     look: &Look<'_>,
     out: &mut O,
 ) -> Result<Done, Failure>
-    ensures done { IfOk result (λ done. IsBoardOf (M.surroundings machine) (O.contents out.old)
-        (O.contents out.new) done look.now) }
-    ensures undone { IfErr result (λ fault. FailsBoard (M.surroundings machine) (O.contents out.old)
-        (O.contents out.new) fault look.now) }
+    ensures { IsBoardOf (M.surroundings machine) look.now (O.contents out.old)
+        (O.contents out.new) result }
 {
     let Some(asker) = asker_of(look) else {
         return Err(Failure::Input);
@@ -66,17 +63,11 @@ fn show<R: Source + Drop, W: Sink + Drop, O: Write>(
     out: &mut O,
 ) -> Result<Done, Failure>
     requires { IfSome sides (λ sides. W.has_failed sides.1 ≡ false) }
-    ensures done { IfOk result (λ done. (heard : List ℕ)
-        × IsHeard R.left R.has_failed W.held W.has_failed sides
+    ensures { ((result ≡ Err Memory) × (O.contents out.new ≡ O.contents out.old))
+        ⊎ ((heard : List ℕ) × IsHeard R.left R.has_failed W.held W.has_failed sides
         (requests asker.now.token asker.now.incident) MOST_HEARD heard
         × PrintsBoard heard (is_some asker.now.incident) colour (O.contents out.old)
-        (O.contents out.new) done) }
-    ensures undone { IfErr result (λ fault.
-        ((fault ≡ Memory) × (O.contents out.new ≡ O.contents out.old)) ⊎ ((heard : List ℕ)
-        × IsHeard R.left R.has_failed W.held W.has_failed sides
-        (requests asker.now.token asker.now.incident) MOST_HEARD heard
-        × FailsToPrint heard (is_some asker.now.incident) colour (O.contents out.old)
-        (O.contents out.new) fault)) }
+        (O.contents out.new) result) }
 {
     let Ok(heard) = hear_on(alloc, asker, sides) else {
         return Err(Failure::Memory);
@@ -98,10 +89,8 @@ fn print<O: Write>(
     colour: bool,
     out: &mut O,
 ) -> Result<Done, Failure>
-    ensures done { IfOk result
-        (PrintsBoard heard.now proposes colour (O.contents out.old) (O.contents out.new)) }
-    ensures undone { IfErr result
-        (FailsToPrint heard.now proposes colour (O.contents out.old) (O.contents out.new)) }
+    ensures { PrintsBoard heard.now proposes colour (O.contents out.old)
+        (O.contents out.new) result }
 {
     let Ok(board) = board_of(alloc, heard, proposes, colour) else {
         return Err(Failure::Memory);

@@ -1,7 +1,6 @@
 //! `check`: how much a room has, or the first thing that is wrong with its file.
-ghost use Rattle.std.specs.Prelude.{IfErr, IfOk};
-ghost use Rattle.dispatch_room_commands.specs.DoneTasks.{FailsCheck, IsCheck};
-ghost use Rattle.dispatch_room_commands.specs.RoomTasks.{Examines, ExaminesNone};
+ghost use Rattle.dispatch_room_commands.specs.TaskSteps.{IsCheck};
+ghost use Rattle.dispatch_room_commands.specs.RoomTasks.{Examines};
 
 use dispatch_room_archive::examination::check_in;
 use dispatch_room_cli::exit_status::{Done, Failure};
@@ -15,10 +14,8 @@ use std::io::Write;
 /// Prints how much the room of a file has, or the first thing that is wrong with the file. No row
 /// is written.
 pub fn check<M: Machine, O: Write>(machine: M, file: &str, out: &mut O) -> Result<Done, Failure>
-    ensures done { IfOk result (λ done.
-        IsCheck (M.surroundings machine) (O.contents out.old) (O.contents out.new) done file.now) }
-    ensures undone { IfErr result (λ fault. FailsCheck (M.surroundings machine) (O.contents out.old)
-        (O.contents out.new) fault file.now) }
+    ensures { IsCheck (M.surroundings machine) file.now (O.contents out.old)
+        (O.contents out.new) result }
 {
     machine.in_file(RoomFile::Kept(file), Examination, out)
 }
@@ -30,9 +27,7 @@ struct Examination;
 impl RoomTask for Examination {
     type Done = Done;
 
-    ghost says = { λ _. Examines };
-
-    ghost refuses = { λ _. ExaminesNone };
+    ghost does = { λ _. Examines };
 
     fn run<S: Alter + Drop, O: Write>(
         self,

@@ -1,13 +1,11 @@
 //! The commands over a room's file: what they write, and the exit status.
-ghost use Rattle.std.specs.Prelude.{◌≡◌, IfErr, IfOk, MatchBool, MatchResult, Result, map};
-ghost use Rattle.std.specs.Prelude.{string_bytes, true};
+ghost use Rattle.std.specs.Prelude.{◌≡◌, MatchBool, Result, map, string_bytes, true};
 ghost use Rattle.clap.specs.Words.{kind_of};
 ghost use Rattle.clap.specs.declared.error.Error.{Error as Mistake};
 ghost use Rattle.clap.specs.declared.error.ErrorKind.TheVariants.{OutOfMemory};
 ghost use Rattle.dispatch_room_commands.specs.CommandEnds.{IsHelpDone, IsWordsOutput};
 ghost use Rattle.dispatch_room_commands.specs.CommandEnds.{IsWordsStatus, is_mistake};
-ghost use Rattle.dispatch_room_commands.specs.DoneTasks.{FailsImportOf, FailsTask, IsAskedBy};
-ghost use Rattle.dispatch_room_commands.specs.DoneTasks.{IsExit, IsImportOf, IsTask};
+ghost use Rattle.dispatch_room_commands.specs.TaskSteps.{IsAskedBy, IsExit, IsImportOf, IsTask};
 ghost use Rattle.dispatch_room_tcp.specs.Hosts.{unknown};
 ghost use Rattle.dispatch_room_cli.specs.ExplainedFailures.{Explains};
 ghost use Rattle.dispatch_room_cli.specs.declared.tasks.Task.{Task as Asked};
@@ -154,11 +152,8 @@ fn perform<M: Machine, O: Write, E: Write>(
     out: &mut O,
     err: &mut E,
 ) -> Result<Done, Failure>
-    ensures { MatchResult result
-        (λ done. IsTask (M.surroundings machine) (O.contents out.old) (O.contents out.new) done
-        task.now)
-        (λ fault. FailsTask (M.surroundings machine) (O.contents out.old) (O.contents out.new)
-        fault task.now) }
+    ensures { IsTask (M.surroundings machine) task.now (O.contents out.old)
+        (O.contents out.new) result }
 {
     match *task {
         Task::Init { file, plan } => init(machine, file, plan, out),
@@ -208,10 +203,8 @@ fn import_fleet<M: Machine, O: Write, E: Write>(
     out: &mut O,
     err: &mut E,
 ) -> Result<Done, Failure>
-    ensures done { IfOk result (λ done. IsImportOf (M.surroundings machine)
-        (O.contents out.old) (O.contents out.new) done place.entry fleet.now) }
-    ensures undone { IfErr result (λ fault. FailsImportOf (M.surroundings machine)
-        (O.contents out.old) (O.contents out.new) fault place.entry fleet.now) }
+    ensures { IsImportOf (M.surroundings machine) place.entry fleet.now (O.contents out.old)
+        (O.contents out.new) result }
 {
     match place.list {
         Some(list) => import_kept(machine, place.file, fleet, list, out, err),

@@ -1,7 +1,6 @@
 //! `digest`: the digest of the room of a file, by which the room can be recognized.
-ghost use Rattle.std.specs.Prelude.{IfErr, IfOk};
-ghost use Rattle.dispatch_room_commands.specs.DoneTasks.{FailsDigest, IsDigest};
-ghost use Rattle.dispatch_room_commands.specs.RoomTasks.{Digests, OpensNone};
+ghost use Rattle.dispatch_room_commands.specs.TaskSteps.{IsDigest};
+ghost use Rattle.dispatch_room_commands.specs.RoomTasks.{Digests};
 
 use dispatch_room_cli::exit_status::{Done, Failure};
 use dispatch_room_disk::room_files::{RoomFile, RoomTask};
@@ -14,10 +13,8 @@ use std::io::Write;
 
 /// Prints the digest of the room of a file, which stays as it is.
 pub fn digest<M: Machine, O: Write>(machine: M, file: &str, out: &mut O) -> Result<Done, Failure>
-    ensures done { IfOk result (λ done.
-        IsDigest (M.surroundings machine) (O.contents out.old) (O.contents out.new) done file.now) }
-    ensures undone { IfErr result (λ fault. FailsDigest (M.surroundings machine)
-        (O.contents out.old) (O.contents out.new) fault file.now) }
+    ensures { IsDigest (M.surroundings machine) file.now (O.contents out.old)
+        (O.contents out.new) result }
 {
     machine.in_file(RoomFile::Kept(file), Digesting, out)
 }
@@ -29,9 +26,7 @@ struct Digesting;
 impl RoomTask for Digesting {
     type Done = Done;
 
-    ghost says = { λ _. Digests };
-
-    ghost refuses = { λ _. OpensNone };
+    ghost does = { λ _. Digests };
 
     fn run<S: Alter + Drop, O: Write>(
         self,

@@ -1,19 +1,18 @@
 //! `times --and`: the report of a division's day over two rooms.
-ghost use Rattle.std.specs.Prelude.{IfErr, IfOk};
-ghost use Rattle.dispatch_room_commands.specs.DoneTasks.{FailsJoinedTimes, IsJoinedTimes};
-ghost use Rattle.dispatch_room_commands.specs.RoomTasks.{FindsDay, FindsNoDay, ReportsBoth};
-ghost use Rattle.dispatch_room_commands.specs.RoomTasks.{ReportsNone};
+ghost use Rattle.dispatch_room_commands.specs.TaskSteps.{IsJoinedTimes};
+ghost use Rattle.dispatch_room_commands.specs.RoomTasks.{FindsDay, ReportsBoth};
 
 use dispatch_room_archive::division_days::DivisionDay;
 use dispatch_room_archive::joined_reports::{day_in, joined_report_in};
 use dispatch_room_cli::exit_status::{Done, Failure};
+use dispatch_room_disk::outputs::print;
 use dispatch_room_disk::room_files::{RoomFile, RoomTask};
 use dispatch_room_tasks::opened_room::TaskResult;
 use dispatch_room_tcp::hosts::Machine;
 use room_place::plans::DivisionNumber;
 use sqlite::{Alter, Connection};
 use std::alloc::Global;
-use std::io::{self, Write};
+use std::io::Write;
 
 /// Writes the activation times of a division's day as CSV, by the room of a file and by the older
 /// one that it was made of. No row of either is written.
@@ -25,21 +24,14 @@ pub fn joined_times<M: Machine, O: Write>(
     day: &str,
     out: &mut O,
 ) -> Result<Done, Failure>
-    ensures done { IfOk result (λ done.
-        IsJoinedTimes (M.surroundings machine) (O.contents out.old) (O.contents out.new) done
-        file.now older.now division day.now) }
-    ensures undone { IfErr result (λ fault.
-        FailsJoinedTimes (M.surroundings machine) (O.contents out.old) (O.contents out.new) fault
-        file.now older.now division day.now) }
+    ensures { IsJoinedTimes (M.surroundings machine) file.now older.now division day.now (O.contents out.old)
+        (O.contents out.new) result }
 {
     let finding = Finding { division, day };
-    let newer = machine.in_file(RoomFile::Kept(file), finding, &mut io::sink())?;
+    let newer = machine.in_file(RoomFile::Kept(file), finding, out)?;
     let joining = Joining { newer: &newer };
-    let report = machine.in_file(RoomFile::Kept(older), joining, &mut io::sink())?;
-    match out.write_all(report.as_slice()) {
-        Ok(()) => Ok(Done::Whole),
-        Err(_) => Err(Failure::Network),
-    }
+    let report = machine.in_file(RoomFile::Kept(older), joining, out)?;
+    print(report.as_slice(), out)
 }
 
 // The day is looked for in the newer room.
@@ -52,9 +44,7 @@ struct Finding<'a> {
 impl<'a> RoomTask for Finding<'a> {
     type Done = DivisionDay;
 
-    ghost says = { λ work. FindsDay work.division work.day.now };
-
-    ghost refuses = { λ work. FindsNoDay work.division work.day.now };
+    ghost does = { λ work. FindsDay work.division work.day.now };
 
     fn run<S: Alter + Drop, O: Write>(
         self,
@@ -75,9 +65,7 @@ struct Joining<'a> {
 impl<'a> RoomTask for Joining<'a> {
     type Done = Vec<u8>;
 
-    ghost says = { λ work. ReportsBoth work.newer.now };
-
-    ghost refuses = { λ _. ReportsNone };
+    ghost does = { λ work. ReportsBoth work.newer.now };
 
     fn run<S: Alter + Drop, O: Write>(
         self,

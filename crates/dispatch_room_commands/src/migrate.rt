@@ -1,29 +1,24 @@
 //! `migrate`: a room of the first version is moved to this one.
-ghost use Rattle.std.specs.Prelude.{IfErr, IfOk};
-ghost use Rattle.dispatch_room_commands.specs.DoneTasks.{FailsMigrate, IsMigrate};
-ghost use Rattle.dispatch_room_commands.specs.RoomTasks.{Moves, MovesNone};
+ghost use Rattle.dispatch_room_commands.specs.TaskSteps.{IsMigrate};
+ghost use Rattle.dispatch_room_commands.specs.RoomTasks.{Moves};
 
 use dispatch_room_cli::exit_status::{Done, Failure};
+use dispatch_room_disk::outputs::print;
 use dispatch_room_disk::room_files::{RoomFile, RoomTask};
 use dispatch_room_tasks::migration::migrate_in;
 use dispatch_room_tasks::opened_room::TaskResult;
 use dispatch_room_tcp::hosts::Machine;
 use sqlite::{Alter, Connection};
 use std::alloc::Global;
-use std::io::{self, Write};
+use std::io::Write;
 
 /// Moves the room of a file from the first version to this one, and reports that it did.
 pub fn migrate<M: Machine, O: Write>(machine: M, file: &str, out: &mut O) -> Result<Done, Failure>
-    ensures done { IfOk result (λ done. IsMigrate (M.surroundings machine) (O.contents out.old)
-        (O.contents out.new) done file.now) }
-    ensures undone { IfErr result (λ fault. FailsMigrate (M.surroundings machine)
-        (O.contents out.old) (O.contents out.new) fault file.now) }
+    ensures { IsMigrate (M.surroundings machine) file.now (O.contents out.old)
+        (O.contents out.new) result }
 {
-    machine.in_file(RoomFile::Old(file), Move, &mut io::sink())?;
-    match writeln!(out, "migrated") {
-        Ok(()) => Ok(Done::Whole),
-        Err(_) => Err(Failure::Network),
-    }
+    machine.in_file(RoomFile::Old(file), Move, out)?;
+    print(b"migrated\n", out)
 }
 
 // The room is moved, and nothing reported yet.
@@ -33,9 +28,7 @@ struct Move;
 impl RoomTask for Move {
     type Done = ();
 
-    ghost says = { λ _. Moves };
-
-    ghost refuses = { λ _. MovesNone };
+    ghost does = { λ _. Moves };
 
     fn run<S: Alter + Drop, O: Write>(
         self,

@@ -1,8 +1,6 @@
 //! `renew`: a new room is made of what another one leaves to it.
-ghost use Rattle.std.specs.Prelude.{IfErr, IfOk};
-ghost use Rattle.dispatch_room_commands.specs.DoneTasks.{FailsRenew, IsRenew};
-ghost use Rattle.dispatch_room_commands.specs.RoomTasks.{Begins, BeginsNone, LeavesNothing};
-ghost use Rattle.dispatch_room_commands.specs.RoomTasks.{LeavesRows};
+ghost use Rattle.dispatch_room_commands.specs.TaskSteps.{IsRenew};
+ghost use Rattle.dispatch_room_commands.specs.RoomTasks.{Begins, LeavesRows};
 
 use dispatch_room_archive::renewal::{Successor, begin_in, left_in};
 use dispatch_room_cli::exit_status::{Done, Failure};
@@ -11,7 +9,7 @@ use dispatch_room_tasks::opened_room::TaskResult;
 use dispatch_room_tcp::hosts::Machine;
 use sqlite::{Alter, Connection};
 use std::alloc::Global;
-use std::io::{self, Write};
+use std::io::Write;
 
 /// Makes a room in a file that is new or empty, of what the room of another file leaves since a
 /// day, and prints how many incidents, calls, turns and reports it has. No row of the other file is
@@ -23,15 +21,11 @@ pub fn renew<M: Machine, O: Write>(
     since: &str,
     out: &mut O,
 ) -> Result<Done, Failure>
-    ensures done { IfOk result (λ done.
-        IsRenew (M.surroundings machine) (O.contents out.old) (O.contents out.new) done
-        file.now successor.now since.now) }
-    ensures undone { IfErr result (λ fault.
-        FailsRenew (M.surroundings machine) (O.contents out.old) (O.contents out.new) fault
-        file.now successor.now since.now) }
+    ensures { IsRenew (M.surroundings machine) file.now successor.now since.now (O.contents out.old)
+        (O.contents out.new) result }
 {
     let leaving = Leaving { since };
-    let left = machine.in_file(RoomFile::Kept(file), leaving, &mut io::sink())?;
+    let left = machine.in_file(RoomFile::Kept(file), leaving, out)?;
     let beginning = Beginning { left: &left };
     machine.in_file(RoomFile::New(successor), beginning, out)
 }
@@ -45,9 +39,7 @@ struct Leaving<'a> {
 impl<'a> RoomTask for Leaving<'a> {
     type Done = Successor;
 
-    ghost says = { λ work. LeavesRows work.since.now };
-
-    ghost refuses = { λ work. LeavesNothing work.since.now };
+    ghost does = { λ work. LeavesRows work.since.now };
 
     fn run<S: Alter + Drop, O: Write>(
         self,
@@ -68,9 +60,7 @@ struct Beginning<'a> {
 impl<'a> RoomTask for Beginning<'a> {
     type Done = Done;
 
-    ghost says = { λ work. Begins work.left.now };
-
-    ghost refuses = { λ _. BeginsNone };
+    ghost does = { λ work. Begins work.left.now };
 
     fn run<S: Alter + Drop, O: Write>(
         self,

@@ -1,7 +1,6 @@
 //! `replay`: what a list says is done to the room of a file.
-ghost use Rattle.std.specs.Prelude.{IfErr, IfOk};
-ghost use Rattle.dispatch_room_commands.specs.DoneTasks.{FailsReplay, IsReplay};
-ghost use Rattle.dispatch_room_commands.specs.RoomTasks.{Replays, ReplaysNone};
+ghost use Rattle.dispatch_room_commands.specs.TaskSteps.{IsReplay};
+ghost use Rattle.dispatch_room_commands.specs.RoomTasks.{Replays};
 
 use dispatch_room_cli::exit_status::{Done, Failure};
 use dispatch_room_cli::tasks::Replay;
@@ -24,12 +23,8 @@ pub fn replay<M: Machine, O: Write, E: Write>(
     out: &mut O,
     err: &mut E,
 ) -> Result<Done, Failure>
-    ensures done { IfOk result (λ done.
-        IsReplay (M.surroundings machine) (O.contents out.old) (O.contents out.new) done
-        file.now replay.now) }
-    ensures undone { IfErr result (λ fault.
-        FailsReplay (M.surroundings machine) (O.contents out.old) (O.contents out.new) fault
-        file.now replay.now) }
+    ensures { IsReplay (M.surroundings machine) file.now replay.now (O.contents out.old)
+        (O.contents out.new) result }
 {
     let replaying = Replaying {
         machine: &machine,
@@ -50,10 +45,7 @@ struct Replaying<'a, M, E> {
 impl<'a, M: Machine, E: Write> RoomTask for Replaying<'a, M, E> {
     type Done = Done;
 
-    ghost says = { λ work. Replays (M.surroundings work.machine.now).input work.replay.now };
-
-    ghost refuses = { λ work.
-        ReplaysNone (M.surroundings work.machine.now).input work.replay.now };
+    ghost does = { λ work. Replays (M.surroundings work.machine.now).input work.replay.now };
 
     fn run<S: Alter + Drop, O: Write>(
         self,

@@ -1,7 +1,5 @@
 //! `restore`: a copy of a room is put in the place of a file.
-ghost use Rattle.std.specs.Prelude.{IfErr, IfOk};
-ghost use Rattle.dispatch_room_commands.specs.DoneTasks.{FailsRestore, FailsRestoreBy, IsRestore};
-ghost use Rattle.dispatch_room_commands.specs.DoneTasks.{IsRestoreBy};
+ghost use Rattle.dispatch_room_commands.specs.TaskSteps.{IsRestore, IsRestoreBy};
 ghost use Rattle.dispatch_room_disk.specs.FileSteps.{Does};
 
 use crate::check::check;
@@ -20,10 +18,8 @@ pub fn restore<M: Machine, O: Write>(
     file: &str,
     out: &mut O,
 ) -> Result<Done, Failure>
-    ensures done { IfOk result (λ done. IsRestore (M.surroundings machine) (O.contents out.old)
-        (O.contents out.new) done copy.now file.now) }
-    ensures undone { IfErr result (λ fault. FailsRestore (M.surroundings machine)
-        (O.contents out.old) (O.contents out.new) fault copy.now file.now) }
+    ensures { IsRestore (M.surroundings machine) copy.now file.now (O.contents out.old)
+        (O.contents out.new) result }
 {
     let mut calls = machine.calls();
     let done = restore_by(machine, &mut calls, copy, file, out);
@@ -40,17 +36,14 @@ fn restore_by<M: Machine, R: Replacing, O: Write>(
     file: &str,
     out: &mut O,
 ) -> Result<Done, Failure>
-    ensures done { IfOk result (λ done. IsRestoreBy (M.surroundings machine) (O.contents out.old)
-        (O.contents out.new) done (λ steps. Does steps (R.done calls.old) (R.done calls.new))
-        copy.now file.now) }
-    ensures undone { IfErr result (λ fault. FailsRestoreBy (M.surroundings machine)
-        (O.contents out.old) (O.contents out.new) fault
-        (λ steps. Does steps (R.done calls.old) (R.done calls.new)) copy.now file.now) }
+    ensures { IsRestoreBy (M.surroundings machine)
+        (λ steps. Does steps (R.done calls.old) (R.done calls.new)) copy.now file.now (O.contents out.old)
+        (O.contents out.new) result }
 {
     match check(machine, copy, out) {
         Ok(done) => match put_in_place(calls, machine.host().explainer, copy, file) {
             Ok(found) => match print_found(found, file, out) {
-                Ok(()) => Ok(done),
+                Ok(_) => Ok(done),
                 Err(fault) => Err(fault),
             },
             Err(fault) => Err(fault),

@@ -1,14 +1,14 @@
 //! `verify`: how much a list holds, or the first record at which it is no list.
-ghost use Rattle.std.specs.Prelude.{◌≡◌, ◌||◌, ◌==◌, Some, false, IfErr, IfOk, OnOk};
+ghost use Rattle.std.specs.Prelude.{◌≡◌, ◌||◌, ◌==◌, Some, false, IfErr, OnOk};
 ghost use Rattle.std.specs.Io.KnownBytes.{Appends};
-ghost use Rattle.dispatch_room_journal.specs.ReadSteps.{ends_well, left_in, most_rows};
-ghost use Rattle.dispatch_room_cli.specs.declared.exit_status.Done.TheVariants.{Whole};
 ghost use Rattle.dispatch_room_cli.specs.declared.exit_status.Failure.TheVariants.{Network};
-ghost use Rattle.dispatch_room_commands.specs.DoneTasks.{FailsVerify, FailsVerifyOf, IsVerify};
-ghost use Rattle.dispatch_room_commands.specs.DoneTasks.{IsVerifyOf};
+ghost use Rattle.dispatch_room_disk.specs.CommandSteps.{Prints};
+ghost use Rattle.dispatch_room_commands.specs.TaskSteps.{IsVerify, IsVerifyOf, PrintsNone};
 ghost use Rattle.dispatch_room_commands.specs.VerifiedLists.{fails_by, span_text, tally_text};
+ghost use Rattle.dispatch_room_journal.specs.ReadSteps.{ends_well, left_in, most_rows};
 
 use dispatch_room_cli::exit_status::{Done, Failure};
+use dispatch_room_disk::outputs::print;
 use dispatch_room_journal::entry_reader::EntryFault;
 use dispatch_room_journal::journal_inbox::JournalInbox;
 use dispatch_room_journal::list_source::ListSource;
@@ -20,16 +20,14 @@ use std::alloc::Global;
 use std::io::Write;
 
 /// Prints how many messages a list has, when the first came and the last, and whether the list
-/// ended well; or fails at the first record at which it is no list.
+/// ended well; or that nothing was begun; or fails at the first record at which it is no list.
 pub fn verify_list<M: Machine, O: Write>(
     machine: M,
     path: &str,
     out: &mut O,
 ) -> Result<Done, Failure>
-    ensures done { IfOk result (λ done. IsVerify (M.surroundings machine) (O.contents out.old)
-        (O.contents out.new) done path.now) }
-    ensures undone { IfErr result (λ fault. FailsVerify (M.surroundings machine)
-        (O.contents out.old) (O.contents out.new) fault path.now) }
+    ensures { IsVerify (M.surroundings machine) path.now (O.contents out.old)
+        (O.contents out.new) result }
 {
     let mut list = ListSource::new(machine.open_list(path)?);
     let done = verify_in(machine.host().alloc, &mut list, out);
@@ -45,21 +43,18 @@ fn verify_in<R: Source, O: Write>(
 ) -> Result<Done, Failure>
     requires sound { R.has_failed list.old.reader ≡ false }
     requires none { list.old.passed ≡ 0 }
-    ensures done { IfOk result (λ done. IsVerifyOf (O.contents out.old) (O.contents out.new) done
+    ensures { IsVerifyOf
         (left_in list.old.reel.mode list.old.reel.vouched list.old.reel.inbox
         (R.left list.old.reader))
-        (ends_well list.new.reel.mode)) }
-    ensures undone { IfErr result (λ fault. FailsVerifyOf (O.contents out.old) (O.contents out.new)
-        fault
-        (left_in list.old.reel.mode list.old.reel.vouched list.old.reel.inbox
-        (R.left list.old.reader))
-        (R.has_failed list.new.reader || list.new.passed == most_rows)) }
+        (R.has_failed list.new.reader || list.new.passed == most_rows)
+        (ends_well list.new.reel.mode) (O.contents out.old) (O.contents out.new) result }
 {
     let Ok(mut inbox) = JournalInbox::new(alloc) else {
         return Err(Failure::Memory);
     };
     match verify(&mut inbox, list) {
-        Ok(tally) => print_tally(&tally, list.ended_well(), out),
+        Ok(Some(tally)) => print_tally(&tally, list.ended_well(), out),
+        Ok(None) => print_none(out),
         Err(flaw) => Err(failure_of(&flaw)),
     }
 }
@@ -74,12 +69,18 @@ fn failure_of(flaw: &Flaw) -> Failure
     }
 }
 
+// Prints that in a list nothing was begun.
+fn print_none<O: Write>(out: &mut O) -> Result<Done, Failure>
+    ensures { PrintsNone (O.contents out.old) (O.contents out.new) result }
+{
+    print(b"nothing was begun\n", out)?;
+    Ok(Done::InPart)
+}
+
 // Prints what a list holds.
 fn print_tally<O: Write>(tally: &Tally, has_ended: bool, out: &mut O) -> Result<Done, Failure>
-    ensures printed { OnOk result (Appends (O.contents out.old) (O.contents out.new)
-        (tally_text tally.now has_ended)) }
-    ensures whole { IfOk result (λ done. done ≡ Whole) }
-    ensures failed { IfErr result (λ fault. fault ≡ Network) }
+    ensures { Prints (tally_text tally.now has_ended) (O.contents out.old)
+        (O.contents out.new) result }
 {
     if writeln!(out, "verified {}", tally.messages).is_err() {
         return Err(Failure::Network);

@@ -41,6 +41,27 @@ own_apart one other apart = λ same. apart (cc same)
 aside_apart : (number : ℕ) (one other : List ℕ) → one ≢ other → aside number one ≢ aside number other
 aside_apart number one other apart = λ same. apart (cc same)
 
+-- what holds of each end holds of all
+every : {P : List ℕ → Type 0} (all : List (List ℕ)) → ((end : List ℕ) → P end) → AllByRecursion P all
+every [] holds = tt
+every (end ∷ more) holds = (holds end, every more holds)
+
+-- what is the same as what was the same is so
+still : {A : Type 0} (f g h : List ℕ → A) (all : List (List ℕ)) → AllByRecursion (λ end. g end ≡ f end) all
+    → AllByRecursion (λ end. h end ≡ g end) all → AllByRecursion (λ end. h end ≡ f end) all
+still f g h [] one two = tt
+still f g h (end ∷ more) one two = (two.0 ∙ one.0, still f g h more one.1 two.1)
+
+back : {A : Type 0} (f g : List ℕ → A) (all : List (List ℕ)) → AllByRecursion (λ end. g end ≡ f end) all
+    → AllByRecursion (λ end. f end ≡ g end) all
+back f g [] same = tt
+back f g (end ∷ more) same = (sym same.0, back f g more same.1)
+
+texts : (f g : List ℕ → Option (List ℕ)) (all : List (List ℕ)) → AllByRecursion (λ end. g end ≡ f end) all
+    → AllByRecursion (λ end. text (g end) ≡ text (f end)) all
+texts f g [] same = tt
+texts f g (end ∷ more) same = (ap text same.0, texts f g more same.1)
+
 -- what lay beside FILE does
 abbrev LiesBeside : Folder → Folder → Type 0
 LiesBeside old now = AllByRecursion (λ end. text (now (own end)) ≡ text (old (own end))) ends
@@ -71,60 +92,36 @@ safe_then a b c one two = record {
   kept =
       λ bytes at. elim (one.kept bytes at) [
         | inl room ↦ elim (two.kept bytes room.0) [
-          | inl here ↦ inl (
-            here.0,
-            (
-              here.1.0 ∙ room.1.0,
-              (here.1.1.0 ∙ room.1.1.0, (here.1.1.1.0 ∙ room.1.1.1.0, tt)),
-            ),
-          )
+          | inl here ↦ inl (here.0, still (lies a) (lies b) (lies c) ends room.1 here.1)
           | inr (number, here) ↦ inr (
             number,
-            (
-              here.0,
-              (
-                here.1.0 ∙ room.1.0,
-                (here.1.1.0 ∙ room.1.1.0, (here.1.1.1.0 ∙ room.1.1.1.0, tt)),
-              ),
-            ),
+            (here.0, still (lies a) (lies b) (λ end. text (c (aside number end))) ends room.1 here.1),
           )
         ]
         | inr (number, room) ↦
-            let same =
-            two.same number (λ free. some_is_there b (aside number []) bytes room.0 free.0) in
+            let same = two.same number (λ free. some_is_there b (aside number []) bytes room.0 free.0) in
             inr (
               number,
               (
                 same.0 ∙ room.0,
-                (
-                  ap text same.1.0 ∙ room.1.0,
-                  (
-                    ap text same.1.1.0 ∙ room.1.1.0,
-                    (ap text same.1.1.1.0 ∙ room.1.1.1.0, tt),
-                  ),
-                ),
+                still (lies a) (λ end. text (b (aside number end))) (λ end. text (c (aside number end))) ends room.1
+                    (texts (λ end. b (aside number end)) (λ end. c (aside number end)) ends same.1),
               ),
             )
       ];
   same =
       λ number taken.
       let first = one.same number taken in
-      let second =
-      two.same number
-      (λ free. taken (
-        sym first.0 ∙ free.0,
-        (
-          sym first.1.0 ∙ free.1.0,
-          (sym first.1.1.0 ∙ free.1.1.0, (sym first.1.1.1.0 ∙ free.1.1.1.0, tt)),
-        ),
-      )) in (
-        second.0 ∙ first.0,
-        (
-          second.1.0 ∙ first.1.0,
-          (second.1.1.0 ∙ first.1.1.0, (second.1.1.1.0 ∙ first.1.1.1.0, tt)),
-        ),
-      );
+      let f = λ (end : List ℕ). a (aside number end) in
+      let g = λ (end : List ℕ). b (aside number end) in
+      let h = λ (end : List ℕ). c (aside number end) in
+      still f g h ([] ∷ ends) first
+      (two.same number
+      (λ free. taken (still (λ end. None) g f ([] ∷ ends) free (back f g ([] ∷ ends) first))));
 }
+  where
+    lies : Folder → List ℕ → List ℕ
+    lies folder end = text (folder (own end))
 
 -- FILE.new may come, and an empty log of FILE
 abbrev IsQuietly : Name → Type 0
@@ -175,14 +172,7 @@ quiet_outcome a b quiet =
       safe =
           record {
             kept = λ bytes at. inl (room.0 ∙ at, room.1);
-            same =
-                λ number taken. (
-                  quiet_aside a b number [] quiet,
-                  (
-                    quiet_aside a b number journal quiet,
-                    (quiet_aside a b number wal quiet, (quiet_aside a b number shm quiet, tt)),
-                  ),
-                );
+            same = λ number taken. every ([] ∷ ends) (λ end. quiet_aside a b number end quiet);
           };
       place = inl room;
     }
@@ -196,10 +186,8 @@ quiet_first a b c quiet rest =
           elim rest.place [
             | inl (file, beside) ↦ inl (
               file ∙ room.0,
-              (
-                beside.0 ∙ room.1.0,
-                (beside.1.0 ∙ room.1.1.0, (beside.1.1.0 ∙ room.1.1.1.0, tt)),
-              ),
+              still (λ end. text (a (own end))) (λ end. text (b (own end))) (λ end. text (c (own end))) ends room.1
+                  beside,
             )
             | inr (inl none) ↦ inr (inl none)
             | inr (inr (file, beside)) ↦ inr (inr (
@@ -251,24 +239,12 @@ named_then number end a b c named but = record {
 
 named_outcome : (number : ℕ) (a b : Folder) → IsNamed number a b → Outcome a b
 named_outcome number a b named =
-    let beside : LiesBeside a b = (
-      ap text (named_own number a b journal named),
-      (ap text (named_own number a b wal named), (ap text (named_own number a b shm named), tt)),
-    ) in record {
+    let beside : LiesBeside a b = every ends (λ end. ap text (named_own number a b end named)) in
+    record {
       safe =
           record {
             kept = λ bytes at. inl (named_own number a b [] named ∙ at, beside);
-            same =
-                λ other taken. (
-                  named_aside number a b other [] named taken,
-                  (
-                    named_aside number a b other journal named taken,
-                    (
-                      named_aside number a b other wal named taken,
-                      (named_aside number a b other shm named taken, tt),
-                    ),
-                  ),
-                );
+            same = λ other taken. every ([] ∷ ends) (λ end. named_aside number a b other end named taken);
           };
       place = inl (named_own number a b [] named, beside);
     }
@@ -286,31 +262,21 @@ abbrev IsAside : Folder → Folder → Type 0
 IsAside old now = (number : ℕ) (end : List ℕ) → now (aside number end) ≡ old (aside number end)
 
 gone_safe : (number : ℕ) (a b c : Folder) → IsGone number a b → IsAside b c → IsSafe a c
-gone_safe number a b c gone still = record {
+gone_safe number a b c gone is_still = record {
   kept =
       λ bytes at.
       let room = gone.room bytes at in inr (
         number,
         (
-          still number [] ∙ room.0,
-          (
-            ap text (still number journal) ∙ room.1.0,
-            (
-              ap text (still number wal) ∙ room.1.1.0,
-              (ap text (still number shm) ∙ room.1.1.1.0, tt),
-            ),
-          ),
+          is_still number [] ∙ room.0,
+          still (λ end. text (a (own end))) (λ end. text (b (aside number end))) (λ end. text (c (aside number end)))
+              ends room.1 (every ends (λ end. ap text (is_still number end))),
         ),
       );
   same =
       λ other taken.
-      let same = gone.same other taken in (
-        still other [] ∙ same.0,
-        (
-          still other journal ∙ same.1.0,
-          (still other wal ∙ same.1.1.0, (still other shm ∙ same.1.1.1.0, tt)),
-        ),
-      );
+      still (λ end. a (aside other end)) (λ end. b (aside other end)) (λ end. c (aside other end)) ([] ∷ ends)
+      (gone.same other taken) (every ([] ∷ ends) (λ end. is_still other end));
 }
 
 gone_outcome : (number : ℕ) (a b : Folder) → IsGone number a b → Outcome a b
@@ -325,13 +291,9 @@ gone_then number end a b c some gone but =
           λ bytes at.
           let room = gone.room bytes at in (
             but (aside number []) (λ same. cc same) ∙ room.0,
-            (
-              ap text (but (aside number journal) (λ same. cc same)) ∙ room.1.0,
-              (
-                ap text (but (aside number wal) (λ same. cc same)) ∙ room.1.1.0,
-                (ap text (but (aside number shm) (λ same. cc same)) ∙ room.1.1.1.0, tt),
-              ),
-            ),
+            still (λ end. text (a (own end))) (λ end. text (b (aside number end)))
+                (λ end. text (c (aside number end))) ends room.1
+                (every ends (λ end. ap text (but (aside number end) (λ same. cc same)))),
           );
       same = safe.same;
       copied = but new (λ same. cc same) ∙ gone.copied;
@@ -408,7 +370,7 @@ tail_steps path number a b c gone (inr (b1, s1, more1)) =
 nothing_gone : (a : Folder) → a new ≡ a copy → a (own []) ≡ None → IsGone 0 a a
 nothing_gone a waits none = record {
   room = λ bytes at. absurd (some_is_there a (own []) bytes at none);
-  same = λ other taken. (refl, (refl, (refl, (refl, tt))));
+  same = λ other taken. every ([] ∷ ends) (λ end. refl {A = Option (List ℕ)} {a = a (aside other end)});
   copied = waits;
   none = none;
 }
@@ -438,13 +400,7 @@ moved_steps path number a b c waits named beside (inr (next, (none, moved, other
           ),
         ),
       );
-      same = λ other taken. (
-        same_at other [] taken,
-        (
-          same_at other journal taken,
-          (same_at other wal taken, (same_at other shm taken, tt)),
-        ),
-      );
+      same = λ other taken. every ([] ∷ ends) (λ end. same_at other end taken);
       copied =
           others new (λ is. cc is) (λ is. cc is) ∙ named.only new (λ is. cc (is.1)) ∙ waits;
       none = none;

@@ -1,6 +1,9 @@
 -- What a call gives, said by two of its clauses, and what is handed on where it fails.
-use Rattle.std.proofs.Common.{Err, IfErr, IfOk, MatchResult, Ok, Result, false, ◌≡◌}
+use Rattle.std.proofs.Common.{Err, IfErr, IfOk, List, MatchResult, Ok, Option, Result, false, refl}
+use Rattle.std.proofs.Common.{ℕ, ◌≡◌}
 use Rattle.std.specs.Prelude.{OnErr, OnOk, is_err}
+use Rattle.dispatch_room_cli.specs.declared.exit_status.Failure.{Failure}
+use Rattle.dispatch_room_disk.specs.CommandSteps.{Step, Then}
 use Rattle.std.specs.Result.{IsErrAnd}
 
 pub both : {T E : Type 0} (r : Result T E) (P Q : T → Type 0) → IfOk r P → IfOk r Q → IfOk r (λ x. P x × Q x)
@@ -33,3 +36,11 @@ pub failed_so : {T E : Type 0} (r : Result T E) (P : E → Type 0) (Q : Type 0) 
     → IfErr r (λ e. P e × Q)
 failed_so (Ok x) P Q why beside = tt
 failed_so (Err e) P Q why beside = (why, beside)
+
+-- a step that fails is the last
+pub stops : {T U : Type 0} (first : Step T) (next : T → Step U) (before after : Option (List ℕ))
+    (r : Result U Failure) (P : Failure → Type 0) → IsErrAnd r P → ((e : Failure) → P e → first before after (Err e))
+    → Then first next before after r
+stops first next before after (Ok x) P is by = absurd is
+stops first next before after (Err e) P is by =
+    record { between = after; found = Err e; is = by e is; rest = (refl, refl) }

@@ -1,5 +1,7 @@
 -- the names of what restores set aside
 pub mod AsideNames
+-- what a command does, step after step
+pub mod CommandSteps
 -- what the faults of files are to the program
 pub mod DiskFaults
 -- what is done with files, step after step

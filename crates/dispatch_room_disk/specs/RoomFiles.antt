@@ -1,5 +1,5 @@
 -- The database of a room's file: as it is opened, and as it is closed.
-use Rattle.std.specs.Prelude.{Err, List, Ok, Option, Result, ℕ, ◌≡◌, ◌⊎◌}
+use Rattle.std.specs.Prelude.{Err, List, MatchResult, Option, Result, ℕ, ◌≡◌, ◌⊎◌}
 use Rattle.sqlite.specs.Closing.{IsCopied}
 use Rattle.sqlite.specs.Files.{FailsToClose, Finds, IsCleanLeft, IsClosed, IsOpened, LeavesFiles}
 use Rattle.sqlite.specs.Files.{file_state, over_files}
@@ -19,18 +19,12 @@ use Rattle.dispatch_room_disk.specs.SystemFiles.{SystemFile, system}
 use Rattle.dispatch_room_cli.specs.declared.exit_status.Failure.{Failure}
 use Rattle.dispatch_room_cli.specs.declared.exit_status.Failure.TheVariants as failure
 
--- What is said of work: of a database before and after, over any storage, of what the output held
--- before and after, and of what came of it.
-abbrev pub Saying : Type 0 → Type 1
-Saying T =
-    (S : Type 0) → Ghosts S → Held S → Held S → Option (List ℕ) → Option (List ℕ)
-    → Result T Failure → Type 0
-
--- What is said of a database, over any storage, in which the work can't be done, of what the output
--- held before and after, and of why.
-abbrev pub Refusing : Type 1
-Refusing =
-    (S : Type 0) → Ghosts S → Held S → Option (List ℕ) → Option (List ℕ) → Failure → Type 0
+-- What is said of work, over any storage: of a database before it, of what the output held before
+-- and after, and of what came of it and the database as it is then, or of why it can't be done.
+abbrev pub Doing : Type 0 → Type 1
+Doing T =
+    (S : Type 0) → Ghosts S → Held S → Option (List ℕ) → Option (List ℕ)
+    → Result (Result T Failure × Held S) Failure → Type 0
 
 -- no connection came of these files, and what is left of them holds what they held
 pub record IsUnharmed {D : Type 0} (g : Disk D) (files : Files D) (failure : Failure) : Type 0 where
@@ -38,6 +32,10 @@ pub record IsUnharmed {D : Type 0} (g : Disk D) (files : Files D) (failure : Fai
   pub failed : failure ≡ fault_of error
   pub left : Leftover D g
   pub kept : IsCleanLeft left → LeavesFiles files left
+
+-- no database was found in a file of the system
+abbrev pub IsUnfound : Failure → Type 0
+IsUnfound fault = (fault ≡ failure.File) ⊎ IsFileFault fault
 
 module _ {D : Type 0} {g : Disk D} where
   -- The connection shows the database that these files hold, and each later read is tested.
@@ -62,52 +60,25 @@ module _ {D : Type 0} {g : Disk D} where
     pub left : IsClosed conn last
     pub why : IsClean (view last) → FailsToClose conn last error
 
-  -- what is said of work holds of this database and of the one that it left, which its file has now
-  pub record IsDone {T : Type 0} (says : Saying T) (conn : Held (FileStore D g))
-      (before after : Option (List ℕ)) (done : T) : Type 0 where
-    pub closed : Held (FileStore D g)
-    pub said : says (FileStore D g) over_files conn closed before after (Ok done)
-    pub copied : IsCopiedOut closed
+  -- what comes of work whose file is then closed: what came of it, and all in it that was committed;
+  -- or the file could not be closed
+  abbrev pub ClosesWith : {T : Type 0} → Held (FileStore D g) → Result T Failure
+      → Result T Failure → Type 0
+  ClosesWith closed worked came = ((came ≡ worked) × IsCopiedOut closed)
+      ⊎ ((fault : Failure) × (came ≡ Err fault) × IsUnclosed closed fault)
 
-  -- the work failed, and what is said of it holds with its fault; its file has what was committed
-  pub record HasFailed {T : Type 0} (says : Saying T) (conn : Held (FileStore D g))
-      (before after : Option (List ℕ)) (fault : Failure) : Type 0 where
-    pub closed : Held (FileStore D g)
-    pub said : says (FileStore D g) over_files conn closed before after (Err fault)
-    pub copied : IsCopiedOut closed
+  -- what is said of work holds of this database, and its file was closed behind it
+  pub record WorksIn {T : Type 0} (does : Doing T) (conn : Held (FileStore D g))
+      (before after : Option (List ℕ)) (came : Result T Failure) : Type 0 where
+    pub worked : Result (Result T Failure × Held (FileStore D g)) Failure
+    pub did : does (FileStore D g) over_files conn before after worked
+    pub closes : MatchResult worked (λ it. ClosesWith it.1 it.0 came) (λ fault. came ≡ Err fault)
 
-  -- the work succeeded or failed, what is said of it holds, and then its file could not be closed
-  pub record IsLeftOpen {T : Type 0} (says : Saying T) (conn : Held (FileStore D g))
-      (before after : Option (List ℕ)) (fault : Failure) : Type 0 where
-    pub closed : Held (FileStore D g)
-    pub came : Result T Failure
-    pub said : says (FileStore D g) over_files conn closed before after came
-    pub unclosed : IsUnclosed closed fault
-
-  -- why the work was not done in this database: it can't be done in it, or it failed, or its file
-  -- could not be closed
-  abbrev pub IsUndone : {T : Type 0} → Saying T → Refusing → Held (FileStore D g)
-      → Option (List ℕ) → Option (List ℕ) → Failure → Type 0
-  IsUndone says refuses conn before after fault =
-      refuses (FileStore D g) over_files conn before after fault
-      ⊎ (HasFailed says conn before after fault ⊎ IsLeftOpen says conn before after fault)
-
--- work was done in the database of a file of the system
-pub record IsDoneInFile {T : Type 0} (says : Saying T) (before after : Option (List ℕ))
-    (done : T) : Type 0 where
-  pub conn : Held (FileStore SystemFile system)
-  pub connected : IsConnected conn
-  pub is : IsDone says conn before after done
-
--- no database was found in a file of the system, and nothing is reported
-pub record IsUnfound (before after : Option (List ℕ)) (fault : Failure) : Type 0 where
-  pub why : (fault ≡ failure.File) ⊎ IsFileFault fault
-  pub unprinted : after ≡ before
-
--- work was not done in a file of the system: no database was found in it, or this became of the one
--- that was
-abbrev pub IsUndoneInFile : {T : Type 0} → Saying T → Refusing → Option (List ℕ)
-    → Option (List ℕ) → Failure → Type 0
-IsUndoneInFile says refuses before after fault = IsUnfound before after fault
+-- Work in the database of a file of the system: none was found, for this, and nothing is printed;
+-- or one was, and it was worked in.
+abbrev pub WorksInFile : {T : Type 0} → Doing T → Option (List ℕ) → Option (List ℕ)
+    → Result T Failure → Type 0
+WorksInFile does before after came =
+    ((fault : Failure) × (came ≡ Err fault) × IsUnfound fault × (after ≡ before))
     ⊎ ((conn : Held (FileStore SystemFile system)) × IsConnected conn
-    × IsUndone says refuses conn before after fault)
+    × WorksIn does conn before after came)

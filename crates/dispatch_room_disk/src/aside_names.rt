@@ -1,10 +1,10 @@
 //! The names under which what a restore finds is set aside.
-ghost use Rattle.std.specs.Prelude.{◌≡◌, IfErr, IfOk, OnOk, string_bytes};
+ghost use Rattle.std.specs.Prelude.{◌≡◌, IfOk, OnOk, string_bytes};
 ghost use Rattle.std.specs.Io.KnownBytes.{Appends};
-ghost use Rattle.dispatch_room_cli.specs.declared.exit_status.Failure.TheVariants.{Network};
 ghost use Rattle.dispatch_room_disk.specs.AsideNames.{aside_name, found_text};
+ghost use Rattle.dispatch_room_disk.specs.CommandSteps.{Prints};
 
-use dispatch_room_cli::exit_status::Failure;
+use dispatch_room_cli::exit_status::{Done, Failure};
 use std::alloc::{AllocError, Global};
 use std::io::{self, Write};
 
@@ -30,13 +30,11 @@ pub(crate) fn aside_path(alloc: Global, path: &str, number: u32) -> Result<Strin
 }
 
 /// Prints under which name another room was set aside, or that none had to be.
-pub fn print_found<O: Write>(found: Found, path: &str, out: &mut O) -> Result<(), Failure>
-    ensures printed { OnOk result
-        (Appends (O.contents out.old) (O.contents out.new) (found_text path.now found)) }
-    ensures failed { IfErr result (λ fault. fault ≡ Network) }
+pub fn print_found<O: Write>(found: Found, path: &str, out: &mut O) -> Result<Done, Failure>
+    ensures { Prints (found_text path.now found) (O.contents out.old) (O.contents out.new) result }
 {
     match print_line(found, path, out) {
-        Ok(()) => Ok(()),
+        Ok(()) => Ok(Done::Whole),
         Err(_) => Err(Failure::Network),
     }
 }

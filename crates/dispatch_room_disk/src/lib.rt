@@ -10,6 +10,7 @@ mod new_files;
 mod new_logs;
 mod opened_files;
 mod openings;
+pub mod outputs;
 pub mod restored_files;
 pub mod room_files;
 pub mod systems;

@@ -1,14 +1,14 @@
 //! The file of a room: found or made, opened, worked in, and closed.
-ghost use Rattle.std.specs.Prelude.{◌≡◌, ◌⊎◌, Err, Ok, None, true, false, IfErr, IfOk, IsOk};
-ghost use Rattle.std.specs.Prelude.{IsTrue, OnOk, nat_eq, not};
+ghost use Rattle.std.specs.Prelude.{◌≡◌, Err, Ok, None, true, false, IfErr, IfOk, IsTrue};
+ghost use Rattle.std.specs.Prelude.{MatchResult, OnOk, nat_eq, not};
 ghost use Rattle.std.specs.IoError.{error_kind};
 ghost use Rattle.sqlite.specs.Files.{file_state};
 ghost use Rattle.sqlite.specs.State.{HasCleanDisk};
 ghost use Rattle.dispatch_room_cli.specs.declared.exit_status.Failure.TheVariants as failure;
 ghost use Rattle.dispatch_room_disk.specs.DiskFaults.{IsFileFault, IsUnfoundBy, fault_of};
-ghost use Rattle.dispatch_room_disk.specs.RoomFiles.{IsConnected, IsCopiedOut, IsDone};
-ghost use Rattle.dispatch_room_disk.specs.RoomFiles.{IsDoneInFile, IsFound, IsUnclosed, IsUndone};
-ghost use Rattle.dispatch_room_disk.specs.RoomFiles.{IsUndoneInFile, IsUnharmed, Refusing, Saying};
+ghost use Rattle.dispatch_room_disk.specs.RoomFiles.{ClosesWith, Doing, IsConnected, IsCopiedOut};
+ghost use Rattle.dispatch_room_disk.specs.RoomFiles.{IsFound, IsUnclosed, IsUnfound, IsUnharmed};
+ghost use Rattle.dispatch_room_disk.specs.RoomFiles.{WorksIn, WorksInFile};
 ghost use Rattle.dispatch_room_disk.specs.SystemFiles.{system};
 
 use crate::file_causes::{explain_failed, explain_unbegun, explain_undone};
@@ -52,13 +52,8 @@ pub trait RoomTask: Drop {
     /// What comes of it.
     type Done: Drop;
 
-    // What holds of the database before and after, over any storage, of what the output held before
-    // and after, and of what came of it.
-    ghost says: { Self → Saying Self.Done };
-
-    // What holds of a database in which the work can't be done, of what the output held before and
-    // after, and of why.
-    ghost refuses: { Self → Refusing };
+    // What holds of a database, of the output, and of what comes of it.
+    ghost does: { Self → Doing Self.Done };
 
     /// Does it in a database, and writes to the output what it reports.
     fn run<S: Alter + Drop, O: Write>(
@@ -68,10 +63,7 @@ pub trait RoomTask: Drop {
         out: &mut O,
     ) -> TaskResult<Self::Done, S>
         requires outside { conn.in_transaction ≡ false }
-        ensures done { IfOk result (λ worked. says self S S.Store conn worked.1
-            (O.contents out.old) (O.contents out.new) worked.0) }
-        ensures refused { IfErr result (refuses self S S.Store conn
-            (O.contents out.old) (O.contents out.new)) };
+        ensures { does self S S.Store conn (O.contents out.old) (O.contents out.new) result };
 }
 
 /// Does a task in a room's file, and closes the file with all that was committed in it. Explains
@@ -84,10 +76,7 @@ pub fn in_file<W: RoomTask, O: Write>(
     work: W,
     out: &mut O,
 ) -> Result<W::Done, Failure>
-    ensures done { IfOk result
-        (IsDoneInFile (W.says work) (O.contents out.old) (O.contents out.new)) }
-    ensures undone { IfErr result (IsUndoneInFile (W.says work) (W.refuses work)
-        (O.contents out.old) (O.contents out.new)) }
+    ensures { WorksInFile (W.does work) (O.contents out.old) (O.contents out.new) result }
 {
     match connect(rt, explainer, file) {
         Ok(conn) => on_disk(alloc, explainer, file, conn, work, out),
@@ -105,10 +94,7 @@ fn on_disk<D: Disk + Drop, W: RoomTask, O: Write>(
     out: &mut O,
 ) -> Result<W::Done, Failure>
     requires { conn.in_transaction ≡ false }
-    ensures done { IfOk result
-        (IsDone (W.says work) conn (O.contents out.old) (O.contents out.new)) }
-    ensures undone { IfErr result (IsUndone (W.says work) (W.refuses work) conn
-        (O.contents out.old) (O.contents out.new)) }
+    ensures { WorksIn (W.does work) conn (O.contents out.old) (O.contents out.new) result }
 {
     closed(explainer, file, work.run(alloc, conn, out))
 }
@@ -119,12 +105,7 @@ fn closed<D: Disk + Drop, T: Drop>(
     file: RoomFile<'_>,
     worked: TaskResult<T, FileStore<D>>,
 ) -> Result<T, Failure>
-    ensures room { OnOk result (IsOk worked) }
-    ensures done { IfOk worked (λ worked. IfOk result (λ done. worked.0 ≡ Ok done)) }
-    ensures copied { IfOk worked (λ worked. OnOk result (IsCopiedOut worked.1)) }
-    ensures fault { IfOk worked (λ worked. IfErr result (λ fault. ((worked.0 ≡ Err fault)
-        × IsCopiedOut worked.1) ⊎ IsUnclosed worked.1 fault)) }
-    ensures none { IfErr worked (λ fault. result ≡ Err fault) }
+    ensures { MatchResult worked (λ it. ClosesWith it.1 it.0 result) (λ fault. result ≡ Err fault) }
 {
     match worked {
         Ok((done, conn)) => match copied_out(explainer, file.path(), conn) {
@@ -171,7 +152,7 @@ fn connect(
 ) -> Result<Connection<FileStore<File>>, Failure>
     ensures outside { IfOk result (λ conn. conn.in_transaction ≡ false) }
     ensures connected { IfOk result IsConnected }
-    ensures fault { IfErr result (λ fault. (fault ≡ failure.File) ⊎ IsFileFault fault) }
+    ensures fault { IfErr result IsUnfound }
 {
     let lacked = lacked_log(rt, file.path());
     let (files, options) = opened(&mut System { rt, explainer }, file)?;
@@ -237,7 +218,7 @@ fn connection<D: Disk + Drop>(
 fn found(begun: io::Result<bool>) -> Result<(), Failure>
     ensures begun { OnOk result (begun ≡ Ok true) }
     ensures none { begun ≡ Ok false → result ≡ Err failure.File }
-    ensures fault { IfErr result (λ fault. (fault ≡ failure.File) ⊎ IsFileFault fault) }
+    ensures fault { IfErr result IsUnfound }
     ensures cause { IfErr begun (λ error. IfErr result (IsUnfoundBy (error_kind error))) }
 {
     match begun {

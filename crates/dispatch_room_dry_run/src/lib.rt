@@ -3,6 +3,8 @@
 #![tactic(auto)]
 
 pub mod dry_run;
+#[cfg(test)]
+mod event_tests;
 pub mod example;
 pub mod example_session;
 pub mod laws;

@@ -3,9 +3,19 @@
 //! waits for the proof of no command.
 #![tactic(auto)]
 
+ghost use Rattle.std.specs.Process.{exit_status};
+ghost use Rattle.dispatch_room_dry_run.specs.DryRunEnds.{IsRun};
+
 use dispatch_room_dry_run::standard_streams::run;
 use std::process::ExitCode;
 
 fn main(rt: HostRuntime) -> ExitCode {
-    ExitCode::from(run(&rt))
+    dry_run(&rt)
+}
+
+// The dry run, and the exit status by how it ended.
+fn dry_run(rt: &HostRuntime) -> ExitCode
+    ensures { IsRun (exit_status result) }
+{
+    ExitCode::from(run(rt))
 }

@@ -50,7 +50,8 @@ no_entry_is body is = go (either_true (is_end body) (is_row body) is)
     go (inr row) =
         let both = both_true (bytes_eq row_word (take 4 body)) (is_whole_line (drop 4 body)) row in
         let word = (bytes_eq-Decides row_word (take 4 body)).0 both.0 in
-        inr (drop 4 body, sym (take-append-drop 4 body) ∙ ap (λ t. t ++ drop 4 body) (sym word), both.1)
+        let same = sym (take-append-drop 4 body) ∙ ap (λ t. t ++ drop 4 body) (sym word) in
+        inr (drop 4 body, same, both.1)
 
 whole_line : (t : List ℕ) → is_whole_line t ≡ true
     → (line : List ℕ) × Lacks 10 line × (t ≡ line ++ 10 ∷ [])
@@ -66,14 +67,16 @@ whole_line (byte ∷ more) is = by_test (byte == 10) refl (λ later. whole_line 
         let end : byte ≡ 10 = grind (arith, ten) in
         ([], All-nil (λ b. b ≢ 10), rw (end, none) refl)
     by_test false other later =
-        let rest = later (rw other at is) in (
+        let rest = later (rw other at is) in
+        let differs : byte ≢ 10 = λ same. false≢true (sym other ∙ ap (λ b. b == 10) same) in (
           byte ∷ rest.0,
-          All-cons (λ b. b ≢ 10) byte rest.0 (λ same. false≢true (sym other ∙ ap (λ b. b == 10) same)) rest.1,
+          All-cons (λ b. b ≢ 10) byte rest.0 differs rest.1,
           ap (λ t. byte ∷ t) rest.2,
         )
 
 lacks_end : Lacks 10 (codes "end")
-lacks_end = All-from_recursion (λ b. b ≢ 10) (codes "end") (omega arith, (omega arith, (omega arith, tt)))
+lacks_end = All-from_recursion (λ b. b ≢ 10) (codes "end")
+    (omega arith, (omega arith, (omega arith, tt)))
 
 lacks_row : Lacks 10 row_word
 lacks_row = All-from_recursion (λ b. b ≢ 10) row_word
@@ -88,7 +91,8 @@ one_line body is = go (no_entry_is body is)
     go (inl ends) = (codes "end", lacks_end, ends)
     go (inr (t, row, whole)) =
         let line = whole_line t whole in
-        (row_word ++ line.0, lacks_append 10 row_word line.0 lacks_row line.1, row ∙ ap (λ l. row_word ++ l) line.2)
+        let lacks = lacks_append 10 row_word line.0 lacks_row line.1 in
+        (row_word ++ line.0, lacks, row ∙ ap (λ l. row_word ++ l) line.2)
 
 -- ---- what begins as an entry is an entry
 head_more : (version : Version) (digits more : List ℕ)
@@ -101,7 +105,8 @@ line_more (Room h) more = head_more h.version h.digits more
 line_more (Message at size) more = refl
 line_more (Answer status) more = refl
 
-never_entry : (body more : List ℕ) (e : Entry) → is_no_entry body ≡ true → body ≡ text_of e ++ more → ⊥
+never_entry : (body more : List ℕ) (e : Entry) → is_no_entry body ≡ true
+    → body ≡ text_of e ++ more → ⊥
 never_entry body more e is same =
     false≢true (sym (line_more (line_of e) ((10 ∷ rest_of e) ++ more))
     ∙ ap is_no_entry (sym (same ∙ append_assoc (line_text (line_of e)) (10 ∷ rest_of e) more)) ∙ is)
@@ -113,11 +118,14 @@ no_beginning one other more (inl is) (inl also) goes =
     let first = one_line one is in
     let second = one_line other also in
     (cut_unique 10 first.0 more second.0 [] first.1 second.1
-    (sym (append_assoc first.0 (10 ∷ []) more) ∙ ap (λ t. t ++ more) (sym first.2) ∙ sym goes ∙ second.2)).1
+    (sym (append_assoc first.0 (10 ∷ []) more) ∙ ap (λ t. t ++ more) (sym first.2) ∙ sym goes
+    ∙ second.2)).1
 no_beginning one other more (inl is) (inr (e, is_e, text)) goes =
     let first = one_line one is in
-    let line = (cut_unique 10 first.0 more (line_text (line_of e)) (rest_of e) first.1 (line_lacks (line_of e) is_e)
-    (sym (append_assoc first.0 (10 ∷ []) more) ∙ ap (λ t. t ++ more) (sym first.2) ∙ sym goes ∙ text)).0 in
+    let line = (cut_unique 10 first.0 more (line_text (line_of e)) (rest_of e) first.1
+    (line_lacks (line_of e) is_e)
+    (sym (append_assoc first.0 (10 ∷ []) more) ∙ ap (λ t. t ++ more) (sym first.2) ∙ sym goes
+    ∙ text)).0 in
     absurd (false≢true (sym (line_more (line_of e) (10 ∷ []))
     ∙ ap (λ l. is_no_entry (l ++ 10 ∷ [])) (sym line) ∙ ap is_no_entry (sym first.2) ∙ is))
 no_beginning one other more (inr (e, is_e, text)) (inl also) goes =
@@ -130,9 +138,11 @@ none_of_both : (a b : List ℕ) → a ++ b ≡ [] → length b ≡ 0
 none_of_both a b none = omega (arith, ap length none, length-append a b)
 
 -- a whole record, and what follows it, are no beginning of one
-pub whole_not_cut : (size : ℕ) (body rest : List ℕ) → SaysEntry body → ¬ (IsCutBody size (body ++ rest))
+pub whole_not_cut : (size : ℕ) (body rest : List ℕ) → SaysEntry body
+    → ¬ (IsCutBody size (body ++ rest))
 whole_not_cut size body rest says x =
-    let none = no_beginning body x.body (rest ++ x.more) says x.says (x.is ∙ append_assoc body rest x.more) in
+    let none = no_beginning body x.body (rest ++ x.more) says x.says
+    (x.is ∙ append_assoc body rest x.more) in
     omega (arith, x.some, none_of_both rest x.more none)
 
 pub never_cut_law : IsNeverCut
@@ -166,7 +176,8 @@ module _ (part : List ℕ) (lacks : Lacks 10 part) where
 
   pub end_begun : (more : List ℕ) → end_body ≡ part ++ more → BeginsNoEntry part
   end_begun [] is =
-      absurd (has_mark 10 (codes "end") [] (subst (λ (t : List ℕ). Lacks 10 t) (sym (is ∙ append-nil part)) lacks))
+      let none = subst (λ (t : List ℕ). Lacks 10 t) (sym (is ∙ append-nil part)) lacks in
+      absurd (has_mark 10 (codes "end") [] none)
   end_begun (byte ∷ more) is = (byte ∷ more, omega arith, ap is_no_entry (sym is))
 
   pub begun_by : BeginsNoEntry part
@@ -174,7 +185,8 @@ module _ (part : List ℕ) (lacks : Lacks 10 part) where
       ⊎ (((c : List ℕ) × (part ≡ row_word ++ c)) ⊎ ((c : List ℕ) × (end_body ≡ part ++ c)))
   begun_by (more, some, is) = go (no_entry_is (part ++ more) is)
     where
-      go : ((part ++ more ≡ end_body) ⊎ ((t : List ℕ) × (part ++ more ≡ row_word ++ t) × (is_whole_line t ≡ true)))
+      go : ((part ++ more ≡ end_body)
+          ⊎ ((t : List ℕ) × (part ++ more ≡ row_word ++ t) × (is_whole_line t ≡ true)))
           → ((c : List ℕ) × (row_word ≡ part ++ c))
           ⊎ (((c : List ℕ) × (part ≡ row_word ++ c)) ⊎ ((c : List ℕ) × (end_body ≡ part ++ c)))
       go (inl ends) = inr (inr (more, sym ends))
@@ -192,7 +204,10 @@ pub short_cut : (text : List ℕ) (test : Bool) → length text < HEADER → IsT
     → IsTrue test ↔ IsCutRecord text
 short_cut text test short is =
     let all : take HEADER text ≡ text = take_all HEADER text (omega (arith, short)) in (
-      λ yes. (subst (λ (t : List ℕ). BeginsLine t) (sym all) (is.0 yes), λ long. absurd (omega (arith, short, long))),
+      λ yes. (
+        subst (λ (t : List ℕ). BeginsLine t) (sym all) (is.0 yes),
+        λ long. absurd (omega (arith, short, long)),
+      ),
       λ cut. is.1 (subst (λ (t : List ℕ). BeginsLine t) all cut.0),
     )
 
@@ -224,10 +239,12 @@ module _ (size : ℕ) (part : List ℕ) (lacks : Lacks 10 part) where
       → (more : List ℕ) × (0 < length more) × (is_no_entry (part ++ more) ≡ true)
   cut_no_entry none x = go x.says
     where
-      go : SaysEntry x.body → (more : List ℕ) × (0 < length more) × (is_no_entry (part ++ more) ≡ true)
+      go : SaysEntry x.body
+          → (more : List ℕ) × (0 < length more) × (is_no_entry (part ++ more) ≡ true)
       go (inl is) = (x.more, x.some, ap is_no_entry (sym x.is) ∙ is)
       go (inr (e, is_e, all)) =
-          absurd (foreign_part part lacks none x.more e [] (is_e, sym x.is ∙ all ∙ sym (append-nil (text_of e))))
+          absurd (foreign_part part lacks none x.more e []
+          (is_e, sym x.is ∙ all ∙ sym (append-nil (text_of e))))
 
 -- ---- a message whose line is whole
 message_long : (e : Entry) (at size : ℕ) → Message at size ≡ line_of e
@@ -235,7 +252,8 @@ message_long : (e : Entry) (at size : ℕ) → Message at size ≡ line_of e
     × (length (rest_of e) ≡ size + 1)
 message_long (message time bytes) at size same =
     let len : size ≡ length bytes = cc in
-    let line : length (line_text (Message at size)) ≡ length (line_text (Message time (length bytes))) =
+    let line : length (line_text (Message at size))
+    ≡ length (line_text (Message time (length bytes))) =
     ap (λ l. length (line_text l)) same in (
       omega (
         arith,
@@ -254,7 +272,8 @@ no_more (room h) none = refl
 no_more (answer status) none = refl
 no_more (message at bytes) none = absurd (none at (length bytes) refl)
 
-module _ (size : ℕ) (part line rest : List ℕ) (lacks : Lacks 10 line) (is : part ≡ line ++ 10 ∷ rest) where
+module _ (size : ℕ) (part line rest : List ℕ) (lacks : Lacks 10 line)
+    (is : part ≡ line ++ 10 ∷ rest) where
   -- what goes on behind a whole line is an entry
   cut_entry : (x : IsCutBody size part)
       → (e : Entry) × IsEntry e × (x.body ≡ text_of e) × (line ≡ line_text (line_of e))
@@ -290,10 +309,12 @@ module _ (size : ℕ) (part line rest : List ℕ) (lacks : Lacks 10 line) (is : 
         let none = no_more e.0 (λ at bytes same. other at bytes (same_line x ∙ same)) in
         omega (arith, x.some, none_of_both rest x.more (e.4 ∙ none))
 
-  module _ (at bytes : ℕ) (is_line : IsLine (Message at bytes)) (text : line ≡ line_text (Message at bytes)) where
+  module _ (at bytes : ℕ) (is_line : IsLine (Message at bytes))
+      (text : line ≡ line_text (Message at bytes)) where
     pub message_cut : length rest ≤ bytes → length line + bytes + 2 ≡ size → IsCutBody size part
     message_cut short fits =
-        let x = part_of_message part at bytes rest is_line (is ∙ ap (λ t. t ++ 10 ∷ rest) text) short in
+        let x = part_of_message part at bytes rest is_line
+        (is ∙ ap (λ t. t ++ 10 ∷ rest) text) short in
         let found = line_is (Message at bytes) (rest ++ x.1) x.0 [] is_line x.2
         (ap (λ t. t ++ 10 ∷ (rest ++ x.1)) (sym text) ∙ sym (append_assoc line (10 ∷ rest) x.1)
         ∙ ap (λ t. t ++ x.1) (sym is) ∙ sym x.3 ∙ sym (append-nil (text_of x.0))) in
@@ -310,7 +331,8 @@ module _ (size : ℕ) (part line rest : List ℕ) (lacks : Lacks 10 line) (is : 
     cut_message x =
         let e = cut_entry x in
         let long = message_long e.0 at bytes (same_line (Message at bytes) is_line text x) in
-        let marked : ¬ (Lacks 10 part) = λ none. has_mark 10 line rest (subst (λ (t : List ℕ). Lacks 10 t) is none) in (
+        let marked : ¬ (Lacks 10 part) = λ none.
+        has_mark 10 line rest (subst (λ (t : List ℕ). Lacks 10 t) is none) in (
           omega (arith, x.some, long.1, ap length e.4, length-append rest x.more),
           omega (arith, long.0, x.fits marked, ap length e.2, ap length text),
         )

@@ -1,7 +1,7 @@
 -- Lemmas on whether a list begins as a chain does.
 use Rattle.std.proofs.Common.{◌≡◌, ◌≢◌, ◌∙◌, refl, sym, ap, arith, ℕ, ◌+◌, ◌≤◌, ◌<◌, List, [], ◌++◌}
 use Rattle.std.proofs.Common.{length, length-append, length-drop, take, drop, take-append-drop}
-use Rattle.std.proofs.Common.{append_assoc, true, false, Option, Some, None}
+use Rattle.std.proofs.Common.{append_assoc, subst, Bool, true, false, Option, Some, None}
 use Rattle.std.specs.Io.KnownBytes.{Keeps, prepend_known}
 use Rattle.std.proofs.lemmas.Bool.{false≢true}
 use Rattle.std.proofs.lemmas.List.{take-append-le, take_at}
@@ -9,7 +9,10 @@ use Rattle.std.proofs.lemmas.Slice.Eq.{bytes_eq-Decides}
 use Rattle.std.specs.Str.{bytes_eq}
 use Rattle.dispatch_room_journal.specs.declared.whole_records.ListForm.TheVariants.{New, Plain}
 use Rattle.dispatch_room_journal.specs.Chains.{opening}
-use Rattle.dispatch_room_journal.specs.WholeRecords.{IsForm}
+use Rattle.dispatch_room_journal.specs.CutRecords.{BeginsLine, IsTruncated}
+use Rattle.dispatch_room_journal.specs.WholeRecords.{IsForm, IsFull}
+use Rattle.dispatch_room_journal.specs.declared.record_headers.TheConstants.{HEADER}
+use Rattle.dispatch_room_journal.proofs.WholeLemmas.{begins_kept, rest_kept}
 
 not_same : (one other : List ℕ) → bytes_eq one other ≡ false → one ≢ other
 not_same one other is = λ same. false≢true (sym is ∙ (bytes_eq-Decides one other).1 same)
@@ -37,14 +40,16 @@ pub few_plain : (text : List ℕ) → length text < 7
 few_plain text short is = (
   λ more same. not_same (take (length text) opening) text is (ap (take (length text)) same ∙ take_front text more),
   λ rest same. absurd (omega (arith, short, ap length same, length-append opening rest, opening_long)),
+  λ truncated. omega (arith, short, truncated.0),
 )
 
--- enough bytes, and not those of the line
+-- enough bytes, and not those of the line, nor of the line before a record
 pub full_plain : (kept rest text : List ℕ) → text ≡ kept ++ rest → 7 ≤ length kept
-    → bytes_eq (take 7 kept) opening ≡ false → IsForm text Plain
-full_plain kept rest text whole long is = (
+    → bytes_eq (take 7 kept) opening ≡ false → ¬ (IsTruncated text) → IsForm text Plain
+full_plain kept rest text whole long is none = (
   λ more same. not_same (take 7 kept) opening is (sym (first more) ∙ ap (take 7) (sym same)),
   λ r same. not_same (take 7 kept) opening is (sym front ∙ ap (take 7) same ∙ take-append-le 7 opening r (omega arith)),
+  none,
 )
   where
     front : take 7 text ≡ take 7 kept
@@ -77,3 +82,31 @@ filled_is before kept text (Some xs) None none known keeps = absurd keeps
 filled_is before kept text (Some xs) (Some ys) none known keeps =
     let same : xs ≡ text = cc in
     ap (λ t. Some t) (keeps ∙ ap (λ t. t ++ xs) none ∙ same)
+
+-- what is known to be left stays known
+pub keeps_known : (first left : Option (List ℕ)) (text : List ℕ) → first ≡ Some text
+    → Keeps first left → left ≡ Some text
+keeps_known None left text known keeps = absurd (cc)
+keeps_known (Some xs) None text known keeps = absurd keeps
+keeps_known (Some xs) (Some ys) text known keeps =
+    let same : xs ≡ text = cc in ap (λ t. Some t) (keeps ∙ same)
+
+-- a text begins with the line of a record where what is kept of it does
+pub truncated_kept : (kept text : List ℕ) (left : Option (List ℕ)) (full : Bool)
+    → IsFull HEADER kept left full → prepend_known kept left ≡ Some text
+    → (IsTruncated kept → IsTruncated text) × (IsTruncated text → IsTruncated kept)
+truncated_kept kept text left false (few, ends) is =
+    let all = rest_kept kept text left ends is in (
+      λ x. subst (λ (t : List ℕ). IsTruncated t) (sym all) x,
+      λ x. subst (λ (t : List ℕ). IsTruncated t) all x,
+    )
+truncated_kept kept text left true long is =
+    let more = begins_kept kept text left is in
+    let front : take HEADER text ≡ take HEADER kept =
+    ap (take HEADER) more.1 ∙ take-append-le HEADER kept more.0 long in (
+      λ x. (
+        omega (arith, long, ap length more.1, length-append kept more.0),
+        subst (λ (t : List ℕ). BeginsLine t) (sym front) x.1,
+      ),
+      λ x. (long, subst (λ (t : List ℕ). BeginsLine t) front x.1),
+    )

@@ -35,3 +35,4 @@ pub mod LegLemmas
 pub mod EntryRecordLemmas
 pub mod FormLemmas
 pub mod LossLemmas
+pub mod TruncationLemmas

@@ -31,7 +31,7 @@ span_more span at moments is =
 pub ends_as : (read_failed : Bool) (entries : List Entry) (rest : List ℕ) (fault : EntryFault)
     → (fault ≡ Read → read_failed ≡ true)
     → FirstIs rest (Err fault) → EndsAs read_failed entries rest fault
-ends_as read_failed entries rest Cut failed first = inl first
+ends_as read_failed entries rest Cut failed first = first
 ends_as read_failed entries rest Foreign failed first = first
 ends_as read_failed entries rest Read failed first = inl (failed refl)
 

@@ -1,6 +1,6 @@
 -- What a stop leaves of a record that it left half written: the beginning of one.
-use Rattle.std.specs.Prelude.{◌≡◌, ◌⊎◌, ◌<◌, ◌≤◌, ◌==◌, ℕ, List, [], ◌∷◌, ◌++◌, length, take}
-use Rattle.std.specs.Prelude.{drop, All, Bool, true, if◌then◌else◌, nat_lt}
+use Rattle.std.specs.Prelude.{◌≡◌, ◌⊎◌, ◌<◌, ◌≤◌, ◌==◌, ℕ, List, [], ◌∷◌, ◌++◌, length, take, drop}
+use Rattle.std.specs.Prelude.{All, Bool, true, if◌then◌else◌, nat_lt}
 use Rattle.std.specs.Char.{is_ascii_digit}
 use Rattle.dispatch_room_journal.specs.declared.record_headers.TheConstants.{HEADER}
 use Rattle.dispatch_room_journal.specs.Chains.{is_no_entry}
@@ -45,6 +45,12 @@ pub record IsCutBody (size : ℕ) (part : List ℕ) : Type 0 where
 abbrev pub IsCutRecord : List ℕ → Type 0
 IsCutRecord text = BeginsLine (take HEADER text)
     × (HEADER ≤ length text → IsCutBody (number_in text) (drop HEADER text))
+
+-- A text begins with the line of a record, all of it. So does what is left of a chain that was
+-- truncated to nothing while it was written: what was appended then stands where its own first line
+-- was, and follows records that are lost. No list begins so.
+abbrev pub IsTruncated : List ℕ → Type 0
+IsTruncated text = (HEADER ≤ length text) × BeginsLine (take HEADER text)
 
 -- Whatever the line says that stands before it, a whole record is no beginning of one, and no more
 -- is what follows it: none is taken for cut off, whichever bytes of that line were changed.

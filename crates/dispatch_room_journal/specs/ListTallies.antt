@@ -37,16 +37,17 @@ pub record Tallies (tally : Tally) (moments : List ℕ) : Type 0 where
   pub messages : tally.messages ≡ min (length moments) most_bytes
   pub span : SpanIs tally.span moments
 
--- the text is entries, one at least, and these are their messages
-abbrev pub IsVerified : List ℕ → Tally → Type 0
-IsVerified text tally =
+-- the text is empty: nothing was begun; or it is entries, one at least, and these are their
+-- messages
+abbrev pub IsVerified : List ℕ → Option Tally → Type 0
+IsVerified text None = text ≡ []
+IsVerified text (Some tally) =
     (entries : List Entry) × (0 < length entries) × All IsEntry entries
     × (text ≡ texts_of entries) × Tallies tally (moments_of entries)
 
--- what follows a text's first entries, by the fault; where there are none, that may be nothing
+-- what follows a text's first entries, by the fault
 abbrev pub EndsAs : Bool → List Entry → List ℕ → EntryFault → Type 0
-EndsAs read_failed entries rest Cut =
-    ((0 < length rest) × IsPart rest) ⊎ ((entries ≡ []) × (rest ≡ []))
+EndsAs read_failed entries rest Cut = (0 < length rest) × IsPart rest
 EndsAs read_failed entries rest Foreign = IsForeign rest
 EndsAs read_failed entries rest Read = (read_failed ≡ true) ⊎ (length entries ≡ most_bytes)
 

@@ -2,7 +2,7 @@
 use Rattle.std.specs.Prelude.{◌≡◌, ◌≢◌, ◌⊎◌, ◌≤◌, ◌<◌, ◌*◌, ◌+◌, ℕ, List, [], ◌∷◌, ◌++◌, length}
 use Rattle.std.specs.Prelude.{min, Bool, true, false, Option}
 use Rattle.std.specs.Io.KnownBytes.{Consumes, IsAtEnd, Keeps}
-use Rattle.dispatch_room_journal.specs.CutRecords.{IsCutRecord, SaysEntry}
+use Rattle.dispatch_room_journal.specs.CutRecords.{IsCutRecord, IsTruncated, SaysEntry}
 use Rattle.dispatch_room_journal.specs.WholeEntries.{most_bytes}
 use Rattle.dispatch_room_journal.specs.declared.entry_reader.EntryFault.{EntryFault}
 use Rattle.dispatch_room_journal.specs.declared.entry_reader.EntryFault.TheVariants.{Cut, Foreign}
@@ -12,9 +12,9 @@ use Rattle.dispatch_room_journal.specs.declared.record_fronts.Link.{Link}
 use Rattle.dispatch_room_journal.specs.declared.whole_records.ListForm.{ListForm}
 use Rattle.dispatch_room_journal.specs.declared.whole_records.ListForm.TheVariants.{Chain, New}
 use Rattle.dispatch_room_journal.specs.declared.whole_records.ListForm.TheVariants.{Plain}
+use Rattle.dispatch_room_journal.specs.declared.whole_records.ListForm.TheVariants.{Truncated}
 use Rattle.dispatch_room_journal.specs.declared.whole_records.WholeChain.{WholeChain}
-use Rattle.dispatch_room_journal.specs.Chains.{chain_text, first_check, opening}
-use Rattle.dispatch_room_journal.specs.Chains.{sha256_digits}
+use Rattle.dispatch_room_journal.specs.Chains.{chain_text, first_check, opening, sha256_digits}
 use Rattle.dispatch_room_journal.specs.RecordFronts.{front_of}
 use Rattle.dispatch_room_journal.specs.RecordRuns.{Runs, first_link}
 
@@ -46,11 +46,13 @@ FailsChain read_failed text Foreign =
 FailsChain read_failed text Read = (read_failed ≡ true) ⊎ (most_bytes ≤ 2 * length text)
 
 -- What a list is: none yet, where it is some first bytes of the line with which a chain begins and
--- not all of it; no chain, where it begins otherwise; or a chain, of which so much is whole.
+-- not all of it; what is left of a truncated chain, where it begins with the line of a record; no
+-- chain, where it begins otherwise; or a chain, of which so much is whole.
 abbrev pub IsForm : List ℕ → ListForm → Type 0
 IsForm text New = (more : List ℕ) × (opening ≡ text ++ more) × (0 < length more)
+IsForm text Truncated = IsTruncated text
 IsForm text Plain = ((more : List ℕ) → opening ≢ text ++ more)
-    × ((rest : List ℕ) → text ≢ opening ++ rest)
+    × ((rest : List ℕ) → text ≢ opening ++ rest) × ¬ (IsTruncated text)
 IsForm text (Chain whole) = (rest : List ℕ) × (text ≡ opening ++ rest) × EndsChain rest whole
 
 -- why that is not known: a read failed, or it is a chain that does not end so
@@ -64,7 +66,7 @@ GivesMore before after left now true = (more : List ℕ) × (1 ≤ length more)
     × (after ≡ before ++ more) × Consumes left now more
 GivesMore before after left now false = (after ≡ before) × Keeps left now × IsAtEnd now
 
--- there are as many bytes as the line with which a chain begins has, or nothing more is read
-abbrev pub IsFull : List ℕ → Option (List ℕ) → Bool → Type 0
-IsFull kept left true = 7 ≤ length kept
-IsFull kept left false = (length kept < 7) × IsAtEnd left
+-- there are so many bytes, or nothing more is read
+abbrev pub IsFull : ℕ → List ℕ → Option (List ℕ) → Bool → Type 0
+IsFull count kept left true = count ≤ length kept
+IsFull count kept left false = (length kept < count) × IsAtEnd left

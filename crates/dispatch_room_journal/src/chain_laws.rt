@@ -1,6 +1,6 @@
 //! What the text of a chain decides. Each law is the contract of a function that does nothing.
 ghost use Rattle.dispatch_room_journal.specs.ChainLaws.{IsOneChain, IsReadAgain, IsWritten};
-ghost use Rattle.dispatch_room_journal.specs.ChangedChains.{IsNeverLost};
+ghost use Rattle.dispatch_room_journal.specs.ChangedChains.{IsNeverLost, IsNeverTruncated};
 ghost use Rattle.dispatch_room_journal.specs.CutRecords.{IsNeverCut};
 ghost use Rattle.dispatch_room_journal.specs.LegLaws.{IsLegByLeg};
 
@@ -34,4 +34,10 @@ pub fn never_cut()
 /// have one hash.
 pub fn never_lost()
     ensures { IsNeverLost }
+{}
+
+/// A list, and one of which one byte was changed, is never taken for what is left of a truncated
+/// one.
+pub fn never_truncated()
+    ensures { IsNeverTruncated }
 {}

@@ -1,10 +1,10 @@
-//! Whether what stands at the end of a chain is the beginning of one record, which a stop left half
-//! written. Nothing else is taken for that: the size in a record's line stands under no check, so
-//! the record behind it is looked at too.
+//! What is lost of a chain: the end of its last record, which a stop left half written, or its
+//! beginning. Nothing else is taken for a record that is half written: the size in a record's line
+//! stands under no check, so the record behind it is looked at too.
 ghost use Rattle.std.specs.Prelude.{◌≡◌, ◌↔◌, ◌≤◌, ◌<◌, ◌++◌, ℕ, List, length, IsTrue, true};
 ghost use Rattle.dispatch_room_journal.specs.Chains.{is_no_entry};
 ghost use Rattle.dispatch_room_journal.specs.CutRecords.{BeginsLine, IsCutBody, IsCutRecord};
-ghost use Rattle.dispatch_room_journal.specs.CutRecords.{may_stand};
+ghost use Rattle.dispatch_room_journal.specs.CutRecords.{IsTruncated, may_stand};
 ghost use Rattle.dispatch_room_journal.specs.TextParts.{Lacks};
 
 use crate::entry_lines::{EntryLine, cut, line_in};
@@ -20,6 +20,13 @@ pub fn is_cut_record(text: &[u8]) -> bool
         return begins_record_line(text);
     }
     begins_record_line(&text[..HEADER]) && is_cut_body(number_in(text), &text[HEADER..])
+}
+
+/// Whether a text begins with the line of a record, as what is left of a truncated chain does.
+pub fn is_truncated(text: &[u8]) -> bool
+    ensures { IsTrue result ↔ IsTruncated text.now }
+{
+    HEADER <= text.len() && begins_record_line(&text[..HEADER])
 }
 
 // Whether these bytes are the first of the line before a record, or all of it.

@@ -7,9 +7,9 @@ use crate::journal_inbox::JournalInbox;
 use crate::list_tallies::{Flaw, Tally};
 use room_http_messages::sources::Source;
 
-/// What a list holds, read by an inbox that is new; or where it is no list. One without an entry is
-/// none: nothing was begun.
-pub fn verify<R: Source>(inbox: &mut JournalInbox, list: &mut R) -> Result<Tally, Flaw>
+/// What a list holds, read by an inbox that is new: `None` where nothing was begun; or where it is
+/// no list.
+pub fn verify<R: Source>(inbox: &mut JournalInbox, list: &mut R) -> Result<Option<Tally>, Flaw>
     requires sound { R.has_failed list.old ≡ false }
     requires kept { inbox.old.kept ≡ [] }
     requires taken { inbox.old.taken ≡ 0 }
@@ -25,9 +25,9 @@ pub fn verify<R: Source>(inbox: &mut JournalInbox, list: &mut R) -> Result<Tally
             }
             Ok(None) => {
                 if entry == 0 {
-                    return Err(tally.flaw(EntryFault::Cut));
+                    return Ok(None);
                 }
-                return Ok(tally);
+                return Ok(Some(tally));
             }
             Err(fault) => return Err(tally.flaw(fault)),
         }

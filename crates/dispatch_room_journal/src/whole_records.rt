@@ -11,7 +11,7 @@ ghost use Rattle.dispatch_room_journal.specs.WholeRecords.{EndsChain, FailsChain
 ghost use Rattle.dispatch_room_journal.specs.WholeRecords.{GivesMore, IsForm, IsFull};
 ghost use Rattle.dispatch_room_journal.specs.declared.record_inbox.TheConstants.{RECORD_ROOM};
 
-use crate::cut_records::is_cut_record;
+use crate::cut_records::{is_cut_record, is_truncated};
 use crate::entry_prefixes::{self, EntryLayout, EntryPrefix};
 use crate::entry_reader::EntryFault;
 use crate::record_fronts::{
@@ -127,23 +127,29 @@ fn cut_to(whole: &WholeChain, rest: &[u8]) -> Result<WholeChain, EntryFault>
 pub enum ListForm {
     /// None yet: it is empty, or some first bytes of the line with which a chain begins.
     New,
+    /// What is left of a chain that was truncated to nothing while it was written.
+    Truncated,
     /// No chain.
     Plain,
     /// A chain, of which so much is whole behind its first line.
     Chain(WholeChain),
 }
 
-// Reads until there are as many bytes as a chain's first line has, and returns whether there are so
-// many.
-fn fill_line<R: Source>(inbox: &mut RecordInbox, reader: &mut R) -> Result<bool, EntryFault>
+// Reads until there are so many bytes, and returns whether there are.
+fn fill_to<R: Source>(
+    inbox: &mut RecordInbox,
+    reader: &mut R,
+    count: usize,
+) -> Result<bool, EntryFault>
     requires sound { R.has_failed reader.old ≡ false }
+    requires room { count ≤ RECORD_ROOM }
     ensures failed { R.has_failed reader.new ≡ is_err result }
     ensures same { Keeps (prepend_known inbox.old (R.left reader.old))
         (prepend_known inbox.new (R.left reader.new)) }
-    ensures enough { MatchResult result (IsFull inbox.new (R.left reader.new))
+    ensures enough { MatchResult result (IsFull count inbox.new (R.left reader.new))
         (λ fault. fault ≡ Read) }
 {
-    'reads: while inbox.bytes().len() < 7 {
+    'reads: while inbox.bytes().len() < count {
         if !read_more(inbox, reader)? {
             return Ok(false);
         }
@@ -178,6 +184,21 @@ fn begins_chain(bytes: &[u8]) -> bool
     &bytes[..7] == OPENING
 }
 
+// What a list is that begins otherwise than a chain does.
+fn form_of_other<R: Source>(inbox: &mut RecordInbox, reader: &mut R) -> Result<ListForm, EntryFault>
+    requires sound { R.has_failed reader.old ≡ false }
+    requires long { 7 ≤ length inbox.old }
+    requires other { bytes_eq (take 7 inbox.old) opening ≡ false }
+    ensures { (text : List ℕ) → prepend_known inbox.old (R.left reader.old) ≡ Some text
+        → MatchResult result (IsForm text) (FailsForm (R.has_failed reader.new) text) }
+{
+    fill_to(inbox, reader, HEADER)?;
+    if is_truncated(inbox.bytes()) {
+        return Ok(ListForm::Truncated);
+    }
+    Ok(ListForm::Plain)
+}
+
 /// What a list is, of which nothing was read: of a chain its records are looked through.
 pub fn look_through<R: Source>(
     inbox: &mut RecordInbox,
@@ -188,11 +209,11 @@ pub fn look_through<R: Source>(
     ensures { (text : List ℕ) → R.left reader.old ≡ Some text
         → MatchResult result (IsForm text) (FailsForm (R.has_failed reader.new) text) }
 {
-    if !fill_line(inbox, reader)? {
+    if !fill_to(inbox, reader, OPENING.len())? {
         return Ok(form_of_few(inbox.bytes()));
     }
     if !begins_chain(inbox.bytes()) {
-        return Ok(ListForm::Plain);
+        return form_of_other(inbox, reader);
     }
     inbox.remove(7);
     match whole_chain(inbox, reader) {

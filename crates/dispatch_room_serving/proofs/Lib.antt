@@ -4,7 +4,9 @@ pub mod ConnectionLaws
 pub mod LogLemmas
 -- starts, one after another
 pub mod StartLaws
--- the list that is kept over starts
+-- the list that is kept on the connections of a start
+pub mod HeardLists
+-- and over starts
 pub mod ListLaws
 -- such a list, replayed
 pub mod ReplayLaws

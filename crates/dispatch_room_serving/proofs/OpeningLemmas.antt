@@ -14,12 +14,12 @@ use Rattle.dispatch_room_serving.specs.OpenedLists.{settled}
 use Rattle.dispatch_room_serving.specs.declared.opened_lists.WholeList.{WholeList}
 
 -- one of the two first steps could not be done
-pub unclear : {F : Type 0} (tried : F → Option (List Step)) (old new : F) (whole : ℕ)
+pub unclear : {F : Type 0} (tried : F → Option (List Step)) (old new : F) (list : WholeList)
     (r : Result (Unit {0}) Failure) (P : Failure → Type 0) → IsErrAnd r P → (steps : List Step)
-    → BreaksClearing whole steps → Grows (tried old) (tried new) steps
-    → Clears tried old new whole r
-unclear tried old new whole (Ok _) P fails steps breaks tries = absurd fails
-unclear tried old new whole (Err fault) P fails steps breaks tries = (steps, breaks, tries)
+    → BreaksClearing list steps → Grows (tried old) (tried new) steps
+    → Clears tried old new list r
+unclear tried old new list (Ok _) P fails steps breaks tries = absurd fails
+unclear tried old new list (Err fault) P fails steps breaks tries = (steps, breaks, tries)
 
 -- what stood in the file was made to last, and this of it was found to be whole
 module _ {F : Type 0} (tried : F → Option (List Step)) (text : F → Option (List ℕ))
@@ -29,7 +29,7 @@ module _ {F : Type 0} (tried : F → Option (List Step)) (text : F → Option (L
   -- it was opened by these steps
   pub opened : (found : Option ListEnd) → goes_on_at list ≡ found
       → Grows (tried lasting) (tried new)
-      (clearing list.whole ++ (if is_some found then [] else begun true ∷ []))
+      (clearing list ++ (if is_some found then [] else begun true ∷ []))
       → Opens tried text old new (Ok (unwrap_or found (Chain first_link)))
   opened found is tries = (
     list,
@@ -39,7 +39,7 @@ module _ {F : Type 0} (tried : F → Option (List Step)) (text : F → Option (L
       whole = whole;
       tries =
           subst (λ o. Grows (tried lasting) (tried new)
-          (clearing list.whole ++ (if is_some o then [] else begun true ∷ []))) (sym is) tries;
+          (clearing list ++ (if is_some o then [] else begun true ∷ []))) (sym is) tries;
     },
     sym (ap (λ o. unwrap_or o (Chain first_link)) is),
   )

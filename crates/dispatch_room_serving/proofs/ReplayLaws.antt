@@ -18,7 +18,7 @@ use Rattle.dispatch_room_journal.specs.ReplayedTurns.{Play, Turn, answered, caug
 use Rattle.dispatch_room_journal.specs.ReplayedTurns.{left_out, timed, tried}
 use Rattle.dispatch_room_journal.proofs.WholeLaws.{whole_law}
 use Rattle.dispatch_room_serving.specs.Lists.{ListIsReplayed}
-use Rattle.dispatch_room_serving.proofs.ListLaws.{reply_in}
+use Rattle.dispatch_room_serving.proofs.HeardLists.{reply_in}
 use Rattle.room_tables_schema.specs.FileConnections.{IsClean}
 
 -- ---- a replay in another setting of the same zone and history

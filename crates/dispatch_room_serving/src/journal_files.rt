@@ -1,5 +1,5 @@
-//! The file of a journal: a record that a crash cut off is set aside, and entries are appended to
-//! the rest.
+//! The file of a journal: a record that a crash cut off is set aside, or what is left of a truncated
+//! list, and entries are appended to the rest.
 ghost use Rattle.std.specs.Prelude.{◌≡◌, ◌||◌, ◌⊎◌, ℕ, List, Bool, false, if◌then◌else◌, is_some};
 ghost use Rattle.std.specs.Prelude.{nat_lt, not, refl, IfErr, IsErrAnd, IsTrue, MatchResult, None};
 ghost use Rattle.std.specs.Prelude.{Ok, OnErr, OnOk, Option, Some, true};
@@ -15,7 +15,7 @@ ghost use Rattle.dispatch_room_serving.specs.declared.journal_files.WrittenFile.
 
 use crate::journals::Keeper;
 use crate::list_places::{Aside, put_aside};
-use crate::opened_lists::{ListFile, end_of};
+use crate::opened_lists::{ListFile, Rest, end_of};
 use dispatch_room_cli::exit_status::Failure;
 use dispatch_room_cli::failure_causes::Explainer;
 use dispatch_room_journal::list_ends::{ListEnd, put_end, put_entry};
@@ -78,8 +78,9 @@ impl<F: Lasting> OpenedList<F> {
 
 /// Opens the file of a journal behind its last whole record, and locks it against other writers. A
 /// missing file is made, for its owner only, and an empty one begins as a chain. A record that a
-/// crash cut off is set aside, which is reported to `err`. What stands in the file then lasts, and
-/// so does its name. Explains why if the file can't be opened, or is no journal.
+/// crash cut off is set aside, or what is left of a truncated list, which is reported to `err`.
+/// What stands in the file then lasts, and so does its name. Explains why if the file can't be
+/// opened, or is no journal.
 pub fn open_journal<E: Write>(
     rt: &HostRuntime,
     explainer: Explainer<'_>,
@@ -129,7 +130,7 @@ impl<'a> ListFile for FoundList<'a> {
         Ok(Wire::new(file))
     }
 
-    fn set_aside(&mut self, whole: u64) -> Result<Option<String>, Failure> {
+    fn set_aside(&mut self, whole: u64, rest: Rest) -> Result<Option<String>, Failure> {
         let bytes = self.explained(length_of(self.file))?;
         let Some(at) = cut_to(bytes, whole) else {
             return Ok(None);
@@ -139,7 +140,7 @@ impl<'a> ListFile for FoundList<'a> {
             file: self.file,
             at,
         };
-        let put = put_aside(self.alloc, self.path, "cut", &end);
+        let put = put_aside(self.alloc, self.path, rest.word(), &end);
         self.explained(put).map(Some)
     }
 

@@ -1,5 +1,6 @@
 //! How a list is opened: what of it is whole is found, what follows that is set aside and cut off,
-//! and a list of which nothing is whole is begun.
+//! and a list of which nothing is whole is begun. Of one that was truncated while it was written
+//! nothing is whole.
 ghost use Rattle.std.specs.Prelude.{◌≡◌, ◌+◌, ℕ, List, [], ◌∷◌, false, is_ok, min, IfErr, IfOk};
 ghost use Rattle.std.specs.Prelude.{MatchResult, Option, Some};
 ghost use Rattle.room_http_messages.specs.Streams.{Grows};
@@ -21,6 +22,25 @@ use dispatch_room_journal::whole_records::{ListForm, WholeChain, look_through};
 use room_http_messages::sources::Source;
 use std::alloc::Global;
 use std::io::Write;
+
+/// What follows the whole records of a list.
+#[derive(Clone, Copy)]
+pub(crate) enum Rest {
+    /// The beginning of one record, which a stop cut off.
+    Cut,
+    /// What is left of a list that was truncated while it was written.
+    Truncated,
+}
+
+impl Rest {
+    /// The word in the name of the file to which it is copied.
+    pub(crate) fn word(self) -> &'static str {
+        match self {
+            Rest::Cut => "cut",
+            Rest::Truncated => "truncated",
+        }
+    }
+}
 
 /// The file of a list, and the calls by which the list is opened.
 pub(crate) trait ListFile {
@@ -44,11 +64,11 @@ pub(crate) trait ListFile {
         ensures sound { IfOk result (λ reader. Self.Reader.has_failed reader ≡ false) }
         ensures fault { IfErr result IsListFault };
 
-    /// Copies what follows so many bytes of it to a new file beside it, makes that last, and
-    /// returns its name: `None` if nothing follows.
-    fn set_aside(&mut self, whole: u64) -> Result<Option<String>, Failure>
+    /// Copies what follows so many bytes of it to a new file beside it, which is named by what that
+    /// is, makes it last, and returns its name: `None` if nothing follows.
+    fn set_aside(&mut self, whole: u64, rest: Rest) -> Result<Option<String>, Failure>
         ensures tried { Grows (tried self.old) (tried self.new)
-            (copied whole (is_ok result) ∷ []) }
+            (copied whole rest (is_ok result) ∷ []) }
         ensures fault { IfErr result IsListFault };
 
     /// Cuts off what follows so many bytes of it.
@@ -78,7 +98,7 @@ pub(crate) fn end_of<F: ListFile, E: Write>(
 {
     file.settle()?;
     let list = whole_list(alloc, explainer, path, file)?;
-    clear(file, list.whole, err)?;
+    clear(file, list, err)?;
     match goes_on_at(list) {
         Some(end) => Ok(end),
         None => {
@@ -88,26 +108,33 @@ pub(crate) fn end_of<F: ListFile, E: Write>(
     }
 }
 
-// Sets aside what follows so many bytes of a list, and then cuts it off, which is reported to
+// Sets aside what follows the whole records of a list, and then cuts it off, which is reported to
 // `err`.
-fn clear<F: ListFile, E: Write>(file: &mut F, whole: u64, err: &mut E) -> Result<(), Failure>
-    ensures clears { Clears F.tried file.old file.new whole result }
+fn clear<F: ListFile, E: Write>(file: &mut F, list: WholeList, err: &mut E) -> Result<(), Failure>
+    ensures clears { Clears F.tried file.old file.new list result }
     ensures fault { IfErr result IsListFault }
 {
-    let aside = file.set_aside(whole)?;
-    file.cut(whole)?;
-    report_aside(&aside, err);
+    let aside = file.set_aside(list.whole, list.rest)?;
+    file.cut(list.whole)?;
+    report_aside(&aside, list.rest, err);
     Ok(())
 }
 
-// Reports under which name an end was set aside, if one was.
-fn report_aside<E: Write>(aside: &Option<String>, err: &mut E) {
-    if let Some(name) = aside {
-        let _ = writeln!(
+// Reports what was set aside, if anything was, and under which name.
+fn report_aside<E: Write>(aside: &Option<String>, rest: Rest, err: &mut E) {
+    let Some(name) = aside else {
+        return;
+    };
+    let _ = match rest {
+        Rest::Cut => writeln!(
             err,
             "journal: a record that was cut off is set aside as {name}"
-        );
-    }
+        ),
+        Rest::Truncated => writeln!(
+            err,
+            "journal: the list was truncated, what is left is set aside as {name}"
+        ),
+    };
 }
 
 // How a list goes on, of which so many bytes are whole: `None` if it is to begin anew.
@@ -117,10 +144,12 @@ fn goes_on_at(list: WholeList) -> Option<ListEnd>
     if list.whole == 0 { None } else { list.end }
 }
 
-// How many bytes of a file are whole records, and how its list goes on: `None` if none is begun.
+// How many bytes of a file are whole records, what follows them, and how its list goes on: `None`
+// if none is begun.
 #[derive(Clone, Copy)]
 struct WholeList {
     whole: u64,
+    rest: Rest,
     end: Option<ListEnd>,
 }
 
@@ -165,10 +194,17 @@ fn whole_of_form<F: ListFile>(
     match form {
         ListForm::New => Ok(WholeList {
             whole: 0,
+            rest: Rest::Cut,
+            end: None,
+        }),
+        ListForm::Truncated => Ok(WholeList {
+            whole: 0,
+            rest: Rest::Truncated,
             end: None,
         }),
         ListForm::Chain(chain) => Ok(WholeList {
             whole: whole_of(chain),
+            rest: Rest::Cut,
             end: Some(ListEnd::Chain(chain.link)),
         }),
         ListForm::Plain => {
@@ -176,6 +212,7 @@ fn whole_of_form<F: ListFile>(
             let whole = whole_in(alloc, explainer, path, &mut reader)?;
             Ok(WholeList {
                 whole,
+                rest: Rest::Cut,
                 end: Some(ListEnd::Plain),
             })
         }

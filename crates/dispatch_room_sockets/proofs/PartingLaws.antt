@@ -1,18 +1,9 @@
 -- What was done to part from a peer, step after step.
-use Rattle.std.proofs.Common.{◌≡◌, ◌∙◌, ap, arith, append_assoc, length-append, inr, ℕ, ◌+◌, ◌≤◌}
-use Rattle.std.proofs.Common.{List, ◌∷◌, ◌++◌, true, Option, None, Some, refl}
+use Rattle.std.proofs.Common.{◌≡◌, arith, length-append, inr, ℕ, ◌+◌, ◌≤◌, List, ◌∷◌, ◌++◌, true}
+use Rattle.std.proofs.Common.{Option, None, Some, refl}
 use Rattle.std.proofs.KnownBytes.{Consumes-trans}
 use Rattle.std.specs.declared.time.Duration.{Duration}
-use Rattle.dispatch_room_sockets.specs.LingeringClose.{Does, IsDrained, IsParted, Step, shut}
-use Rattle.dispatch_room_sockets.specs.Discards.{ThrowsAway}
-
-pub Does-more : (a b c : Option (List Step)) (xs ys : List Step) → Does a b xs → Does b c ys
-    → Does a c (xs ++ ys)
-Does-more None b c xs ys first second = tt
-Does-more (Some done) None c xs ys first second = absurd first
-Does-more (Some done) (Some more) None xs ys first second = second
-Does-more (Some done) (Some more) (Some most) xs ys first second =
-    second ∙ ap (λ t. t ++ ys) first ∙ append_assoc done xs ys
+use Rattle.dispatch_room_sockets.specs.LingeringClose.{IsDrained, IsParted, Step, ThrowsAway, shut}
 
 pub Throws-more : (a b c : Option (List ℕ)) (few more most : ℕ) → ThrowsAway few a b
     → ThrowsAway more b c → few + more ≤ most → ThrowsAway most a c

@@ -1,13 +1,14 @@
 -- Rounds, one after the other.
 use Rattle.std.proofs.Common.{◌≡◌, ◌∙◌, ap, refl, List, [], ◌∷◌, Bool, true, false, None, Option}
-use Rattle.std.proofs.Common.{Some}
+use Rattle.std.proofs.Common.{Some, length}
 use Rattle.std.specs.Prelude.{MatchOption}
 use Rattle.std.specs.declared.time.Duration.{Duration}
 use Rattle.dispatch_room_sockets.specs.declared.entrances.Entrance.{Ghosts}
+use Rattle.dispatch_room_sockets.specs.declared.kept_callers.Kept.{Kept}
 use Rattle.dispatch_room_sockets.specs.declared.waiting_callers.Waiting.{Waiting}
 use Rattle.dispatch_room_sockets.specs.CallerHistories.{GivesNext}
-use Rattle.dispatch_room_sockets.specs.Rounds.{AreRounds, HasRounds, IsRound, LooksAround, Queues}
-use Rattle.dispatch_room_sockets.specs.Rounds.{Waited, all_watched, none_ready, queues}
+use Rattle.dispatch_room_sockets.specs.Rounds.{AreRounds, HasRounds, Hears, IsRound, LooksAround}
+use Rattle.dispatch_room_sockets.specs.Rounds.{Queues, Waited, all_watched, none_ready, queues}
 use Rattle.dispatch_room_sockets.proofs.HistoryLaws.{admitted_given, given_after, looked_given}
 use Rattle.dispatch_room_sockets.proofs.HistoryLaws.{nobody_given}
 
@@ -62,21 +63,21 @@ module _ {C : Type 0} where
   rounds_times old new all = times_from all.moments old new all.are
 
 module _ {E C : Type 0} (g : Ghosts E C) where
-  waited_rounds : (most : Duration) (old new : Waiting E C g) → Waited g most old new
+  waited_rounds : (most : Duration) (old new : Waiting E C) → Waited g most old new
       → HasRounds (queues g old) (queues g new)
   waited_rounds most old new w = rounds_after w.after (queues g old) (queues g new) w.round
 
-  same_rounds : (old new : Waiting E C g) → new ≡ old → HasRounds (queues g old) (queues g new)
+  same_rounds : (old new : Waiting E C) → new ≡ old → HasRounds (queues g old) (queues g new)
   same_rounds old new same = no_round (queues g old) (queues g new) (ap (λ w. queues g w) same)
 
   -- nobody was looked at, or it was waited
-  either_rounds : (b : Bool) (old new : Waiting E C g) → (b ≡ true → HasRounds (queues g old) (queues g new))
+  either_rounds : (b : Bool) (old new : Waiting E C) → (b ≡ true → HasRounds (queues g old) (queues g new))
       → (b ≡ false → HasRounds (queues g old) (queues g new)) → HasRounds (queues g old) (queues g new)
   either_rounds true old new is not = is refl
   either_rounds false old new is not = not refl
 
   -- whoever looks around makes rounds
-  pub around_rounds : (old new : Waiting E C g) → LooksAround g old new
+  pub around_rounds : (old new : Waiting E C) → LooksAround g old new
       → HasRounds (queues g old) (queues g new)
   around_rounds old new a =
       joined_rounds (queues g old) (queues g a.mid) (queues g new)
@@ -85,3 +86,18 @@ module _ {E C : Type 0} (g : Ghosts E C) where
       (either_rounds (none_ready g a.mid) a.mid new
       (λ none. let w = a.waited none in waited_rounds w.0 a.mid new w.2)
       (λ some. same_rounds a.mid new (a.same some)))
+
+  module _ (old mid : Waiting E C) (stay : ¬ (length old.ready.items ≡ 0) → mid ≡ old)
+      (around : length old.ready.items ≡ 0 → LooksAround g old mid) where
+    pub heard_nobody : Hears g old mid None
+    heard_nobody = record { heard = mid; same = stay; around = around; gave = refl }
+
+    -- those who were heard are heard no more where someone is to be served
+    pub heard_before : (new : Waiting E C) (given : Option (Kept C)) → Hears g mid new given
+        → ¬ (length mid.ready.items ≡ 0) → Hears g old new given
+    heard_before new given then some = record {
+      heard = mid;
+      same = stay;
+      around = around;
+      gave = rw (then.same some) at then.gave;
+    }

@@ -1,5 +1,3 @@
--- what is read from a peer and thrown away
-pub mod Discards
 -- how a peer is parted from
 pub mod LingeringClose
 -- how long it is until a moment

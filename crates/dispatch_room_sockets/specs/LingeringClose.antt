@@ -1,6 +1,7 @@
 -- How a peer is parted from: what is done, and in which order.
-use Rattle.std.specs.Prelude.{◌≡◌, ◌⊎◌, ◌<◌, ⊤, ℕ, List, [], ◌∷◌, ◌++◌, Bool, true, false}
-use Rattle.std.specs.Prelude.{if◌then◌else◌, Option, None, Some, replicate}
+use Rattle.std.specs.Prelude.{◌≡◌, ◌⊎◌, ◌<◌, ◌≤◌, ℕ, List, [], ◌∷◌, ◌++◌, Bool, true, false, length}
+use Rattle.std.specs.Prelude.{Option, None, Some, replicate, if◌then◌else◌}
+use Rattle.std.specs.Io.KnownBytes.{Consumes}
 use Rattle.std.specs.declared.time.Duration.{Duration}
 
 -- A step: the writing side is shut, or could not be. Or a piece of what the peer still sends is
@@ -9,11 +10,9 @@ pub data Step : Type 0 where
   shut : Bool → Step
   threw : Duration → Bool → Step
 
--- what is known to have been done grows by these steps
-abbrev pub Does : Option (List Step) → Option (List Step) → List Step → Type 0
-Does None new more = ⊤
-Does (Some steps) None more = ⊥
-Does (Some steps) (Some now) more = now ≡ steps ++ more
+-- The bytes that are known to come lose some at their front, so many at most.
+abbrev pub ThrowsAway : ℕ → Option (List ℕ) → Option (List ℕ) → Type 0
+ThrowsAway most old new = (bytes : List ℕ) × Consumes old new bytes × (length bytes ≤ most)
 
 -- what comes until a moment is thrown away: piece after piece up to one after which no more comes,
 -- or 4,096 of them

@@ -1,8 +1,9 @@
 -- How long it is waited for someone to move.
-use Rattle.std.specs.Prelude.{◌≡◌, ◌+◌, ◌-◌, ◌≤◌, ℕ, List, [], ◌∷◌, ◌++◌, Bool, if◌then◌else◌, All}
-use Rattle.std.specs.Prelude.{min, map, flat_map, Option, None, Some}
+use Rattle.std.specs.Prelude.{◌≡◌, ◌+◌, ◌-◌, ◌≤◌, ℕ, List, [], ◌∷◌, ◌++◌, Bool, All, min, map}
+use Rattle.std.specs.Prelude.{flat_map, Option, None, Some, if◌then◌else◌}
 use Rattle.std.specs.Duration.{as_nanos, max_nanos}
 use Rattle.std.specs.declared.time.Duration.{Duration}
+use Rattle.dispatch_room_sockets.specs.declared.kept_callers.Heard.{Heard}
 use Rattle.dispatch_room_sockets.specs.declared.kept_callers.Kept.{Kept}
 use Rattle.dispatch_room_sockets.specs.declared.leavers.Leaver.{Leaver}
 
@@ -11,6 +12,13 @@ use Rattle.dispatch_room_sockets.specs.declared.leavers.Leaver.{Leaver}
 pub record Wait : Type 0 where
   pub most : Duration
   pub after : Option Duration
+
+-- who came to an entrance so far, what each look found there, and each wait, in their order, where
+-- that is known
+pub record Seen (C : Type 0) : Type 0 where
+  pub came : Option (List C)
+  pub heard : Option (List Heard)
+  pub waits : Option (List Wait)
 
 -- n is one of these, and none of them is less
 pub record IsLeast (n : ℕ) (all : List ℕ) : Type 0 where

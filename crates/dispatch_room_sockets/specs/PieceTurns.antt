@@ -1,14 +1,17 @@
 -- Who is given at a door to be served, and what becomes of them after it.
 use Rattle.std.specs.Prelude.{◌≡◌, ◌⊎◌, ◌+◌, ◌<◌, ◌==◌, ℕ, List, [], ◌∷◌, Bool, true, false, length}
-use Rattle.std.specs.Prelude.{min, Option, None, Some, IfSome, IsSome, MatchOption}
+use Rattle.std.specs.Prelude.{min, option_map, Option, None, Some, IfSome, IsSome, MatchOption}
 use Rattle.std.specs.Duration.{as_nanos, max_nanos}
 use Rattle.std.specs.declared.time.Duration.{Duration}
 use Rattle.dispatch_room_sockets.specs.declared.doors.Client.{Client}
+use Rattle.dispatch_room_sockets.specs.declared.entrances.Entrance.{Ghosts}
 use Rattle.dispatch_room_sockets.specs.declared.kept_callers.Kept.{Kept}
 use Rattle.dispatch_room_sockets.specs.declared.leavers.Leaver.{Leaver}
+use Rattle.dispatch_room_sockets.specs.declared.waiting_callers.Waiting.{Waiting}
 use Rattle.dispatch_room_sockets.specs.CallerHistories.{ComesBack, GivesNext}
 use Rattle.dispatch_room_sockets.specs.Departures.{Departs}
 use Rattle.dispatch_room_sockets.specs.Pauses.{IsLeast, limits}
+use Rattle.dispatch_room_sockets.specs.Rounds.{Hears}
 use Rattle.dispatch_room_sockets.specs.Turns.{WaitsAgain}
 
 module _ {T : Type 0} where
@@ -24,6 +27,15 @@ module _ {T : Type 0} where
   -- the stream of one
   abbrev pub IsHindered : (Option Duration → Type 0) → (T → Type 0) → Kept (Client T) → Type 0
   IsHindered shows is_full k = is_full k.caller.stream ⊎ shows None
+
+  -- Where someone was to be served, nobody was looked at, and else all were. Then this one was
+  -- given, and its moves are not reported any longer, or nobody was.
+  pub record HearsPiece {E : Type 0} (g : Ghosts E (Client T)) (old new : Waiting E (Client T))
+      (given : Option (Kept (Client T))) : Type 0
+    where
+      pub first : Option (Kept (Client T))
+      pub is : given ≡ option_map unwatched first
+      pub hears : Hears g old new first
 
   -- One is given to be served, or nobody is, and nobody is lost. Where some are to be served, the
   -- first of them is given and all others stay. Nobody is given only where nobody is to be served,

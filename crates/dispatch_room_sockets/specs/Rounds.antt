@@ -26,15 +26,15 @@ pub record Queues (C : Type 0) : Type 0 where
   pub heard : Option (List Heard)
 
 -- the queues of those who wait where they come in
-abbrev pub queues : {E C : Type 0} → (g : Ghosts E C) → Waiting E C g → Queues C
+abbrev pub queues : {E C : Type 0} → (g : Ghosts E C) → Waiting E C → Queues C
 queues g waiting = record {
   keep = waiting.keep;
   patience = waiting.patience;
   line = waiting.line.items;
   ready = waiting.ready.items;
   next = waiting.next;
-  came = g.came waiting.entrance;
-  heard = g.heard waiting.entrance;
+  came = (g.seen waiting.entrance).came;
+  heard = (g.seen waiting.entrance).heard;
 }
 
 module _ {C : Type 0} where
@@ -67,16 +67,16 @@ module _ {C : Type 0} where
 
 module _ {E C : Type 0} (g : Ghosts E C) where
   -- all who wait are watched
-  abbrev pub all_watched : Waiting E C g → Bool
+  abbrev pub all_watched : Waiting E C → Bool
   all_watched w = list_all (λ k. g.is_watched w.entrance k.caller) w.line.items
 
   -- nobody is to be served
-  abbrev pub none_ready : Waiting E C g → Bool
+  abbrev pub none_ready : Waiting E C → Bool
   none_ready w = deque_len w.ready == 0
 
   -- So long it may be waited for someone to move: from the moment on that the clock shows until
   -- something is to be done, and a second where it shows none.
-  pub record IsPause (w : Waiting E C g) (most : Duration) : Type 0 where
+  pub record IsPause (w : Waiting E C) (most : Duration) : Type 0 where
     pub now : Option Duration
     pub shown : g.shows w.entrance now
     pub least : MatchOption now (as_nanos most ≡ 1000000000) (λ now. IsLeast (as_nanos most)
@@ -85,7 +85,7 @@ module _ {E C : Type 0} (g : Ghosts E C) where
   -- It was waited so long at most. Before that, those went who leave and whose time was over by the
   -- moment that the clock showed, and who rested stayed. After it a round was made, as of the
   -- moment that it was then; where none is known, nobody was looked at.
-  pub record Waited (most : Duration) (old new : Waiting E C g) : Type 0 where
+  pub record Waited (most : Duration) (old new : Waiting E C) : Type 0 where
     pub before : Option Duration
     pub shown : g.shows old.entrance before
     pub in_time :
@@ -93,29 +93,29 @@ module _ {E C : Type 0} (g : Ghosts E C) where
     pub rest : IfSome before (λ now.
         filter (is_resting now) new.leavers.items ≡ filter (is_resting now) old.leavers.items)
     pub after : Option Duration
-    pub noted : Grows (g.waits old.entrance) (g.waits new.entrance)
+    pub noted : Grows (g.seen old.entrance).waits (g.seen new.entrance).waits
         (record { most = most; after = after } ∷ [])
     pub round : MatchOption after (queues g new ≡ queues g old)
         (λ now. IsRound now (queues g old) (queues g new))
 
   -- where not all are watched, it was waited for no time
-  pub record AreWatched (old new : Waiting E C g) : Type 0 where
+  pub record AreWatched (old new : Waiting E C) : Type 0 where
     pub same : all_watched old ≡ true → new ≡ old
     pub waited : all_watched old ≡ false
         → (most : Duration) × (as_nanos most ≡ 0) × Waited most old new
 
   -- All were looked at: where not all were watched, without a wait; and where nobody was to be
   -- served then, after a wait until someone moved.
-  pub record LooksAround (old new : Waiting E C g) : Type 0 where
-    pub mid : Waiting E C g
+  pub record LooksAround (old new : Waiting E C) : Type 0 where
+    pub mid : Waiting E C
     pub watched : AreWatched old mid
     pub waited : none_ready mid ≡ true → (most : Duration) × IsPause mid most × Waited most mid new
     pub same : none_ready mid ≡ false → new ≡ mid
 
   -- Where someone was to be served, nobody was looked at, and else all were. Then this one was
   -- given, or nobody was.
-  pub record Hears (old new : Waiting E C g) (given : Option (Kept C)) : Type 0 where
-    pub heard : Waiting E C g
+  pub record Hears (old new : Waiting E C) (given : Option (Kept C)) : Type 0 where
+    pub heard : Waiting E C
     pub same : length old.ready.items ≢ 0 → heard ≡ old
     pub around : length old.ready.items ≡ 0 → LooksAround old heard
     pub gave : queues g heard ≡ before_giving given (queues g new)

@@ -31,18 +31,9 @@ pub fn sides<'a, T: Read + Write + OpenStream + Drop, C: MonotonicClock>(
         min (as_nanos sides.0.pace.ends + min (as_nanos waits.patience * 2) max_nanos) max_nanos) }
     ensures writer { IfSome result (λ sides. (sides.1.failed ≡ false) × (sides.1.stream ≡ stream)) }
 {
-    let ends = turn_ends(clock.now()?, waits);
+    let ends = waits.turn_ends(clock.now()?);
     let last = ends.saturating_add(waits.patience.saturating_mul(2));
     let reader = SocketReader::new(stream.try_clone().ok()?, clock, waits, ends);
     let writer = SocketWriter::new(stream, clock, waits.patience, last);
     Some((reader, writer))
-}
-
-// When a turn ends that begins now.
-fn turn_ends(now: Duration, waits: Waits) -> Duration
-    ensures { as_nanos result ≡ min (as_nanos now
-        + min (min (as_nanos waits.idle + as_nanos waits.patience) max_nanos * 5) max_nanos)
-        max_nanos }
-{
-    now.saturating_add(waits.turn())
 }

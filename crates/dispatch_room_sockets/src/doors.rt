@@ -1,9 +1,8 @@
 //! The door of a room: its sockets, and the system's set of those that move.
-ghost use Rattle.std.specs.Prelude.{◌≡◌, ◌+◌, ◌-◌, ◌||◌, ◌↔◌, ◌≤ℤ◌, [], Err, IfSome, IsTrue};
-ghost use Rattle.std.specs.Prelude.{if◌then◌else◌, None, false, length, min, pos, true};
+ghost use Rattle.std.specs.Prelude.{◌≡◌, ◌+◌, ◌-◌, ◌||◌, ◌↔◌, ◌≤ℤ◌, [], Err, IfSome, IsTrue, None};
+ghost use Rattle.std.specs.Prelude.{false, length, min, pos, true, if◌then◌else◌};
 ghost use Rattle.std.specs.Duration.{as_nanos, max_nanos};
-ghost use Rattle.dispatch_room_sockets.specs.Lookaheads.{StandsAhead, StaysInFront, heard_of};
-ghost use Rattle.dispatch_room_sockets.specs.Lookaheads.{may_grow};
+ghost use Rattle.dispatch_room_sockets.specs.Lookaheads.{StandsAhead, heard_of, may_grow};
 ghost use Rattle.dispatch_room_sockets.specs.Departures.{IsSpent};
 ghost use Rattle.dispatch_room_sockets.specs.Moves.{IsDeaf, IsDone, has_moved};
 ghost use Rattle.dispatch_room_sockets.specs.declared.nonblocking_streams.NoBytes.TheVariants.{Yet};
@@ -57,7 +56,7 @@ pub struct Client<T> {
     pub(crate) ahead: Lookahead,
     slot: usize,
     // Whether the next look includes it in any case.
-    is_fresh: bool,
+    pub(crate) is_fresh: bool,
     // Whether it is in the set of those whose moves are reported.
     is_watched: bool,
 }
@@ -76,15 +75,6 @@ impl<T: NonblockingStream> Client<T> {
             is_fresh: true,
             is_watched: false,
         })
-    }
-
-    /// What stands ahead, by what was read of its stream and can be read now.
-    pub(crate) fn look_ahead(&mut self, room: &mut [u8]) -> Lookahead
-        ensures seen { StandsAhead (length room.old) (T.gives self.new.stream)
-            (T.left self.new.stream) self.new.unserved result }
-        ensures front { StaysInFront self.old.unserved self.new.unserved }
-    {
-        look_ahead(&mut self.unserved, &mut self.stream, room)
     }
 
     // Throws away what has come, and returns whether more may come: none after its end, or once it
@@ -106,13 +96,6 @@ impl<T: NonblockingStream> Client<T> {
             }
         }
         false
-    }
-
-    /// From now on it is looked at anew.
-    pub(crate) fn refresh(&mut self)
-        ensures { self.new ≡ record self.old { is_fresh = true } }
-    {
-        self.is_fresh = true;
     }
 }
 
@@ -188,16 +171,13 @@ fn poll_of(rt: &HostRuntime, listener: &TcpListener) -> io::Result<Poll> {
     Ok(poll)
 }
 
-/// A door of the system.
-pub type HostDoor<'a> = Door<'a, HostRuntime, TcpListener>;
-
 impl<'a> Door<'a, HostRuntime, TcpListener> {
     /// The door where this listens.
     pub fn new(
         rt: &'a HostRuntime,
         alloc: Global,
         listener: TcpListener,
-    ) -> io::Result<HostDoor<'a>> {
+    ) -> io::Result<Door<'a, HostRuntime, TcpListener>> {
         listener.set_nonblocking(true)?;
         set_nodelay(&listener)?;
         let poll = poll_of(rt, &listener)?;
@@ -262,7 +242,8 @@ impl<'a, C: MonotonicClock, L: NonblockingListener> Door<'a, C, L> {
         ensures again { may_grow client.new.ahead ≡ true → client.new.is_watched ≡ false
             → client.new.is_fresh ≡ true }
     {
-        client.ahead = client.look_ahead(self.room.as_mut_slice());
+        let room = self.room.as_mut_slice();
+        client.ahead = look_ahead(&mut client.unserved, &mut client.stream, room);
         client.is_fresh = false;
         if !client.ahead.may_grow() {
             return;
@@ -393,9 +374,7 @@ impl<'a, C: MonotonicClock, L: NonblockingListener> Entrance for Door<'a, C, L> 
     ghost use Rattle.dispatch_room_sockets.specs.Departures.{IsSpent};
     ghost use Rattle.dispatch_room_sockets.specs.Moves.{IsDone};
 
-    ghost came = { λ _. None };
-
-    ghost heard = { λ _. None };
+    ghost seen = { λ _. record { came = None; heard = None; waits = None } };
 
     ghost is_watched = { λ _ client. client.is_watched };
 
@@ -404,8 +383,6 @@ impl<'a, C: MonotonicClock, L: NonblockingListener> Entrance for Door<'a, C, L> 
 
     ghost has_gone = { λ old new. IsSpent (L.Stream.gives new.stream) (L.Stream.left old.stream)
         (L.Stream.left new.stream) };
-
-    ghost waits = { λ _. None };
 
     ghost shows = { λ door. C.shows door.clock.now };
 

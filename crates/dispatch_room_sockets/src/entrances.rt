@@ -1,9 +1,8 @@
 //! Where those who call come in, and where they are looked at.
-ghost use Rattle.std.specs.Prelude.{◌≡◌, Bool, List, [], ◌∷◌, None, Option, false, option_to_list};
+ghost use Rattle.std.specs.Prelude.{◌≡◌, Bool, [], ◌∷◌, None, Option, false, option_to_list};
 ghost use Rattle.std.specs.declared.time.Duration.{Duration as Moment};
 ghost use Rattle.room_http_messages.specs.Streams.{Grows};
-ghost use Rattle.dispatch_room_sockets.specs.Pauses.{Wait};
-ghost use Rattle.dispatch_room_sockets.specs.declared.kept_callers.Heard.{Heard as Found};
+ghost use Rattle.dispatch_room_sockets.specs.Pauses.{Seen};
 
 use crate::kept_callers::Heard;
 use std::time::Duration;
@@ -14,20 +13,14 @@ pub trait Entrance: Drop {
     /// One who calls.
     type Caller: Drop;
 
-    // Those who came so far, in their order, where they are known.
-    ghost came: { Self → Option (List Self.Caller) };
-
-    // What each look found so far, where that is known.
-    ghost heard: { Self → Option (List Found) };
+    // Who came, what each look found, and each wait so far.
+    ghost seen: { Self → Seen Self.Caller };
 
     // Whether `wait` finds when one moves.
     ghost is_watched: { Self → Self.Caller → Bool };
 
     // Nobody can be accepted for now, as far as that is known.
     ghost is_done: { Self → Type 0 };
-
-    // Each wait so far, where they are known.
-    ghost waits: { Self → Option (List Wait) };
 
     // One has said all that it will, or too much, since it was so, as far as that is known.
     ghost has_gone: { Self.Caller → Self.Caller → Type 0 };
@@ -38,22 +31,18 @@ pub trait Entrance: Drop {
     /// The next who calls, where one does.
     fn accept(&mut self) -> Option<Self::Caller>
         ensures none { result ≡ None → is_done self.new }
-        ensures came { Grows (came self.old) (came self.new) (option_to_list result) }
-        ensures heard { heard self.new ≡ heard self.old }
-        ensures waits { waits self.new ≡ waits self.old };
+        ensures came { Grows (seen self.old).came (seen self.new).came (option_to_list result) }
+        ensures same { seen self.new ≡ record (seen self.old) { came = (seen self.new).came } };
 
     /// Looks at what one has said, all of which is still to be served.
     fn look(&mut self, caller: &mut Self::Caller) -> Heard
-        ensures came { came self.new ≡ came self.old }
-        ensures heard { Grows (heard self.old) (heard self.new) (result ∷ []) }
-        ensures waits { waits self.new ≡ waits self.old };
+        ensures heard { Grows (seen self.old).heard (seen self.new).heard (result ∷ []) }
+        ensures same { seen self.new ≡ record (seen self.old) { heard = (seen self.new).heard } };
 
     /// Throws away what comes on a closing connection, and returns whether more may come.
     fn throw_away(&mut self, caller: &mut Self::Caller) -> bool
         ensures gone { result ≡ false → has_gone caller.old caller.new }
-        ensures came { came self.new ≡ came self.old }
-        ensures heard { heard self.new ≡ heard self.old }
-        ensures waits { waits self.new ≡ waits self.old };
+        ensures same { seen self.new ≡ seen self.old };
 
     /// Whether `wait` finds when one moves.
     fn is_watched(&self, caller: &Self::Caller) -> bool
@@ -63,10 +52,9 @@ pub trait Entrance: Drop {
     /// the clock can't be read. After a wait of no time, each caller that is looked at and may
     /// still speak is watched.
     fn wait(&mut self, most: Duration) -> Option<Duration>
-        ensures came { came self.new ≡ came self.old }
-        ensures heard { heard self.new ≡ heard self.old }
-        ensures waits { Grows (waits self.old) (waits self.new)
-            (record { most = most; after = result } ∷ []) };
+        ensures waits { Grows (seen self.old).waits (seen self.new).waits
+            (record { most = most; after = result } ∷ []) }
+        ensures same { seen self.new ≡ record (seen self.old) { waits = (seen self.new).waits } };
 
     /// The moment that it is: none where the clock can't be read.
     fn now(&self) -> Option<Duration>

@@ -1,7 +1,7 @@
 //! One who called and is kept until a request of theirs is served.
-ghost use Rattle.std.specs.Prelude.{◌≡◌, ◌+◌, ◌||◌, ◌&&◌, min, not, false, true};
-ghost use Rattle.std.specs.Duration.{as_nanos, max_nanos};
-ghost use Rattle.dispatch_room_sockets.specs.Verdicts.{is_over, is_part, verdict_on};
+ghost use Rattle.std.specs.Prelude.{◌≡◌};
+ghost use Rattle.dispatch_room_sockets.specs.Sweeps.{IsNoted};
+ghost use Rattle.dispatch_room_sockets.specs.Verdicts.{is_over, verdict_on};
 
 use std::time::Duration;
 
@@ -45,12 +45,9 @@ pub struct Kept<C> {
 impl<C> Kept<C> {
     /// Notes what a look found now, and returns what becomes of the caller.
     pub(crate) fn note(&mut self, heard: Heard, now: Duration, patience: Duration) -> Verdict
-        ensures same { (self.new.number ≡ self.old.number) × (self.new.caller ≡ self.old.caller) }
-        ensures begun { self.new.has_begun ≡ (self.old.has_begun || is_part heard) }
-        ensures begins { (is_part heard && not self.old.has_begun) ≡ true
-            → as_nanos self.new.until ≡ min (as_nanos now + as_nanos patience) max_nanos }
-        ensures goes_on { (is_part heard && not self.old.has_begun) ≡ false
-            → self.new.until ≡ self.old.until }
+        ensures noted { IsNoted now patience
+            (record { before = self.old; heard = heard; after = self.new }) }
+        ensures caller { self.new.caller ≡ self.old.caller }
         ensures verdict { result ≡ verdict_on heard (is_over now self.new.until) }
     {
         if heard == Heard::Part && !self.has_begun {

@@ -68,9 +68,7 @@ pub(crate) fn throw_away_all<E: Entrance>(
     ensures in_time { All (λ l. as_nanos now < as_nanos l.until) leavers.new.items }
     ensures rest { filter (is_resting now) leavers.new.items
         ≡ filter (is_resting now) leavers.old.items }
-    ensures came { E.came entrance.new ≡ E.came entrance.old }
-    ensures heard { E.heard entrance.new ≡ E.heard entrance.old }
-    ensures waits { E.waits entrance.new ≡ E.waits entrance.old }
+    ensures same { E.seen entrance.new ≡ E.seen entrance.old }
     ensures bound { deque_len leavers.new ≤ deque_len leavers.old }
     ensures capacity { deque_capacity leavers.new ≡ deque_capacity leavers.old }
 {
@@ -90,9 +88,7 @@ fn stays<E: Entrance>(entrance: &mut E, leaver: &mut Leaver<E::Caller>, now: Dur
     ensures due { is_resting now leaver.old ≡ false → is_resting now leaver.new ≡ false }
     ensures gone { result ≡ false → (is_over now leaver.old.until ≡ true)
         ⊎ E.has_gone leaver.old.caller leaver.new.caller }
-    ensures came { E.came entrance.new ≡ E.came entrance.old }
-    ensures heard { E.heard entrance.new ≡ E.heard entrance.old }
-    ensures waits { E.waits entrance.new ≡ E.waits entrance.old }
+    ensures same { E.seen entrance.new ≡ E.seen entrance.old }
 {
     if is_over(now, leaver.until) {
         return false;

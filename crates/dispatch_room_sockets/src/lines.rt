@@ -19,11 +19,11 @@ pub(crate) fn admit<E: Entrance>(
 )
     requires room { deque_len line.old + most ≤ deque_capacity line.old }
     ensures admitted { IsAdmitted until line.old.items line.new.items next.old next.new
-        (E.came entrance.old) (E.came entrance.new) }
+        (E.seen entrance.old).came (E.seen entrance.new).came }
     ensures all { (deque_len line.new ≡ deque_len line.old + most) ⊎ E.is_done entrance.new
         ⊎ (next.new ≡ u64.MAX) }
-    ensures heard { E.heard entrance.new ≡ E.heard entrance.old }
-    ensures waits { E.waits entrance.new ≡ E.waits entrance.old }
+    ensures same { E.seen entrance.new
+        ≡ record (E.seen entrance.old) { came = (E.seen entrance.new).came } }
     ensures bound { deque_len line.new ≤ deque_len line.old + most }
     ensures capacity { deque_capacity line.new ≡ deque_capacity line.old }
 {
@@ -56,9 +56,9 @@ pub(crate) fn look_at_all<E: Entrance>(
     requires line { deque_len line.old ≤ deque_capacity line.old }
     requires ready { deque_len line.old + deque_len ready.old ≤ deque_capacity ready.old }
     ensures swept { IsSwept now patience line.old.items line.new.items ready.old.items
-        ready.new.items (E.heard entrance.old) (E.heard entrance.new) }
-    ensures came { E.came entrance.new ≡ E.came entrance.old }
-    ensures waits { E.waits entrance.new ≡ E.waits entrance.old }
+        ready.new.items (E.seen entrance.old).heard (E.seen entrance.new).heard }
+    ensures same { E.seen entrance.new
+        ≡ record (E.seen entrance.old) { heard = (E.seen entrance.new).heard } }
     ensures bound { deque_len line.new + deque_len ready.new
         ≤ deque_len line.old + deque_len ready.old }
     ensures capacity { (deque_capacity line.new ≡ deque_capacity line.old)
@@ -82,10 +82,10 @@ fn look_at<E: Entrance>(
     now: Duration,
     patience: Duration,
 ) -> Verdict
-    ensures looked { IsLookedAt now patience kept.old kept.new (E.heard entrance.old)
-        (E.heard entrance.new) result }
-    ensures came { E.came entrance.new ≡ E.came entrance.old }
-    ensures waits { E.waits entrance.new ≡ E.waits entrance.old }
+    ensures looked { IsLookedAt now patience kept.old kept.new (E.seen entrance.old).heard
+        (E.seen entrance.new).heard result }
+    ensures same { E.seen entrance.new
+        ≡ record (E.seen entrance.old) { heard = (E.seen entrance.new).heard } }
 {
     let heard = entrance.look(&mut kept.caller);
     kept.note(heard, now, patience)

@@ -2,9 +2,9 @@
 ghost use Rattle.std.specs.Prelude.{◌≡◌, ◌||◌, [], ◌∷◌, List, ℕ, Bool, Option, None, not};
 ghost use Rattle.std.specs.Prelude.{if◌then◌else◌};
 ghost use Rattle.std.specs.declared.time.Duration.{Duration as Time};
-ghost use Rattle.dispatch_room_sockets.specs.LingeringClose.{Does, IsDrained, IsParted, Step};
+ghost use Rattle.room_http_messages.specs.Streams.{Grows};
+ghost use Rattle.dispatch_room_sockets.specs.LingeringClose.{IsDrained, IsParted, Step, ThrowsAway};
 ghost use Rattle.dispatch_room_sockets.specs.LingeringClose.{drains_until, shut, threw};
-ghost use Rattle.dispatch_room_sockets.specs.Discards.{ThrowsAway};
 
 use crate::monotonic_clocks::MonotonicClock;
 use crate::socket_readers::SocketReader;
@@ -42,13 +42,13 @@ pub trait Parting {
     /// Shuts the writing side, and returns whether that succeeded.
     fn shut(&mut self) -> bool
         ensures left { left self.new ≡ left self.old }
-        ensures done { Does (done self.old) (done self.new) (shut result ∷ []) };
+        ensures done { Grows (done self.old) (done self.new) (shut result ∷ []) };
 
     /// Reads a piece of what still comes and throws it away, and returns whether more may come. It
     /// waits until a moment at most.
     fn throw_away(&mut self, moment: Duration) -> bool
         ensures thrown { ThrowsAway 4096 (left self.old) (left self.new) }
-        ensures done { Does (done self.old) (done self.new) (threw moment result ∷ []) };
+        ensures done { Grows (done self.old) (done self.new) (threw moment result ∷ []) };
 }
 
 /// Closes a connection so that its last answer arrives: the writing side is shut, what still comes
@@ -56,7 +56,7 @@ pub trait Parting {
 /// connection with bytes that nobody reads would be reset as it is dropped, and the system would
 /// throw away what it has not sent yet. All this takes no longer than the answer may wait.
 pub fn part<P: Parting>(peer: &mut P)
-    ensures parted { (steps : List Step) × Does (P.done peer.old) (P.done peer.new) steps
+    ensures parted { (steps : List Step) × Grows (P.done peer.old) (P.done peer.new) steps
         × IsParted (drains_until (P.is_open peer.old) (P.answered peer.old)) steps }
     ensures thrown { ThrowsAway 16777216 (P.left peer.old) (P.left peer.new) }
 {
@@ -78,7 +78,7 @@ fn drains_until(is_open: bool, answered: Option<Duration>) -> Option<Duration>
 
 // Throws away what still comes until a moment: until no more comes, or so many pieces.
 fn drain<P: Parting>(peer: &mut P, moment: Duration)
-    ensures drained { (steps : List Step) × Does (P.done peer.old) (P.done peer.new) steps
+    ensures drained { (steps : List Step) × Grows (P.done peer.old) (P.done peer.new) steps
         × IsDrained moment steps }
     ensures thrown { ThrowsAway 16777216 (P.left peer.old) (P.left peer.new) }
 {

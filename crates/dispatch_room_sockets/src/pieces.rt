@@ -1,22 +1,24 @@
 //! A connection is served in pieces: each is whole requests, and between two of them others are
 //! served.
-ghost use Rattle.std.specs.Prelude.{◌≡◌, ◌⊎◌, ◌+◌, ◌*◌, ◌-◌, ◌≤◌, ◌||◌, if◌then◌else◌, IfOk};
-ghost use Rattle.std.specs.Prelude.{IfSome, None, Some, Err, OnErr, false, is_err, length, true};
-ghost use Rattle.std.specs.Prelude.{◌&&◌, ◌≢◌, min, not, option_map, take};
+ghost use Rattle.std.specs.Prelude.{◌≡◌, ◌⊎◌, ◌+◌, ◌*◌, ◌-◌, ◌≤◌, ◌||◌, IfOk, IfSome, None, Some};
+ghost use Rattle.std.specs.Prelude.{Err, OnErr, false, is_err, length, true, ◌&&◌, ◌≢◌, min, not};
+ghost use Rattle.std.specs.Prelude.{option_map, take, if◌then◌else◌};
 ghost use Rattle.std.specs.Duration.{as_nanos, max_nanos};
 ghost use Rattle.std.specs.Io.KnownBytes.{ReadConsumes, prepend_known};
 ghost use Rattle.dispatch_room_sockets.specs.Lookaheads.{StandsAhead, StaysInFront};
 ghost use Rattle.dispatch_room_sockets.specs.Pieces.{Begins, GivesAhead, GivesFront, IsPieceRead};
 ghost use Rattle.dispatch_room_sockets.specs.Pieces.{given_of};
-ghost use Rattle.dispatch_room_sockets.specs.PieceTurns.{BeginsTurn, GivesPiece, TakesBack};
+ghost use Rattle.dispatch_room_sockets.specs.PieceTurns.{BeginsTurn, GivesPiece, HearsPiece};
+ghost use Rattle.dispatch_room_sockets.specs.PieceTurns.{TakesBack};
 ghost use Rattle.dispatch_room_sockets.specs.Turns.{is_turn_over};
 ghost use Rattle.dispatch_room_sockets.specs.declared.lookaheads.Lookahead.TheVariants.{Nothing};
 ghost use Rattle.dispatch_room_sockets.specs.declared.nonblocking_streams.NoBytes.{NoBytes};
 ghost use Rattle.room_http_messages.specs.Streams.{CountsBy, found_end, known_count};
 
 use crate::doors::{Client, Door, PAUSE};
+use crate::entrances::Entrance;
 use crate::kept_callers::{Kept, is_over};
-use crate::lookaheads::Lookahead;
+use crate::lookaheads::{Lookahead, look_ahead};
 use crate::monotonic_clocks::MonotonicClock;
 use crate::nonblocking_streams::{NonblockingListener, NonblockingStream};
 use crate::readiness::readable_before;
@@ -26,9 +28,7 @@ use crate::unserved_bytes::UnservedBytes;
 use crate::waiting_callers::Waiting;
 use room_http_messages::limits::INBOX_ROOM;
 use room_http_messages::sources::{ReadFailed, Source};
-use std::net::TcpStream;
 use std::os::fd::{AsRawFd, RawFd};
-use std::rc::Rc;
 use std::time::Duration;
 
 // How many milliseconds one who asks without a pause is served while others move.
@@ -213,7 +213,8 @@ impl<'a, C: MonotonicClock, T: NonblockingStream + AsRawFd> PieceReader<'a, C, T
         if is_empty && !is_readable || self.has_had_its_turn() {
             return Lookahead::Nothing;
         }
-        self.kept.caller.look_ahead(room)
+        let client = &mut self.kept.caller;
+        look_ahead(&mut client.unserved, &mut client.stream, room)
     }
 
     // Whether others are served before it goes on.
@@ -320,12 +321,7 @@ impl<'a, C: MonotonicClock, T: NonblockingStream + AsRawFd> Source for PieceRead
 }
 
 /// What is written to in a piece.
-type Writer<'a, C, T> = SocketWriter<'a, SharedStream<T>, C>;
-
-/// The sides of a piece of a connection of the system.
-pub type HostReader<'a> = PieceReader<'a, HostRuntime, Rc<TcpStream>>;
-
-pub type HostWriter<'a> = Writer<'a, HostRuntime, Rc<TcpStream>>;
+pub type PieceWriter<'a, C, T> = SocketWriter<'a, SharedStream<T>, C>;
 
 // What is written to in a turn of one who is to be served, and the moment that it is. Without
 // memory or a clock nobody can be served for a while.
@@ -347,13 +343,13 @@ fn begin_turn<C: MonotonicClock, T: NonblockingStream + AsRawFd>(
 }
 
 /// The two sides of the next piece, where someone is to be served: what is written goes to whom it
-/// is read from. Nobody is given only where nobody is to be served, or where the clock can't be
-/// read or there is no memory.
+/// is read from. Nobody is given only where nobody is to be served once all were looked at, or
+/// where the clock can't be read or there is no memory.
 pub fn next_piece<'a, C: MonotonicClock, L: NonblockingListener>(
     clock: &'a C,
-    waiting: &mut Waiting<Door<'a, C, L>>,
+    waiting: &mut Waiting<Door<'a, C, L>, Client<L::Stream>>,
     patience: Duration,
-) -> Option<(PieceReader<'a, C, L::Stream>, Writer<'a, C, L::Stream>)>
+) -> Option<(PieceReader<'a, C, L::Stream>, PieceWriter<'a, C, L::Stream>)>
     ensures reader { IfSome result (λ sides. sides.0.failed ≡ false) }
     ensures begins { IfSome result (λ sides. (sides.0.is_first ≡ true)
         × (sides.0.is_paused ≡ false) × (sides.0.ended ≡ false) × (sides.0.reads ≡ 0)) }
@@ -365,6 +361,8 @@ pub fn next_piece<'a, C: MonotonicClock, L: NonblockingListener>(
     ensures given { GivesPiece (C.shows clock.now) L.Stream.is_full waiting.old.line.items
         waiting.new.line.items waiting.old.ready.items waiting.new.ready.items waiting.old.next
         waiting.new.next (option_map (λ sides. sides.0.kept) result) }
+    ensures hears { HearsPiece ⟦<Door<'a, C, L> as Entrance>⟧ waiting.old waiting.new
+        (option_map (λ sides. sides.0.kept) result) }
     ensures turn { IfSome result (λ sides. BeginsTurn (C.shows clock.now)
         waiting.new.line.items waiting.new.ready.items waiting.new.leavers.items
         sides.0.only_until sides.0.turn_ends) }
@@ -391,9 +389,9 @@ pub fn next_piece<'a, C: MonotonicClock, L: NonblockingListener>(
 /// Takes the sides of a piece back that was served. Where the stream may go on, its next request is
 /// waited for among the others; else it is parted from. Who got no answer is dropped.
 pub fn take_back<'a, C: MonotonicClock, L: NonblockingListener>(
-    waiting: &mut Waiting<Door<'a, C, L>>,
+    waiting: &mut Waiting<Door<'a, C, L>, Client<L::Stream>>,
     reader: PieceReader<'a, C, L::Stream>,
-    writer: Writer<'a, C, L::Stream>,
+    writer: PieceWriter<'a, C, L::Stream>,
 )
     ensures taken { TakesBack (C.shows waiting.old.entrance.clock.now) L.Stream.is_stuck
         waiting.old.keep
@@ -415,7 +413,7 @@ pub fn take_back<'a, C: MonotonicClock, L: NonblockingListener>(
         is_paused,
         ..
     } = reader;
-    kept.caller.refresh();
+    kept.caller.is_fresh = true;
     if is_paused {
         waiting.take_back(kept);
     } else if is_open && kept.caller.stream.shut() {

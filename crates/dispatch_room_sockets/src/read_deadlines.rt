@@ -1,10 +1,10 @@
 //! Until when the reads of a connection may wait.
-ghost use Rattle.std.specs.Prelude.{◌≡◌, ◌≢◌, ◌-◌, ◌+◌, ◌<◌, ◌≤◌, None, Some, IsSomeAnd, min};
-ghost use Rattle.std.specs.Prelude.{if◌then◌else◌, ◌==◌};
+ghost use Rattle.std.specs.Prelude.{◌≡◌, ◌≢◌, ◌-◌, ◌+◌, ◌<◌, ◌≤◌, ◌==◌, IfSome, IsSome, IsSomeAnd};
+ghost use Rattle.std.specs.Prelude.{None, Some, min, if◌then◌else◌};
 ghost use Rattle.std.specs.Duration.{as_nanos, max_nanos};
 ghost use Rattle.room_http_messages.specs.declared.limits.TheConstants.{INBOX_ROOM};
 
-use crate::timeouts::{Waits, earlier};
+use crate::timeouts::{Waits, until_at_most};
 use room_http_messages::limits::INBOX_ROOM;
 use std::time::Duration;
 
@@ -31,28 +31,30 @@ impl Pace {
         }
     }
 
-    /// Until when the next read may wait, which is made now and has so much room. Within a message
+    /// Until when the next read may wait, which is made now and has so much room: none where the
+    /// clock can't be read. Within a message
     /// it is the message's patience, from its first byte, or where that came with the message
     /// before, from the first read after the answer to that. Between messages it is the idle wait,
     /// within the turn. Where the turn is over, no more is read but of a message that had begun.
-    pub fn next(&mut self, room: usize, now: Duration) -> Option<Duration>
-        ensures goes_on { room < INBOX_ROOM → INBOX_ROOM - room ≡ self.old.here
+    pub fn next(&mut self, room: usize, now: Option<Duration>) -> Option<Duration>
+        ensures unknown { now ≡ None → result ≡ None }
+        ensures goes_on { IsSome now → room < INBOX_ROOM → INBOX_ROOM - room ≡ self.old.here
             → (result ≡ Some self.old.until) × (self.new.until ≡ self.old.until) }
-        ensures over { as_nanos self.old.ends ≤ as_nanos now
-            → (room < INBOX_ROOM → INBOX_ROOM - room ≢ self.old.here) → result ≡ None }
-        ensures between { as_nanos now < as_nanos self.old.ends → INBOX_ROOM ≤ room
-            → IsSomeAnd result (λ until. as_nanos until
+        ensures over { IfSome now (λ now. as_nanos self.old.ends ≤ as_nanos now
+            → (room < INBOX_ROOM → INBOX_ROOM - room ≢ self.old.here) → result ≡ None) }
+        ensures between { IfSome now (λ now. as_nanos now < as_nanos self.old.ends
+            → INBOX_ROOM ≤ room → IsSomeAnd result (λ until. as_nanos until
             ≡ min (min (as_nanos now + as_nanos self.old.waits.idle) max_nanos)
-            (as_nanos self.old.ends)) }
-        ensures begins { as_nanos now < as_nanos self.old.ends → room < INBOX_ROOM
-            → INBOX_ROOM - room ≢ self.old.here
+            (as_nanos self.old.ends))) }
+        ensures begins { IfSome now (λ now. as_nanos now < as_nanos self.old.ends
+            → room < INBOX_ROOM → INBOX_ROOM - room ≢ self.old.here
             → IsSomeAnd result (λ until. (until ≡ self.new.until) × (as_nanos until
-            ≡ min (as_nanos now + as_nanos self.old.waits.patience) max_nanos)) }
-        ensures after { self.new ≡ record self.old {
-          here = INBOX_ROOM - room;
-          until = self.new.until;
-        } }
+            ≡ min (as_nanos now + as_nanos self.old.waits.patience) max_nanos))) }
+        ensures here { IfSome result (λ _. self.new.here ≡ INBOX_ROOM - room) }
+        ensures kept { self.new ≡
+            record self.old { here = self.new.here; until = self.new.until } }
     {
+        let now = now?;
         let here = INBOX_ROOM.saturating_sub(room);
         if here != 0 && here == self.here {
             return Some(self.until);
@@ -62,7 +64,7 @@ impl Pace {
             return None;
         }
         if here == 0 {
-            return Some(earlier(now.saturating_add(self.waits.idle), self.ends));
+            return Some(until_at_most(now, self.waits.idle, self.ends));
         }
         self.until = now.saturating_add(self.waits.patience);
         Some(self.until)

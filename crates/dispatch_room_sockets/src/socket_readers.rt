@@ -1,18 +1,16 @@
 //! A socket that is read from.
-ghost use Rattle.std.specs.Duration.{as_nanos, max_nanos};
-ghost use Rattle.std.specs.Prelude.{◌≡◌, ◌≤◌, ◌<◌, ◌-◌, ◌+◌, IfOk, IfSome, false, not, is_err, min};
-ghost use Rattle.std.specs.Prelude.{if◌then◌else◌, length, ◌==◌, ◌||◌, ◌≢◌, None, Some, IsSome};
-ghost use Rattle.std.specs.Prelude.{IsSomeAnd, true};
+ghost use Rattle.std.specs.Prelude.{◌≡◌, ◌≤◌, ◌<◌, ◌-◌, ◌+◌, IfOk, false, not, is_err, min, length};
+ghost use Rattle.std.specs.Prelude.{◌==◌, ◌||◌, None, Some, true, if◌then◌else◌};
 ghost use Rattle.std.specs.Io.KnownBytes.{ReadConsumes};
 ghost use Rattle.room_http_messages.specs.Streams.{found_end, known_count, CountsBy};
 ghost use Rattle.room_http_messages.specs.declared.limits.TheConstants.{INBOX_ROOM};
-ghost use Rattle.dispatch_room_sockets.specs.Discards.{ThrowsAway};
+ghost use Rattle.dispatch_room_sockets.specs.LingeringClose.{ThrowsAway};
 ghost use Rattle.dispatch_room_sockets.specs.TimesLeft.{IsAwaited};
 
 use crate::monotonic_clocks::MonotonicClock;
 use crate::read_deadlines::Pace;
 use crate::retries::read_until;
-use crate::timeouts::{Waits, earlier};
+use crate::timeouts::{Waits, until_at_most};
 use room_http_messages::sources::{ReadFailed, Source};
 use std::io::Read;
 use std::net::OpenStream;
@@ -62,37 +60,6 @@ impl<'a, T: Read + OpenStream, C: MonotonicClock> SocketReader<'a, T, C> {
     }
 }
 
-// Until when a read may wait that is made now and has so much room, as the pace gives it: none
-// where the turn is over, or where the clock can't be read.
-fn moment(pace: &mut Pace, now: Option<Duration>, room: usize) -> Option<Duration>
-    ensures here { IfSome result (λ _. pace.new.here ≡ INBOX_ROOM - room) }
-    ensures unknown { now ≡ None → result ≡ None }
-    ensures goes_on { IsSome now → room < INBOX_ROOM → INBOX_ROOM - room ≡ pace.old.here
-        → (result ≡ Some pace.old.until) × (pace.new.until ≡ pace.old.until) }
-    ensures over { IfSome now (λ now. as_nanos pace.old.ends ≤ as_nanos now
-        → (room < INBOX_ROOM → INBOX_ROOM - room ≢ pace.old.here) → result ≡ None) }
-    ensures between { IfSome now (λ now. as_nanos now < as_nanos pace.old.ends
-        → INBOX_ROOM ≤ room → IsSomeAnd result (λ until. as_nanos until
-        ≡ min (min (as_nanos now + as_nanos pace.old.waits.idle) max_nanos)
-        (as_nanos pace.old.ends))) }
-    ensures begins { IfSome now (λ now. as_nanos now < as_nanos pace.old.ends
-        → room < INBOX_ROOM → INBOX_ROOM - room ≢ pace.old.here
-        → IsSomeAnd result (λ until. (until ≡ pace.new.until) × (as_nanos until
-        ≡ min (as_nanos now + as_nanos pace.old.waits.patience) max_nanos))) }
-    ensures kept { (pace.new.waits ≡ pace.old.waits) × (pace.new.ends ≡ pace.old.ends) }
-{
-    pace.next(room, now?)
-}
-
-// Until when it is waited for a piece of what still comes: as long as a connection may idle from
-// now on, but not after a moment.
-fn silent_until(now: Duration, idle: Duration, moment: Duration) -> Duration
-    ensures { as_nanos result ≡
-        min (min (as_nanos now + as_nanos idle) max_nanos) (as_nanos moment) }
-{
-    earlier(now.saturating_add(idle), moment)
-}
-
 impl<'a, T: Read + OpenStream, C: MonotonicClock> Source for SocketReader<'a, T, C> {
     ghost left = { λ r. T.remaining r.stream };
 
@@ -115,8 +82,7 @@ impl<'a, T: Read + OpenStream, C: MonotonicClock> Source for SocketReader<'a, T,
             self.new.pace.here ≡ (if here == 0 then 0 else min (here + n) usize.MAX)) }
     {
         self.reads = self.reads.saturating_add(1);
-        let now = self.clock.now();
-        let Some(moment) = moment(&mut self.pace, now, buf.len()) else {
+        let Some(moment) = self.pace.next(buf.len(), self.clock.now()) else {
             self.failed = true;
             return Err(ReadFailed);
         };
@@ -139,10 +105,12 @@ impl<'a, T: Read + OpenStream, C: MonotonicClock> SocketReader<'a, T, C> {
         ensures paced { IfOk given (λ n. self.new.pace ≡ record self.old.pace {
           here = if self.old.pace.here == 0 then 0 else min (self.old.pace.here + n) usize.MAX;
         }) }
-        ensures lost { self.new.lost ≡ (self.old.lost || is_err given) }
-        ensures failed { self.new.failed ≡ (self.old.failed || is_err given) }
-        ensures ended { self.new.ended ≡ (self.old.ended || found_end given room) }
-        ensures kept { (self.new.stream ≡ self.old.stream) × (self.new.reads ≡ self.old.reads) }
+        ensures kept { self.new ≡ record self.old {
+          pace = self.new.pace;
+          lost = self.old.lost || is_err given;
+          failed = self.old.failed || is_err given;
+          ended = self.old.ended || found_end given room;
+        } }
     {
         match given {
             Ok(count) => {
@@ -176,7 +144,7 @@ impl<'a, T: Read + OpenStream, C: MonotonicClock> SocketReader<'a, T, C> {
         let Some(now) = self.clock.now() else {
             return false;
         };
-        let silent = silent_until(now, self.idle, moment);
+        let silent = until_at_most(now, self.idle, moment);
         let mut piece = [0; PIECE];
         match read_until(
             &mut self.stream,

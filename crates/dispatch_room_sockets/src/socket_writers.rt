@@ -1,14 +1,14 @@
 //! A socket that is written to.
 ghost use Rattle.std.specs.Prelude.{◌≡◌, ◌≤◌, ◌+◌, min, IfOk, IfSome, IsSome, None, OnOk, Some};
-ghost use Rattle.std.specs.Prelude.{if◌then◌else◌, length, nat_lt, true, false, ◌||◌, IsSomeAnd};
-ghost use Rattle.std.specs.Prelude.{MatchOption};
+ghost use Rattle.std.specs.Prelude.{length, nat_lt, true, false, ◌||◌, IsSomeAnd, MatchOption};
+ghost use Rattle.std.specs.Prelude.{if◌then◌else◌};
 ghost use Rattle.std.specs.Duration.{as_nanos, max_nanos};
 ghost use Rattle.std.specs.Io.KnownBytes.{WriteAppends};
 ghost use Rattle.room_http_messages.specs.Streams.{took_none};
 
 use crate::monotonic_clocks::MonotonicClock;
 use crate::retries::write_until;
-use crate::timeouts::earlier;
+use crate::timeouts::until_at_most;
 use room_http_messages::sinks::{Sink, WriteFailed};
 use std::io::Write;
 use std::net::{OpenStream, Shutdown};
@@ -68,14 +68,12 @@ impl<'a, T: Write + OpenStream, C: MonotonicClock> SocketWriter<'a, T, C> {
             IsSomeAnd result (λ moment. as_nanos moment ≡ min (min (as_nanos now
             + as_nanos self.old.patience) max_nanos) (as_nanos self.old.last))) }
         ensures noted { IfSome result (λ moment. self.new.until ≡ Some moment) }
-        ensures kept { (self.new.stream ≡ self.old.stream) × (self.new.failed ≡ self.old.failed)
-            × (self.new.within ≡ self.old.within) × (self.new.patience ≡ self.old.patience)
-            × (self.new.last ≡ self.old.last) }
+        ensures kept { self.new ≡ record self.old { until = self.new.until } }
     {
         if self.within {
             return self.until;
         }
-        self.until = Some(answer_until(now?, self.patience, self.last));
+        self.until = Some(until_at_most(now?, self.patience, self.last));
         self.until
     }
 
@@ -84,8 +82,8 @@ impl<'a, T: Write + OpenStream, C: MonotonicClock> SocketWriter<'a, T, C> {
     fn note(&mut self, taken: Result<usize, WriteFailed>, size: usize)
         ensures within { IfOk taken (λ n. self.new.within ≡ nat_lt n size) }
         ensures failed { self.new.failed ≡ (self.old.failed || took_none taken size) }
-        ensures kept { (self.new.stream ≡ self.old.stream) × (self.new.until ≡ self.old.until)
-            × (self.new.patience ≡ self.old.patience) × (self.new.last ≡ self.old.last) }
+        ensures kept { self.new ≡
+            record self.old { within = self.new.within; failed = self.new.failed } }
     {
         match taken {
             Ok(count) => {
@@ -110,15 +108,6 @@ impl<'a, T: Write + OpenStream, C: MonotonicClock> SocketWriter<'a, T, C> {
     pub(crate) fn shut(&self) -> bool {
         self.stream.shutdown(Shutdown::Write).is_ok()
     }
-}
-
-// Until when an answer may wait that begins now: as long as its patience, but not after a last
-// moment.
-fn answer_until(now: Duration, patience: Duration, last: Duration) -> Duration
-    ensures { as_nanos result ≡
-        min (min (as_nanos now + as_nanos patience) max_nanos) (as_nanos last) }
-{
-    earlier(now.saturating_add(patience), last)
 }
 
 impl<'a, T: Write + OpenStream, C: MonotonicClock> Sink for SocketWriter<'a, T, C> {

@@ -23,12 +23,13 @@ pub struct Waits {
 }
 
 impl Waits {
-    /// How long a connection has its turn: five times as long as a pause and a message may take.
-    pub(crate) fn turn(self) -> Duration
-        ensures { as_nanos result ≡
-            min (min (as_nanos self.idle + as_nanos self.patience) max_nanos * 5) max_nanos }
+    /// When a turn ends that begins now: after five times as long as a pause and a message take.
+    pub(crate) fn turn_ends(self, now: Duration) -> Duration
+        ensures { as_nanos result ≡ min (as_nanos now
+            + min (min (as_nanos self.idle + as_nanos self.patience) max_nanos * 5) max_nanos)
+            max_nanos }
     {
-        self.idle.saturating_add(self.patience).saturating_mul(TURN)
+        now.saturating_add(self.idle.saturating_add(self.patience).saturating_mul(TURN))
     }
 }
 
@@ -41,6 +42,14 @@ pub(crate) fn earlier(one: Duration, other: Duration) -> Duration
     } else {
         other
     }
+}
+
+/// Until when something is waited for that begins now: so long, but not after a last moment.
+pub(crate) fn until_at_most(now: Duration, wait: Duration, last: Duration) -> Duration
+    ensures { as_nanos result ≡
+        min (min (as_nanos now + as_nanos wait) max_nanos) (as_nanos last) }
+{
+    earlier(now.saturating_add(wait), last)
 }
 
 /// How long it is until a moment of a clock; none where the moment has come, or where the clock

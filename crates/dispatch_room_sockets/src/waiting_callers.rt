@@ -26,13 +26,13 @@ const SHORTEST_PAUSE: u64 = 2;
 
 /// Those who wait, and where they come in.
 #[derive(Drop)]
-pub struct Waiting<E: Entrance> {
+pub struct Waiting<E, C> {
     entrance: E,
     // Those who are looked at, in the order in which they came or came back.
-    line: VecDeque<Kept<E::Caller>>,
+    line: VecDeque<Kept<C>>,
     // Those who are to be served, in the order in which a look found that.
-    ready: VecDeque<Kept<E::Caller>>,
-    leavers: VecDeque<Leaver<E::Caller>>,
+    ready: VecDeque<Kept<C>>,
+    leavers: VecDeque<Leaver<C>>,
     // The number of the next who calls.
     next: u64,
     // How long one may be silent.
@@ -46,7 +46,7 @@ pub struct Waiting<E: Entrance> {
     ghost few_leave: { deque_len leavers ≤ 1024 },
 }
 
-impl<E: Entrance> Waiting<E> {
+impl<E: Entrance<Caller = C>, C: Drop> Waiting<E, C> {
     ghost use Rattle.dispatch_room_sockets.specs.CallerHistories.{AreInTime, ComesBack, GivesNext};
     ghost use Rattle.dispatch_room_sockets.specs.Rounds.{AreWatched, HasRounds, Hears, IsPause};
     ghost use Rattle.dispatch_room_sockets.specs.Rounds.{IsRound, LooksAround, Waited, all_watched};
@@ -65,7 +65,7 @@ impl<E: Entrance> Waiting<E> {
         entrance: E,
         keep: Duration,
         patience: Duration,
-    ) -> Result<Waiting<E>, AllocError>
+    ) -> Result<Waiting<E, C>, AllocError>
         ensures entrance { IfOk result (λ it. it.entrance ≡ entrance) }
         ensures empty { IfOk result (λ it. (it.line.items ≡ []) × (it.ready.items ≡ [])
             × (it.next ≡ 0)) }
@@ -84,7 +84,7 @@ impl<E: Entrance> Waiting<E> {
 
     /// The next who is to be served. Where nobody is yet, all are looked at, and then waited for a
     /// while, and it may be nobody.
-    pub fn next(&mut self) -> Option<Kept<E::Caller>>
+    pub fn next(&mut self) -> Option<Kept<C>>
         ensures given { GivesNext self.old.line.items self.old.ready.items self.old.next
             self.new.line.items self.new.ready.items self.new.next result }
         ensures rounds { HasRounds (queues E.Entrance self.old)
@@ -114,7 +114,7 @@ impl<E: Entrance> Waiting<E> {
     }
 
     /// The next who is to be served, where someone is.
-    pub(crate) fn first(&self) -> Option<&Kept<E::Caller>>
+    pub(crate) fn first(&self) -> Option<&Kept<C>>
         ensures first { IfSome result (λ kept. self.now.ready.items
             ≡ kept.now ∷ drop 1 self.now.ready.items) }
         ensures nobody { result ≡ None → self.now.ready.items ≡ [] }
@@ -181,7 +181,7 @@ impl<E: Entrance> Waiting<E> {
     // is. Who rests stays.
     fn throw_away(&mut self, now: Option<Duration>)
         ensures same { queues E.Entrance self.new ≡ queues E.Entrance self.old }
-        ensures waits { E.waits self.new.entrance ≡ E.waits self.old.entrance }
+        ensures waits { (E.seen self.new.entrance).waits ≡ (E.seen self.old.entrance).waits }
         ensures in_time { IfSome now (λ now.
             All (λ l. as_nanos now < as_nanos l.until) self.new.leavers.items) }
         ensures rest { IfSome now (λ now. filter (is_resting now) self.new.leavers.items
@@ -197,7 +197,7 @@ impl<E: Entrance> Waiting<E> {
         ensures round { IsRound now (queues E.Entrance self.old) (queues E.Entrance self.new) }
         ensures in_time { AreInTime now self.new.line.items }
         ensures leavers { self.new.leavers ≡ self.old.leavers }
-        ensures waits { E.waits self.new.entrance ≡ E.waits self.old.entrance }
+        ensures waits { (E.seen self.new.entrance).waits ≡ (E.seen self.old.entrance).waits }
     {
         let kept = self.line.len() + self.ready.len();
         let most = MOST_KEPT.saturating_sub(kept + self.leavers.len());
@@ -254,7 +254,7 @@ impl<E: Entrance> Waiting<E> {
 
     /// Takes one back who was served and may say more: there is room since it was given. It is
     /// silent again from now on, or from the clock's beginning where that can't be read.
-    pub fn take_back(&mut self, kept: Kept<E::Caller>)
+    pub fn take_back(&mut self, kept: Kept<C>)
         ensures again { length self.old.line.items + length self.old.ready.items < 1024
             → WaitsAgain (E.shows self.old.entrance) self.old.keep kept.number kept.caller
             self.old.line.items self.new.line.items }
@@ -277,7 +277,7 @@ impl<E: Entrance> Waiting<E> {
 
     /// Parts now from one who was served: what they still say is thrown away until a moment. Where
     /// the clock can't be read, or too many leave, it is dropped.
-    pub fn part(&mut self, kept: Kept<E::Caller>, until: Duration)
+    pub fn part(&mut self, kept: Kept<C>, until: Duration)
         ensures departs { Departs (E.shows self.old.entrance) kept.caller until
             self.old.leavers.items self.new.leavers.items }
         ensures back { ComesBack kept.number self.old.line.items self.new.line.items

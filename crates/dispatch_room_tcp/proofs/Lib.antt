@@ -1,3 +1,2 @@
 pub mod ListeningLemmas
 pub mod PartLemmas
-pub mod ServiceLemmas

@@ -1,13 +1,14 @@
 -- What a command finds around it: at the paths and the addresses that it is given, and by chance.
-use Rattle.std.specs.Prelude.{⊤, Bool, List, None, Option, ℕ, ◌≡◌, ◌⊎◌}
+use Rattle.std.specs.Global.{Global}
+use Rattle.std.specs.Prelude.{Bool, Err, List, MatchResult, None, Option, Vec, ⊤, ℕ, ◌≡◌, ◌⊎◌}
 use Rattle.sqlite.specs.Held.{Held}
 use Rattle.sqlite_store.specs.declared.store.FileStore.{FileStore}
 use Rattle.std.specs.declared.fs.File.{File}
 use Rattle.dispatch_room_cli.specs.declared.exit_status.Failure.{Failure}
 use Rattle.dispatch_room_cli.specs.declared.exit_status.Failure.TheVariants as failure
-use Rattle.dispatch_room_disk.specs.RoomFiles.{IsConnected, IsDoneInFile, IsUndone, IsUnfound}
-use Rattle.dispatch_room_disk.specs.ReplacingSteps.{Step}
-use Rattle.dispatch_room_disk.specs.RoomFiles.{Refusing, Saying}
+use Rattle.dispatch_room_disk.specs.RoomFiles.{Doing, IsConnected, IsUnfound, WorksIn}
+use Rattle.dispatch_room_disk.specs.CommandSteps.{Silent, Step}
+use Rattle.dispatch_room_disk.specs.ReplacingSteps.{Step as Call}
 use Rattle.dispatch_room_disk.specs.SystemFiles.{SystemFile, system}
 use Rattle.dispatch_room_journal.specs.declared.list_ends.ListEnd.{ListEnd}
 use Rattle.dispatch_room_disk.specs.declared.room_files.RoomFile.{RoomFile}
@@ -46,7 +47,7 @@ pub record Surroundings (F : Type 0) : Type 1 where
   pub contents : F → Option (List ℕ)
   pub lasting : F → Option (List ℕ)
   -- the steps that were done, one after another, by which a copy is put in the place of a file
-  pub replaced : List Step → Type 0
+  pub replaced : List Call → Type 0
   -- bytes that are random
   pub random : Origin (List ℕ)
   -- what is known of the bytes of standard input, and whether standard output is a terminal
@@ -93,15 +94,15 @@ abbrev pub IsUnlisted : {F : Type 0} → Surroundings F → List ℕ → Failure
 IsUnlisted around path fault =
     ((fault ≡ failure.Memory) ⊎ (fault ≡ failure.Journal)) × (around.list path).lacks fault
 
--- work was done in the database of a file that was opened there
-abbrev pub IsDoneAt : {T : Type 0} → RoomOrigin → Saying T → Option (List ℕ) → Option (List ℕ) → T
-    → Type 0
-IsDoneAt at says before after done = (is : IsDoneInFile says before after done) × at.holds is.conn
-
--- work was not done in a file: no database was found in it, or this became of the one that was
--- opened there
-abbrev pub IsUndoneAt : {T : Type 0} → RoomOrigin → Saying T → Refusing → Option (List ℕ)
-    → Option (List ℕ) → Failure → Type 0
-IsUndoneAt at says refuses before after fault = (IsUnfound before after fault × at.lacks fault)
+-- Work in the database of a file that is opened there: no database was found in it, for this, and
+-- nothing is printed; or this one was, and it was worked in.
+abbrev pub Works : {T : Type 0} → RoomOrigin → Doing T → Step T
+Works at does before after came =
+    ((fault : Failure) × (came ≡ Err fault) × (IsUnfound fault × at.lacks fault) × (after ≡ before))
     ⊎ ((conn : Held (FileStore SystemFile system)) × at.holds conn × IsConnected conn
-    × IsUndone says refuses conn before after fault)
+    × WorksIn does conn before after came)
+
+-- a file's text is read, or not, for this
+abbrev pub Reads : {F : Type 0} → Surroundings F → List ℕ → Step (Vec ℕ Global)
+Reads around path = Silent (λ read. MatchResult read (λ text. around.text path text.items)
+    (IsUnread around path))

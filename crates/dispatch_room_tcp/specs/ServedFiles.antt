@@ -1,23 +1,24 @@
 -- The room of a file, served to those who call.
-use Rattle.std.specs.Prelude.{Bool, Err, IfOk, IfSome, List, None, Ok, Option, Result, Some, false}
-use Rattle.std.specs.Prelude.{is_some, true, ℕ, ◌&&◌, ◌*◌, ◌==◌, ◌≡◌, ◌⊎◌}
+use Rattle.std.specs.Prelude.{Bool, Err, IfOk, IfSome, List, MatchResult, None, Ok, Option, Result}
+use Rattle.std.specs.Prelude.{Some, false, is_some, true, ℕ, ◌&&◌, ◌*◌, ◌==◌, ◌≡◌, ◌⊎◌}
 use Rattle.std.specs.Duration.{as_nanos}
 use Rattle.sqlite.specs.Held.{Held}
 use Rattle.sqlite_trees.specs.declared.store.Store.{Ghosts}
-use Rattle.dispatch_room_disk.specs.RoomFiles.{Refusing, Saying}
+use Rattle.dispatch_room_disk.specs.CommandSteps.{Gives, Silent, Step, Then}
+use Rattle.dispatch_room_disk.specs.RoomFiles.{Doing}
 use Rattle.dispatch_room_cli.specs.declared.exit_status.Done.{Done}
 use Rattle.dispatch_room_cli.specs.declared.exit_status.Failure.{Failure}
 use Rattle.dispatch_room_cli.specs.declared.exit_status.Failure.TheVariants.{Network}
 use Rattle.dispatch_room_cli.specs.declared.tasks.Journal.{Journal}
 use Rattle.dispatch_room_cli.specs.declared.tasks.Service.{Service}
 use Rattle.dispatch_room_journal.specs.declared.list_ends.ListEnd.{ListEnd}
-use Rattle.dispatch_room_tcp.specs.Hosts.{IsDoneAt, IsUndoneAt, IsUnlisted, Origin, Surroundings}
+use Rattle.dispatch_room_tcp.specs.Hosts.{IsUnlisted, Origin, Surroundings, Works}
 use Rattle.dispatch_room_tcp.specs.ServedParts.{Interval, Manner, OpensNoPart, ServesParts, Watch}
 use Rattle.dispatch_room_tcp.specs.declared.serve.Served.{Served}
 use Rattle.dispatch_room_serving.specs.Callers.{Opening, PrintsStart}
 use Rattle.dispatch_room_serving.specs.declared.served_room.Terms.{Terms}
 use Rattle.dispatch_room_tcp.specs.declared.listeners.TcpAddress.{TcpAddress}
-use Rattle.dispatch_room_tcp.specs.declared.tcp_doors.TcpDoor.{TcpDoor}
+use Rattle.dispatch_room_tcp.specs.SystemDoors.{SystemDoor}
 
 -- a service that goes on until it is stopped
 abbrev pub is_endless : Service → Bool
@@ -75,26 +76,16 @@ pub record IsServed {S L F : Type 0} (heard : L → Option (List (Option Opening
   pub is : ServesParts g manner (begins_at heard written listener old)
       (stands_at hears writes new) (ended served)
 
+-- The room is served, and that is printed; or no room is opened for one of the parts, and that is
+-- printed at most.
 abbrev pub Serves : {L F : Type 0} → (L → Option (List (Option Opening)))
-    → (L → Option (List (Option (List ℕ)))) → Bool → Manner F → L
-    → Saying (Served L)
-Serves heard written is_listening manner listener = λ S g old new before after served.
-    IsServed heard written g old new manner listener served
-    × PrintsServing is_listening before after (ended served)
-
--- no room is opened for one of its parts
-abbrev pub OpensNone : {S L F : Type 0} → (L → Option (List (Option Opening)))
-    → (L → Option (List (Option (List ℕ)))) → Ghosts S → Held S → Manner F → L → Failure → Type 0
-OpensNone heard written g conn manner listener =
-    OpensNoPart g manner (begins_at heard written listener conn)
-
--- the same, and nothing is printed; or a part before it had printed that the room is served
-abbrev pub ServesNone : {L F : Type 0} → (L → Option (List (Option Opening)))
-    → (L → Option (List (Option (List ℕ)))) → Bool → Manner F → L
-    → Refusing
-ServesNone heard written is_listening manner listener = λ S g conn before after fault.
-    OpensNone heard written g conn manner listener fault
-    × ((after ≡ before) ⊎ PrintsStart is_listening before after)
+    → (L → Option (List (Option (List ℕ)))) → Bool → Manner F → L → Doing (Served L)
+Serves heard written is_listening manner listener = λ S g old before after worked.
+    MatchResult worked
+    (λ it. IsServed heard written g old it.1 manner listener it.0
+    × PrintsServing is_listening before after (ended it.0))
+    (λ fault. OpensNoPart g manner (begins_at heard written listener old) fault
+    × ((after ≡ before) ⊎ PrintsStart is_listening before after))
 
 -- whether each message lasts before the room acts on it: if there is a journal that says so
 abbrev pub is_synced_by : Option Journal → Bool
@@ -118,7 +109,7 @@ watch_of contents has_journal service = record {
 
 -- the door of a service: where it listens, how many seconds a connection may be silent, and how
 -- many a request and its answer have
-abbrev pub IsDoorOf : Service → TcpDoor → Type 0
+abbrev pub IsDoorOf : Service → SystemDoor → Type 0
 IsDoorOf service door = (door.address ≡ service.address)
     × (as_nanos door.keep ≡ service.keep * 1_000_000_000)
     × (as_nanos door.patience ≡ service.patience * 1_000_000_000)
@@ -163,57 +154,33 @@ pub record IsFirstList {F : Type 0} (around : Surroundings F) (service : Service
   pub asked : is_some list ≡ is_some service.journal
   pub is : IfSome list (IsListOf around service.journal)
 
--- by what is around, what the output held before and holds after, and how much is done
-module _ {F : Type 0} (around : Surroundings F) (before after : Option (List ℕ)) (done : Done) where
-  -- the room of a file was served to those who call where this listens
+-- by what is around
+module _ {F : Type 0} (around : Surroundings F) where
+  -- the room of a file is served to those who call where this listens
   abbrev pub IsServedAt : {L : Type 0} → (L → Option (List (Option Opening)))
-      → (L → Option (List (Option (List ℕ)))) → Bool → Manner F
-      → L → List ℕ → Type 0
-  IsServedAt {L} heard written is_listening manner listener file =
-      (served : Served L)
-      × IsDoneAt (around.kept file) (Serves heard written is_listening manner listener)
-      before after served
-      × (done ≡ served.done)
+      → (L → Option (List (Option (List ℕ)))) → Bool → Manner F → L → List ℕ → Step Done
+  IsServedAt heard written is_listening manner listener file =
+      Then (Works (around.kept file) (Serves heard written is_listening manner listener))
+      (λ served. Gives served.done)
 
-  -- The room of a file was served, with a journal in this list or none: at the door of a service,
+  -- The room of a file is served, with a journal in this list or none: at the door of a service,
   -- where it goes on until it is stopped, or at its address to as many connections as was asked
   -- for, one after another.
-  abbrev pub IsServedBy : Bool → Option (F × ListEnd) → List ℕ → Service → Type 0
-  IsServedBy true list file service =
-      (door : TcpDoor) × IsDoorOf service door
+  abbrev pub IsServedBy : Bool → Option (F × ListEnd) → List ℕ → Service → Step Done
+  IsServedBy true list file service = λ before after came.
+      (door : SystemDoor) × IsDoorOf service door
       × IsServedAt (λ _. None) (λ _. None) false (manner_of around service list) door file
-  IsServedBy false list file service =
+      before after came
+  IsServedBy false list file service = λ before after came.
       (listener : TcpAddress) × IsAddressOf service listener
       × IsServedAt (λ _. None) (λ _. None) false (manner_of around service list) listener file
+      before after came
 
-  abbrev pub IsServe : List ℕ → Service → Type 0
-  IsServe file service = (list : Option (F × ListEnd)) × IsFirstList around service list
-      × IsServedBy (is_endless service) list file service
+  -- the list for the journal of a service is opened, where one is asked for
+  abbrev pub OpensFirst : Service → Step (Option (F × ListEnd))
+  OpensFirst service = Silent (λ opened. MatchResult opened (IsFirstList around service)
+      (IsUnlistedFor around service.journal))
 
--- by what is around, what the output held before and holds after, and why the task fails
-module _ {F : Type 0} (around : Surroundings F) (before after : Option (List ℕ))
-    (fault : Failure) where
-  -- this became of the file of the room that was to be served to those who call where this listens
-  abbrev pub FailsAt : {L : Type 0} → (L → Option (List (Option Opening)))
-      → (L → Option (List (Option (List ℕ)))) → Bool → Manner F
-      → L → List ℕ → Type 0
-  FailsAt heard written is_listening manner listener file =
-      IsUndoneAt (around.kept file)
-      (Serves heard written is_listening manner listener)
-      (ServesNone heard written is_listening manner listener) before after fault
-
-  abbrev pub FailsBy : Bool → Option (F × ListEnd) → List ℕ → Service → Type 0
-  FailsBy true list file service =
-      (door : TcpDoor) × IsDoorOf service door
-      × FailsAt (λ _. None) (λ _. None) false (manner_of around service list) door file
-  FailsBy false list file service =
-      (listener : TcpAddress) × IsAddressOf service listener
-      × FailsAt (λ _. None) (λ _. None) false (manner_of around service list) listener file
-
-  -- no list was opened for the journal that was asked for, and nothing is printed; or this became
-  -- of the file of the room that was to be served
-  abbrev pub FailsServe : List ℕ → Service → Type 0
-  FailsServe file service =
-      ((after ≡ before) × IsUnlistedFor around service.journal fault)
-      ⊎ ((list : Option (F × ListEnd)) × IsFirstList around service list
-      × FailsBy (is_endless service) list file service)
+  abbrev pub IsServe : List ℕ → Service → Step Done
+  IsServe file service = Then (OpensFirst service)
+      (λ list. IsServedBy (is_endless service) list file service)

@@ -8,8 +8,8 @@ ghost use Rattle.dispatch_room_disk.specs.FileSteps.{Does};
 ghost use Rattle.dispatch_room_disk.specs.ReplacingSteps.{Step};
 ghost use Rattle.dispatch_room_journal.specs.ReadSteps.{ends_well, most_rows};
 ghost use Rattle.dispatch_room_tcp.specs.HeardRooms.{IsHeard};
-ghost use Rattle.dispatch_room_tcp.specs.Hosts.{IsDoneAt, IsUndoneAt, IsUnlisted, IsUnread};
-ghost use Rattle.dispatch_room_tcp.specs.Hosts.{Surroundings, opens, unknown};
+ghost use Rattle.dispatch_room_tcp.specs.Hosts.{IsUnlisted, IsUnread, Surroundings, Works, opens};
+ghost use Rattle.dispatch_room_tcp.specs.Hosts.{unknown};
 
 use dispatch_room_cli::exit_status::Failure;
 use dispatch_room_cli::failure_causes::Explainer;
@@ -74,10 +74,8 @@ pub trait Machine: Copy {
         work: W,
         out: &mut O,
     ) -> Result<W::Done, Failure>
-        ensures done { IfOk result (IsDoneAt (opens (surroundings self) file.entry) (W.says work)
-            (O.contents out.old) (O.contents out.new)) }
-        ensures undone { IfErr result (IsUndoneAt (opens (surroundings self) file.entry)
-            (W.says work) (W.refuses work) (O.contents out.old) (O.contents out.new)) };
+        ensures { Works (opens (surroundings self) file.entry) (W.does work)
+            (O.contents out.old) (O.contents out.new) result };
 
     /// The bytes of a text file. Explains why where it can't be read.
     fn read_text(self, path: &str) -> Result<Vec<u8>, Failure>

@@ -8,20 +8,19 @@ ghost use Rattle.dispatch_room_tasks.specs.OpenedRoom.{IsUnopened};
 ghost use Rattle.dispatch_room_serving.specs.Callers.{MayCall, Prints, PrintsStart};
 ghost use Rattle.dispatch_room_serving.specs.Journals.{EndsAfter, failed_by};
 ghost use Rattle.dispatch_room_serving.specs.declared.list_places.Finding.TheVariants.{Truncated};
-ghost use Rattle.dispatch_room_tcp.specs.ServedFiles.{FailsAt, FailsBy, FailsServe, IsAddressOf};
-ghost use Rattle.dispatch_room_tcp.specs.ServedFiles.{IsDoorOf, IsFirstList, IsListOf, IsServe};
-ghost use Rattle.dispatch_room_tcp.specs.ServedFiles.{IsServed, IsServedAt, IsServedBy};
-ghost use Rattle.dispatch_room_tcp.specs.ServedFiles.{IsUnlistedFor, OpensNone, PrintsServing};
-ghost use Rattle.dispatch_room_tcp.specs.ServedFiles.{Serves, ServesNone, ended, is_endless};
-ghost use Rattle.dispatch_room_tcp.specs.ServedFiles.{is_synced_by, keeps_questions_by, manner_of};
-ghost use Rattle.dispatch_room_tcp.specs.ServedFiles.{terms_of, watch_of};
+ghost use Rattle.dispatch_room_tcp.specs.ServedFiles.{IsAddressOf, IsDoorOf, IsFirstList, IsListOf};
+ghost use Rattle.dispatch_room_tcp.specs.ServedFiles.{IsServe, IsServed, IsServedAt, IsServedBy};
+ghost use Rattle.dispatch_room_tcp.specs.ServedFiles.{IsUnlistedFor, PrintsServing, Serves};
+ghost use Rattle.dispatch_room_tcp.specs.ServedFiles.{begins_at, ended, is_endless, is_synced_by};
+ghost use Rattle.dispatch_room_tcp.specs.ServedFiles.{keeps_questions_by, manner_of, terms_of};
+ghost use Rattle.dispatch_room_tcp.specs.ServedFiles.{watch_of};
 ghost use Rattle.dispatch_room_tcp.specs.ServedParts.{EndsAs, GoesOn, IsJournalOf, IsPart};
 ghost use Rattle.dispatch_room_tcp.specs.ServedParts.{OpensNoPart, ServesParts};
 
 use crate::hosts::{Host, Machine};
 use crate::listeners::{Listener, TcpAddress};
 use crate::tcp_callers::TcpCallers;
-use crate::tcp_doors::TcpDoor;
+use crate::tcp_doors::{SystemDoor, TcpDoor};
 use dispatch_room_cli::exit_status::{Done, Failure};
 use dispatch_room_cli::failure_causes::Explainer;
 use dispatch_room_cli::tasks::Service;
@@ -53,10 +52,8 @@ pub fn serve_file<M: Machine, O: Write, E: Write>(
     out: &mut O,
     err: &mut E,
 ) -> Result<Done, Failure>
-    ensures done { IfOk result (λ done. IsServe (M.surroundings machine) (O.contents out.old)
-        (O.contents out.new) done file.now service.entry) }
-    ensures undone { IfErr result (λ fault. FailsServe (M.surroundings machine) (O.contents out.old)
-        (O.contents out.new) fault file.now service.entry) }
+    ensures { IsServe (M.surroundings machine) file.now service.entry (O.contents out.old)
+        (O.contents out.new) result }
 {
     let journal = journal_file(machine, &service, err)?;
     let run = ServiceRun {
@@ -95,22 +92,21 @@ fn serve_at_door<M: Machine, O: Write, E: Write>(
     out: &mut O,
     err: &mut E,
 ) -> Result<Done, Failure>
-    ensures done { IfOk result (λ done. IsServedBy (M.surroundings run.now.machine)
-        (O.contents out.old) (O.contents out.new) done true journal file.now run.now.service.now) }
-    ensures undone { IfErr result (λ fault. FailsBy (M.surroundings run.now.machine)
-        (O.contents out.old) (O.contents out.new) fault true journal file.now run.now.service.now) }
+    ensures { IsServedBy (M.surroundings run.now.machine) true journal file.now
+        run.now.service.now (O.contents out.old) (O.contents out.new) result }
 {
     serve_at(file, run, journal, door_of(file, run), out, err)
 }
 
 // The door of a service, at which the room of a file is served.
-fn door_of<'a, M>(file: &'a str, run: &ServiceRun<'a, M>) -> TcpDoor<'a>
+fn door_of<'a, M>(file: &'a str, run: &ServiceRun<'a, M>) -> SystemDoor<'a, HostRuntime>
     ensures door { IsDoorOf run.now.service.now result }
     ensures deaf { is_some result.waiting ≡ false }
 {
     let keep = Duration::from_secs(u64::from(run.service.keep));
     let patience = waits_of(run.service).patience;
-    TcpDoor::new(run.host, file, run.service.address, keep, patience)
+    let host = run.host;
+    TcpDoor::new(host.rt, host, file, run.service.address, keep, patience)
 }
 
 // Serves the room of a file to as many connections as its service says, one after another.
@@ -121,11 +117,8 @@ fn serve_at_address<M: Machine, O: Write, E: Write>(
     out: &mut O,
     err: &mut E,
 ) -> Result<Done, Failure>
-    ensures done { IfOk result (λ done. IsServedBy (M.surroundings run.now.machine)
-        (O.contents out.old) (O.contents out.new) done false journal file.now run.now.service.now) }
-    ensures undone { IfErr result (λ fault. FailsBy (M.surroundings run.now.machine)
-        (O.contents out.old) (O.contents out.new) fault false journal file.now
-        run.now.service.now) }
+    ensures { IsServedBy (M.surroundings run.now.machine) false journal file.now
+        run.now.service.now (O.contents out.old) (O.contents out.new) result }
 {
     serve_at(file, run, journal, address_of(run), out, err)
 }
@@ -152,14 +145,10 @@ fn serve_at<M: Machine, L: Listener, O: Write, E: Write>(
     out: &mut O,
     err: &mut E,
 ) -> Result<Done, Failure>
-    ensures done { IfOk result (λ done. IsServedAt (M.surroundings run.now.machine)
-        (O.contents out.old) (O.contents out.new) done L.heard L.written (L.is_listening listener)
+    ensures { IsServedAt (M.surroundings run.now.machine) L.heard L.written
+        (L.is_listening listener)
         (manner_of (M.surroundings run.now.machine) run.now.service.now journal) listener
-        file.now) }
-    ensures undone { IfErr result (λ fault. FailsAt (M.surroundings run.now.machine)
-        (O.contents out.old) (O.contents out.new) fault L.heard L.written (L.is_listening listener)
-        (manner_of (M.surroundings run.now.machine) run.now.service.now journal) listener
-        file.now) }
+        file.now (O.contents out.old) (O.contents out.new) result }
 {
     let serving = Serving {
         run,
@@ -210,11 +199,7 @@ struct Serving<'a, M: Machine, L, E> {
 impl<'a, M: Machine, L: Listener, E: Write> RoomTask for Serving<'a, M, L, E> {
     type Done = Served<L>;
 
-    ghost says = { λ work. Serves L.heard L.written (L.is_listening work.listener)
-        (manner_of (M.surroundings work.run.now.machine) work.run.now.service.now work.list)
-        work.listener };
-
-    ghost refuses = { λ work. ServesNone L.heard L.written (L.is_listening work.listener)
+    ghost does = { λ work. Serves L.heard L.written (L.is_listening work.listener)
         (manner_of (M.surroundings work.run.now.machine) work.run.now.service.now work.list)
         work.listener };
 
@@ -248,8 +233,9 @@ fn serve_listened<M: Machine, S: Alter + Drop, L: Listener, O: Write, E: Write>(
         (manner_of (M.surroundings run.now.machine) run.now.service.now list) listener worked.0) }
     ensures printed { IfOk result (λ worked. PrintsServing (L.is_listening listener)
         (O.contents out.old) (O.contents out.new) (ended worked.0)) }
-    ensures fault { IfErr result (OpensNone L.heard L.written S.Store conn
-        (manner_of (M.surroundings run.now.machine) run.now.service.now list) listener) }
+    ensures fault { IfErr result (OpensNoPart S.Store
+        (manner_of (M.surroundings run.now.machine) run.now.service.now list)
+        (begins_at L.heard L.written listener conn)) }
     ensures unopened { OnErr result ((O.contents out.new ≡ O.contents out.old)
         ⊎ PrintsStart (L.is_listening listener) (O.contents out.old) (O.contents out.new)) }
 {

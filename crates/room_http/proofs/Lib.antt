@@ -9,6 +9,7 @@ pub mod KeptLemmas
 pub mod TerminalLemmas
 pub mod AskLemmas
 pub mod RunLemmas
+pub mod QueueTextLemmas
 pub mod PromiseLaws
 pub mod LawLemmas
 pub mod ServedLaws

@@ -1,20 +1,25 @@
 -- Every run of a connection keeps the promises.
 use Rattle.std.proofs.Common.{◌≡◌, ◌∙◌, ap, append_assoc, inl, inr, refl, subst, sym, ℕ, List, []}
 use Rattle.std.proofs.Common.{◌∷◌, ◌++◌, Bool, true, Some, Result, Ok, Err}
-use Rattle.std.specs.Prelude.{cond, false, is_ok, ⊤}
+use Rattle.std.specs.Prelude.{None, Option, cond, false, is_ok, is_some, ⊤, ◌≤◌, ◌⊎◌}
 use Rattle.room_place.specs.Choice.{Among}
 use Rattle.room_types.specs.Texts.{Callsign}
 use Rattle.room_types.specs.declared.answers.Answer.{Answer}
+use Rattle.room_types.specs.declared.answers.Answer.TheVariants as answer
 use Rattle.room_types.specs.declared.asks.Ask.{Ask}
-use Rattle.room_types.specs.declared.asks.Ask.TheVariants.{Call, Report}
+use Rattle.room_types.specs.declared.asks.Ask.TheVariants.{Call, Order, Queue, Report}
 use Rattle.room_types.specs.declared.asks.CallForm.{CallForm}
 use Rattle.room_types.specs.declared.asks.Event.{Event}
 use Rattle.room_types.specs.declared.fleet.Terminal.{Terminal}
 use Rattle.room_types.specs.declared.refusal_statuses.Refusal.{Refusal}
 use Rattle.room_types.specs.declared.refusal_statuses.Refusal.TheVariants.{SerialReused}
+use Rattle.room_types.specs.declared.tables.Vehicle.{Vehicle}
+use Rattle.room_laws.proofs.OrderLaws.{orders_kept, stays_in}
+use Rattle.room_laws.proofs.OrdersReach.{orders_reach, to_crew}
+use Rattle.room_laws.proofs.UrgentQueues.{desk_sees}
 use Rattle.room_model.proofs.AssignedOnce.{of_one_order, one_assignment, one_open_turn}
 use Rattle.room_model.proofs.CrewLaws.{mine_answer, mine_equal}
-use Rattle.room_model.proofs.KeptEvents.{addressed_run, run_kept}
+use Rattle.room_model.proofs.KeptEvents.{addressed_run, addressed_still, run_kept}
 use Rattle.room_model.proofs.RefusedAgain.{outside_still, report_answered_again, serial_again}
 use Rattle.room_model.proofs.RepeatLaws.{call_repeated}
 use Rattle.room_model.proofs.Runs.{equal_answers, equal_shares, meet_well_formed, run_answers}
@@ -22,20 +27,28 @@ use Rattle.room_model.proofs.Runs.{run_everyday, run_share}
 use Rattle.room_model.proofs.Unlent.{unlent_run}
 use Rattle.room_model.specs.Calls.{outside_again}
 use Rattle.room_model.specs.Crossing.{crossings}
-use Rattle.room_model.specs.Decisions.{answer_of}
-use Rattle.room_model.specs.Events.{AreAddressed, OnlyAnswers, by_crew, by_position, received}
-use Rattle.room_model.specs.Queries.{kept_call}
+use Rattle.room_model.specs.Decisions.{answer_of, changes_of}
+use Rattle.room_model.specs.Events.{AreAddressed, OnlyAnswers, by_crew, by_desk, by_position}
+use Rattle.room_model.specs.Events.{received}
+use Rattle.room_model.specs.Queries.{assignment_at, kept_call, vehicle_at}
+use Rattle.room_model.specs.Reports.{order_of}
 use Rattle.room_model.specs.Room.{IsInOrder, Room}
 use Rattle.room_model.specs.Run.{desk_answers, is_desk, room_run}
 use Rattle.room_model.specs.Shares.{mine, own}
-use Rattle.room_model.specs.Step.{IsAddressed, answer_to, room_after}
+use Rattle.room_model.specs.Step.{IsAddressed, answer_to, decided, room_after}
 use Rattle.room_model.specs.RoomAgreements.{IsWellFormed}
+use Rattle.room_laws.proofs.Looks.{is_shown, look_in_time}
+use Rattle.room_laws.proofs.Stays.{due_still}
+use Rattle.room_laws.specs.Exceptions.{Concern, IsDue, IsEnded, LooksEvery, looks}
 use Rattle.room_http.proofs.Dates.{one_reply_law}
 use Rattle.room_http.specs.ReplyMessages.{IsReply}
 use Rattle.room_http.specs.declared.settings.Setting.{Setting}
 use Rattle.room_model.specs.Rooms.{machine}
 use Rattle.room_http.specs.Arrivals.{is_closing, is_head_only}
-use Rattle.room_http.specs.Promises.{ActsOnce, IsDeskAlike, AreSentOnce, Promises, StaysOutside}
+use Rattle.room_http.specs.Promises.{ActsOnce, AreSentOnce, IsDeskAlike, IsSeenAt, IsShownAt}
+use Rattle.room_http.specs.Promises.{LastsToItsEnd, Promises, StaysOutside}
+use Rattle.room_http.specs.QueueTexts.{EndsWith, ShowsOrder, ShowsUrgentFirst}
+use Rattle.room_http.proofs.QueueTextLemmas.{ends_with, queue_content}
 use Rattle.room_http.specs.Runs.{AreAnswered, Exchange, HasAnswer, HaveAnswers, IsRun, answers_of}
 use Rattle.room_http.specs.Runs.{arrivals_of, asker, event_then, events_of, is_by_desk, room_by}
 use Rattle.room_http.specs.Runs.{with_desk}
@@ -71,6 +84,31 @@ module _ (known : Room) where
           → IsAddressed event known
       go (Ok e) early all = early all.2
       go (Err r) early all = early all
+
+  addressed_late : (before rest : List Exchange) → AreAddressed (events_of (before ++ rest)) known
+      → AreAddressed (events_of rest) known
+  addressed_late [] rest all = all
+  addressed_late (x ∷ before) rest all = go x.found (addressed_late before rest) all
+    where
+      go : (found : Result Event Refusal)
+          → (AreAddressed (events_of (before ++ rest)) known → AreAddressed (events_of rest) known)
+          → AreAddressed (event_then found (events_of (before ++ rest))) known
+          → AreAddressed (events_of rest) known
+      go (Ok event) late all = late all.2
+      go (Err r) late all = late all
+
+-- what is addressed stays so
+addressed_on : (first events : List Event) (room : Room) → AreAddressed events room
+    → AreAddressed events (room_run first room)
+addressed_on [] events room all = all
+addressed_on (e ∷ first) events room all =
+    addressed_on first events (room_after e room) (addressed_still events room (changes_of (decided e room)) all)
+
+addressed_later : (before rest : List Exchange) (room : Room)
+    → AreAddressed (events_of (before ++ rest)) room
+    → AreAddressed (events_of rest) (room_by before room)
+addressed_later before rest room all =
+    addressed_on (events_of before) (events_of rest) room (addressed_late room before rest all)
 
 -- what an arrival is answered, after those before it
 answer_at : (setting : Setting) (terminals : List Terminal) (before rest : List Exchange) (x : Exchange)
@@ -131,6 +169,65 @@ answers_alike (x ∷ xs) (y ∷ ys) (answer ∷ answers) are also same =
     let bytes = one_reply_law answer y.arrival.1 (is_head_only y.arrival.0) (is_closing y.arrival.0) x.bytes y.bytes
     again also.0 in
     λ i. bytes i ∷ answers_alike xs ys answers are.1 also.1 rest i
+
+-- ---- what a queue shows
+-- an event of a run is that of an exchange
+record IsExchangeOf (xs : List Exchange) (early : List Event) (event : Event) : Type 0 where
+  before : List Exchange
+  look : Exchange
+  rest : List Exchange
+  split : xs ≡ before ++ look ∷ rest
+  asked : look.found ≡ Ok event
+  events : events_of before ≡ early
+
+same_first : (a b : Event) (ones others : List Event) → a ∷ ones ≡ b ∷ others → a ≡ b
+same_first a b ones others h = cc
+
+same_rest : (a b : Event) (ones others : List Event) → a ∷ ones ≡ b ∷ others → ones ≡ others
+same_rest a b ones others h = cc
+
+-- with one exchange more in front
+one_further : (x : Exchange) (xs : List Exchange) (early_here early_there : List Event) (event : Event)
+    → ((before : List Exchange) → events_of before ≡ early_there → events_of (x ∷ before) ≡ early_here)
+    → IsExchangeOf xs early_there event → IsExchangeOf (x ∷ xs) early_here event
+one_further x xs early_here early_there event events is = record {
+  before = x ∷ is.before;
+  look = is.look;
+  rest = is.rest;
+  split = ap (λ (ys : List Exchange). x ∷ ys) is.split;
+  asked = is.asked;
+  events = events is.before is.events;
+}
+
+exchange_of : (xs : List Exchange) (early late : List Event) (event : Event)
+    → events_of xs ≡ early ++ event ∷ late → IsExchangeOf xs early event
+exchange_of [] [] late event h = cc
+exchange_of [] (e ∷ early) late event h = cc
+exchange_of (x ∷ xs) early late event h =
+    go (λ early h. exchange_of xs early late event h) early x.found refl h
+  where
+    go : ((early : List Event) → events_of xs ≡ early ++ event ∷ late → IsExchangeOf xs early event)
+        → (early : List Event) (found : Result Event Refusal) → x.found ≡ found
+        → event_then found (events_of xs) ≡ early ++ event ∷ late → IsExchangeOf (x ∷ xs) early event
+    go again early (Err r) is h =
+        one_further x xs early early event
+        (λ before same. ap (λ (f : Result Event Refusal). event_then f (events_of before)) is ∙ same)
+        (again early h)
+    go again [] (Ok e) is h = record {
+      before = [];
+      look = x;
+      rest = xs;
+      split = refl;
+      asked = is ∙ ap Ok (same_first e event (events_of xs) late h);
+      events = refl;
+    }
+    go again (f ∷ early) (Ok e) is h =
+        one_further x xs (f ∷ early) early event
+        (λ before same.
+        ap (λ (g : Result Event Refusal). event_then g (events_of before)) is
+        ∙ (ap (λ (a : Event). a ∷ events_of before) (same_first e f (events_of xs) (early ++ event ∷ late) h)
+        ∙ ap (λ (es : List Event). f ∷ es) same))
+        (again early (same_rest e f (events_of xs) (early ++ event ∷ late) h))
 
 -- ---- the promises
 sent_once_in : (room : Room) → IsWellFormed room → AreSentOnce room
@@ -279,6 +376,112 @@ module _ (setting : Setting) (terminals : List Terminal) (xs : List Exchange) (r
       is_again law in
       (desk_answers.0.1, desk_answers.1)
 
+  queue : (before rest : List Exchange) (x : Exchange) (d at : ℕ)
+      → xs ≡ before ++ x ∷ rest → x.found ≡ Ok (by_desk d Queue at)
+      → ShowsUrgentFirst x d at (room_by before room)
+  queue before rest x d at split is =
+      let sees = desk_sees d at (room_by before room) in
+      let answered = subst (HasAnswer x) sees.1 (answer_in before rest x (Ok (by_desk d Queue at)) split is) in
+      record {
+        queue = sees.0;
+        urgent_first = sees.2;
+        answered = answered;
+        bytes =
+            λ whole.
+            subst (λ text. EndsWith text x.bytes) (queue_content sees.0)
+            (ends_with x (Ok (answer.Queue sees.0)) answered whole);
+      }
+
+  order_asked : (before rest : List Exchange) (x : Exchange) (c : Callsign) (at : ℕ)
+      → xs ≡ before ++ x ∷ rest → x.found ≡ Ok (by_crew c Order at)
+      → ShowsOrder x c (room_by before room)
+  order_asked before rest x c at split is =
+      go (vehicle_at c now) refl (known_at before rest x (by_crew c Order at) split is).1
+    where
+      now : Room
+      now = room_by before room
+
+      go : (v : Option Vehicle) → vehicle_at c now ≡ v → is_some (vehicle_at c now) ≡ true
+          → ShowsOrder x c now
+      go None there known = let none : is_some (vehicle_at c now) ≡ false = ap is_some there in cc
+      go (Some v) there known = record {
+        vehicle = v;
+        there = there;
+        answered =
+            subst (λ (o : Option Vehicle). HasAnswer x (answer_of (order_of o (assignment_at c now)))) there
+            (answer_in before rest x (Ok (by_crew c Order at)) split is);
+      }
+
+  order_lasts : LastsToItsEnd xs room
+  order_lasts before between rest x order at split is here =
+      let now = room_by before room in
+      let all = subst (λ l. AreAddressed (events_of l) room)
+      (split ∙ append_assoc before between (x ∷ rest)) run.addressed in
+      let known = addressed_on (events_of before) (events_of between) room
+      (addressed_early room between (x ∷ rest) (addressed_late room before (between ++ x ∷ rest) all)) in
+      let formed_now = formed_at before (between ++ x ∷ rest) (split ∙ append_assoc before between (x ∷ rest)) in
+      elim (stays_in (events_of between) now order formed_now known here) [
+        | inr ended ↦ inr ended
+        | inl still ↦
+            let later = room_by (before ++ between) room in
+            let gets = to_crew later (formed_at (before ++ between) (x ∷ rest) split) order at
+            (subst (λ r. Among order r.assignments) (sym (room_split before between room)) still) in
+            inl (
+              gets.0,
+              gets.1,
+              subst (HasAnswer x) gets.2
+                  (answer_in (before ++ between) rest x (Ok (by_crew order.callsign Order at)) split is),
+            )
+      ]
+
+  -- the events between are of those that the room knows then
+  known_between : (before between rest : List Exchange) → xs ≡ before ++ (between ++ rest)
+      → AreAddressed (events_of between) (room_by before room)
+  known_between before between rest split =
+      addressed_early (room_by before room) between rest
+      (addressed_later before (between ++ rest) room
+      (subst (λ (l : List Exchange). AreAddressed (events_of l) room) split run.addressed))
+
+  queue_stays : (d m at : ℕ) (k : Concern) (before between rest : List Exchange) (look : Exchange)
+      → xs ≡ before ++ between ++ look ∷ rest → look.found ≡ Ok (by_desk d Queue at) → m ≤ at
+      → IsDue d k m (room_by before room)
+      → IsShownAt k look ⊎ IsEnded d k (events_of between) (room_by before room)
+  queue_stays d m at k before between rest look split is le due =
+      let parts : xs ≡ before ++ (between ++ look ∷ rest) = split ∙ append_assoc before between (look ∷ rest) in
+      elim (due_still d m at k (events_of between) (room_by before room)
+      (formed_at before (between ++ look ∷ rest) parts) (known_between before between (look ∷ rest) parts) le due) [
+        | inr ended ↦ inr ended
+        | inl still ↦
+            let now : IsDue d k at (room_by (before ++ between) room) =
+            subst (IsDue d k at) (sym (room_split before between room)) still in
+            inl (
+              answer_to (by_desk d Queue at) (room_by (before ++ between) room),
+              answer_in (before ++ between) rest look (Ok (by_desk d Queue at)) split is,
+              is_shown d at k (room_by (before ++ between) room) now,
+            )
+      ]
+
+  queue_appears : (d y m last : ℕ) (k : Concern) (before after : List Exchange) → xs ≡ before ++ after
+      → IsDue d k m (room_by before room) → last ≤ m
+      → LooksEvery y m last (looks d (events_of after))
+      → IsSeenAt d k y m after (room_by before room)
+  queue_appears d y m last k before after split due le often =
+      let l = look_in_time d y m last (events_of after) le often in
+      let x = exchange_of after l.before l.after (by_desk d Queue l.at) l.split in
+      record {
+        before = x.before;
+        look = x.look;
+        rest = x.rest;
+        at = l.at;
+        split = x.split;
+        asked = x.asked;
+        in_time = l.in_time;
+        seen =
+            queue_stays d m l.at k before x.before x.rest x.look
+            (split ∙ ap (λ (ys : List Exchange). before ++ ys) x.split
+            ∙ sym (append_assoc before x.before (x.look ∷ x.rest))) x.asked l.in_time.0 due;
+      }
+
   pub promises_kept : Promises terminals xs room
   promises_kept =
       let meets = meet_well_formed (events_of xs) room formed run.addressed in
@@ -309,4 +512,12 @@ module _ (setting : Setting) (terminals : List Terminal) (xs : List Exchange) (r
             (λ at later s between in_order known ok. call_repeated position form at s between in_order ok later);
         serial_once = serial;
         call_outside = outside;
+        most_urgent_first = queue;
+        order_kept =
+            λ before rest x event split is. orders_kept event (room_by before room) (formed_at before (x ∷ rest) split);
+        order_reaches = λ before rest split. orders_reach (room_by before room) (formed_at before rest split);
+        order_shown = order_asked;
+        order_lasts = order_lasts;
+        exception_stays = queue_stays;
+        exception_appears = queue_appears;
       }

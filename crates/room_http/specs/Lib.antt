@@ -11,6 +11,7 @@ pub mod Dialogues
 pub mod Findings
 pub mod Replies
 pub mod Runs
+pub mod QueueTexts
 pub mod Promises
 pub mod ServedRuns
 pub mod Course

@@ -1,13 +1,13 @@
 -- What the room promises of every run, whatever is asked: the machine's laws, of messages and the
 -- bytes that answer them.
 use Rattle.std.specs.List.{list_all}
-use Rattle.std.specs.Prelude.{◌≡◌, ⊤, ℕ, List, [], ◌∷◌, ◌++◌, None, Some, Result, Ok, Err, is_ok}
-use Rattle.std.specs.Prelude.{true}
+use Rattle.std.specs.Prelude.{◌≡◌, ◌≤◌, ◌⊎◌, ◌+◌, ⊤, ℕ, List, [], ◌∷◌, ◌++◌, None, Some, Result, Ok}
+use Rattle.std.specs.Prelude.{Err, is_ok, true}
 use Rattle.room_place.specs.Choice.{Among}
 use Rattle.room_types.specs.Texts.{Callsign}
 use Rattle.room_types.specs.declared.answers.Answer.{Answer}
 use Rattle.room_types.specs.declared.asks.Ask.{Ask}
-use Rattle.room_types.specs.declared.asks.Ask.TheVariants.{Call, Report}
+use Rattle.room_types.specs.declared.asks.Ask.TheVariants.{Call, Order, Queue, Report}
 use Rattle.room_types.specs.declared.asks.CallForm.{CallForm}
 use Rattle.room_types.specs.declared.asks.Event.{Event}
 use Rattle.room_types.specs.declared.asks.Press.{Press}
@@ -20,14 +20,18 @@ use Rattle.room_types.specs.declared.tables.Turn.{Turn}
 use Rattle.room_model.specs.Isolation.{share_answers, share_run}
 use Rattle.room_model.specs.Calls.{outside_again}
 use Rattle.room_model.specs.Crossing.{crossings}
-use Rattle.room_model.specs.Events.{IsUnlent, NobodyLends, by_crew, by_position, is_everyday}
-use Rattle.room_model.specs.Events.{received}
+use Rattle.room_model.specs.Events.{IsUnlent, NobodyLends, by_crew, by_desk, by_position}
+use Rattle.room_model.specs.Events.{is_everyday, received}
 use Rattle.room_model.specs.Queries.{kept_call}
 use Rattle.room_model.specs.Room.{IsInOrder, Room}
 use Rattle.room_model.specs.Run.{desk_answers}
 use Rattle.room_model.specs.Shares.{mine, own}
 use Rattle.room_model.specs.Step.{answer_to, room_after}
 use Rattle.room_model.specs.RoomAgreements.{IsWellFormed}
+use Rattle.room_laws.specs.Exceptions.{Concern, IsDue, IsEnded, IsShown, LooksEvery, looks}
+use Rattle.room_laws.specs.Happens.{Happens}
+use Rattle.room_laws.specs.Orders.{AreKept, EndsOrder, ReachTheirCrews}
+use Rattle.room_http.specs.QueueTexts.{IsAnsweredWith, ShowsOrder, ShowsUrgentFirst}
 use Rattle.room_http.specs.declared.settings.Setting.{Setting}
 use Rattle.room_http.specs.Runs.{Exchange, HasAnswer, HaveAnswers, IsRun, answers_of, arrivals_of}
 use Rattle.room_http.specs.Runs.{asker, events_of, room_by, with_desk}
@@ -80,6 +84,32 @@ StaysOutside xs room position form =
     HasAnswer again (Err (outside_again (kept_call position form.serial now)))
     × (room_by (before ++ first ∷ between ++ again ∷ []) room ≡ now)
 
+-- The crew that asks gets the order that stood before some exchanges, unless one of them ended it.
+abbrev pub LastsToItsEnd : List Exchange → Room → Type 0
+LastsToItsEnd xs room =
+    (before between rest : List Exchange) (x : Exchange) (order : Assignment) (at : ℕ)
+    → xs ≡ before ++ between ++ x ∷ rest
+    → x.found ≡ Ok (by_crew order.callsign Order at)
+    → Among order (room_by before room).assignments
+    → IsAnsweredWith x order
+    ⊎ Happens (λ event now. EndsOrder event now order) (events_of between) (room_by before room)
+
+-- the exchange was answered with the bytes of a queue that shows it
+abbrev pub IsShownAt : Concern → Exchange → Type 0
+IsShownAt k x = (given : Result Answer Refusal) × HasAnswer x given × IsShown k given
+
+-- The desk is shown it by the bytes of an answer at most y after moment m, or an event before has
+-- ended it.
+pub record IsSeenAt (d : ℕ) (k : Concern) (y m : ℕ) (xs : List Exchange) (room : Room) : Type 0 where
+  pub before : List Exchange
+  pub look : Exchange
+  pub rest : List Exchange
+  pub at : ℕ
+  pub split : xs ≡ before ++ look ∷ rest
+  pub asked : look.found ≡ Ok (by_desk d Queue at)
+  pub in_time : (m ≤ at) × (at ≤ m + y)
+  pub seen : IsShownAt k look ⊎ IsEnded d k (events_of before) room
+
 pub record Promises (terminals : List Terminal) (xs : List Exchange) (room : Room) : Type 0 where
   -- the room is asked by the terminal whose token the message shows, at the message's moment
   pub asked_by : (x : Exchange) (event : Event) → Among x xs → x.found ≡ Ok event
@@ -130,3 +160,32 @@ pub record Promises (terminals : List Terminal) (xs : List Exchange) (room : Roo
       → ActsOnce xs room (by_position position (Call form)) (λ answer. answer ≡ Err SerialReused)
   -- and one whose place is in no division stays refused
   pub call_outside : (position : ℕ) (form : CallForm) → StaysOutside xs room position form
+  -- a desk that asks for its queue gets what needs an eye, the most urgent first
+  pub most_urgent_first : (before rest : List Exchange) (x : Exchange) (d at : ℕ)
+      → xs ≡ before ++ x ∷ rest → x.found ≡ Ok (by_desk d Queue at)
+      → ShowsUrgentFirst x d at (room_by before room)
+  -- only a vehicle that may be sent is given an order, and only what ends an order changes it
+  pub order_kept : (before rest : List Exchange) (x : Exchange) (event : Event)
+      → xs ≡ before ++ x ∷ rest → x.found ≡ Ok event → AreKept event (room_by before room)
+  -- in every room on the way each order reaches the crew of its vehicle, and no other
+  pub order_reaches : (before rest : List Exchange) → xs ≡ before ++ rest
+      → ReachTheirCrews (room_by before room)
+  -- a crew that asks is answered with its vehicle's order
+  pub order_shown : (before rest : List Exchange) (x : Exchange) (c : Callsign) (at : ℕ)
+      → xs ≡ before ++ x ∷ rest → x.found ≡ Ok (by_crew c Order at)
+      → ShowsOrder x c (room_by before room)
+  -- and with the same one until its end
+  pub order_lasts : LastsToItsEnd xs room
+  -- what was due in a queue, shown or not, is in the answer to each later look of its division's
+  -- desk, or an event between has ended its cause
+  pub exception_stays : (d m at : ℕ) (k : Concern) (before between rest : List Exchange)
+      (look : Exchange)
+      → xs ≡ before ++ between ++ look ∷ rest → look.found ≡ Ok (by_desk d Queue at) → m ≤ at
+      → IsDue d k m (room_by before room)
+      → IsShownAt k look ⊎ IsEnded d k (events_of between) (room_by before room)
+  -- a desk that looks at most y after its last look is shown what is due at m by m + y, or an event
+  -- has ended its cause
+  pub exception_appears : (d y m last : ℕ) (k : Concern) (before after : List Exchange)
+      → xs ≡ before ++ after → IsDue d k m (room_by before room) → last ≤ m
+      → LooksEvery y m last (looks d (events_of after))
+      → IsSeenAt d k y m after (room_by before room)

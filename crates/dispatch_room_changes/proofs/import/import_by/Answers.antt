@@ -1,19 +1,17 @@
-use Rattle.std.proofs.Common.{inl, inr, refl}
-use Rattle.std.proofs.lemmas.Result.{IfErr-weaker, IfOk-weaker}
-use Rattle.dispatch_room_disk.proofs.WorkLemmas.{handed_on}
+use Rattle.std.proofs.Common.{Ok, refl}
+use Rattle.dispatch_room_disk.proofs.WorkLemmas.{stops}
 use Rattle.dispatch_room_changes.proofs.import.import_by.Goals as goal
 
-pub returns-in_err-lines-clause-undone : goal.returns-in_err-lines-clause-undone
-returns-in_err-lines-clause-undone g c =
-    handed_on c.from_residual.result _ c.from_residual.ensures.1
-    (λ fault is. inl (rw is c.in_err-lines.ensures.none, refl))
+pub returns-in_err-lines : goal.returns-in_err-lines
+returns-in_err-lines g c =
+    stops _ _ _ _ c.from_residual.result _ c.from_residual.ensures.1
+    (λ fault is. (rw is c.in_err-lines.ensures.none, refl))
 
-pub returns-clause-done : goal.returns-clause-done
-returns-clause-done g c =
-    IfOk-weaker c.in_file.result _ _ (λ done is. (_, c.in_ok-lines.ensures.fleet, rw c.as_slice.ensures.value at is))
-    c.in_file.ensures.done
-
-pub returns-clause-undone : goal.returns-clause-undone
-returns-clause-undone g c =
-    IfErr-weaker c.in_file.result _ _
-    (λ fault is. inr (_, c.in_ok-lines.ensures.fleet, rw c.as_slice.ensures.value at is)) c.in_file.ensures.undone
+pub returns : goal.returns
+returns g c =
+    record {
+      between = _;
+      found = Ok c.in_ok-lines.lines;
+      is = (c.in_ok-lines.ensures.fleet, refl);
+      rest = rw c.as_slice.ensures.value at c.in_file.ensures;
+    }

@@ -1,21 +1,17 @@
-use Rattle.std.proofs.Common.{inl, inr, refl}
-use Rattle.std.proofs.lemmas.Result.{IfErr-weaker, IfOk-weaker}
-use Rattle.dispatch_room_disk.proofs.WorkLemmas.{handed_on}
+use Rattle.std.proofs.Common.{Ok, refl}
+use Rattle.dispatch_room_disk.proofs.WorkLemmas.{stops}
 use Rattle.dispatch_room_changes.proofs.init.init.Goals as goal
 
-pub returns-in_err-text-clause-undone : goal.returns-in_err-text-clause-undone
-returns-in_err-text-clause-undone g c =
-    handed_on c.from_residual.result _ c.from_residual.ensures.1
-    (λ fault is. inl (rw is c.in_err-text.ensures.fault, refl))
+pub returns-in_err-text : goal.returns-in_err-text
+returns-in_err-text g c =
+    stops _ _ _ _ c.from_residual.result _ c.from_residual.ensures.1
+    (λ fault is. (rw is c.in_err-text.ensures.fault, refl))
 
-pub returns-clause-done : goal.returns-clause-done
-returns-clause-done g c =
-    IfOk-weaker c.init_by.result _ _
-    (λ done is. (_, c.in_ok-text.ensures.text, rw (c.new-sheet.ensures, c.as_slice.ensures.value) at is))
-    c.init_by.ensures.done
-
-pub returns-clause-undone : goal.returns-clause-undone
-returns-clause-undone g c =
-    IfErr-weaker c.init_by.result _ _
-    (λ fault is. inr (_, c.in_ok-text.ensures.text, rw (c.new-sheet.ensures, c.as_slice.ensures.value) at is))
-    c.init_by.ensures.undone
+pub returns : goal.returns
+returns g c =
+    record {
+      between = _;
+      found = Ok c.in_ok-text.text;
+      is = (c.in_ok-text.ensures.text, refl);
+      rest = rw (c.new-sheet.ensures, c.as_slice.ensures.value) at c.init_by.ensures;
+    }

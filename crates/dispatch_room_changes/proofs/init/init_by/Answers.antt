@@ -1,19 +1,17 @@
-use Rattle.std.proofs.Common.{inl, inr, refl}
-use Rattle.std.proofs.lemmas.Result.{IfErr-weaker, IfOk-weaker}
-use Rattle.dispatch_room_disk.proofs.WorkLemmas.{handed_on}
+use Rattle.std.proofs.Common.{Ok, refl}
+use Rattle.dispatch_room_disk.proofs.WorkLemmas.{stops}
 use Rattle.dispatch_room_changes.proofs.init.init_by.Goals as goal
 
-pub returns-in_err-plan-clause-undone : goal.returns-in_err-plan-clause-undone
-returns-in_err-plan-clause-undone g c =
-    handed_on c.from_residual.result _ c.from_residual.ensures.1
-    (λ fault is. inl (rw is c.in_err-plan.ensures.none, refl))
+pub returns-in_err-plan : goal.returns-in_err-plan
+returns-in_err-plan g c =
+    stops _ _ _ _ c.from_residual.result _ c.from_residual.ensures.1
+    (λ fault is. (rw is c.in_err-plan.ensures.none, refl))
 
-pub returns-clause-done : goal.returns-clause-done
-returns-clause-done g c =
-    IfOk-weaker c.in_file.result _ _ (λ done is. (c.in_ok-plan.plan, c.in_ok-plan.ensures.plan, is))
-    c.in_file.ensures.done
-
-pub returns-clause-undone : goal.returns-clause-undone
-returns-clause-undone g c =
-    IfErr-weaker c.in_file.result _ _ (λ fault is. inr (c.in_ok-plan.plan, c.in_ok-plan.ensures.plan, is))
-    c.in_file.ensures.undone
+pub returns : goal.returns
+returns g c =
+    record {
+      between = _;
+      found = Ok c.in_ok-plan.plan;
+      is = (c.in_ok-plan.ensures.plan, refl);
+      rest = c.in_file.ensures;
+    }

@@ -1,8 +1,14 @@
-use Rattle.std.proofs.Common.{inl, inr}
-use Rattle.std.proofs.lemmas.Result.{IfErr-weaker}
+use Rattle.std.proofs.Common.{Err, Ok, refl}
+use Rattle.dispatch_room_cli.specs.declared.exit_status.Failure.TheVariants.{Memory}
 use Rattle.dispatch_room_changes.proofs.terminals.reissue.Goals as goal
 
-pub returns-clause-undone : goal.returns-clause-undone
-returns-clause-undone g c =
-    IfErr-weaker c.make_in_file.result _ _ (λ fault is. inr (inl is))
-    c.make_in_file.ensures.undone
+pub returns-in_default : goal.returns-in_default
+returns-in_default g c = record { between = _; found = Err Memory; is = (refl, refl); rest = (refl, refl) }
+
+pub returns : goal.returns
+returns g c = record {
+  between = _;
+  found = Ok c.in-Ok.text;
+  is = (c.in-Ok.ensures, refl);
+  rest = rw c.as_slice.ensures.value at c.make_in_file.ensures;
+}

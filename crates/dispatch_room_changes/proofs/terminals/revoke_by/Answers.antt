@@ -1,14 +1,11 @@
-use Rattle.std.proofs.Common.{inr, refl}
-use Rattle.dispatch_room_disk.proofs.WorkLemmas.{handed_on}
+use Rattle.std.proofs.Common.{Ok, refl}
+use Rattle.dispatch_room_disk.proofs.WorkLemmas.{stops}
 use Rattle.dispatch_room_changes.proofs.terminals.revoke_by.Goals as goal
 
-pub returns-in_err-reissue-clause-undone : goal.returns-in_err-reissue-clause-undone
-returns-in_err-reissue-clause-undone g c =
-    handed_on c.from_residual.result _ c.from_residual.ensures.1 (λ fault is. rw is c.in_err-reissue.ensures.undone)
+pub returns-in_err-reissue : goal.returns-in_err-reissue
+returns-in_err-reissue g c =
+    stops _ _ _ _ c.from_residual.result _ c.from_residual.ensures.1
+    (λ fault is. rw is c.in_err-reissue.ensures)
 
-pub returns-in-Ok-clause-done : goal.returns-in-Ok-clause-done
-returns-in-Ok-clause-done g c =
-    record { between = _; is = c.in_ok-reissue.ensures.done; printed = c.in-Ok.ensures.bytes; whole = refl }
-
-pub returns-in-Err-clause-undone : goal.returns-in-Err-clause-undone
-returns-in-Err-clause-undone g c = inr (inr (refl, (_, c.in_ok-reissue.ensures.done)))
+pub returns : goal.returns
+returns g c = record { between = _; found = Ok tt; is = c.in_ok-reissue.ensures; rest = c.print.ensures }

@@ -1,38 +1,23 @@
-use Rattle.std.proofs.Common.{inl, inr}
-use Rattle.std.proofs.lemmas.Result.{IfErr-weaker, IfOk-weaker}
+use Rattle.std.proofs.Common.{Err, Ok, inl, inr, refl}
+use Rattle.dispatch_room_cli.specs.declared.exit_status.Failure.TheVariants.{Input}
 use Rattle.dispatch_room_commands.proofs.board.board.Goals as goal
 
-pub returns-clause-done : goal.returns-clause-done
-returns-clause-done g c =
-    IfOk-weaker c.show.result _ _
-    (λ done h. (
-      c.in-Some.ensures.0,
-      (
-        h.0,
-        rw (c.from_secs-patience.ensures, c.from.ensures) at
-            c.call-sides.ensures.heard _ _ _ (rw c.in-Some.ensures.1 at h.1),
-        (c.has_colour-colour.result, c.has_colour-colour.ensures, rw c.in-Some.ensures.1 at h.2),
-      ),
-    ))
-    c.show.ensures.done
+pub returns : goal.returns
+returns g c = record {
+  between = _;
+  found = Ok c.args.look.now.token.now;
+  is = (c.in-Some.ensures.0, refl);
+  rest = elim c.show.ensures [
+    | inl memory ↦ inl memory
+    | inr (heard, hears, prints) ↦ inr (
+      heard,
+      rw (c.from_secs-patience.ensures, c.from.ensures) at
+          c.call-sides.ensures.heard _ _ _ (rw c.in-Some.ensures.1 at hears),
+      (c.has_colour-colour.result, c.has_colour-colour.ensures, rw c.in-Some.ensures.1 at prints),
+    )
+  ];
+}
 
-pub returns-clause-undone : goal.returns-clause-undone
-returns-clause-undone g c =
-    IfErr-weaker c.show.result _ _
-    (λ fault h. inr (
-      c.in-Some.ensures.0,
-      elim h [
-        | inl memory ↦ inl memory
-        | inr shown ↦ inr (
-          shown.0,
-          rw (c.from_secs-patience.ensures, c.from.ensures) at
-              c.call-sides.ensures.heard _ _ _ (rw c.in-Some.ensures.1 at shown.1),
-          (
-            c.has_colour-colour.result,
-            c.has_colour-colour.ensures,
-            rw c.in-Some.ensures.1 at shown.2,
-          ),
-        )
-      ],
-    ))
-    c.show.ensures.undone
+pub returns-in_default : goal.returns-in_default
+returns-in_default g c =
+    record { between = _; found = Err Input; is = ((refl, c.in_default.ensures), refl); rest = (refl, refl) }

@@ -1,8 +1,11 @@
-use Rattle.std.proofs.Common.{inl, refl}
-use Rattle.dispatch_room_disk.proofs.WorkLemmas.{handed_on}
+use Rattle.std.proofs.Common.{Ok, refl}
+use Rattle.dispatch_room_disk.proofs.WorkLemmas.{stops}
 use Rattle.dispatch_room_commands.proofs.migrate.migrate.Goals as goal
 
-pub returns-in_err-in_file-clause-undone : goal.returns-in_err-in_file-clause-undone
-returns-in_err-in_file-clause-undone g c =
-    handed_on c.from_residual.result _ c.from_residual.ensures.1
-    (λ fault is. inl (refl, rw is c.in_err-in_file.ensures.undone))
+pub returns-in_err-in_file : goal.returns-in_err-in_file
+returns-in_err-in_file g c =
+    stops _ _ _ _ c.from_residual.result _ c.from_residual.ensures.1
+    (λ fault is. rw is c.in_err-in_file.ensures)
+
+pub returns : goal.returns
+returns g c = record { between = _; found = Ok tt; is = c.in_ok-in_file.ensures; rest = c.print.ensures }

@@ -1,19 +1,16 @@
-use Rattle.std.proofs.Common.{inl, inr, refl}
-use Rattle.dispatch_room_disk.proofs.WorkLemmas.{handed_on}
+use Rattle.std.proofs.Common.{Ok, refl}
+use Rattle.dispatch_room_disk.proofs.WorkLemmas.{stops}
 use Rattle.dispatch_room_commands.proofs.times.times.Goals as goal
 
-pub returns-in_err-report-clause-undone : goal.returns-in_err-report-clause-undone
-returns-in_err-report-clause-undone g c =
-    handed_on c.from_residual.result _ c.from_residual.ensures.1
-    (λ fault is. inl (refl, rw is c.in_err-report.ensures.undone))
+pub returns-in_err-report : goal.returns-in_err-report
+returns-in_err-report g c =
+    stops _ _ _ _ c.from_residual.result _ c.from_residual.ensures.1
+    (λ fault is. rw is c.in_err-report.ensures)
 
-pub returns-in-Ok-clause-done : goal.returns-in-Ok-clause-done
-returns-in-Ok-clause-done g c = record {
-  report = c.in_ok-report.report;
-  is = c.in_ok-report.ensures.done;
-  text = rw c.as_slice.ensures.value at c.in-Ok.ensures.bytes;
-  whole = refl;
+pub returns : goal.returns
+returns g c = record {
+  between = _;
+  found = Ok c.in_ok-report.report;
+  is = c.in_ok-report.ensures;
+  rest = rw c.as_slice.ensures.value at c.print.ensures;
 }
-
-pub returns-clause-undone : goal.returns-clause-undone
-returns-clause-undone g c = inr (refl, (c.in_ok-report.report, c.in_ok-report.ensures.done))

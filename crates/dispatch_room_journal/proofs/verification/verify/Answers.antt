@@ -46,13 +46,8 @@ returns-then-entry-eq0 g c = λ text known.
     let taken = c.entries.invariant.taken in
     let follows = taken.1.follows text known in
     let first = (rw c.in-Ok-None.field-0-is at (c.in-Ok-None.ensures.read.first follows.0 follows.1)) in
-    rw c.flaw.ensures (
-      taken.0,
-      follows.0,
-      (taken.1.are_entries, follows.2),
-      inr (no_entries taken.0 c.entries.entry taken.2 c.if-entry-eq0.true, first),
-      omega (arith, taken.3.messages),
-    )
+    follows.2 ∙ ap (λ t. texts_of taken.0 ++ t) first ∙ append-nil (texts_of taken.0)
+    ∙ ap texts_of (no_entries taken.0 c.entries.entry taken.2 c.if-entry-eq0.true)
 
 pub returns-in-Ok-None : goal.returns-in-Ok-None
 returns-in-Ok-None g c = λ text known.
@@ -71,7 +66,7 @@ returns-in-Err g c = λ text known.
     let taken = c.entries.invariant.taken in
     let follows = taken.1.follows text known in
     let read = c.in-Err.ensures.read in
-    rw c.flaw-in-Err.ensures (
+    rw c.flaw.ensures (
       taken.0,
       follows.0,
       (taken.1.are_entries, follows.2),

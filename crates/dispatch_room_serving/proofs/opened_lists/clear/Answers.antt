@@ -6,6 +6,7 @@ use Rattle.dispatch_room_serving.proofs.opened_lists.clear.Goals as goal
 
 pub returns-in_err-cut-clause-clears : goal.returns-in_err-cut-clause-clears
 returns-in_err-cut-clause-clears g c =
-    unclear g.F.ListFile.tried _ _ c.args.whole _ _ c.from_residual-in_err-cut.ensures.1 _ (inr refl)
-    (grows_more _ _ _ (copied c.args.whole true ∷ []) (cut c.args.whole false ∷ []) c.in_ok-aside.ensures.tried
-    c.in_err-cut.ensures.tried)
+    let list = c.args.list in
+    unclear g.F.ListFile.tried _ _ list _ _ c.from_residual-in_err-cut.ensures.1 _ (inr refl)
+    (grows_more _ _ _ (copied list.whole list.rest true ∷ []) (cut list.whole false ∷ [])
+    c.in_ok-aside.ensures.tried c.in_err-cut.ensures.tried)

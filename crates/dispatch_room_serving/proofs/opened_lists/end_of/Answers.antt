@@ -14,13 +14,13 @@ pub returns-in_ok-begin-in-None-clause-opens : goal.returns-in_ok-begin-in-None-
 returns-in_ok-begin-in-None-clause-opens g c =
     opened g.F.ListFile.tried g.F.ListFile.text _ _ _ c.in_ok-list.list c.in_ok-settle.ensures.tried
     c.in_ok-list.ensures.whole None (sym c.goes_on_at.ensures ∙ c.in-None.is)
-    (grows_more _ _ _ (clearing c.in_ok-list.list.whole) (begun true ∷ []) c.in_ok-clear.ensures.clears
+    (grows_more _ _ _ (clearing c.in_ok-list.list) (begun true ∷ []) c.in_ok-clear.ensures.clears
     c.in_ok-begin-in-None.ensures.tried)
 
 pub returns-in_err-begin-in-None-clause-opens : goal.returns-in_err-begin-in-None-clause-opens
 returns-in_err-begin-in-None-clause-opens g c =
-    broken_off g.F.ListFile.tried g.F.ListFile.text _ _ _ c.in_ok-list.list c.in_ok-settle.ensures.tried
-    c.in_ok-list.ensures.whole _ _ c.from_residual-in_err-begin-in-None.ensures.1 _
+    broken_off g.F.ListFile.tried g.F.ListFile.text _ _ _ c.in_ok-list.list
+    c.in_ok-settle.ensures.tried c.in_ok-list.ensures.whole _ _ c.from_residual-in_err-begin-in-None.ensures.1 _
     (inr (sym c.goes_on_at.ensures ∙ c.in-None.is, refl))
-    (grows_more _ _ _ (clearing c.in_ok-list.list.whole) (begun false ∷ []) c.in_ok-clear.ensures.clears
+    (grows_more _ _ _ (clearing c.in_ok-list.list) (begun false ∷ []) c.in_ok-clear.ensures.clears
     c.in_err-begin-in-None.ensures.tried)

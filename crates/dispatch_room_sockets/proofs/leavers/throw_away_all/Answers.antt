@@ -13,9 +13,7 @@ loop-leaver-init g c =
     ≡ length c.args.leavers.now.items = omega (arith, c.len-leaver-end.ensures) in
     record {
       in_time = none_yet c.args.now _ _ count;
-      came = refl;
-      heard = refl;
-      waits = refl;
+      same = refl;
       bound = omega arith;
       capacity = refl;
     }
@@ -33,9 +31,7 @@ loop-leaver-preserved g c =
             (c.pop_front.ensures.items ∙ ap (λ r. option_to_list r ++ others) w.in-Some.is)
             w.push_back_reserved.ensures.items (w.stays.ensures.in_time w.if-stays.true)
             (λ rests. (w.stays.ensures.rests rests).1) w.stays.ensures.due;
-        came = w.stays.ensures.came ∙ i.came;
-        heard = w.stays.ensures.heard ∙ i.heard;
-        waits = w.stays.ensures.waits ∙ i.waits;
+        same = w.stays.ensures.same ∙ i.same;
         bound =
             omega (
               arith,
@@ -51,9 +47,7 @@ loop-leaver-preserved g c =
             one_gone c.args.now _ _ _ others w.in-Some.leaver (rw rest at i.in_time)
             (c.pop_front.ensures.items ∙ ap (λ r. option_to_list r ++ others) w.in-Some.is)
             (none_rested c.args.now _ _ _ w.stays.ensures.rests w.if-stays.false);
-        came = w.stays.ensures.came ∙ i.came;
-        heard = w.stays.ensures.heard ∙ i.heard;
-        waits = w.stays.ensures.waits ∙ i.waits;
+        same = w.stays.ensures.same ∙ i.same;
         bound = omega (arith, i.bound, c.pop_front.ensures.len, ap (λ r. length (option_to_list r)) w.in-Some.is);
         capacity = c.pop_front.ensures.capacity ∙ i.capacity;
       })
@@ -71,9 +65,7 @@ returns g c =
     record {
       in_time = seen.0;
       rest = seen.1;
-      came = i.came;
-      heard = i.heard;
-      waits = i.waits;
+      same = i.same;
       bound = i.bound;
       capacity = i.capacity;
     }

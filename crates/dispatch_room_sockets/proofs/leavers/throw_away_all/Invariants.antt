@@ -6,9 +6,7 @@ use Rattle.dispatch_room_sockets.proofs.leavers.throw_away_all.Given as goal
 abbrev pub invariant-loop-leaver : goal.invariant-loop-leaver
 invariant-loop-leaver g l = record {
   in_time : AreInTime l.now (l._leaver-end - l._leaver) l.initial.leavers.items l.leavers.items;
-  came : g.E.Entrance.came l.entrance ≡ g.E.Entrance.came l.initial.entrance;
-  heard : g.E.Entrance.heard l.entrance ≡ g.E.Entrance.heard l.initial.entrance;
-  waits : g.E.Entrance.waits l.entrance ≡ g.E.Entrance.waits l.initial.entrance;
+  same : g.E.Entrance.seen l.entrance ≡ g.E.Entrance.seen l.initial.entrance;
   bound : deque_len l.leavers ≤ deque_len l.initial.leavers;
   capacity : deque_capacity l.leavers ≡ deque_capacity l.initial.leavers;
 }

@@ -9,8 +9,7 @@ loop-caller-preserved g c =
       admitted =
           admitted_more c.args.until _ _ _ _ _ _ _ _ c.in-Some.caller i.admitted c.in-Some.ensures.came
           c.push_back_reserved.ensures.items;
-      heard = c.accept.ensures.heard ∙ i.heard;
-      waits = c.accept.ensures.waits ∙ i.waits;
+      same = rw i.same at c.accept.ensures.same;
       count = omega (arith, i.count, c.push_back_reserved.ensures.len);
       capacity = c.push_back_reserved.ensures.capacity ∙ i.capacity;
     }

@@ -6,9 +6,9 @@ use Rattle.dispatch_room_sockets.proofs.lines.admit.Given as goal
 abbrev pub invariant-loop-caller : goal.invariant-loop-caller
 invariant-loop-caller g l = record {
   admitted : IsAdmitted l.until l.initial.line.items l.line.items l.initial.next l.next
-      (g.E.Entrance.came l.initial.entrance) (g.E.Entrance.came l.entrance);
-  heard : g.E.Entrance.heard l.entrance ≡ g.E.Entrance.heard l.initial.entrance;
-  waits : g.E.Entrance.waits l.entrance ≡ g.E.Entrance.waits l.initial.entrance;
+      (g.E.Entrance.seen l.initial.entrance).came (g.E.Entrance.seen l.entrance).came;
+  same : g.E.Entrance.seen l.entrance
+      ≡ record (g.E.Entrance.seen l.initial.entrance) { came = (g.E.Entrance.seen l.entrance).came };
   count : deque_len l.line ≡ deque_len l.initial.line + l._caller;
   capacity : deque_capacity l.line ≡ deque_capacity l.initial.line;
 }

@@ -13,8 +13,7 @@ loop-kept-init g c =
     let count : c.len-kept-end.result - 0 ≡ length c.args.line.now.items = omega (arith, c.len-kept-end.ensures) in
     record {
       swept = swept_none c.args.now c.args.patience _ _ _ _ count;
-      came = refl;
-      waits = refl;
+      same = refl;
       bound = omega arith;
       line = refl;
       ready = refl;
@@ -32,8 +31,7 @@ loop-kept-preserved g c =
             c.pop_front.new.self.items Waits (rw count at i.swept)
             (c.pop_front.ensures.items ∙ ap (λ r. option_to_list r ++ c.pop_front.new.self.items) w.in-Some.is)
             (rw w.in-Waits.is at w.look_at.ensures.looked) w.push_back_reserved.ensures.items (sym (append-nil _));
-        came = w.look_at.ensures.came ∙ i.came;
-        waits = w.look_at.ensures.waits ∙ i.waits;
+        same = rw i.same at w.look_at.ensures.same;
         bound =
             omega (
               arith,
@@ -52,8 +50,7 @@ loop-kept-preserved g c =
             (c.pop_front.ensures.items ∙ ap (λ r. option_to_list r ++ c.pop_front.new.self.items) w.in-Some.is)
             (rw w.in-Served.is at w.look_at.ensures.looked) (sym (append-nil _))
             w.push_back_reserved-in-Served.ensures.items;
-        came = w.look_at.ensures.came ∙ i.came;
-        waits = w.look_at.ensures.waits ∙ i.waits;
+        same = rw i.same at w.look_at.ensures.same;
         bound =
             omega (
               arith,
@@ -71,8 +68,7 @@ loop-kept-preserved g c =
             c.pop_front.new.self.items Closed (rw count at i.swept)
             (c.pop_front.ensures.items ∙ ap (λ r. option_to_list r ++ c.pop_front.new.self.items) w.in-Some.is)
             (rw w.in-Closed.is at w.look_at.ensures.looked) (sym (append-nil _)) (sym (append-nil _));
-        came = w.look_at.ensures.came ∙ i.came;
-        waits = w.look_at.ensures.waits ∙ i.waits;
+        same = rw i.same at w.look_at.ensures.same;
         bound = omega (arith, i.bound, c.pop_front.ensures.len, ap (λ r. length (option_to_list r)) w.in-Some.is);
         line = c.pop_front.ensures.capacity ∙ i.line;
         ready = i.ready;

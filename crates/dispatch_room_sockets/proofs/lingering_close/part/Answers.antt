@@ -1,6 +1,7 @@
 use Rattle.std.proofs.Common.{rules, ◌≡◌, ◌∷◌, true, Some}
 use Rattle.dispatch_room_sockets.specs.LingeringClose.{drains_until, shut}
-use Rattle.dispatch_room_sockets.proofs.PartingLaws.{Does-more, parted_by}
+use Rattle.dispatch_room_sockets.proofs.PartingLaws.{parted_by}
+use Rattle.dispatch_room_sockets.proofs.SweepLaws.{Grows-more}
 use Rattle.dispatch_room_sockets.proofs.lingering_close.part.Goals as goal
 
 pub returns-then-shut-clause-parted : goal.returns-then-shut-clause-parted
@@ -10,6 +11,6 @@ returns-then-shut-clause-parted g c =
     let until : drains_until (g.P.Parting.is_open c.args.peer.now) (g.P.Parting.answered c.args.peer.now)
     ≡ Some c.in-Some.moment = cc in (
       shut true ∷ drained.0,
-      Does-more _ _ _ _ _ (rw could at c.shut.ensures.done) drained.1,
+      Grows-more _ _ _ _ _ (rw could at c.shut.ensures.done) drained.1,
       parted_by _ _ _ until drained.2,
     )

@@ -1,8 +1,8 @@
-use Rattle.std.proofs.Common.{◌∙◌, ap, not, refl, sym, true≢false}
+use Rattle.std.proofs.Common.{◌∙◌, ap, arith, length, not, refl, sym, true≢false, None, Some}
 use Rattle.std.specs.Duration.{as_nanos}
 use Rattle.dispatch_room_sockets.proofs.PieceTurnLaws.{first_hindered, nobody_ready}
 use Rattle.dispatch_room_sockets.proofs.PieceTurnLaws.{one_given_piece}
-use Rattle.dispatch_room_sockets.proofs.RoundLaws.{rounds_given}
+use Rattle.dispatch_room_sockets.proofs.RoundLaws.{heard_before, heard_nobody, rounds_given}
 use Rattle.dispatch_room_sockets.proofs.pieces.next_piece.Goals.{then-is_awaited, else-is_awaited}
 use Rattle.dispatch_room_sockets.proofs.pieces.next_piece.Goals as goal
 
@@ -32,6 +32,31 @@ returns-clause-given g c =
     c.in_ok-kept.ensures.in_turn
     (c.new.ensures.kept ∙ ap (λ client. record c.in_ok-kept.kept { caller = client }) c.release.ensures)
     (c.in_ok-kept.ensures.room refl)
+
+pub returns-in_err-first-clause-hears : goal.returns-in_err-first-clause-hears
+returns-in_err-first-clause-hears g c = rw c.from_residual.ensures (record {
+  first = None;
+  is = refl;
+  hears = heard_nobody _ _ _ c.hear.ensures.stay c.hear.ensures.around;
+})
+
+pub returns-in_err-stream-clause-hears : goal.returns-in_err-stream-clause-hears
+returns-in_err-stream-clause-hears g c = rw c.from_residual-in_err-stream.ensures (record {
+  first = None;
+  is = refl;
+  hears = heard_nobody _ _ _ c.hear.ensures.stay c.hear.ensures.around;
+})
+
+pub returns-clause-hears : goal.returns-clause-hears
+returns-clause-hears g c = record {
+  first = Some c.in_ok-kept.kept;
+  is = ap Some
+      (c.new.ensures.kept
+      ∙ ap (λ client. record c.in_ok-kept.kept { caller = client }) c.release.ensures);
+  hears =
+      heard_before _ _ _ c.hear.ensures.stay c.hear.ensures.around _ _ c.in_ok-kept.ensures.hears
+      (λ none. omega (arith, ap length c.in_ok-first.ensures.first, none));
+}
 
 pub returns-clause-turn : goal.returns-clause-turn
 returns-clause-turn g c = record {

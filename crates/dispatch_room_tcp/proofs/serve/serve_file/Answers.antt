@@ -1,32 +1,29 @@
-use Rattle.std.proofs.Common.{false, inl, refl, sym, true, ◌∙◌}
-use Rattle.dispatch_room_disk.proofs.WorkLemmas.{handed_on}
-use Rattle.dispatch_room_tcp.proofs.ServiceLemmas.{served, unserved}
+use Rattle.std.proofs.Common.{Ok, false, refl, sym, true, ◌≡◌, ◌∙◌}
+use Rattle.dispatch_room_disk.proofs.WorkLemmas.{stops}
+use Rattle.dispatch_room_tcp.specs.ServedFiles.{is_endless}
 use Rattle.dispatch_room_tcp.proofs.serve.serve_file.Goals as goal
 
-pub returns-in_err-journal-clause-undone : goal.returns-in_err-journal-clause-undone
-returns-in_err-journal-clause-undone g c =
-    handed_on c.from_residual.result _ c.from_residual.ensures.1
-    (λ fault is. inl (refl, rw is c.in_err-journal.ensures.fault))
+pub returns-in_err-journal : goal.returns-in_err-journal
+returns-in_err-journal g c =
+    stops _ _ _ _ c.from_residual.result _ c.from_residual.ensures.1
+    (λ fault is. (rw is c.in_err-journal.ensures.fault, refl))
 
-pub returns-then-is_endless-clause-done : goal.returns-then-is_endless-clause-done
-returns-then-is_endless-clause-done g c =
-    served _ _ _ _ _ c.args.service true _ (sym c.is_endless.ensures ∙ c.if-is_endless.true)
-    c.in_ok-journal.ensures.list
-    c.serve_at_door.ensures.done
+pub returns-then-is_endless : goal.returns-then-is_endless
+returns-then-is_endless g c =
+    let endless : is_endless c.args.service ≡ true = sym c.is_endless.ensures ∙ c.if-is_endless.true in
+    record {
+      between = _;
+      found = Ok c.in_ok-journal.journal;
+      is = (c.in_ok-journal.ensures.list, refl);
+      rest = rw endless c.serve_at_door.ensures;
+    }
 
-pub returns-then-is_endless-clause-undone : goal.returns-then-is_endless-clause-undone
-returns-then-is_endless-clause-undone g c =
-    unserved _ _ _ _ _ c.args.service true _ (sym c.is_endless.ensures ∙ c.if-is_endless.true)
-    c.in_ok-journal.ensures.list
-    c.serve_at_door.ensures.undone
-
-pub returns-else-is_endless-clause-done : goal.returns-else-is_endless-clause-done
-returns-else-is_endless-clause-done g c =
-    served _ _ _ _ _ c.args.service false _ (sym c.is_endless.ensures ∙ c.if-is_endless.false)
-    c.in_ok-journal.ensures.list
-    c.serve_at_address.ensures.done
-
-pub returns-else-is_endless-clause-undone : goal.returns-else-is_endless-clause-undone
-returns-else-is_endless-clause-undone g c =
-    unserved _ _ _ _ _ c.args.service false _ (sym c.is_endless.ensures ∙ c.if-is_endless.false)
-    c.in_ok-journal.ensures.list c.serve_at_address.ensures.undone
+pub returns-else-is_endless : goal.returns-else-is_endless
+returns-else-is_endless g c =
+    let counted : is_endless c.args.service ≡ false = sym c.is_endless.ensures ∙ c.if-is_endless.false in
+    record {
+      between = _;
+      found = Ok c.in_ok-journal.journal;
+      is = (c.in_ok-journal.ensures.list, refl);
+      rest = rw counted c.serve_at_address.ensures;
+    }

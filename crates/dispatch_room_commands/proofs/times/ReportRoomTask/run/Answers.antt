@@ -1,6 +1,6 @@
 use Rattle.std.proofs.Common.{refl}
-use Rattle.std.proofs.lemmas.Result.{IfErr-weaker}
+use Rattle.dispatch_room_disk.proofs.WorkLemmas.{either_way}
 use Rattle.dispatch_room_commands.proofs.times.ReportRoomTask.run.Goals as goal
 
-pub returns-clause-refused : goal.returns-clause-refused
-returns-clause-refused g c = IfErr-weaker c.report_in.result _ _ (λ fault why. (why, refl)) c.report_in.ensures.fault
+pub returns : goal.returns
+returns g c = (either_way c.report_in.result _ _ c.report_in.ensures.reported c.report_in.ensures.fault, refl)

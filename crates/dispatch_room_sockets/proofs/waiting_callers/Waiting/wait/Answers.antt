@@ -1,4 +1,4 @@
-use Rattle.std.proofs.Common.{sym}
+use Rattle.std.proofs.Common.{ap, sym}
 use Rattle.dispatch_room_sockets.proofs.RoundLaws.{round_of}
 use Rattle.dispatch_room_sockets.proofs.waiting_callers.Waiting.wait.Goals as goal
 
@@ -13,7 +13,8 @@ returns-in-Some g c = record {
   round =
       rw c.in-Some.is
       (round_of _ _ _ _ c.look.ensures.round
-      (rw (c.wait.ensures.came, c.wait.ensures.heard) c.throw_away.ensures.same));
+      (rw (ap (λ s. s.came) c.wait.ensures.same, ap (λ s. s.heard) c.wait.ensures.same)
+      c.throw_away.ensures.same));
 }
 
 pub returns-in_default : goal.returns-in_default
@@ -24,5 +25,8 @@ returns-in_default g c = record {
   rest = c.throw_away.ensures.rest;
   after = c.wait.result;
   noted = rw (sym c.throw_away.ensures.waits) c.wait.ensures.waits;
-  round = rw c.in_default.is (rw (c.wait.ensures.came, c.wait.ensures.heard) c.throw_away.ensures.same);
+  round =
+      rw c.in_default.is
+      (rw (ap (λ s. s.came) c.wait.ensures.same, ap (λ s. s.heard) c.wait.ensures.same)
+      c.throw_away.ensures.same);
 }

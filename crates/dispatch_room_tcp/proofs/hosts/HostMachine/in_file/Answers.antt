@@ -1,5 +1,4 @@
 use Rattle.std.proofs.Common.{inl, inr}
-use Rattle.std.proofs.lemmas.Result.{IfErr-weaker, IfOk-weaker}
 use Rattle.dispatch_room_disk.specs.declared.room_files.RoomFile.{RoomFile}
 use Rattle.dispatch_room_disk.specs.declared.room_files.RoomFile.TheVariants.{Kept, New, Old}
 use Rattle.dispatch_room_tcp.specs.Hosts.{opens, unknown}
@@ -21,15 +20,8 @@ any_lacked (Kept path) fault = tt
 any_lacked (Old path) fault = tt
 any_lacked (New path) fault = tt
 
-pub returns-clause-done : goal.returns-clause-done
-returns-clause-done g c =
-    IfOk-weaker c.in_file.result _ _ (λ done is. (is, any_opened c.args.file is.conn)) c.in_file.ensures.done
-
-pub returns-clause-undone : goal.returns-clause-undone
-returns-clause-undone g c =
-    IfErr-weaker c.in_file.result _ _
-    (λ fault is. elim is [
-      | inl unfound ↦ inl (unfound, any_lacked c.args.file fault)
-      | inr (conn, connected, undone) ↦ inr (conn, any_opened c.args.file conn, connected, undone)
-    ])
-    c.in_file.ensures.undone
+pub returns : goal.returns
+returns g c = elim c.in_file.ensures [
+  | inl (fault, is, unfound, unprinted) ↦ inl (fault, is, (unfound, any_lacked c.args.file fault), unprinted)
+  | inr (conn, connected, worked) ↦ inr (conn, any_opened c.args.file conn, connected, worked)
+]

@@ -1,10 +1,8 @@
-use Rattle.dispatch_room_disk.proofs.WorkLemmas.{both, failed_so}
+use Rattle.dispatch_room_disk.proofs.WorkLemmas.{both, either_way, failed_so}
 use Rattle.dispatch_room_tcp.proofs.serve.ServingRoomTask.run.Goals as goal
 
-pub returns-clause-done : goal.returns-clause-done
-returns-clause-done g c =
-    both c.serve_listened.result _ _ c.serve_listened.ensures.served c.serve_listened.ensures.printed
-
-pub returns-clause-refused : goal.returns-clause-refused
-returns-clause-refused g c =
-    failed_so c.serve_listened.result _ _ c.serve_listened.ensures.fault c.serve_listened.ensures.unopened
+pub returns : goal.returns
+returns g c =
+    let served = c.serve_listened.ensures in
+    either_way c.serve_listened.result _ _ (both c.serve_listened.result _ _ served.served served.printed)
+    (failed_so c.serve_listened.result _ _ served.fault served.unopened)

@@ -1,0 +1,12 @@
+pub mod AskEffects
+pub mod Causes
+pub mod Effects
+pub mod Kept
+pub mod Looks
+pub mod OrderEnds
+pub mod OrderLaws
+pub mod OrderSteps
+pub mod OrdersLeft
+pub mod OrdersReach
+pub mod Stays
+pub mod UrgentQueues

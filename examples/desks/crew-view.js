@@ -1,0 +1,69 @@
+// What the crew's page shows: found from what the room said last and from what was pressed since,
+// and from nothing else. No browser, no clock: tests/crew_orders.js tries every order of events.
+//
+//   heard(before, content, messages)   what to keep of an answer to /order: `before` is what was
+//                                      kept, `messages` the outbox as the room was asked
+//   view(kept, messages)               what to show: status, order (its number, or null),
+//                                      isAcknowledged, isBehind, last, and the buttons
+//
+// An answer to /order has what was answered before it was asked for. What was pressed later, or
+// has no answer yet, is played after it by the rules. A report whose answer was lost before may
+// have acted already: where playing it changes nothing all is well, for a button that acted stays
+// where it led; where it changes something nobody knows, until the room is heard again.
+
+import { BUTTONS, after, expected } from './crew-buttons.js';
+
+const ACTS = ['normal', 'skipped'];
+
+const isMobileFor = (order) => ({ content, answer }) => content.button === 'mobile'
+  && content.order === order && ACTS.includes(answer?.content?.outcome);
+
+/** What is kept: the answer, the number of the last report answered before it, that of one that was
+    sent and not answered, the greatest order that was seen, and the order that was acknowledged,
+    which /order does not say. */
+export function heard(before, content, messages) {
+  const order = content.order?.order ?? 0;
+  const isAcknowledged = before?.acknowledged === order || messages.some(isMobileFor(order));
+  return { room: content,
+    answered: Math.max(0, ...messages.filter((it) => it.answer).map((it) => it.number)),
+    tried: messages.find((it) => it.isTried && !it.answer)?.number ?? 0,
+    last: Math.max(order, before?.last ?? 0, ...messages.map((it) => it.content.order)),
+    acknowledged: isAcknowledged ? order : 0 };
+}
+
+/** What the vehicle is at after a press. The page is behind where the answer is not as the rules
+    have it after what the page knows, and where nobody knows whether it acted already. */
+function then(now, { number, content, answer }) {
+  if (answer && !answer.ok) return now;
+  const outcome = expected(now, content);
+  const next = ACTS.includes(outcome) ? after(now, content.button) : now;
+  const isAsExpected = !answer
+    || (answer.content.outcome === outcome && answer.content.status === next.status);
+  const isUnsure = number === now.tried && next.status !== now.status;
+  return { ...next, isBehind: now.isBehind || !isAsExpected || isUnsure };
+}
+
+/** What the room would say once all that was pressed has arrived, as far as this page has heard. */
+function nowOf({ room, answered, tried, last, acknowledged }, messages) {
+  const order = room.order?.order ?? null;
+  const start = { status: room.status, order, last, tried, isAcknowledged: acknowledged === order,
+    isBehind: false };
+  return messages.filter((it) => it.number > answered).reduce(then, start);
+}
+
+/** Whether a button leads on, and does not only say the same again. */
+function leadsOn(now, button) {
+  const next = after(now, button);
+  return next.status !== now.status || next.isAcknowledged !== now.isAcknowledged;
+}
+
+/** What to show. Large is the first normal button that leads on, and none while the page is
+    behind. */
+export function view(kept, messages) {
+  const now = nowOf(kept, messages);
+  const buttons = BUTTONS.map((it) =>
+    ({ ...it, comes: expected(now, { button: it.name, order: now.last }) }));
+  const large = now.isBehind ? null
+    : buttons.find(({ name, comes }) => comes === 'normal' && leadsOn(now, name));
+  return { ...now, buttons: buttons.map((it) => ({ ...it, isLarge: it === large })) };
+}

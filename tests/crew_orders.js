@@ -1,0 +1,325 @@
+// Tries every order of events on the crew's page, without a browser: a room by the rules of
+// docs/RULES.md, the outbox, two tabs, and a page that is given. It looks at each state for
+//
+//   untrue   the page shows another status, order or acknowledgement than the room would have once
+//            all that was pressed has arrived, had the desk done nothing since the page last heard
+//            the room; or another status than an answer that came after that
+//   behind   it says so though it has just heard the room, and no answer was lost
+//   unseen   a tap on the large button would end an order that no page has shown, and that has not
+//            begun
+//   shown    the same of an order that a page has shown
+//
+// node crew_orders.js TABLE DEPTH EVERY [before]: TABLE is the table of buttons as JSON, a member
+// for each status, with 'normal', 'skipped', 'stays' or 'wrong' for each button. Of the first EVERY
+// events a press may be of any button; of the others, up to DEPTH, of those that change something
+// where they are pressed, of Home and of Position. With 'before' it looks at the page as it was
+// when it lost an order. Prints how many states there are, and of each fault the shortest way to
+// it. The page has no clock: to read one fails here.
+
+import { readFileSync } from 'node:fs';
+import { after, expected, isWithheld } from './crew-buttons.js';
+import { heard, view } from './crew-view.js';
+
+const BUTTONS = ['mobile', 'scene', 'leave', 'hospital', 'return', 'home', 'position'];
+const SETS = { scene: 3, leave: 4, hospital: 5, return: 6, home: 1 };
+const [file, depth, everyButton, which] = process.argv.slice(2).map((it, nth) =>
+  ([1, 2].includes(nth) ? Number(it) : it));
+const table = JSON.parse(readFileSync(file, 'utf8'));
+for (const it of [Date, performance]) it.now = () => { throw new Error('the page reads a clock'); };
+
+// ---- the room. A vehicle: status, its order (null: none), the last order, whether that is
+// acknowledged or has begun otherwise
+
+/** What a report that was not sent before comes to, and what the vehicle is at then. */
+function judged(vehicle, { button, order }) {
+  const { status, last, isAcknowledged } = vehicle;
+  const isOfOrder = button !== 'home' && button !== 'position';
+  if (isOfOrder && order !== last) return { outcome: 'stale', then: vehicle };
+  const cell = table[status][button];
+  if (cell === 'wrong') return { outcome: 'wrong', then: vehicle };
+  const isSkipped = cell === 'skipped' || (status === 2 && button === 'scene' && !isAcknowledged);
+  const outcome = isSkipped ? 'skipped' : 'normal';
+  if (button === 'position') return { outcome, then: vehicle };
+  const begun = { ...vehicle, hasBegun: true };
+  if (button === 'mobile') return { outcome, then: { ...begun, isAcknowledged: true } };
+  if (cell === 'stays') return { outcome, then: button === 'home' ? vehicle : begun };
+  const isOver = button === 'return' || button === 'home';
+  const left = isOver ? null : vehicle.order;
+  return { outcome, then: { ...begun, status: SETS[button], order: left } };
+}
+
+const ordered = (it) => ({ status: 2, order: it.last + 1, last: it.last + 1, isAcknowledged: false,
+  hasBegun: false });
+const at = (status) => (it) => ({ ...it, status, order: null });
+
+// What a desk does, at which statuses.
+const DESK = [
+  ['order', [1, 6], ordered], ['changed order', [2], ordered], ['stand-down', [2], at(6)],
+  ['off duty', [1, 6], at(0)], ['on duty', [0], at(1)], ['offer', [1, 6], at(7)],
+  ['withdrawn', [7], at(1)],
+];
+
+/** What /order answers. */
+const contentOf = ({ status, order }) =>
+  ({ status, order: order === null ? null : { order }, post: null });
+
+// ---- the page as it is, and as it was: it has what it kept or heard, and what it saw answered
+
+const NOW = { open: (kept) => kept, changed: (it) => it, heard, view, isWithheld, more: () => [] };
+
+const lastAnswered = (messages) => messages.filter((it) => it.answer).at(-1);
+
+const BEFORE = {
+  open: (kept) => ({ ...kept, answered: 0 }),
+  changed(it, messages) {
+    const last = lastAnswered(messages);
+    if (!last || last.number <= it.answered) return it;
+    return { ...it, answered: last.number,
+      room: { ...it.room, status: last.answer.content?.status ?? it.room.status } };
+  },
+  heard: (before, room, messages) => ({ room, answered: lastAnswered(messages)?.number ?? 0,
+    greatest: Math.max(before.greatest, room.order?.order ?? 0) }),
+  view({ room, greatest }, messages) {
+    const last = Math.max(greatest, ...messages.map((it) => it.content.order));
+    const isAcknowledged = messages.some(({ content, answer }) => content.button === 'mobile'
+      && content.order === last && (!answer || answer.content?.outcome === 'normal'));
+    const comes = (it, button) => expected({ ...it, last, order: null }, { button, order: last });
+    const now = messages.filter((it) => !it.answer).reduce((it, { content: { button } }) =>
+      (comes(it, button) === 'wrong' ? it : { ...after(it, button), order: it.order }),
+    { status: room.status, order: room.order?.order ?? null, isAcknowledged });
+    const normal = BUTTONS.filter((it) => comes(now, it) === 'normal');
+    const leads = (it) => after(now, it).status !== now.status
+      || after(now, it).isAcknowledged !== now.isAcknowledged;
+    const large = normal.find(leads) ?? normal[0];
+    return { ...now, last, isBehind: false,
+      buttons: BUTTONS.map((name) => ({ name, isLarge: name === large })) };
+  },
+  isWithheld: () => false,
+  more: ({ room, answered }, messages) =>
+    [room.status, room.order?.order, answered < (lastAnswered(messages)?.number ?? 0),
+      lastAnswered(messages)?.answer.content?.status],
+};
+const ACTS = ['normal', 'skipped'];
+const page = which === 'before' ? BEFORE : NOW;
+
+// ---- a state: the vehicle, the greatest number of its reports, the outbox, the request that is
+// still under way though nobody waits for it, the page that one looks at, and what is kept, which
+// another tab may have heard later. With what a page heard goes its twin: the vehicle as it would
+// be had the desk done nothing since.
+
+/** A report reaches the room: the state then, and the answer. A repeated one, whose answer was
+    lost, gets its first answer. */
+function arrive(state, number) {
+  const message = state.box.find((it) => it.number === number);
+  const stray = state.stray?.number === number ? null : state.stray;
+  if (message.got) return { state: { ...state, stray }, got: message.got };
+  const judge = (vehicle) => (number < state.greatest ? { outcome: 'late', then: vehicle }
+    : judged(vehicle, message.content));
+  const { outcome, then } = judge(state.vehicle);
+  const got = { outcome, status: then.status };
+  const twin = (it) => (page.isWithheld(it.twin, message.content) ? it
+    : { ...it, twin: judge(it.twin).then });
+  const tab = twin(state.tab);
+  return { got, state: { ...state, stray, vehicle: then, tab,
+    kept: state.kept === state.tab ? tab : twin(state.kept),
+    greatest: Math.max(state.greatest, number),
+    box: state.box.map((it) => (it === message ? { ...it, got } : it)) } };
+}
+
+const hear = (state, { page: before } = state.tab) => ({ twin: state.vehicle, from: state.next,
+  page: page.heard(before, contentOf(state.vehicle), state.box) });
+
+function heardHere(state) {
+  const tab = hear(state);
+  return { ...state, tab, kept: tab };
+}
+
+const first = (state) => state.box.find((it) => !it.answer);
+const change = (state, message, more) => ({ ...state,
+  box: state.box.map((it) => (it.number === message.number ? { ...it, ...more } : it)) });
+
+/** The first that waits is about to be sent. Before Home the room is asked for the order. */
+function asked(state) {
+  const message = first(state);
+  if (message.content.button !== 'home' || page !== NOW) return { state, message };
+  const heardThen = heardHere(state);
+  return page.isWithheld(state.vehicle, message.content)
+    ? { state: change(heardThen, message, { answer: { ok: false } }), message: null }
+    : { state: heardThen, message };
+}
+
+/** It is sent, and its answer comes or is lost. */
+function send(before, isLost) {
+  const { state, message } = asked(before);
+  if (!message) return state;
+  const { state: then, got } = arrive(change(state, message, { isTried: true }), message.number);
+  return isLost ? then : change(then, message, { answer: { ok: true, content: got } });
+}
+
+/** It is sent, and stays under way: an order that comes before it arrives is ended by Home. Only
+    the room could refuse that, so the page's twin does not know of it. */
+function sendSlowly(before) {
+  const { state, message } = asked(before);
+  if (!message) return state;
+  const stray = { ...message, isTried: true };
+  return { ...change(state, message, stray), stray };
+}
+
+const press = (state, button, order) => ({ ...state, next: state.next + 1, box: [...state.box,
+  { number: state.next, content: { button, order }, isTried: false, got: null, answer: null }] });
+
+function* presses(state, shown, buttons) {
+  for (const it of buttons) yield [`press ${it}`, press(state, it, shown.last)];
+  const other = page.view(state.kept.page, state.box).last;
+  if (other === shown.last) return;
+  for (const it of buttons) yield [`other tab: press ${it}`, press(state, it, other)];
+}
+
+/** What the desk, the network and the tabs do; then what the crew presses. */
+function* events(state, shown, buttons) {
+  for (const [name, statuses, act] of DESK) {
+    if (statuses.includes(state.vehicle.status)) {
+      yield [name, { ...state, vehicle: act(state.vehicle), isShown: false }];
+    }
+  }
+  yield ['order heard', { ...heardHere(state), isFresh: true }];
+  yield ['other tab: order heard', { ...state, kept: hear(state, state.kept) }];
+  yield ['reload', { ...state, tab: { ...state.kept, page: page.open(state.kept.page) } }];
+  const waits = first(state);
+  if (waits) {
+    yield ['answer', send(state, false)];
+    yield ['lost answer', send(state, true)];
+    if (!state.stray && !waits.got) yield ['request under way', sendSlowly(state)];
+    const isLast = !state.box.at(-1).isTried;
+    if (isLast) yield ['taken back', { ...state, box: state.box.slice(0, -1) }];
+  }
+  if (state.stray) yield ['request arrives', arrive(state, state.stray.number).state];
+  yield* presses(state, shown, buttons);
+}
+
+/** The page sees the outbox. */
+function seen(state) {
+  const changed = page.changed(state.tab.page, state.box);
+  return changed === state.tab.page ? state
+    : { ...state, tab: { ...state.tab, page: changed } };
+}
+
+// ---- what is looked at
+
+/** What the vehicle will be at once all that waits has arrived. */
+function delivered(vehicle, box) {
+  return box.filter((it) => !it.answer && !it.got).reduce((it, { content }) =>
+    (page.isWithheld(it, content) ? it : judged(it, content).then), vehicle);
+}
+
+function isUntrue(state, shown) {
+  const wanted = delivered(state.tab.twin, state.box);
+  const latest = state.box.at(-1);
+  const isContradicted = latest.answer?.ok && latest.number >= state.tab.from
+    && latest.answer.content.status !== shown.status;
+  const isOther = shown.status !== wanted.status || shown.order !== wanted.order
+    || (shown.status === 2 && shown.isAcknowledged !== wanted.isAcknowledged);
+  return !shown.isBehind && (isContradicted || isOther);
+}
+
+/** Whether the large button would end an order that has not begun. */
+function isDropping(state, shown) {
+  const before = delivered(state.vehicle, state.box);
+  const large = shown.buttons.find((it) => it.isLarge);
+  const content = { button: large?.name, order: shown.last };
+  if (!large || before.order === null || page.isWithheld(before, content)) return false;
+  return judged(before, content).then.order === null && !before.hasBegun;
+}
+
+function faultsOf(state, shown) {
+  const found = isUntrue(state, shown) ? ['untrue'] : [];
+  const isTried = state.box.some((it) => it.isTried && !it.answer);
+  if (shown.isBehind && state.isFresh && !isTried) found.push('behind');
+  return isDropping(state, shown) ? [...found, state.isShown ? 'shown' : 'unseen'] : found;
+}
+
+/** What decides all that comes: of what is answered only where it leaves each page, and orders from
+    the last one. */
+function keyOf(state) {
+  const { box, vehicle: { last } } = state;
+  const answered = box.filter((it) => it.answer);
+  const vehicle = ({ status, order, isAcknowledged, hasBegun }) =>
+    [status, order && order - last, isAcknowledged, hasBegun];
+  const one = (it) => {
+    const now = page.view(it.page, answered);
+    return [now.status, now.order && now.order - last, now.isAcknowledged, now.isBehind,
+      now.last - last, it.page.acknowledged === last, it.page.tried > answered.at(-1).number,
+      ...page.more(it.page, answered), it.twin.last - last, ...vehicle(it.twin)];
+  };
+  const message = ({ content: { button, order }, isTried, got }) =>
+    [button, order - last, isTried, got?.outcome, got?.status];
+  const isMobile = ({ content: { button, order }, got }) =>
+    button === 'mobile' && order === last && ACTS.includes(got?.outcome);
+  const latest = box.at(-1);
+  const isSince = latest.number >= state.tab.from && latest.answer?.content?.status;
+  return [vehicle(state.vehicle), state.isShown, state.isFresh, isSince, one(state.kept),
+    state.tab === state.kept || one(state.tab),
+    box.filter((it) => !it.answer).map(message), '/', state.stray && message(state.stray),
+    state.stray?.number < state.greatest, answered.some(isMobile)].join();
+}
+
+/** A page at each status that heard the room, after the button that led there. */
+function beginning(status, button, isAcknowledged = true) {
+  const last = status === 2 && !isAcknowledged ? 2 : 1;
+  const hasOrder = status >= 2 && status <= 5;
+  const vehicle = { status, order: hasOrder ? last : null, last, isAcknowledged,
+    hasBegun: isAcknowledged };
+  const got = { outcome: 'normal', status: last === 2 ? 1 : status };
+  const mobile = { number: 1, content: { button: 'mobile', order: 1 }, isTried: true,
+    got: { outcome: 'normal', status: 2 } };
+  const box = [mobile, { ...mobile, number: 2, content: { button, order: 1 }, got }]
+    .map((it) => ({ ...it, answer: { ok: true, content: it.got } }));
+  const tab = { page: { room: { order: null }, last, acknowledged: 0, answered: 0,
+    greatest: last } };
+  return heardHere({ vehicle, greatest: 2, box, next: 3, stray: null, tab, isShown: hasOrder,
+    isFresh: true });
+}
+
+const BEGINNINGS = [beginning(0, 'home'), beginning(1, 'home'), beginning(2, 'home', false),
+  beginning(2, 'mobile'), beginning(3, 'scene'), beginning(4, 'leave'), beginning(5, 'hospital'),
+  beginning(6, 'return'), beginning(7, 'home')];
+
+/** The buttons that change something where they are pressed, and Position for all others. */
+function telling(shown) {
+  const now = { ...shown, hasBegun: true };
+  const acts = (button) => button === 'position' || button === 'home'
+    || JSON.stringify(judged(now, { button, order: shown.last }).then) !== JSON.stringify(now);
+  return BUTTONS.filter(acts);
+}
+
+/** Looks at all states that so many events lead to. Of the last ones only faults are wanted. */
+function search() {
+  const [known, faults] = [new Set(), {}];
+  let states = [];
+  const look = (node, isKept) => {
+    const [state] = node;
+    const shown = page.view(state.tab.page, state.box);
+    for (const it of faultsOf(state, shown)) faults[it] ??= wayOf(node);
+    const isShown = state.isShown || shown.order === state.vehicle.order;
+    const kept = { ...state, isShown, isFresh: false };
+    if (isKept) states.push([kept, node[1], node[2], shown]);
+  };
+  for (const it of BEGINNINGS) look([it, null, `status ${it.vehicle.status}`], true);
+  for (let round = 1; round <= depth; round += 1) {
+    const before = states;
+    states = [];
+    for (const node of before) {
+      const buttons = round <= everyButton ? BUTTONS : telling(node[3]);
+      for (const [name, found] of events(node[0], node[3], buttons)) {
+        const then = seen(found);
+        const key = keyOf(then);
+        if (!known.has(key) && known.add(key)) look([then, node, name], round < depth);
+      }
+    }
+  }
+  return { states: known.size, faults };
+}
+
+const wayOf = ([, before, name]) => [...(before ? wayOf(before) : []), name];
+
+console.log(JSON.stringify(search()));
