@@ -7,8 +7,10 @@ import os
 import pathlib
 import signal
 import subprocess
+import tempfile
 import threading
 import time
+import unittest
 import urllib.error
 import urllib.request
 
@@ -39,6 +41,16 @@ def until(holds, seconds=PATIENCE):
     while not (found := holds()) and time.monotonic() < end:
         time.sleep(0.05)
     return found
+
+
+def of_module(*size):
+    """A browser that the tests of a module share, and which ends with them."""
+    folder = unittest.enterModuleContext(
+        tempfile.TemporaryDirectory(ignore_cleanup_errors=True))
+    browser = unittest.enterModuleContext(Browser(folder))
+    if size:
+        browser.size(*size)
+    return browser
 
 
 class Browser:

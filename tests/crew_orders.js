@@ -13,12 +13,13 @@
 // for each status, with 'normal', 'skipped', 'stays' or 'wrong' for each button. Of the first EVERY
 // events a press may be of any button; of the others, up to DEPTH, of those that change something
 // where they are pressed, of Home and of Position. With 'before' it looks at the page as it was
-// when it lost an order. Prints how many states there are, and of each fault the shortest way to
-// it. The page has no clock: to read one fails here.
+// when it lost an order. Prints how many orders of so many events there are, through how many
+// states they lead, and of each fault the shortest way to it. Orders that lead to one state go on
+// as one. The page has no clock: to read one fails here.
 
 import { readFileSync } from 'node:fs';
 import { after, expected, isWithheld } from './crew-buttons.js';
-import { heard, view } from './crew-view.js';
+import { buttonsOf, heard, nowOf } from './crew-view.js';
 
 const BUTTONS = ['mobile', 'scene', 'leave', 'hospital', 'return', 'home', 'position'];
 const SETS = { scene: 3, leave: 4, hospital: 5, return: 6, home: 1 };
@@ -63,9 +64,29 @@ const DESK = [
 const contentOf = ({ status, order }) =>
   ({ status, order: order === null ? null : { order }, post: null });
 
+/** A function that finds once what it has to of a vehicle, whatever the numbers of its orders. */
+function once(found) {
+  const known = new Map();
+  return (now) => {
+    const { status, order, last, isAcknowledged, isBehind } = now;
+    const key = [status, order && order - last, isAcknowledged, isBehind].join();
+    if (!known.has(key)) known.set(key, found(now));
+    return known.get(key);
+  };
+}
+
 // ---- the page as it is, and as it was: it has what it kept or heard, and what it saw answered
 
-const NOW = { open: (kept) => kept, changed: (it) => it, heard, view, isWithheld, more: () => [] };
+const buttonsThen = once(buttonsOf);
+
+/** What view() in crew-view.js gives. */
+function view(kept, box) {
+  const now = nowOf(kept, box);
+  return { ...now, buttons: buttonsThen(now) };
+}
+
+const NOW = { open: (kept) => kept, changed: (it) => it, heard, nowOf, view, isWithheld,
+  more: () => [] };
 
 const lastAnswered = (messages) => messages.filter((it) => it.answer).at(-1);
 
@@ -94,6 +115,7 @@ const BEFORE = {
     return { ...now, last, isBehind: false,
       buttons: BUTTONS.map((name) => ({ name, isLarge: name === large })) };
   },
+  nowOf: (...given) => BEFORE.view(...given),
   isWithheld: () => false,
   more: ({ room, answered }, messages) =>
     [room.status, room.order?.order, answered < (lastAnswered(messages)?.number ?? 0),
@@ -144,7 +166,8 @@ function asked(state) {
   if (message.content.button !== 'home' || page !== NOW) return { state, message };
   const heardThen = heardHere(state);
   return page.isWithheld(state.vehicle, message.content)
-    ? { state: change(heardThen, message, { answer: { ok: false } }), message: null }
+    ? { state: change(heardThen, message, { answer: { ok: false, isWithheld: true } }),
+      message: null }
     : { state: heardThen, message };
 }
 
@@ -165,12 +188,22 @@ function sendSlowly(before) {
   return { ...change(state, message, stray), stray };
 }
 
+// What a page shows, found once for each page and outbox: most events change neither.
+const shownBy = new WeakMap();
+
+function shownOf({ page: it }, box) {
+  if (!shownBy.has(it)) shownBy.set(it, new WeakMap());
+  const known = shownBy.get(it);
+  if (!known.has(box)) known.set(box, page.view(it, box));
+  return known.get(box);
+}
+
 const press = (state, button, order) => ({ ...state, next: state.next + 1, box: [...state.box,
   { number: state.next, content: { button, order }, isTried: false, got: null, answer: null }] });
 
 function* presses(state, shown, buttons) {
   for (const it of buttons) yield [`press ${it}`, press(state, it, shown.last)];
-  const other = page.view(state.kept.page, state.box).last;
+  const other = shownOf(state.kept, state.box).last;
   if (other === shown.last) return;
   for (const it of buttons) yield [`other tab: press ${it}`, press(state, it, other)];
 }
@@ -233,7 +266,7 @@ function isDropping(state, shown) {
 
 function faultsOf(state, shown) {
   const found = isUntrue(state, shown) ? ['untrue'] : [];
-  const isTried = state.box.some((it) => it.isTried && !it.answer);
+  const isTried = state.box.some((it) => it.isTried && !it.answer?.ok);
   if (shown.isBehind && state.isFresh && !isTried) found.push('behind');
   return isDropping(state, shown) ? [...found, state.isShown ? 'shown' : 'unseen'] : found;
 }
@@ -245,10 +278,13 @@ function keyOf(state) {
   const answered = box.filter((it) => it.answer);
   const vehicle = ({ status, order, isAcknowledged, hasBegun }) =>
     [status, order && order - last, isAcknowledged, hasBegun];
+  const lastAnswer = answered.findLast((it) => it.answer.ok)?.number;
+  const strayOf = (it) => it?.number > lastAnswer && it.content.order - last;
   const one = (it) => {
-    const now = page.view(it.page, answered);
+    const now = page.nowOf(it.page, answered);
     return [now.status, now.order && now.order - last, now.isAcknowledged, now.isBehind,
-      now.last - last, it.page.acknowledged === last, it.page.tried > answered.at(-1).number,
+      now.last - last, it.page.acknowledged === last, strayOf(it.page.stray),
+      it.page.tried > answered.at(-1).number,
       ...page.more(it.page, answered), it.twin.last - last, ...vehicle(it.twin)];
   };
   const message = ({ content: { button, order }, isTried, got }) =>
@@ -260,7 +296,8 @@ function keyOf(state) {
   return [vehicle(state.vehicle), state.isShown, state.isFresh, isSince, one(state.kept),
     state.tab === state.kept || one(state.tab),
     box.filter((it) => !it.answer).map(message), '/', state.stray && message(state.stray),
-    state.stray?.number < state.greatest, answered.some(isMobile)].join();
+    state.stray?.number < state.greatest, answered.some(isMobile),
+    strayOf(answered.findLast((it) => it.isTried && !it.answer.ok))].join();
 }
 
 /** A page at each status that heard the room, after the button that led there. */
@@ -285,41 +322,63 @@ const BEGINNINGS = [beginning(0, 'home'), beginning(1, 'home'), beginning(2, 'ho
   beginning(6, 'return'), beginning(7, 'home')];
 
 /** The buttons that change something where they are pressed, and Position for all others. */
-function telling(shown) {
+const telling = once((shown) => {
   const now = { ...shown, hasBegun: true };
-  const acts = (button) => button === 'position' || button === 'home'
-    || JSON.stringify(judged(now, { button, order: shown.last }).then) !== JSON.stringify(now);
-  return BUTTONS.filter(acts);
-}
+  const acts = (button) => {
+    const { then } = judged(now, { button, order: shown.last });
+    return then.status !== now.status || then.order !== now.order
+      || then.isAcknowledged !== now.isAcknowledged;
+  };
+  return BUTTONS.filter((it) => it === 'position' || it === 'home' || acts(it));
+});
 
 /** Looks at all states that so many events lead to. Of the last ones only faults are wanted. */
 function search() {
-  const [known, faults] = [new Set(), {}];
+  const [known, faults, leads] = [new Map(), {}, []];
   let states = [];
-  const look = (node, isKept) => {
-    const [state] = node;
-    const shown = page.view(state.tab.page, state.box);
-    for (const it of faultsOf(state, shown)) faults[it] ??= wayOf(node);
-    const isShown = state.isShown || shown.order === state.vehicle.order;
-    const kept = { ...state, isShown, isFresh: false };
-    if (isKept) states.push([kept, node[1], node[2], shown]);
+  const look = (node) => {
+    const shown = shownOf(node.state.tab, node.state.box);
+    for (const it of faultsOf(node.state, shown)) faults[it] ??= wayOf(node);
+    return shown;
   };
-  for (const it of BEGINNINGS) look([it, null, `status ${it.vehicle.status}`], true);
+  const numberOf = (node) => {
+    const key = keyOf(node.state);
+    if (known.has(key)) return known.get(key);
+    const [shown, number] = [look(node), known.size];
+    const isShown = node.state.isShown || shown.order === node.state.vehicle.order;
+    states.push({ ...node, number, shown, state: { ...node.state, isShown, isFresh: false } });
+    known.set(key, number);
+    return number;
+  };
+  const begun = BEGINNINGS.map((it) =>
+    numberOf({ state: it, before: null, name: `status ${it.vehicle.status}` }));
   for (let round = 1; round <= depth; round += 1) {
     const before = states;
     states = [];
     for (const node of before) {
-      const buttons = round <= everyButton ? BUTTONS : telling(node[3]);
-      for (const [name, found] of events(node[0], node[3], buttons)) {
-        const then = seen(found);
-        const key = keyOf(then);
-        if (!known.has(key) && known.add(key)) look([then, node, name], round < depth);
-      }
+      const buttons = round <= everyButton ? BUTTONS : telling(node.shown);
+      const found = [...events(node.state, node.shown, buttons)]
+        .map(([name, it]) => ({ state: seen(it), before: node, name }));
+      leads[node.number] = round < depth ? found.map(numberOf) : { length: found.length };
+      if (round === depth) found.forEach(look);
     }
   }
-  return { states: known.size, faults };
+  return { states: known.size, orders: ordersOf(begun, leads), faults };
 }
 
-const wayOf = ([, before, name]) => [...(before ? wayOf(before) : []), name];
+/** How many orders of so many events there are, by the states to which each state leads. */
+function ordersOf(begun, leads) {
+  let ways = new Map(begun.map((it) => [it, 1]));
+  for (let round = 1; round < depth; round += 1) {
+    const next = new Map();
+    for (const [from, count] of ways) {
+      for (const to of leads[from]) next.set(to, (next.get(to) ?? 0) + count);
+    }
+    ways = next;
+  }
+  return [...ways].reduce((sum, [from, count]) => sum + count * leads[from].length, 0);
+}
+
+const wayOf = ({ before, name }) => [...(before ? wayOf(before) : []), name];
 
 console.log(JSON.stringify(search()));

@@ -1,11 +1,41 @@
-"""What tests read of the documents and of the examples: the links of a page, the table of buttons,
-its blocks of commands and of other text, and the lines of a day without what differs from one day
-to the next."""
+"""What tests read of the documents and of the examples: whether a tool wrote one so, the pages, the
+crates, the links of a page, the table of buttons, blocks of commands and of other text, sentences,
+and the lines of a day without what differs from one day to the next."""
 import collections
+import itertools
+import pathlib
 import re
+import subprocess
+import sys
+import tempfile
+
+from room import TOP
+
+from room import TOP
 
 LINK = re.compile(r'\[([^\]]+)\]\(([^)#\s]+)(?:#L(\d+))?\)')
 BUTTONS = ['Position', 'Mobile', 'Scene', 'Leave', 'Hospital', 'Return', 'Home']
+
+
+def pages():
+    """Each document by its name, as text."""
+    found = [*TOP.glob('*.md'), *(TOP / 'docs').glob('*.md')]
+    return {it.stem: it.read_text() for it in sorted(found)}
+
+
+def crates():
+    """Each crate, and what it stands on, by crates.txt."""
+    lines = [it for it in (TOP / 'crates.txt').read_text().splitlines() if it[:1] != '#']
+    return {it.partition(':')[0]: it.partition(':')[2].split() for it in lines}
+
+
+def differing(page, tool):
+    """The first lines of a document that are not those that its tool writes, each with that."""
+    with tempfile.TemporaryDirectory() as folder:
+        written = pathlib.Path(folder) / page.name
+        subprocess.run([sys.executable, TOP / 'tools' / tool, written], check=True)
+        lines = itertools.zip_longest(*(it.read_text().splitlines() for it in (page, written)))
+        return [it for it in lines if it[0] != it[1]][:5]
 
 
 def table_of_buttons(rules):
@@ -38,6 +68,32 @@ def blocks(page):
     found += [Block(rest.count('\n', 0, it.start()) + 1, '', re.sub('^    ', '', it[0], flags=re.M))
               for it in INDENTED.finditer(rest)]
     return sorted(found)
+
+
+NO_SENTENCE = re.compile(r'^(?:#|!\[|\|)')  # a heading, a picture, a row of a table
+ITEM = re.compile(r'^(?:- |\d+\. )')
+
+
+def paragraphs(page):
+    """The paragraphs and list items of a page, each in one line, without blocks, headings, pictures
+    and tables; of a link only its text."""
+    page = INDENTED.sub('', FENCED.sub('\n', page))
+    found = []
+    is_open = False  # whether the next line goes on with the last paragraph
+    for line in page.split('\n'):
+        if not line or NO_SENTENCE.match(line):
+            is_open = False
+        elif is_open and not ITEM.match(line):
+            found[-1] += ' ' + line.strip()
+        else:
+            found.append(ITEM.sub('', line))
+            is_open = True
+    return [re.sub(r'\[([^\]]+)\]\([^)]*\)', r'\1', it) for it in found]
+
+
+def sentences(page):
+    """The sentences of a page."""
+    return [it for text in paragraphs(page) for it in re.split(r'(?<=[.?!])\s+(?=[A-Z`*])', text)]
 
 
 HERE_DOCUMENT = re.compile(r"<<'(\w+)'")

@@ -121,3 +121,15 @@ class JournalTestCase(TestCase):
 
     def entries(self):
         return entries(self.list.read_bytes())
+
+
+class NoList:
+    """Where no list can be kept, a change is refused as a test case with a list has it."""
+
+    def test_no_list(self):
+        self.refused('a folder', self.folder)
+        self.refused('in no folder', self.folder / 'none' / 'list')
+        self.refused('a full disk', '/dev/full')
+        self.list.write_text('deskone1 POST /call\n')
+        self.refused('another text', self.list)
+        self.check('which stays', self.list.read_text(), 'deskone1 POST /call\n')

@@ -1,5 +1,6 @@
 """What the tests of examples/desks share: the companion over a room, signing in as a person does,
 and what any page has to be for everyone: contrast, names, focus, size."""
+import collections
 import contextlib
 import subprocess
 import sys
@@ -17,19 +18,24 @@ PHONE = 390, 844
 
 
 @contextlib.contextmanager
-def companion(room_port, plan=PLAN, listen='127.0.0.1:0'):
-    """The companion over the room at a port; gives its address, which ends with a slash."""
-    command = [sys.executable, DESKS / 'desks.py', f'127.0.0.1:{room_port}', '--plan', plan,
-               '--places', PLACES, '--listen', listen]
-    process = subprocess.Popen(command, stdin=subprocess.DEVNULL, stdout=subprocess.PIPE,
-                               stderr=subprocess.PIPE)
+def announced(what, *words):
+    """A server of pages, a program of Python; gives the address that it announces, which ends with
+    a slash."""
+    process = subprocess.Popen([sys.executable, *words], stdin=subprocess.DEVNULL,
+                               stdout=subprocess.PIPE, stderr=subprocess.PIPE)
     try:
         line = process.stdout.readline().decode()
-        assert line.startswith('desks: '), f'no pages: {line} {process.stderr.read().decode()}'
-        yield line.removeprefix('desks: ').strip()
+        assert line.startswith(f'{what}: '), f'no {what}: {line} {process.stderr.read().decode()}'
+        yield line.removeprefix(f'{what}: ').strip()
     finally:
         process.kill()
         process.communicate()
+
+
+def companion(room_port, plan=PLAN, listen='127.0.0.1:0'):
+    """The companion over the room at a port."""
+    return announced('desks', DESKS / 'desks.py', f'127.0.0.1:{room_port}', '--plan', plan,
+                     '--places', PLACES, '--listen', listen)
 
 
 def sign_in(browser, address, kind, token):
@@ -90,7 +96,22 @@ return shown.map((it) => {
   const box = (/radio|checkbox/.test(it.type) && it.closest('label') || it).getBoundingClientRect();
   return [it.outerHTML.slice(0, 80), Math.round(box.width), Math.round(box.height)]; });
 """
-FOCUS = """
+# Where Tab begins: before all that the page has.
+BEGIN = """
+document.body.tabIndex = -1;
+document.body.focus();
+document.body.removeAttribute('tabindex');
+"""
+# What Tab comes to, as it stands in the page: of a group of radio buttons the one that is chosen,
+# or else any of them.
+REACHED = """
+const isReached = (it) => it.checkVisibility({ checkVisibilityCSS: true }) && !it.disabled
+  && it.tabIndex >= 0 && !it.closest('[inert]');
+const shown = [...document.querySelectorAll(arguments[0])].filter(isReached);
+const groupOf = (it) => it.type === 'radio' && it.name ? `radio ${it.name}` : null;
+const groups = shown.map((it, nth) => groupOf(it) ?? nth);
+"""
+FOCUS = REACHED + """
 const it = document.activeElement;
 if (it === document.body) return null;
 const style = (node) => getComputedStyle(node);
@@ -98,7 +119,10 @@ const isRinged = (node) => node && style(node).outlineStyle !== 'none'
   && parseFloat(style(node).outlineWidth) >= 2;
 const box = it.getBoundingClientRect();
 return [it.outerHTML.slice(0, 80), isRinged(it) || isRinged(it.closest('label')),
-  box.bottom > 0 && box.top < innerHeight];
+  box.bottom > 0 && box.top < innerHeight, groups.indexOf(groupOf(it) ?? shown.indexOf(it))];
+"""
+EACH = REACHED + """
+return shown.map((it, nth) => [groups.indexOf(groups[nth]), it.outerHTML.slice(0, 80)]);
 """
 
 
@@ -122,15 +146,48 @@ def weak_texts(browser):
     return [it for it in browser.run(TEXTS) if contrast(*it[1:3]) < least(*it[3:])]
 
 
+def spoken(browser):
+    """What those hear who hear the page, each node by its number."""
+    nodes = browser.devtools('Accessibility.getFullAXTree')['nodes']
+    return {it['nodeId']: it for it in nodes if not it['ignored']}, {
+        it['nodeId']: it.get('parentId') for it in nodes}
+
+
+def name_of(node):
+    return node.get('name', {}).get('value', '').strip()
+
+
 def nameless(browser):
     """What can have the focus and has no name for those who hear the page, by its role."""
     def is_focusable(it):
         return any(one['name'] == 'focusable' and one['value']['value']
                    for one in it.get('properties', []))
 
-    nodes = browser.devtools('Accessibility.getFullAXTree')['nodes']
-    found = [it for it in nodes if not it['ignored'] and is_focusable(it)]
-    return [it['role']['value'] for it in found if not it.get('name', {}).get('value', '').strip()]
+    found = [it for it in spoken(browser)[0].values() if is_focusable(it)]
+    return [it['role']['value'] for it in found if not name_of(it)]
+
+
+# Within these a name has to be of one button only: parts of a page, and lines of a list.
+REGIONS = {'RootWebArea', 'alert', 'article', 'banner', 'complementary', 'contentinfo', 'dialog',
+           'form', 'group', 'listitem', 'main', 'navigation', 'radiogroup', 'region', 'row',
+           'search', 'status'}
+
+
+def repeated(browser):
+    """Buttons and links that have the name of another in the same region of the page."""
+    nodes, parents = spoken(browser)
+
+    def region_of(number):
+        while number in parents:
+            number = parents[number]
+            if number in nodes and nodes[number]['role']['value'] in REGIONS:
+                return number
+        return None
+
+    found = collections.Counter((region_of(number), it['role']['value'], name_of(it))
+                                for number, it in nodes.items()
+                                if it['role']['value'] in ('button', 'link'))
+    return [f'{role} {name!r}' for (_, role, name), count in found.items() if count > 1]
 
 
 def small_targets(browser):
@@ -138,18 +195,24 @@ def small_targets(browser):
 
 
 def unseen_focus(browser, most=60):
-    """Goes through the page by Tab; gives what has the focus unseen, or does not show it."""
-    found, seen = [], []
-    browser.run('document.activeElement.blur()')
+    """Goes through the page by Tab; gives what has the focus unseen, or does not show it, what it
+    comes to after what stands below it, and what it does not come to."""
+    found, places = [], []
+    browser.run(BEGIN)
     for _ in range(most):
         browser.press('Tab')
-        at = browser.run(FOCUS)
-        if at is None or at[0] in seen:
+        at = browser.run(FOCUS, CONTROLS)
+        if at is None or at[3] in places:
             break
-        seen.append(at[0])
-        if not all(at[1:]):
+        if not all(at[1:3]):
             found.append(at)
-    return found if seen else ['nothing has the focus']
+        if places and at[3] < max(places):
+            found.append(f'after what stands below it: {at[0]}')
+        places.append(at[3])
+    if len(places) < most:
+        found += [f'never: {html}' for place, html in browser.run(EACH, CONTROLS)
+                  if place not in places]
+    return found if places else ['nothing has the focus']
 
 
 def faults(browser):
@@ -159,6 +222,7 @@ def faults(browser):
                        "document.querySelectorAll('main').length]")
     wrong = [] if all(head) and head[2:] == [1, 1] else [f'head: {head}']
     for words, found in [('contrast', weak_texts(browser)), ('no name', nameless(browser)),
+                         ('one name', repeated(browser)),
                          ('small', small_targets(browser)), ('focus', unseen_focus(browser))]:
         wrong += [f'{words}: {it}' for it in found]
     return wrong

@@ -194,10 +194,10 @@ PATIENT = ['--idle', '20000']
 
 
 @contextlib.contextmanager
-def serving(room, connections, *words):
-    """Serves a room to so many connections, patiently by default; gives the port, and
-    the process."""
-    port = free_port()
+def serving(room, connections, *words, port=None):
+    """Serves a room to so many connections, patiently by default, at a port that is free or at this
+    one; gives the port, and the process."""
+    port = port or free_port()
     command = [PROGRAM, 'serve', room, f'127.0.0.1:{port}', '--connections', str(connections)]
     process = subprocess.Popen([*command, *(words or PATIENT)], stdin=subprocess.DEVNULL,
                                stdout=subprocess.PIPE, stderr=subprocess.PIPE)

@@ -1,6 +1,7 @@
 """The day of examples/1992 at a small size: what the room answers keeps its promises as seen from
-outside, the list that is kept plays the day once more, the model with all promises is the room, and
-each promise that is turned moves a figure of the page. The whole day, and ten seeds, with --all."""
+outside, the list that is kept plays the day once more, the model with all promises is the room,
+each promise that is turned moves a figure of the page, and what is kept of the table's days is what
+comes of them. The whole day, ten seeds and all days of the table with --all."""
 # needs: python3
 # builds: dispatch_room
 import dataclasses
@@ -22,13 +23,14 @@ import digest  # noqa: E402
 import page  # noqa: E402
 import parameters  # noqa: E402
 import promises  # noqa: E402
+import runs  # noqa: E402
 import summary  # noqa: E402
 import table  # noqa: E402
-from exchanges import Exchange, Watch  # noqa: E402
-from logs import List  # noqa: E402
+from logs import Log, Queue  # noqa: E402
 from model import Model  # noqa: E402
-from proved_room import ProvedRoom  # noqa: E402
+from proved_room import Exchange, ProvedRoom, desk  # noqa: E402
 from rooms import Line  # noqa: E402
+from watched import Watch  # noqa: E402
 from world import World  # noqa: E402
 
 EVERY = 'EVERY_PLACE' in os.environ  # tests/run --all
@@ -66,10 +68,11 @@ def in_model(settings, kept):
 def in_room(settings, folder):
     """The same in the room."""
     world = World(settings, 1, functools.partial(ProvedRoom, program=PROGRAM, folder=folder))
-    room = world.desks.room.room
-    room.watch = Recorder(room.watch.desk_of_vehicle, room.watch.desk_of_place)
+    world.watch = Recorder(lambda name: desk(world.crews[name].division),
+                           lambda place: desk(world.city.division_of(place)))
+    world.desks.room.room.see = world.watch.see
     world.play()
-    room.end()
+    world.desks.room.room.end()
     return world
 
 
@@ -87,7 +90,7 @@ class Day(TestCase):
         cls.kept = pathlib.Path(cls.enterClassContext(tempfile.TemporaryDirectory()))
         cls.settings = parameters.at_rate(parameters.values({} if EVERY else TENTH), RATE)
         cls.world = in_room(cls.settings, cls.kept)
-        cls.watch = cls.world.desks.room.room.watch
+        cls.watch = cls.world.watch
 
     # ---- what is promised
 
@@ -236,7 +239,7 @@ class Command(TestCase):
             self.check(f'the page names {it}', f'<code>{it}</code>' in printed, True)
         links = Links(printed)
         for it in promises.ALL:
-            self.check(f'the page has {it.name}', page.clause(it, folder) in printed, True)
+            self.check(f'the page has {it.name}', page.clauses(it, folder) in printed, True)
         self.check('it links each', len(links.found) >= 2 * len(promises.ALL), True)
         for it in links.found:
             self.check(it, (folder / it.partition('#')[0]).is_file(), True)
@@ -253,9 +256,16 @@ class Command(TestCase):
             self.check(f'{words}', (found, wanted in printed), (status, True))
 
     def test_clauses(self):
-        for change in ({'clause': 'no_such_clause'}, {'edit': 'no such edit'}):
+        """Each clause and its edit are there; one that is not is refused."""
+        for it in promises.ALL:
+            links = Links(page.clauses(it, self.folder)).found
+            self.check(f'{it.name}: links', len(links), 2 * len(it.clauses))
+            for link in links:
+                self.check(link, (self.folder / link.partition('#')[0]).is_file(), True)
+        (name, edit), *_ = promises.ALL[0].clauses
+        for named in (('no_such_clause', edit), (name, 'no such edit')):
             with self.assertRaises(page.NoClause):
-                page.clause(dataclasses.replace(promises.ALL[0], **change), self.folder)
+                page.clause(*named, self.folder)
 
 
 class Links(html.parser.HTMLParser):
@@ -277,7 +287,7 @@ class Switches(TestCase):
         """Those of a day that the page shows."""
         settings = parameters.at_rate(parameters.values(TENTH | given), rate)
         found = summary.figures(in_model(settings, kept))
-        return {name: found[name] for name in table.FIGURES}
+        return {name: found[name] for name in summary.SHOWN}
 
     def test_each_moves_a_figure(self):
         for side, kept in (('room', promises.KEPT), ('1992', frozenset())):
@@ -311,35 +321,73 @@ class Switches(TestCase):
 class Lists(TestCase):
     """What is on a screen of two lines, by hand."""
 
-    def look(self, shown, ranks, kept, now=0):
-        settings = parameters.at_rate(parameters.values({'screen': 2, 'nag': 100}), 1)
-        lines = [Line(rank, 0, rank, 'A1') for rank in ranks]
-        return [(it.rank, needs) for it, needs in shown.look(lines, now, settings, kept)]
+    def list(self, kind, stays, ranks=()):
+        """A list with a line of each rank."""
+        shown = kind(parameters.at_rate(parameters.values({'screen': 2, 'nag': 100}), 1), stays)
+        for rank in ranks:
+            shown.begin(line(rank))
+        return shown
+
+    def look(self, shown, now=0):
+        shown.look(now)
+        return [(it.rank, needs) for it, needs in shown.on_screen()]
 
     def test_exact_queue(self):
-        shown = List()
-        self.check('all', self.look(shown, [1, 2, 4], {'queue', 'stay'}),
-                   [(1, True), (2, True), (4, True)])
+        shown = self.list(Queue, True, [4, 1, 2])
+        self.check('the first two', self.look(shown), [(1, True), (2, True)])
         self.check('all wait', shown.waiting, 3)
+        shown.end(line(1))
+        self.check('the last moves up', self.look(shown), [(2, True), (4, True)])
 
     def test_queue_that_scrolls(self):
-        shown = List()
-        self.check('the first two', self.look(shown, [1, 2, 4], {'queue'}),
-                   [(1, True), (2, True)])
-        self.check('the last is never seen', self.look(shown, [1, 4], {'queue'}), [(1, True)])
-        self.check('but waits', shown.waiting, 2)
+        shown = self.list(Queue, False, [4, 1, 2])
+        self.check('the first two', self.look(shown), [(1, True), (2, True)])
+        shown.end(line(2))
+        self.check('the last is never seen', self.look(shown), [(1, True)])
+        self.check('but waits', (shown.waiting, line(4) in shown), (2, True))
+        shown.end(line(4))
+        self.check('until it is over', (shown.waiting, line(4) in shown), (1, False))
 
     def test_log(self):
-        shown = List()
-        self.check('the newest two', self.look(shown, [1, 2, 4], set()), [(2, True), (4, True)])
-        self.check('one is over', self.look(shown, [1, 4], set()), [(2, False), (4, True)])
-        self.check('again', self.look(shown, [1, 4], set(), 100), [(1, True), (4, True)])
-        shown.take_off(Line(1, 0, 1, 'A1'))
-        self.check('taken off', self.look(shown, [1, 4], set(), 101), [(4, True)])
+        shown = self.list(Log, False, [1, 2, 4])
+        self.check('the newest two', self.look(shown), [(2, True), (4, True)])
+        self.check('all wait', shown.waiting, 3)
+        shown.end(line(2))
+        self.check('one is over', self.look(shown), [(2, False), (4, True)])
+        self.check('again', self.look(shown, 100), [(1, True), (4, True)])
+        shown.take_off(line(1))
+        self.check('taken off', self.look(shown, 101), [(4, True)])
+        self.check('those beyond count', shown.waiting, 3)
+        shown.end(line(1))
+        self.check('until they are over', shown.waiting, 2)
 
     def test_log_that_stays(self):
-        self.check('all', self.look(List(), [1, 2, 4], {'stay'}),
-                   [(1, True), (2, True), (4, True)])
+        shown = self.list(Log, True, [1, 2, 4])
+        self.check('the oldest two', self.look(shown), [(1, True), (2, True)])
+        shown.take_off(line(1))
+        self.check('the next one moves up', self.look(shown), [(2, True), (4, True)])
+
+
+def line(rank):
+    return Line(rank, 0, rank, 'A1')
+
+
+class Kept(TestCase):
+    """What stands in days.csv."""
+
+    def test_is_the_table(self):
+        self.check('its days', set(runs.read()) == set(table.Table().every()), True)
+
+    def test_is_what_comes_of_days(self):
+        kept = runs.read()
+        rows = table.Table().days.values()
+        for day in kept if EVERY else [it[nth % len(it)] for nth, it in enumerate(rows)]:
+            self.check(str(day.row()), day.figures(), kept[day])
+
+    def test_is_read_as_it_was_written(self):
+        written = self.folder / 'days.csv'
+        runs.write(written, runs.read())
+        self.check('the same', written.read_text() == runs.DAYS.read_text(), True)
 
 
 class Cells(TestCase):

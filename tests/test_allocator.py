@@ -10,14 +10,12 @@ import re
 import shutil
 import signal
 import subprocess
-import tempfile
 import threading
 import time
-import unittest
 
-from browser import Browser, Unmet, until
-from pages import (PHONE, companion, nameless, sign_in, small_targets, time_of, unseen_focus,
-                   weak_texts)
+from browser import Unmet, of_module, until
+from pages import (PHONE, companion, nameless, repeated, sign_in, small_targets, time_of,
+                   unseen_focus, weak_texts)
 from room import PATIENCE, TestCase, ask, made, message, serving, sql
 
 NOW = 1795608000  # the moment of the played room: 25 November 2026, noon
@@ -26,9 +24,7 @@ BROWSER = None
 
 def setUpModule():
     global BROWSER
-    folder = unittest.enterModuleContext(
-        tempfile.TemporaryDirectory(ignore_cleanup_errors=True))
-    BROWSER = unittest.enterModuleContext(Browser(folder))
+    BROWSER = of_module()
 
 
 def show(address, token='deskone1'):
@@ -655,6 +651,7 @@ class Played(TestCase):
                 self.check(f'{scheme}, {keys}: contrast', weak_texts(BROWSER), [])
                 if keys != 'Escape ?':  # which is a dialog, and the rest is out of reach
                     self.check(f'{scheme}, {keys}: names', nameless(BROWSER), [])
+                    self.check(f'{scheme}, {keys}: one name', repeated(BROWSER), [])
         BROWSER.devtools('Emulation.setEmulatedMedia', features=[])
         self.check('focus', unseen_focus(BROWSER), [])
         self.check_keys_shown()

@@ -2,9 +2,9 @@
 one that Python works out of its tables; the copy of a night has what was answered, however the list
 was cut; what can't be trusted is one line with its status; a restore that is stopped before any of
 its system calls, and done again, leaves no file, or one of the two rooms whole, and what was there
-in its place or aside; a night takes a fleet and another change of the list with the head behind
-it; and the units do as they say."""
-# needs: python3 sqlite3 systemd gcc libc6-dev
+in its place or aside; and a night takes a fleet and another change of the list with the head behind
+it."""
+# needs: python3 sqlite3 gcc libc6-dev
 # builds: dispatch_room
 import hashlib
 import itertools
@@ -609,39 +609,6 @@ class Nights(CopiesTestCase):
         self.check('of each', len(list(self.copies.glob('*.json'))), 2)
 
 
-class Units(TestCase):
-    FILES = [*BACKUP.glob('dispatch-room-*'), *WEEKLY.glob('dispatch-room-*')]
-
-    def test_verify(self):
-        """systemd takes them."""
-        self.check('there are four', len(self.FILES), 4)
-        for file in self.FILES:
-            text = re.sub(r'/usr/share/doc/\S+\.(?:py|sh)', '/bin/true', file.read_text())
-            for name, held in [(file.name, text),
-                               (file.name.replace('.timer', '.service'),
-                                '[Service]\nExecStart=/bin/true\n')]:
-                if not (self.folder / name).exists():
-                    (self.folder / name).write_text(held)
-            (self.folder / file.name).write_text(text)
-            done = self.verified(file.name)
-            self.check(f'{file.name} as it is', done, '')
-            (self.folder / file.name).write_text(text.replace('Description=', 'Descriptoin='))
-            self.check('a word that is none', 'Unknown key' in self.verified(file.name), True)
-
-    def verified(self, name):
-        done = subprocess.run(['systemd-analyze', '--no-pager', 'verify', '--man=no',
-                               self.folder / name], stdin=subprocess.DEVNULL, capture_output=True,
-                              text=True, timeout=180, env=os.environ | {'LC_ALL': 'C'})
-        return '\n'.join(it for it in (done.stdout + done.stderr).splitlines() if name in it)
-
-    def test_calendar(self):
-        for file in self.FILES:
-            for when in re.findall('^OnCalendar=(.*)$', file.read_text(), re.M):
-                done = subprocess.run(['systemd-analyze', 'calendar', when], capture_output=True,
-                                      timeout=180)
-                self.check(f'{when}', done.returncode, 0)
-
-
 class Weekly(CopiesTestCase):
     """The script of each week, with a systemctl that notes what it is asked for."""
 
@@ -663,8 +630,11 @@ class Weekly(CopiesTestCase):
         return done.returncode, done.stdout, self.asked.read_text().splitlines()
 
     def test_renew(self):
-        """The new room stands in the old one's place, and this beside it, with its list."""
+        """The new room stands in the old one's place, and this beside it, with its list and what a
+        rotation moved away."""
         self.serve(call_of(1), call_of(2))
+        for name in 'room.list.1', 'room.list.2.gz':
+            (self.folder / name).write_text(name)
         old = dump(self.room)
         status, out, asked = self.renew()
         self.check('done', (status, asked), (0, ['stop room', 'start room']))
@@ -673,7 +643,10 @@ class Weekly(CopiesTestCase):
         self.check('it opens', run('digest', self.room)[0], 0)
         archives = [it for it in self.names('room.2') if it.endswith('.db')]
         self.check('the archive', [dump(self.folder / it) for it in archives], [old])
-        self.check('the list', len([it for it in self.names('room.2') if it.endswith('.list')]), 1)
+        lists = [it for it in self.names('room.2') if '.list' in it]
+        self.check('the list', [re.sub('^room.*list', 'room.list', it) for it in lists],
+                   ['room.list', 'room.list.1', 'room.list.2.gz'])
+        self.check('and none of it is left', self.names('room.list'), [])
         self.check('it is served', self.serve(call_of(3)), None)
 
     def test_beside_an_old_room(self):

@@ -5,10 +5,8 @@ three sizes of screens. The rooms are played. Pictures go to the folder $PICTURE
 import base64
 import os
 import pathlib
-import tempfile
-import unittest
 
-from browser import Browser, until
+from browser import of_module, until
 from pages import PHONE, companion, small_targets, weak_texts
 from room import TestCase
 import test_allocator
@@ -23,9 +21,7 @@ BROWSER = None
 
 def setUpModule():
     global BROWSER
-    folder = unittest.enterModuleContext(
-        tempfile.TemporaryDirectory(ignore_cleanup_errors=True))
-    BROWSER = test_allocator.BROWSER = unittest.enterModuleContext(Browser(folder))
+    BROWSER = test_allocator.BROWSER = of_module()
 
 
 def picture(name, size):
@@ -156,8 +152,7 @@ class Wall(TestCase):
                               for it in reversed(incidents)]}[what]
 
         room = walls.played(self, answer_of)
-        address = self.enterContext(walls.wall(
-            room.port, walls.plan_of(self.folder, 9), *[f'desknumber{it}' for it in range(1, 10)]))
+        address = self.enterContext(walls.wall(room.port, walls.plan_of(self.folder, 9)))
         BROWSER.size(*size)
         BROWSER.open(address)
         until(lambda: walls.pictures(BROWSER))

@@ -33,7 +33,8 @@ CREW_TOKEN = "SELECT token FROM terminals WHERE callsign = 'A1'"
 CALL = {'class': 2, 'needs': [1, 0, 0], 'note': '', 'place': 'TQ300800'}
 
 # Pages of which a test reads every block.
-WHOLE = {'TUTORIAL.md': 'tutorial', 'HTTP.md': 'http', 'JUDGING.md': 'judging'}
+WHOLE = {'TUTORIAL.md': 'tutorial', 'HTTP.md': 'http', 'JUDGING.md': 'judging',
+         'CONTRIBUTING.md': 'judging'}
 
 # Other blocks, by their first lines, with the test that reads them out of the page.
 READ = {
@@ -47,6 +48,9 @@ READ = {
         'sudo apt install nginx-light openssl': 'five_desks',
         'curl --silent --max-time 5 http://127.0.0.1:8080/queue | grep --quiet NoTerminal': 'unit',
         'option httpchk': 'unit'},
+    'README.md': {
+        '/// Whether the division may send the vehicle: it holds it, free and within its shift.':
+            'documents'},
     'ARCHITECTURE.md': {
         'dispatch_room                 the program: hands on its words and streams': 'documents'},
 }
@@ -57,8 +61,6 @@ LEFT_OUT = {
     'tools/package': ('package', 'it is made there, and twice'),
     'sudo apt install ./out/dispatch-room_VERSION_amd64.deb':
         ('package', 'it is installed there by dpkg, below a folder'),
-    'tools/package && sudo apt install ./out/dispatch-room_*_amd64.deb':
-        ('package', 'it is made there, and installed by dpkg below a folder'),
 }
 
 # The blocks that are typed here, by their first lines.
@@ -149,13 +151,17 @@ class Known(TestCase):
 BESIDE = {
     'examples/1992': {
         'examples/1992/play.py FOLDER': ('1992', 'play.py'),
-        'examples/1992/play.py FOLDER --rate 1 --set slow=0 --set screen=40': ('1992', '--set'),
+        'examples/1992/play.py FOLDER --map-rate 1 --set slow=0 --set screen=40': ('1992', '--set'),
+        'examples/1992/table.py && tools/pictures.py': ('1992', 'runs.write'),
+        'examples/1992/november.py': ('november', "'november.py'"),
         'cp FOLDER/before.db copy.db': ('1992', "'before.db'")},
     'examples/backup': {
         'sudo systemctl stop dispatch-room': ('backup', "'begin'"),
         'sudo cp dispatch-room-backup.service dispatch-room-backup.timer /etc/systemd/system/':
-            ('backup', '.timer'),
+            ('unit', "'.timer'"),
         '2026-03-30.033000: replayed 2731, digest 6b1f4e0c..': ('backup', 'replayed'),
+        'sudo backup.py night /var/lib/dispatch-room/room.list /var/lib/dispatch-room/copies':
+            ('backup', "'night'"),
         'dispatch_room replay room.db <copies/NEXT.list': ('backup', "'replay'")},
     'examples/desks': {
         'examples/desks/desks.py 127.0.0.1:8080 --plan examples/plan.csv --places '
@@ -189,7 +195,7 @@ BESIDE = {
             ('three_certificates', "'--renew'"),
         'scrape_configs:': ('three_watched', 'scrape_configs')},
     'examples/wall': {
-        'examples/wall/wall.py 127.0.0.1:8080 examples/plan.csv deskone1 desktwo2':
+        'examples/wall/wall.py 127.0.0.1:8080 examples/plan.csv':
             ('wall', "'wall.py'"),
         'sudo examples/haproxy/certificates.sh /etc/haproxy/dispatch-room room.example screen1':
             ('wall_front', "'certificates.sh'")},

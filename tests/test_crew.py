@@ -8,15 +8,12 @@ import json
 import os
 import random
 import re
-import subprocess
-import tempfile
 import time
-import unittest
 
-from browser import ELEMENT, Browser, Line, until
+from browser import ELEMENT, Line, of_module, until
 from documents import table_of_buttons
 from pages import PHONE, companion, faults_everywhere, sign_in
-from room import PATIENT, PROGRAM, TOP, TestCase, ask, call, free_port, made, message, sql
+from room import TOP, TestCase, ask, call, free_port, made, message, serving, sql
 
 EVERY = 'EVERY_PLACE' in os.environ
 CUTS, CUT_FOR = (30, 5.0) if EVERY else (3, 1.5)  # moments, seconds
@@ -59,26 +56,10 @@ BROWSER = None
 
 def setUpModule():
     global BROWSER
-    folder = unittest.enterModuleContext(
-        tempfile.TemporaryDirectory(ignore_cleanup_errors=True))
-    BROWSER = unittest.enterModuleContext(Browser(folder))
-    BROWSER.size(*PHONE)
+    BROWSER = of_module(*PHONE)
 
 
 # ---- a room, its pages, and a line between them and the browser
-
-
-@contextlib.contextmanager
-def serving_at(file, port):
-    """Serves a room at a port, which another may have served before."""
-    command = [PROGRAM, 'serve', file, f'127.0.0.1:{port}', '--connections', '99999', *PATIENT]
-    process = subprocess.Popen(command, stdin=subprocess.DEVNULL, stdout=subprocess.PIPE)
-    try:
-        assert process.stdout.readline() == b'serving\n', 'not served'
-        yield
-    finally:
-        process.kill()
-        process.communicate()
 
 
 class Watched:
@@ -110,7 +91,7 @@ class Served(TestCase):
         self.file = made(self.folder / 'room.db', 'A1,1,1,TQ303804,crewofa1')
         self.room_port = free_port()
         self.room = self.enterContext(contextlib.ExitStack())
-        self.room.enter_context(serving_at(self.file, self.room_port))
+        self.room.enter_context(serving(self.file, 99999, port=self.room_port))
         port = free_port()
         self.enterContext(companion(self.room_port, listen=f'127.0.0.2:{port}'))
         self.line = self.enterContext(Losing(('127.0.0.2', port), port))
@@ -393,7 +374,7 @@ class Words(Served):
         self.check_comes('it is refused', lambda: BROWSER.text('#refused'), 'The crew is not '
                          'signed out: what waits to be sent would be lost (1). Open its page until '
                          'the room has answered.')
-        self.room.enter_context(serving_at(self.file, self.room_port))
+        self.room.enter_context(serving(self.file, 99999, port=self.room_port))
         BROWSER.open(f'{self.address}desks/crew.html')
         self.check('it is sent', self.latest()[1], 'Taken: you are mobilised.')
         self.leave()
@@ -452,12 +433,12 @@ class Words(Served):
         self.sign_in()
         self.room.close()
         other = made(self.folder / 'other.db', 'A2,1,1,TQ303804,crewofa2')
-        with serving_at(other, self.room_port):
+        with serving(other, 99999, port=self.room_port):
             words = 'The room does not know this terminal. Sign in with its token.'
             self.check_comes('in words', lambda: BROWSER.text('#trouble'), words)
             self.tap('mobile')
             self.check('it waits', self.waits('1 button is not'), True)
-        self.room.enter_context(serving_at(self.file, self.room_port))
+        self.room.enter_context(serving(self.file, 99999, port=self.room_port))
         self.check('it is taken', self.latest()[1], 'Taken: you are mobilised.')
         self.check('no trouble is left', until(lambda: not BROWSER.text('#trouble')), True)
         self.check_once()

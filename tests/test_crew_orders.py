@@ -43,7 +43,7 @@ class Orders(TestCase):
             for (status, _), row in table.items()}))
 
     def search(self, depth, any_button, *which):
-        """The states that were tried, and the shortest way to each fault."""
+        """The states that were passed, and the shortest way to each fault."""
         done = subprocess.run(
             ['node', 'crew_orders.js', 'table.json', str(depth), str(any_button), *which],
             cwd=self.folder, stdin=subprocess.DEVNULL, capture_output=True, timeout=3600)

@@ -1,6 +1,6 @@
-"""The documents together: how many words they have, the one list of crates, the places that
-ARCHITECTURE.md names, what documents count, the figures that they cite of bench/figures.csv, and the
-tools that WORKING.md names."""
+"""The documents together: how many words they have, how long the README's sentences are and what it
+shows of the code, what documents count, the figures that they cite of bench/figures.csv, and the
+tools that WORKING.md names. (tests/test_architecture.py has ARCHITECTURE.md.)"""
 # needs: python3
 import ast
 import csv
@@ -10,18 +10,23 @@ import operator
 import re
 import subprocess
 
+from documents import FENCED, crates, pages, sentences
 from room import TOP, TestCase
 
 # How many words a document has at most, as `wc -w` counts them.
-MOST = {'README': 955, 'CONTRIBUTING': 250, 'SECURITY': 350, 'CHANGELOG': 760, 'TUTORIAL': 800,
-        'OPERATING': 2860, 'RULES': 2410, 'HTTP': 2750, 'FILES': 3120, 'ARCHITECTURE': 1225,
-        'DECISIONS': 2745, 'JUDGING': 650, 'PROOFS': 2850, 'PROMISES': 6250, 'SCALE': 600,
-        'WORKING': 600}
+MOST = {'README': 700, 'CONTRIBUTING': 450, 'SECURITY': 350, 'CHANGELOG': 920, 'TUTORIAL': 800,
+        'OPERATING': 2970, 'RULES': 2410, 'HTTP': 2750, 'FILES': 3220, 'ARCHITECTURE': 1430,
+        'DECISIONS': 3070, 'JUDGING': 650, 'PROOFS': 2910, 'PROMISES': 6800, 'SCALE': 600,
+        'TESTING': 750, 'TRUST': 1900, 'WORKING': 580}
 # README.md and docs/ together, without what tools write; and the long form of the measurements.
-TOGETHER = 18290
+TOGETHER = 18760
 MOST_OF_BENCH = 4500
+MOST_OF_SENTENCE = 25  # words, in the README
+# Pages that say why, and how a sentence begins that has a clause as its subject.
+PLAIN = ['ARCHITECTURE', 'DECISIONS', 'PROOFS', 'README', 'TESTING', 'TRUST', 'WORKING']
+CLAUSE_FIRST = re.compile(r'\W*(?:What|Whatever|Who|Whoever|That|Whether) ')
 # What a tool writes: it may list crates, and has no figures.
-WRITTEN = ['PROOFS', 'PROMISES']
+WRITTEN = ['PROOFS', 'PROMISES', 'TESTING', 'TRUST']
 
 # A figure that a document cites, as [157 us](../bench/figures.csv#call).
 CITED = re.compile(r'\[([^\]]+)\]\([./]*bench/figures\.csv#(\w+)\)')
@@ -34,22 +39,16 @@ OPERATIONS = {ast.Add: operator.add, ast.Sub: operator.sub, ast.Mult: operator.m
               ast.Div: operator.truediv}
 
 
-def pages():
-    """Each document by its name, as text."""
-    found = [*TOP.glob('*.md'), *(TOP / 'docs').glob('*.md')]
-    return {it.stem: it.read_text() for it in sorted(found)}
-
-
-def crates():
-    """Each crate, and what it stands on, by crates.txt."""
-    lines = [it for it in (TOP / 'crates.txt').read_text().splitlines() if it[:1] != '#']
-    return {it.partition(':')[0]: it.partition(':')[2].split() for it in lines}
-
-
 def below(name):
     """What a crate of the tree stands on, directly or not, of the tree."""
     on = {it for it in crates()[name] if it in crates()}
     return on.union(*(below(it) for it in on))
+
+
+def edits():
+    """All edits that must fail."""
+    yield from (TOP / 'edits').glob('*/*.edit')
+    yield from (TOP / 'crates').glob('*/must-fail/*.edit')
 
 
 # ---- figures
@@ -108,36 +107,48 @@ class Words(TestCase):
             self.assertLessEqual(len(LONG_FORM[0].read_text().split()), MOST_OF_BENCH)
 
 
-class Architecture(TestCase):
+class Readme(TestCase):
+    """The first page is short, and its code is the crates'."""
+
     def setUp(self):
         super().setUp()
-        self.text = pages()['ARCHITECTURE']
+        self.text = pages()['README']
 
-    def test_crates(self):
-        """The list has each crate, with a few words, above all that it stands on."""
-        lines = re.findall(r'^ *(\w+) {2,}(\S.*)$', re.search(r'```text\n(.*?)```', self.text, re.S)[1],
-                           re.M)
-        names = [it for it, _ in lines]
-        self.check('crates', sorted(names), sorted(crates()))
-        for at, name in enumerate(names):
-            above = [it for it in crates()[name] if it in names[:at]]
-            self.check(f'{name} stands on none above it', above, [])
+    def test_sentences(self):
+        found = sentences(self.text)
+        self.check('there are sentences', len(found) > 25, True)
+        for it in found:
+            with self.subTest(it):
+                self.assertLessEqual(len(it.split()), MOST_OF_SENTENCE)
 
-    def test_one_list(self):
-        """No other document that is written by hand lists the crates."""
-        for name, text in pages().items():
-            if name not in ['ARCHITECTURE', *WRITTEN]:
-                named = [it for it in crates() if re.search(rf'^(\||-|\s)*`?{it}\b', text, re.M)]
-                with self.subTest(name):
-                    self.assertLess(len(named), len(crates()) / 2)
+    def test_code(self):
+        """Its contract stands in the code, and what it says to leave out is what its edit does."""
+        [(_, code)] = FENCED.findall(self.text)
+        [edit] = re.findall(r'\((edits/\S+)\.edit\)', self.text)
+        file, old, new = re.fullmatch('file: (.*)\nold: (.*)\nnew: (.*)\n',
+                                      (TOP / f'{edit}.edit').read_text()).groups()
+        crate = edit.split('/')[1]
+        source = (TOP / 'crates' / crate / file).read_text()
+        self.check('it stands in the code', f'\n{code}' in source, True)
+        self.check('the edit changes it', old in code, True)
+        [out] = re.findall(r'Leave out `([^`]+)`', self.text)
+        self.check('it is left out', old.replace(f' && {out}', ''), new)
 
-    def test_places(self):
-        """What is named by its path is there."""
-        named = set(re.findall(r'`((?:room|dispatch|tools|tests|docs|bench)[\w/.]*)`', self.text))
-        self.check('there are places', len(named) > 20, True)
-        for name in sorted(named):
-            its = [TOP / name, *(TOP / 'crates' / f'{name}{end}' for end in ('', '.rt', '.antt'))]
-            self.check(name, any(it.exists() for it in its), True)
+    def test_kit(self):
+        """The kit that it names is the one of the proofs' head, and only one is named."""
+        named = set(re.findall(r'rattle-kit-(\w+)', self.text))
+        proofs = set(re.findall(r'\(kit (\w+)\)', pages()['PROOFS']))
+        self.check('the kit', named, proofs)
+
+
+class Plain(TestCase):
+    """In pages that say why, the subject of a sentence is a word, and no clause."""
+
+    def test_beginnings(self):
+        for name in PLAIN:
+            text = pages()[name].partition('\n## ')[0] if name == 'PROOFS' else pages()[name]
+            found = filter(CLAUSE_FIRST.match, sentences(text))
+            self.check(name, [it for it in found if not it.endswith('?')], [])
 
 
 class Counts(TestCase):
@@ -152,12 +163,13 @@ class Counts(TestCase):
         wanted = {
             r'(\d+) crates below the dry run': len(below('dispatch_room_dry_run_main')),
             r'(\d+) crates\b(?! below)': len(crates()),
+            r'(\d[\d,]*) edits\b': sum(1 for _ in edits()),
             r'(\d+) paths\b': len(json.loads((TOP / 'docs' / 'openapi.json').read_text())['paths']),
         }
         for name, text in pages().items():
             for pattern, many in wanted.items():
                 for found in re.findall(rf'\b{pattern}', ' '.join(text.split())):
-                    self.check(f'{name}: {pattern}', int(found), many)
+                    self.check(f'{name}: {pattern}', int(found.replace(',', '')), many)
 
 
 class Figures(TestCase):

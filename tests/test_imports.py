@@ -6,8 +6,8 @@ changed in its rows is found, and a list that ends with a fleet leaves it out.""
 # builds: dispatch_room
 import shutil
 
-from journals import (CREW, CUT, QUEUE, JournalTestCase, bodies, chain, head_of, pieces, plain, replay,
-                      verify)
+from journals import (CREW, CUT, QUEUE, JournalTestCase, NoList, bodies, chain, head_of, pieces,
+                      plain, replay, verify)
 from preloaded import (BEFORE, HALFWAY, MACHINE, NEVER_STOPPED, WRITES, PreloadedTestCase, sampled,
                        stop, sync_fault)
 from room import PATIENT, call, dump, fleet_of, made, message, run, serving, sql
@@ -282,7 +282,7 @@ class Changed(ImportsTestCase):
         self.check('none', (status, out, 'record 2' in err), (1, b'', True))
 
 
-class Unkept(ImportsTestCase):
+class Unkept(NoList, ImportsTestCase):
     """Where the list can't be kept, nothing is enrolled."""
 
     def refused(self, what, path, status=6, report='journal\n'):
@@ -292,14 +292,6 @@ class Unkept(ImportsTestCase):
         done = run('import', self.room, fleet, '--journal', path)
         self.check(what, done, (status, '', report))
         self.check(f'{what}: the room', dump(self.room), before)
-
-    def test_no_list(self):
-        self.refused('a folder', self.folder)
-        self.refused('in no folder', self.folder / 'none' / 'list')
-        self.refused('a full disk', '/dev/full')
-        self.list.write_text('deskone1 POST /call\n')
-        self.refused('another text', self.list)
-        self.check('which stays', self.list.read_text(), 'deskone1 POST /call\n')
 
     def test_first_version(self):
         """A list of version 1 has no fleets, stays as it is, and it is reported what it is."""

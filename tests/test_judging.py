@@ -1,6 +1,6 @@
-"""What docs/JUDGING.md has a judge do: each command that reads is run and prints what the page
-shows; of those that prove, the crates and the edits are there, and each edit can be made. The
-promises of its table are the README's."""
+"""What docs/JUDGING.md has a judge do, and CONTRIBUTING.md who is new: each command that reads is
+run and prints what the page shows; of those that prove, the crates and the edits are there, and
+each edit can be made. The promises of JUDGING's table are those of PROMISES.md."""
 # needs: python3
 import itertools
 import re
@@ -13,15 +13,16 @@ from room import TOP, TestCase
 PAGE = TOP / 'docs' / 'JUDGING.md'
 # A block of commands or of what they print, with its language.
 BLOCK = re.compile(r'^```(sh|text)\n(.*?)^```$', re.M | re.S)
-MINE = 'edits/room_core/mine.edit'
+CONTRIBUTING = TOP / 'CONTRIBUTING.md'
+MINE = re.compile(r'>?edits/(\w+)/mine\.edit')
 
 
-def blocks():
-    return BLOCK.findall(PAGE.read_text())
+def blocks(page=PAGE):
+    return BLOCK.findall(page.read_text())
 
 
-def commands():
-    return [line for kind, text in blocks() if kind == 'sh' for line in text.splitlines()]
+def commands(page=PAGE):
+    return [line for kind, text in blocks(page) if kind == 'sh' for line in text.splitlines()]
 
 
 def printed(command, folder=TOP):
@@ -48,7 +49,7 @@ class Judging(TestCase):
 
     def test_commands(self):
         """Each command reads, or is one whose parts are looked at."""
-        for command in commands():
+        for command in [*commands(), *commands(CONTRIBUTING)]:
             with self.subTest(command):
                 self.look(command)
 
@@ -67,11 +68,22 @@ class Judging(TestCase):
             case ['cd', folder, '&&', 'rt', 'plant', '--only', name]:
                 texts = [it.read_text() for it in (TOP / folder / 'src').glob('*.rt')]
                 self.assertTrue(any(f'pub fn {name}(' in it for it in texts), 'no such function')
-            case ['printf', *_, to] if to == f'>{MINE}':
-                self.assertFalse((TOP / MINE).exists(), 'it is there')
-                self.can_be_made('room_core', printed(command.replace(f'>{MINE}', '')))
+            case ['printf', *_, to] if found := MINE.fullmatch(to):
+                self.assertFalse((TOP / to[1:]).exists(), 'it is there')
+                self.can_be_made(found[1], printed(command.replace(to, '')))
             case ['rm', file]:
-                self.assertEqual(file, MINE)
+                self.assertRegex(file, MINE)
+            case ['cd', folder, '&&', 'rt', 'check']:
+                self.assertTrue((TOP / folder / 'src').is_dir(), 'no such crate')
+            case ['rt', 'version']:
+                pass  # test_kit has what it prints
+            case ['tools/try', stream]:
+                self.assertTrue((TOP / stream.removeprefix('<')).is_file(), 'no such stream')
+            case ['tools/proofs.py']:
+                self.assertTrue((TOP / 'tools' / 'proofs.py').is_file())
+            case ['tests/run', *names]:
+                for name in names:
+                    self.assertTrue((TOP / 'tests' / f'test_{name}.py').is_file(), name)
             case _:
                 self.fail('an unknown command')
 
@@ -86,7 +98,8 @@ class Judging(TestCase):
         """Each edit that the page names can be made."""
         links = [path for _, path, _ in LINK.findall(PAGE.read_text()) if path.endswith('.edit')]
         cited = re.findall(r'\bedits/\S+\.edit', ' '.join(commands()))
-        files = [PAGE.parent / it for it in links] + [TOP / it for it in cited if it != MINE]
+        others = [TOP / it for it in cited if not MINE.match(it)]
+        files = [PAGE.parent / it for it in links] + others
         self.assertGreater(len(files), 4)
         for file in files:
             crate = file.parent.name
@@ -95,10 +108,11 @@ class Judging(TestCase):
                                  file.read_text())
 
     def test_promises(self):
-        """What the first column of the table names, and the promise that is followed, is named by
-        the README."""
+        """What the first column of the table names, and the promise that is followed, is a clause
+        of a promise."""
         text = PAGE.read_text()
         first = [LINK.search(it)[1] for it in re.findall(r'^\| (.*?) \| \[', text, re.M)]
-        named = {name for name, _, line in LINK.findall((TOP / 'README.md').read_text()) if line}
+        promises = (TOP / 'docs' / 'PROMISES.md').read_text().partition('## Public names')[0]
+        named = {name for name, _, line in LINK.findall(promises) if line}
         self.assertGreater(len(first), 3)
         self.check('others', {*first, 'report_once'} - named, set())

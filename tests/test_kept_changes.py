@@ -8,9 +8,9 @@ record."""
 import re
 import shutil
 
-from journals import CREW, JournalTestCase, bodies, chain, head_of, replay, verify
-from preloaded import (BEFORE, HALFWAY, MACHINE, NEVER_STOPPED, WRITES, PreloadedTestCase, sampled,
-                       stop, sync_fault)
+from journals import CREW, JournalTestCase, NoList, bodies, chain, head_of, replay, verify
+from preloaded import (BEFORE, HALFWAY, MACHINE, NAMES, NEVER_STOPPED, WRITES, PreloadedTestCase,
+                       sampled, stop, sync_fault)
 from room import PATIENT, call, dump, fleet_of, made, message, run, serving, sql
 
 import digest
@@ -261,7 +261,7 @@ class Found(ChangesTestCase):
             self.check(f'{lines}: the room', rows_of(self.again), rows_of(self.room))
 
 
-class Unkept(ChangesTestCase):
+class Unkept(NoList, ChangesTestCase):
     """Where the list can't be kept, nothing is changed."""
 
     def refused(self, what, path, status=6, report='journal\n'):
@@ -273,14 +273,6 @@ class Unkept(ChangesTestCase):
             it = f'{what}: {words[:2]}'
             self.check(it, (done[0], done[1], report in done[2]), (status, '', True))
             self.check(f'{it}: the room', rows_of(self.room), before)
-
-    def test_no_list(self):
-        self.refused('a folder', self.folder)
-        self.refused('in no folder', self.folder / 'none' / 'list')
-        self.refused('a full disk', '/dev/full')
-        self.list.write_text('deskone1 POST /call\n')
-        self.refused('another text', self.list)
-        self.check('which stays', self.list.read_text(), 'deskone1 POST /call\n')
 
     def test_a_long_line(self):
         """What stands before a line that is too long stays in the list, and is passed over."""
@@ -359,6 +351,30 @@ class Stopped(PreloadedTestCase):
                         file, _ = self.changes(stop(at, how) | WRITES, words)
                         met.add(self.leads_to(file))
             self.check(f'{words[:2]}: done and not done', met, {False, True})
+
+    def test_torn(self):
+        """A mark stands beside the list while records are there that need not last: wherever a
+        change is stopped, these may be zeros after a power cut, and the next start goes on."""
+        words, met = ('replan', self.plan), set()
+        self.changes(NEVER_STOPPED | WRITES | NAMES, words)
+        for at in sampled(self.program.total()):
+            with self.subTest(f'stopped at {at}'):
+                file, _ = self.changes(stop(at) | WRITES | NAMES, words)
+                met.add(self.tear())
+                self.leads_to(file)
+        self.check('marked, and not', met, {False, True})
+
+    def tear(self):
+        """What stands behind the list's mark becomes zeros; whether anything does. What stands
+        before it, and all where there is none, is the whole change or nothing of it."""
+        text = self.list.read_bytes() if self.list.exists() else b''
+        mark = self.list.with_name('room.list.change')
+        size = mark.stat().st_size if mark.exists() else 0
+        lasting = text[:size or len(text)]
+        rows = len(self.PLAN.splitlines())
+        self.assertIn(len(bodies(lasting)), {0, 1 + rows, 2 + rows})
+        self.list.write_bytes(lasting + bytes(len(text) - len(lasting)))
+        return lasting != text
 
     def test_syncs(self):
         """The list lasts before anything is changed; where its last head can't be made to, the

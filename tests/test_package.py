@@ -20,9 +20,11 @@ UNIT = 'usr/lib/systemd/system/dispatch-room.service'
 PAGES_UNIT = 'usr/lib/systemd/system/dispatch-desks.service'
 PAGE = 'usr/share/man/man1/dispatch_room.1.gz'
 COMPLETION = 'usr/share/bash-completion/completions/dispatch_room'
+ROTATION = 'etc/logrotate.d/dispatch-room'
 OF_DEBIAN = [f'{DOCUMENTS}/{it}' for it in ('copyright', 'changelog.gz', 'changelog.Debian.gz')]
 EXAMPLES = TOP / 'examples'
-SCRIPTS = ['1992/play.py', 'backup/backup.py', 'day.sh', 'desks/desks.py',
+SCRIPTS = ['1992/november.py', '1992/play.py', '1992/table.py', 'backup/backup.py', 'change.sh',
+           'day.sh', 'desks/desks.py',
            'haproxy/certificates.sh', 'metrics/metrics.py', 'month/month.sh', 'three/companion.py',
            'three/prepare.py', 'three/three.py', 'wall/wall.py', 'weekly/renew.sh',
            'weekly/times.sh']
@@ -146,12 +148,14 @@ class Package(TestCase):
         control = self.folder / 'control'
         output('dpkg-deb', '--control', self.packages[0], control)
         self.check('it has no scripts', sorted(it.name for it in control.iterdir()),
-                   ['control', 'md5sums'])
+                   ['conffiles', 'control', 'md5sums'])
+        self.check('what may be changed', (control / 'conffiles').read_text(), f'/{ROTATION}\n')
         done = subprocess.run(['md5sum', '--check', '--quiet', control / 'md5sums'],
                               cwd=self.root.folder, capture_output=True)
         self.check('sums', (done.returncode, done.stdout), (0, b''))
         sums = (control / 'md5sums').read_text().splitlines()
         files = [it for it in self.root.files() if self.path(it).is_file()]
+        files.remove(ROTATION)
         self.check('a sum for each file', sorted(it.split('  ')[1] for it in sums), files)
 
     def test_files(self):
@@ -167,7 +171,7 @@ class Package(TestCase):
                      *(TOP / 'bench').glob('**/README.md'), TOP / 'bench' / 'figures.csv',
                      *EXAMPLES.glob('*.*'), *EXAMPLES.glob('*/*.*'), *(TOP / 'docs').glob('*.*')]
         others = {f'{DOCUMENTS}/{it.relative_to(TOP)}' for it in documents}
-        others |= {UNIT, PAGES_UNIT, PAGE, COMPLETION, *OF_DEBIAN}
+        others |= {UNIT, PAGES_UNIT, PAGE, COMPLETION, ROTATION, *OF_DEBIAN}
         wanted = dict.fromkeys(programs | others, '-rw-r--r--')
         wanted |= dict.fromkeys(programs, '-rwxr-xr-x')
         self.check('files', modes, wanted)
@@ -330,6 +334,11 @@ class Package(TestCase):
     def test_removal(self):
         self.check('installed', self.root.state(), 'dispatch-room ii \n')
         self.check('files are there', 'usr/bin/dispatch_room' in self.root.files(), True)
+        rotation = self.path(ROTATION)
+        self.check('as it came', rotation.read_text(),
+                   (EXAMPLES / 'backup' / 'logrotate.conf').read_text())
         self.root.dpkg('--remove', 'dispatch-room')
-        self.check('removed', self.root.state(), '')
-        self.check('nothing is left', self.root.files(), [])
+        self.check('removed, but for what may be changed', self.root.files(),
+                   ['etc', 'etc/logrotate.d', ROTATION])
+        self.root.dpkg('--purge', 'dispatch-room')
+        self.check('nothing is left', (self.root.state(), self.root.files()), ('', []))

@@ -1,7 +1,7 @@
 """The pictures of the documents: what tools/pictures.py writes is what is committed, each text
-stands by itself, the statuses are those of the rules, the floors those of crates.txt, and each
-picture is shown by a document."""
-# needs: python3
+stands by itself, each arrow has its head in what is drawn, the statuses are those of the rules, the
+floors those of crates.txt, and each picture is shown by a document."""
+# needs: python3 librsvg2-bin netpbm
 import filecmp
 import pathlib
 import re
@@ -56,6 +56,75 @@ def closed(edges):
         return found[name]
 
     return {name: below(name) for name in edges}
+
+
+# The colours of heads, by the kinds of their arrows; and how much larger than the page is drawn.
+GREEN, BLUE, RED, GREY = (21, 128, 61), (29, 78, 216), (185, 28, 28), (71, 85, 105)
+COLOURS = {'button': GREEN, 'skipped': GREEN, 'request': BLUE, 'stop': RED}
+ZOOM = 2
+BEHIND, BESIDE = 6, 2.2  # where a head is wider than its line: behind its tip, beside the line
+
+
+class Raster:
+    """A picture as it is drawn, in pixels."""
+
+    def __init__(self, name):
+        drawn = subprocess.run(['rsvg-convert', f'--zoom={ZOOM}', DOCS / f'{name}.svg'],
+                               capture_output=True, check=True).stdout
+        plain = subprocess.run(['pngtopnm', '-mix', '-background=white'], input=drawn,
+                               capture_output=True, check=True).stdout
+        kind, width, _, most, self.bytes = re.fullmatch(
+            rb'(P6)\s+(\d+)\s+(\d+)\s+(\d+)\s(.*)', plain, re.S).groups()
+        assert (kind, most) == (b'P6', b'255'), 'another form of picture'
+        self.width = int(width)
+
+    def at(self, x, y):
+        place = 3 * (round(y * ZOOM) * self.width + round(x * ZOOM))
+        return tuple(self.bytes[place:place + 3])
+
+
+def sides(points):
+    """Two places within the head of an arrow, beside its line."""
+    x, y = points[-1]
+    from_x, from_y = next(it for it in reversed(points) if it != points[-1])
+    long = max(abs(x - from_x), abs(y - from_y))
+    across, down = (x - from_x) / long, (y - from_y) / long
+    return [(x - BEHIND * across + side * BESIDE * down, y - BEHIND * down + side * BESIDE * across)
+            for side in (1, -1)]
+
+
+def is_near(one, other):
+    return all(abs(a - b) <= 24 for a, b in zip(one, other))
+
+
+class Heads(TestCase):
+    """Each arrow ends in a head: its colour is found on both sides of its line."""
+
+    def test_heads(self):
+        for name, drawing in drawings().items():
+            raster = Raster(name) if drawing.arrows else None
+            for kind, points in drawing.arrows:
+                found = [raster.at(*it) for it in sides(points)]
+                is_head = all(is_near(it, COLOURS.get(kind, GREY)) for it in found)
+                with self.subTest(f'{name}: {kind} to {points[-1]}'):
+                    self.assertTrue(is_head, found)
+
+    def test_lines_have_none(self):
+        """The statuses' first line, whose end has no head."""
+        raster = Raster('statuses')
+        self.check('the paper is white', raster.at(94 - BEHIND, 590 - BESIDE), (255, 255, 255))
+        self.check('the line is green', is_near(raster.at(74, 590), GREEN), True)
+
+
+class Grounds(TestCase):
+    def test_dark(self):
+        """Each picture has colours for a dark ground, for all that it has on a white one."""
+        for name in drawings():
+            style = (DOCS / f'{name}.svg').read_text()
+            light, _, dark = style.partition('@media (prefers-color-scheme: dark) {')
+            for kind in set(re.findall(r'^(?:rect|path|text)[.\w]*', light, re.M)):
+                if f'{kind} {{ fill' in light or f'{kind} {{ stroke: #' in light:
+                    self.check(f'{name}: {kind}', kind in dark, True)
 
 
 class Pictures(TestCase):

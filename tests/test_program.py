@@ -70,7 +70,7 @@ class Usage(TestCase):
                 self.assertIn(printed, run(*words)[2])
 
     def test_version(self):
-        self.assertEqual(run('--version'), (0, 'dispatch_room 2.0\n', ''))
+        self.assertEqual(run('--version'), (0, 'dispatch_room 2.1\n', ''))
 
     def test_word_that_is_no_text(self):
         printed = 'error: invalid UTF-8 was detected in one or more arguments\n'

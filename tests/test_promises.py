@@ -6,11 +6,9 @@ import contextlib
 import os
 import re
 import shutil
-import subprocess
 import sys
-from itertools import zip_longest
 
-from documents import LINK
+from documents import LINK, differing, sentences
 from room import TOP, TestCase
 
 sys.path.insert(0, str(TOP / 'tools'))
@@ -21,6 +19,7 @@ from promise_files.rows import names, rows  # noqa: E402
 
 LIST = TOP / 'docs' / 'PROMISES.md'
 MOST_WORDS = 25  # of a sentence
+MOST_OF_PROMISE = 20
 FEW = 5  # of each kind are tried, where not every place is
 ROWS = [it for it in rows() if it.name]
 
@@ -37,10 +36,7 @@ def promises():
 
 class Promises(TestCase):
     def test_is_written(self):
-        written = self.folder / 'PROMISES.md'
-        subprocess.run([sys.executable, TOP / 'tools' / 'promises.py', written], check=True)
-        lines = zip_longest(*(it.read_text().splitlines() for it in (LIST, written)))
-        self.assertEqual([it for it in lines if it[0] != it[1]][:5], [])
+        self.assertEqual(differing(LIST, 'promises.py'), [])
 
     def test_sentences(self):
         for row in rows():
@@ -64,13 +60,15 @@ class Promises(TestCase):
         self.check('others', list(unlisted(ROWS, Tree())), [])
 
     def test_readme(self):
-        """What the README names of a promise has its row there."""
+        """The README has each promise in the words of its section, short, with one link to that."""
         found = promises()
         self.check('promises', list(found), PROMISES)
-        named = {(number, name) for number, text in found.items() for name, _, line in LINK.findall(text)
-                 if line}
-        rows_there = {(it.section, it.name) for it in ROWS}
-        self.check('names without a row', named - rows_there, set())
+        for number, text in found.items():
+            says = next(it.says for it in rows() if it.section == number)
+            self.check(f'promise {number}', sentences(f'{number}. {text}'), [says])
+            self.check(f'the link of promise {number}', re.findall(r'\]\(([^)]*)\)', text),
+                       [f'docs/PROMISES.md#promise-{number}'])
+            self.assertLessEqual(len(says.split()), MOST_OF_PROMISE)
 
 
 class Lost(TestCase):

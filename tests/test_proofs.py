@@ -2,17 +2,15 @@
 in their order and each law, with what is said of it; and what stands above it is short."""
 # needs: python3
 import re
-import subprocess
-import sys
-from itertools import zip_longest
 
+from documents import differing
 from room import TOP, TestCase
 
 LIST = TOP / 'docs' / 'PROOFS.md'
 # The line of a law or a function: its name, the place, and what is said of it.
 ROW = re.compile(r'^- (?:\w+::)?\[(\w+)\]\(\.\./(\S+)#L(\d+)\)[^:]*: (.*)$', re.M)
 NAMED = re.compile(r'^(?:(?:\w+::)?\[\w+\]\(\.\./\S+\)(?:, |$))+$')
-MOST_WORDS = 240  # above the list
+MOST_WORDS = 260  # above the list
 # Crates that nobody calls, and that have no laws.
 LEFT_OUT = ['dispatch_room', 'dispatch_room_dry_run_main']
 
@@ -32,10 +30,7 @@ def laws():
 
 class Proofs(TestCase):
     def test_is_written(self):
-        written = self.folder / 'PROOFS.md'
-        subprocess.run([sys.executable, TOP / 'tools' / 'proofs.py', written], check=True)
-        lines = zip_longest(*(it.read_text().splitlines() for it in (LIST, written)))
-        self.assertEqual([it for it in lines if it[0] != it[1]][:5], [])
+        self.assertEqual(differing(LIST, 'proofs.py'), [])
 
     def test_crates(self):
         """The crates stand in their order, all but those that nobody calls and that have no laws;

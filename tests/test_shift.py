@@ -7,11 +7,9 @@ import os
 import shutil
 import sqlite3
 import subprocess
-import tempfile
 import time
-import unittest
 
-from browser import Browser, Line, until
+from browser import Line, of_module, until
 from pages import companion, sign_in, time_of
 from room import (FLEET, PATIENT, PLAN, PROGRAM, TOP, TestCase, free_port, run, serving, sql)
 
@@ -21,10 +19,7 @@ BROWSER = None
 
 def setUpModule():
     global BROWSER
-    folder = unittest.enterModuleContext(
-        tempfile.TemporaryDirectory(ignore_cleanup_errors=True))
-    BROWSER = unittest.enterModuleContext(Browser(folder))
-    BROWSER.size(1366, 768)
+    BROWSER = of_module(1366, 768)
 
 
 # ---- tables

@@ -9,11 +9,9 @@ import os
 import random
 import re
 import subprocess
-import tempfile
 import time
-import unittest
 
-from browser import Browser, Line, until
+from browser import Line, of_module, until
 from pages import companion, faults_everywhere, sign_in
 from room import PATIENT, TOP, TestCase, ask, call, free_port, made, message, serving, sql
 
@@ -25,10 +23,7 @@ BROWSER = None
 
 def setUpModule():
     global BROWSER
-    folder = unittest.enterModuleContext(
-        tempfile.TemporaryDirectory(ignore_cleanup_errors=True))
-    BROWSER = unittest.enterModuleContext(Browser(folder))
-    BROWSER.size(1280, 720)
+    BROWSER = of_module(1280, 720)
 
 
 # Whether the page has all that it asks for as it opens.

@@ -20,6 +20,9 @@ from room import FLEET, PLAN, PROGRAM, TOP, TestCase, ask, call, free_port, made
 UNIT = TOP / 'examples' / 'dispatch_room.service'
 OF_METRICS = TOP / 'examples' / 'metrics' / 'dispatch_room_metrics.service'
 OF_PAGES = TOP / 'examples' / 'desks' / 'dispatch_desks.service'
+OF_NIGHTS = [TOP / 'examples' / 'backup' / 'dispatch-room-backup.service',
+             TOP / 'examples' / 'weekly' / 'dispatch-room-renew.service']
+TIMERS = [it.with_suffix('.timer') for it in OF_NIGHTS]
 OPERATING = TOP / 'docs' / 'OPERATING.md'
 INSTALLED = '/usr/bin/dispatch_room'
 # Whose the folder is where root runs the tests: another's, as in a unit with a user of its own.
@@ -50,22 +53,32 @@ class Form(TestCase):
         if not program.exists():
             shutil.copy('/bin/true', program)
         file = self.folder / unit.name
-        file.write_text(re.sub(r'/usr/(bin/dispatch_room|share/doc/\S+\.py)', str(program), text))
+        file.write_text(re.sub(r'/usr/(bin/dispatch_room|share/doc/\S+\.(py|sh))', str(program),
+                               text))
         return analyze('verify', '--man=no', file)
 
     def test_verify(self):
-        for unit in UNIT, OF_METRICS, OF_PAGES:
+        # (a timer is one of a service, which stands beside it then)
+        for unit in UNIT, OF_METRICS, OF_PAGES, *OF_NIGHTS, *TIMERS:
             text = unit.read_text()
             self.check(f'{unit.name} as it is', self.verified(unit, text), (0, ''))
-            why = self.verified(unit, text.replace('Restart=', 'Restrat='))[1]
-            self.check('a word that is none', re.findall("Unknown key.*'(.*)'", why), ['Restrat'])
-            why = self.verified(unit, text.replace('ExecStart=/', 'ExecStart=/nowhere/'))
-            self.check('a program that is not there', why[0] != 0, True)
+            why = self.verified(unit, text.replace('Description=', 'Descriptoin='))[1]
+            self.check('a word that is none', re.findall("Unknown key.*'(.*)'", why),
+                       ['Descriptoin'])
+            if unit not in TIMERS:
+                status, _ = self.verified(unit, text.replace('ExecStart=/', 'ExecStart=/nowhere/'))
+                self.check('a program that is not there', status != 0, True)
+                self.verified(unit, text)
+
+    def test_calendar(self):
+        for timer in TIMERS:
+            for when in settings(timer)['OnCalendar']:
+                self.check(f'{timer.name}: {when}', analyze('calendar', when)[0], 0)
 
     def test_exposure(self):
         """By systemd's own measure, from 0 to 10, little is left to it."""
         words = ['security', '--offline=true', '--threshold=20']
-        for unit in UNIT, OF_PAGES:
+        for unit in UNIT, OF_PAGES, OF_METRICS, *OF_NIGHTS:
             self.check(f'{unit.name} is safe', analyze(*words, unit)[0], 0)
         bare = self.folder / 'bare.service'
         bare.write_text('[Service]\nExecStart=/bin/true\n')

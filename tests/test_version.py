@@ -1,8 +1,9 @@
-"""One version: that of the program's source, of CHANGELOG.md and of CITATION.cff; and CHANGELOG.md
-has the form of Keep a Changelog. tests/test_program.py has what --version prints,
-tests/test_package.py what the package has."""
+"""One version: that of the program's source, of CHANGELOG.md, of CITATION.cff and of
+docs/openapi.json; and CHANGELOG.md has the form of Keep a Changelog. tests/test_program.py has what
+--version prints, tests/test_package.py what the package has."""
 # needs: python3
 import datetime
+import json
 import re
 
 from room import TOP, TestCase
@@ -28,6 +29,8 @@ class Version(TestCase):
         self.check('the program', source, version)
         self.check('CITATION.cff', cited('version'), version)
         self.check('its day', cited('date-released'), day)
+        described = json.loads((TOP / 'docs' / 'openapi.json').read_text())
+        self.check('openapi.json', described['info']['version'], version)
         changes = (TOP / 'packaging' / 'changelog').read_text()
         self.check('the package', changes.partition('\n')[0],
                    'dispatch-room ({version}) unstable; urgency=medium')

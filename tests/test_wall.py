@@ -2,22 +2,19 @@
 room that is played, with hostile names."""
 # needs: chromium chromium-driver
 # builds: dispatch_room
-import contextlib
 import json
 import re
 import subprocess
 import sys
-import tempfile
 import threading
 import time
-import unittest
 import urllib.error
 import urllib.request
 
 import walls
-from browser import OPENER, Browser, until
+from browser import OPENER, of_module, until
 from pages import contrast
-from room import PATIENCE, PATIENT, PROGRAM, TestCase, ask, call, fleet_of, free_port, message, run
+from room import PATIENCE, TestCase, ask, call, fleet_of, free_port, message, run, serving
 from walls import NOW, WALL, incident, played, vehicle, wall
 
 TOKENS = ['deskone1', 'desktwo2', 'takerone', 'crewofa1', 'crewofb1']
@@ -31,9 +28,7 @@ BROWSER = None
 
 def setUpModule():
     global BROWSER
-    folder = unittest.enterModuleContext(
-        tempfile.TemporaryDirectory(ignore_cleanup_errors=True))
-    BROWSER = unittest.enterModuleContext(Browser(folder))
+    BROWSER = of_module()
 
 
 def plan_in(folder):
@@ -121,18 +116,9 @@ class Served(TestCase):
         run('import', self.room, fleet)
         self.port = free_port()
 
-    @contextlib.contextmanager
     def serving(self):
         """The room, served at the same port each time."""
-        command = [PROGRAM, 'serve', self.room, f'127.0.0.1:{self.port}', '--connections', '9999',
-                   *PATIENT]
-        process = subprocess.Popen(command, stdin=subprocess.DEVNULL, stdout=subprocess.PIPE)
-        try:
-            assert process.stdout.readline() == b'serving\n', 'not served'
-            yield
-        finally:
-            process.kill()
-            process.communicate()
+        return serving(self.room, 9999, port=self.port)
 
     def asks(self, *words):
         """The body of the answer to one message."""
@@ -162,7 +148,7 @@ class Served(TestCase):
 
     def other_pages(self):
         """Two more pages that get nothing new from now on, each with what it has to say."""
-        with wall(played(self, small_room).port, self.plan, 'deskone1') as address:
+        with wall(played(self, small_room).port, self.plan, 1) as address:
             left = BROWSER.tab(address)
             until(pictures)
         is_broken = []
@@ -171,7 +157,7 @@ class Served(TestCase):
             given = small_room(token, what)
             return [None] if is_broken and what == 'vehicles' else given
 
-        address = self.enterContext(wall(played(self, answer_of).port, self.plan, 'deskone1'))
+        address = self.enterContext(wall(played(self, answer_of).port, self.plan, 1))
         broken = BROWSER.tab(address)
         until(pictures)
         is_broken.append(True)
@@ -183,7 +169,7 @@ class Served(TestCase):
         self.asks('deskone1', 'POST /vehicles/A1/duty',
                   f'{{"place":"TQ303804","until":{int(time.time()) + 3600}}}')
         ask(self.port, call(1, 'TQ400600'))
-        address = self.enterContext(wall(self.port, self.plan, 'deskone1', 'desktwo2'))
+        address = self.enterContext(wall(self.port, self.plan))
         tab = BROWSER.open(address)
         self.check('a first picture', bool(until(
             lambda: BROWSER.run(MARK, 'vehicles A1'))), True)
@@ -284,14 +270,14 @@ def small_room(token, what):
 
 
 class Played(TestCase):
-    def show(self, answer_of, *tokens):
+    def show(self, answer_of):
         """A played room on the page."""
         room = played(self, answer_of)
-        address = self.enterContext(wall(room.port, plan_in(self.folder), *tokens))
+        address = self.enterContext(wall(room.port, plan_in(self.folder)))
         return room, address
 
     def test_words(self):
-        room, address = self.show(small_room, 'deskone1', 'desktwo2')
+        room, address = self.show(small_room)
         BROWSER.size(1280, 720)
         BROWSER.open(address)
         until(pictures)
@@ -368,7 +354,7 @@ class Played(TestCase):
 
     def test_answers(self):
         """What the wall's server gives to whoever asks, and what it costs the room."""
-        room, address = self.show(small_room, 'deskone1', 'desktwo2')
+        room, address = self.show(small_room)
         files = [it.name for it in WALL.parent.glob('*.*') if it.suffix in ('.html', '.css', '.js')]
         paths = ['', 'picture', *files]
         others = ['wall.py', 'README.md', 'wall.cfg', 'vehicles', '../plan.csv',
@@ -398,19 +384,34 @@ class Played(TestCase):
                          lambda: len(room.heads) in range(16, 16 + 8 * most, 8), True)
         self.check('never two at once', room.overlaps, 0)
 
+    def refused(self, *words):
+        """What the command says that serves no wall."""
+        done = subprocess.run([sys.executable, WALL, *words], stdin=subprocess.DEVNULL,
+                              capture_output=True, timeout=PATIENCE)
+        said = (done.stdout + done.stderr).decode()
+        self.check(f'{words} are refused, and no token is said',
+                   [done.returncode, [it for it in TOKENS if it in said]], [2, []])
+        return said
+
     def test_words_of_the_command(self):
+        plan, here = plan_in(self.folder), '127.0.0.1:0'
+        for room, file, division, listen, why in [
+                ('127.0.0.1:9', plan, '1', '0.0.0.0:0', 'no address of loopback'),
+                ('127.0.0.1:9', plan, '1', '192.0.2.1:0', 'no address of loopback'),
+                ('192.0.2.1:80', plan, '1', here, 'no address of loopback'),
+                ('127.0.0.1:9', plan, '3', here, 'no desk of division 3'),
+                ('127.0.0.1:9', WALL, '1', here, 'is no plan')]:
+            said = self.refused(room, file, division, '--listen', listen)
+            self.check(why, why in said, True)
+
+    def test_open_plan(self):
+        """Tokens come from the plan's file. Where others may read that, the wall says so."""
         plan = plan_in(self.folder)
-        for what, room, file, token, listen in [
-                ('a page for all', '127.0.0.1:9', plan, 'deskone1', '0.0.0.0:0'),
-                ('a page for a network', '127.0.0.1:9', plan, 'deskone1', '192.0.2.1:0'),
-                ('a room elsewhere', '192.0.2.1:80', plan, 'deskone1', '127.0.0.1:0'),
-                ('a token of no desk', '127.0.0.1:9', plan, 'takerone', '127.0.0.1:0'),
-                ('no plan', '127.0.0.1:9', WALL, 'deskone1', '127.0.0.1:0')]:
-            done = subprocess.run([sys.executable, WALL, room, file, token, '--listen', listen],
-                                  stdin=subprocess.DEVNULL, capture_output=True,
-                                  timeout=PATIENCE)
-            said = (done.stdout + done.stderr).decode()
-            self.check(f'{what} is refused', [done.returncode, token in said], [2, False])
+        for mode, wanted in [(0o600, False), (0o640, True), (0o604, True)]:
+            plan.chmod(mode)
+            said = self.refused('127.0.0.1:9', plan, '3')
+            self.check(f'mode {mode:o}', f'{plan} has tokens, and others may read it' in said,
+                       wanted)
 
 
 def fetch(url, fields=None, body=None):

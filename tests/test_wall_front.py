@@ -27,7 +27,7 @@ class Fronted(TestCase):
         self.certificates = self.folder / 'certificates'
         self.certify(self.certificates)
         room = played(self, lambda token, what: [])
-        self.wall = self.enterContext(wall(room.port, plan_of(self.folder, 1), 'desknumber1'))
+        self.wall = self.enterContext(wall(room.port, plan_of(self.folder, 1)))
         self.port = self.enterContext(self.front())
 
     def certify(self, folder):

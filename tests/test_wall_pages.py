@@ -4,11 +4,9 @@ divisions is tried on both screens, and pages turn by themselves again after the
 # needs: chromium chromium-driver
 import os
 import random
-import tempfile
 import time
-import unittest
 
-from browser import Browser, until
+from browser import of_module, until
 from room import TestCase
 from walls import NOW, incident, pictures, plan_of, played, refresh, vehicle, wall
 
@@ -26,9 +24,7 @@ BROWSER = None
 
 def setUpModule():
     global BROWSER
-    folder = unittest.enterModuleContext(
-        tempfile.TemporaryDirectory(ignore_cleanup_errors=True))
-    BROWSER = unittest.enterModuleContext(Browser(folder))
+    BROWSER = of_module()
 
 
 # ---- rooms
@@ -159,8 +155,7 @@ def page():
 class Walls(TestCase):
     def show(self, answer_of, divisions, size=SMALL):
         room = played(self, answer_of, 0)
-        tokens = [f'desknumber{it}' for it in range(1, divisions + 1)]
-        address = self.enterContext(wall(room.port, plan_of(self.folder, divisions), *tokens))
+        address = self.enterContext(wall(room.port, plan_of(self.folder, divisions)))
         BROWSER.size(*size)
         BROWSER.open(address)
         until(self.is_fresh)

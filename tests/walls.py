@@ -4,29 +4,19 @@ import contextlib
 import json
 import select
 import socket
-import subprocess
-import sys
 import threading
 
 from browser import until
+from pages import announced
 from room import PATIENCE, TOP
 
 WALL = TOP / 'examples' / 'wall' / 'wall.py'
 
 
-@contextlib.contextmanager
-def wall(port, plan, *tokens):
-    """A wall over the room at a port; gives its address."""
-    command = [sys.executable, WALL, f'127.0.0.1:{port}', plan, *tokens]
-    process = subprocess.Popen([*command, '--listen', '127.0.0.1:0'], stdin=subprocess.DEVNULL,
-                               stdout=subprocess.PIPE, stderr=subprocess.PIPE)
-    try:
-        line = process.stdout.readline().decode()
-        assert line.startswith('wall: '), f'no wall: {line} {process.stderr.read().decode()}'
-        yield line.removeprefix('wall: ').strip()
-    finally:
-        process.kill()
-        process.communicate()
+def wall(port, plan, *divisions):
+    """A wall over the room at a port, of all divisions or of some."""
+    return announced('wall', WALL, f'127.0.0.1:{port}', plan, *map(str, divisions),
+                     '--listen', '127.0.0.1:0')
 
 
 def plan_of(folder, divisions):

@@ -5,7 +5,9 @@ import importlib.machinery
 import importlib.util
 import os
 import pathlib
+import re
 import shutil
+import subprocess
 import sys
 import tempfile
 import threading
@@ -62,6 +64,15 @@ def rt():
     module.Crate.cuts_libraries = True
     module.Crate.allowed = module.handles_of(str(TOP))
     return module
+
+
+def report_other():
+    """Says so where the toolchain is another kit than README.md names."""
+    wanted = re.search(r'rattle-kit-\w+', (TOP / 'README.md').read_text())[0]
+    printed = subprocess.run(['rt', 'version'], capture_output=True, text=True).stdout
+    kit = printed.partition(' ')[0].strip()
+    if kit != wanted:
+        say(f'the toolchain is {kit}, and README.md names {wanted}')
 
 
 @functools.lru_cache(maxsize=None)

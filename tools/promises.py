@@ -44,7 +44,7 @@ def table(head, lines):
 def promise(number, group):
     """A promise of the README: its sentence, and a row for each of its parts."""
     yield f'## Promise {number}'
-    yield ' '.join(it.says for it in group if not it.name)
+    yield paragraph(' '.join(it.says for it in group if not it.name))
     yield table(['what', 'clause', 'edits'],
                 [[it.says, linked(it), edits(it)] for it in group if it.name])
 

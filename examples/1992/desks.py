@@ -107,7 +107,7 @@ class Desks:
 
     def see_to_line(self, division: int) -> int:
         """Sees to the first line of the screen that needs it; gives the seconds that it took."""
-        for it, needs_eye in self.room.lines(division)[:self.settings.screen]:
+        for it, needs_eye in self.room.lines(division):
             if needs_eye and it.rank in (2, 4) and (it.vehicle, it.since) not in self.rung:
                 self.see_to(division, it)
                 return self.settings.clear

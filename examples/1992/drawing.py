@@ -1,15 +1,16 @@
-"""The pictures, as SVG: how a side fares by the rate of errors, and the table of promises."""
+"""The pictures, as SVG: how a side fares by errors and by desks, and the table of promises."""
 import html
 
 import promises
 import table
+from summary import SHOWN
 
 COLOURS = {'room': '#2060a0', '1992': '#c03020'}
-SHORT = {'repeats': 'repeats act once', 'late': 'late ones set aside', 'links': 'calls linked',
-         'queue': 'exact queue', 'stay': 'lines stay', 'orders': 'one order a vehicle',
-         'stops': 'nothing lost at a stop'}
-ROW, LEFT, WIDTH = 30, 170, 185
-SHOWN = 'never_reached', 'in_vain', 'orders_to_busy', 'forgotten_hours'
+ROW, LEFT, WIDTH = 30, 165, 155
+COLUMNS = 'never_reached', 'in_vain', 'at_two', 'orders_to_busy', 'forgotten_hours'
+# The rows, by their names.
+ROWS = {None: 'as they are', table.STILL: 'where nothing slows'} | {
+    it.name: it.short for it in promises.ALL}
 
 
 class Picture:
@@ -51,7 +52,7 @@ def along(found: table.Table, what: str, figure: str, says: str) -> str:
         drawn.text(52, up(size) + 4, f'{size:g}', 'end')
     for at in ticks:
         drawn.text(across(at), 270, f'{at:g}', 'middle')
-    drawn.text(8, 20, f'{table.FIGURES[figure]}; dashed: nothing slows')
+    drawn.text(8, 20, f'{SHOWN[figure]}; dashed: nothing slows')
     drawn.text(60, 290, says)
     for nth, (side, colour) in enumerate(COLOURS.items()):
         drawn.text(340 + 60 * nth, 290, side, colour=colour)
@@ -70,35 +71,54 @@ def curve(drawn: Picture, cells: dict, across, up, colour: str, slows: bool) -> 
         drawn.dot(across(at), up(it.median), colour)
 
 
-def of_promises(found: table.Table) -> str:
-    """The table as a picture: a row a promise, a dot and an interval for 1992 with it and the room
-    without it; hollow where that makes no difference."""
-    names = [None, *(it.name for it in promises.ALL)]
-    drawn = Picture(LEFT + WIDTH * len(SHOWN) + 20, 94 + ROW * len(names))
-    drawn.text(8, 44, '1992 given one rule', colour=COLOURS['1992'])
-    drawn.text(8, 24, 'Room taken one rule', colour=COLOURS['room'])
-    for nth, name in enumerate(names):
-        y = 78 + ROW * nth
-        drawn.text(8, y + 4, SHORT[name] if name else 'as they are')
-        drawn.line(8, y + ROW / 2, LEFT + WIDTH * len(SHOWN), y + ROW / 2, '#eeeeee')
-    drawn.text(8, 84 + ROW * len(names), f'{found.seeds} days with {found.rate:g} times the '
-               'assumed errors, each assumed number drawn from its range: median and interval. '
-               'Hollow: no sure difference.')
-    for column, figure in enumerate(SHOWN):
-        of_figure(drawn, found, figure, LEFT + WIDTH * column, names)
+def of_memory(seen: list[list[int]]) -> str:
+    """The memory of the room, in KiB, by how many vehicles were sent."""
+    drawn, most = Picture(480, 220), max(it for _, it in seen)
+    spots = [(60 + 390 * many / seen[-1][0], 180 - 130 * kib / most) for many, kib in seen]
+    for kib in (0, most):
+        drawn.line(60, 180 - 130 * kib / most, 450, 180 - 130 * kib / most)
+        drawn.text(52, 184 - 130 * kib / most, f'{kib / 1024:.1f}', 'end')
+    for spot, after in zip(spots, spots[1:]):
+        drawn.line(*spot, *after, COLOURS['room'], 2)
+    drawn.text(8, 20, "the room's memory, in MiB")
+    drawn.text(60, 204, 'by how many vehicles were sent')
+    drawn.text(450, 204, f'{seen[-1][0]:,}', 'end')
     return drawn.svg()
 
 
-def of_figure(drawn: Picture, found: table.Table, figure: str, left: int, names) -> None:
+def of_promises(found: table.Table) -> str:
+    """The table as a picture: a row a promise, a dot and an interval for 1992 with it and the room
+    without it; hollow where that makes no difference."""
+    drawn = Picture(LEFT + WIDTH * len(COLUMNS), 94 + ROW * len(ROWS))
+    drawn.text(8, 24, 'Room without one', colour=COLOURS['room'])
+    drawn.text(8, 44, '1992 with one', colour=COLOURS['1992'])
+    for nth, says in enumerate(ROWS.values()):
+        y = 78 + ROW * nth
+        drawn.text(8, y + 4, says)
+        drawn.line(8, y + ROW / 2, LEFT + WIDTH * len(COLUMNS) - 20, y + ROW / 2, '#eeeeee')
+    drawn.text(8, 84 + ROW * len(ROWS), f'{found.seeds} days at {times(found.rate)}, each number '
+               'that is assumed drawn from its range: median and interval. Hollow: no sure '
+               'difference.')
+    for column, figure in enumerate(COLUMNS):
+        of_figure(drawn, found, figure, LEFT + WIDTH * column)
+    return drawn.svg()
+
+
+def times(rate: float) -> str:
+    says = {1: '', 2: 'twice '}.get(rate, f'{rate:g} times ')
+    return f'{says}the assumed errors'
+
+
+def of_figure(drawn: Picture, found: table.Table, figure: str, left: int) -> None:
     """A column of it: a figure."""
-    cells = {(side, name): found.row(side, name)[figure] for side in COLOURS for name in names}
+    cells = {(side, name): found.row(side, name)[figure] for side in COLOURS for name in ROWS}
     most = max(it.most for it in cells.values()) or 1
     least = min(it.least for it in cells.values())
     across = lambda it: left + 10 + (WIDTH - 40) * (it - least) / ((most - least) or 1)
-    drawn.text(left + 4, 24, table.FIGURES[figure])
+    drawn.text(left + 4, 24, SHOWN[figure])
     drawn.text(across(least), 44, f'{least:g}', 'middle', '#707070')
     drawn.text(across(most), 44, f'{most:g}', 'middle', '#707070')
     for (side, name), it in cells.items():
-        y = 74 + ROW * names.index(name) + (7 if side == '1992' else -3)
+        y = 74 + ROW * list(ROWS).index(name) + (7 if side == '1992' else -3)
         drawn.line(across(it.least), y, across(it.most), y, COLOURS[side])
         drawn.dot(across(it.median), y, COLOURS[side], it.matters or name is None)

@@ -1,48 +1,93 @@
-"""A desk's list in the model: the exact queue, or a log of lines; and whether what doesn't fit on
-the screen stays."""
+"""A desk's list in the model: a queue of causes, or a log of lines about them. Either may lose what
+doesn't fit on the screen. A cause is given as its line, when it begins and when it is over."""
+import bisect
 import collections
 
 from rooms import Line
 
 
-class List:
-    def __init__(self):
-        self.shown, self.again, self.waiting = [], {}, 0
-        self.gone = collections.Counter()  # lines off the screen, of what still needs an eye
+class Queue:
+    """Each cause once, the most urgent first."""
 
-    def look(self, entries: list[Line], now: int, settings, kept) -> list[tuple[Line, bool]]:
-        """The lines of it, given what needs an eye now; and of each whether it still does."""
-        if 'queue' in kept and 'stay' in kept:
-            self.waiting = len(entries)
-            return [(it, True) for it in entries]
-        current = set(entries)
-        for it in [it for it in self.gone if it not in current]:
-            del self.gone[it]
-        if 'queue' in kept:
-            self.shown = [it for it in entries if it not in self.gone]
+    def __init__(self, settings, stays: bool):
+        self.settings, self.stays = settings, stays
+        self.order, self.gone = [], set()  # those that stand, and of them those off the screen
+
+    def __contains__(self, cause: Line) -> bool:
+        at = bisect.bisect_left(self.order, cause)
+        return cause in self.gone or self.order[at:at + 1] == [cause]
+
+    def begin(self, cause: Line) -> None:
+        bisect.insort(self.order, cause)
+
+    def end(self, cause: Line) -> None:
+        if cause in self.gone:
+            self.gone.remove(cause)
         else:
-            self.write(entries, current, now, settings.nag)
-        if 'stay' not in kept:
-            self.scroll(settings.screen, 'queue' in kept)
-        self.waiting = len(self.shown) + self.gone.total()
-        return [(it, it in current) for it in self.shown]
+            self.order.remove(cause)
 
-    def write(self, entries, current, now: int, nag: int) -> None:
-        """Writes a line for what is new, and another every so often until it is over."""
-        for it in [it for it in self.again if it not in current]:
-            del self.again[it]
-        for it in entries:
-            if self.again.get(it, now) <= now:
-                self.shown.append(it)
-                self.again[it] = now + nag
+    def look(self, now: int) -> None:
+        """The least urgent go off the screen for good, where they don't stay."""
+        if not self.stays:
+            self.gone.update(self.order[self.settings.screen:])
+            del self.order[self.settings.screen:]
 
-    def scroll(self, screen: int, is_queue: bool) -> None:
-        """The least urgent go from a queue, and the oldest from a log."""
-        many = max(0, len(self.shown) - screen)
-        gone = self.shown[screen:] if is_queue else self.shown[:many]
-        self.shown = self.shown[:screen] if is_queue else self.shown[many:]
-        self.gone.update(gone)
+    def on_screen(self) -> list[tuple[Line, bool]]:
+        return [(it, True) for it in self.order[:self.settings.screen]]
+
+    @property
+    def waiting(self) -> int:
+        return len(self.order) + len(self.gone)
+
+
+class Log:
+    """A line for each cause that is new, and another every so often until it is over. Lines stand
+    in the order in which they were written, until they are taken off."""
+
+    def __init__(self, settings, stays: bool):
+        self.settings, self.stays = settings, stays
+        self.shown, self.new = [], []  # lines, and causes that have none yet
+        self.again = {}  # of each cause that stands, when it gets another line
+        self.due = collections.deque()  # the same: moments, each with its causes
+        self.gone, self.lost = collections.Counter(), 0  # lines off the screen of what still stands
+
+    def __contains__(self, cause: Line) -> bool:
+        return cause in self.again
+
+    def begin(self, cause: Line) -> None:
+        self.again[cause] = None
+        self.new.append(cause)
+
+    def end(self, cause: Line) -> None:
+        del self.again[cause]
+        self.lost -= self.gone.pop(cause, 0)
+
+    def look(self, now: int) -> None:
+        """Writes what is due. The oldest lines go off the screen for good, if they don't stay."""
+        lines, self.new = {it for it in self.new if it in self.again}, []
+        while self.due and self.due[0][0] <= now:
+            at, causes = self.due.popleft()
+            lines.update(it for it in causes if self.again.get(it) == at)
+        if lines:
+            self.write(sorted(lines), now + max(1, self.settings.nag))
+        if not self.stays and len(self.shown) > self.settings.screen:
+            many = len(self.shown) - self.settings.screen
+            off = [it for it in self.shown[:many] if it in self.again]
+            self.gone.update(off)
+            self.lost += len(off)
+            del self.shown[:many]
+
+    def write(self, lines: list[Line], again: int) -> None:
+        self.shown += lines
+        self.again.update(dict.fromkeys(lines, again))
+        self.due.append((again, lines))
+
+    def on_screen(self) -> list[tuple[Line, bool]]:
+        return [(it, it in self.again) for it in self.shown[:self.settings.screen]]
 
     def take_off(self, line: Line) -> None:
-        if line in self.shown:
-            self.shown.remove(line)
+        self.shown.remove(line)
+
+    @property
+    def waiting(self) -> int:
+        return len(self.shown) + self.lost

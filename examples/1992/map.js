@@ -1,6 +1,8 @@
 // The map of both sides on one clock, which the visitor moves. `told` has what was recorded.
 'use strict';
-const COLOURS = ['', '#9fb8d0', '#2060a0', '#208040', '#806020', '#8050a0'];
+// What a crew does, by the number of its stage, and its colour.
+const STAGES = [['off duty', ''], ['free', '#9fb8d0'], ['on its way', '#2060a0'],
+  ['at a scene', '#208040'], ['leaving', '#806020'], ['at a hospital', '#8050a0']];
 const SIZE = 384;
 const clock = document.getElementById('clock');
 let followed = null;
@@ -17,8 +19,8 @@ function drawCrews(on, step) {
   const marks = Uint8Array.from(atob(step.crews), (it) => it.charCodeAt(0));
   for (let at = 0; at < marks.length; at += 3) {
     if (marks[at + 2] === 0) continue;
-    on.fillStyle = COLOURS[marks[at + 2]];
-    on.fillRect(marks[at] * SIZE / 256 - 1.5, marks[at + 1] * SIZE / 256 - 1.5, 3, 3);
+    on.fillStyle = STAGES[marks[at + 2]][1];
+    on.fillRect(marks[at] * SIZE / 256 - 2, marks[at + 1] * SIZE / 256 - 2, 4, 4);
   }
 }
 
@@ -59,8 +61,11 @@ function draw() {
     on.clearRect(0, 0, SIZE, SIZE);
     drawCrews(on, step);
     const waiting = drawWaiting(on, emergencies, now);
+    const [incidents, orders, busy, vain] = step.wrong;
     document.getElementById(`sum-${name}`).textContent =
-      `${waiting} wait, ${step.waiting} lines in the list. ${sentInTime(emergencies, now)}`;
+      `${waiting} people wait, ${step.waiting} lines in the list. ${sentInTime(emergencies, now)}` +
+      `\nSince midnight: ${incidents} second incidents, ${orders} orders upon an order, ` +
+      `${busy} to busy crews, ${vain} journeys in vain`;
     document.getElementById(`lines-${name}`).textContent = step.lines.join('\n');
     document.getElementById(`fate-${name}`).textContent =
       followed === null ? '' : fate(emergencies);
@@ -80,6 +85,11 @@ function follow(event) {
   draw();
 }
 
+for (const [name, colour] of STAGES.slice(1)) {
+  const mark = document.createElement('i');
+  mark.style.background = colour;
+  document.getElementById('stages').append(mark, ` ${name}; `);
+}
 clock.addEventListener('input', draw);
 for (const name of Object.keys(told.sides)) {
   document.getElementById(`map-${name}`).addEventListener('click', follow);

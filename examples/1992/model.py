@@ -1,13 +1,13 @@
 """A model of the room: its rules (docs/RULES.md) as far as a day here needs them. Each of the
 promises that promises.py names can be taken away; without all of them it is a caricature of the
 system of 1992."""
-import copy
 import dataclasses
 import heapq
 import math
+import pickle
 
 import people
-from logs import List
+from logs import Log, Queue
 from people import Call, Crew, Order, Place, Report, distance
 from rooms import FREE, ON_JOB, Incident, Line, Room
 
@@ -70,26 +70,29 @@ class Vehicle:
 class State:
     """All that is kept."""
 
-    def __init__(self, crews, divisions):
+    def __init__(self, crews, divisions, new_list):
         self.fleets = {it: {} for it in divisions}
         for it in crews.values():
             self.fleets[it.division][it.callsign] = Vehicle(it.callsign, it.division, it.home)
         self.on_duty = {it: {} for it in divisions}  # of these vehicles those at work
+        self.free = {it: {} for it in divisions}  # of those the free ones
         self.ends = {it: [] for it in divisions}  # the ends of their shifts, the next one first
         self.over = {it: {} for it in divisions}  # those whose shift is over
         self.sent = {it: {} for it in divisions}  # those at status 2, with an order
         self.active = {it: {} for it in divisions}  # incidents by their keys
         self.lacking = {it: {} for it in divisions}  # those that lack a vehicle
         self.calls, self.reports = {}, {}  # what was answered, by what was asked
-        self.lists = {it: List() for it in divisions}
-        self.exceptions = {it: {} for it in divisions}
+        self.lists = {it: new_list() for it in divisions}
+        self.timed = {it: set() for it in divisions}  # what time had made of them at the last look
 
 
 class Model(Room):
     def __init__(self, world, kept: frozenset[str]):
         self.world, self.settings, self.kept = world, world.settings, kept
         self.is_log = 'queue' not in kept
-        self.state = State(world.crews, world.city.divisions)
+        new_list, stays = Log if self.is_log else Queue, 'stay' in kept
+        self.state = State(world.crews, world.city.divisions,
+                           lambda: new_list(world.settings, stays))
         self.saved, self.numbers, self.orders = None, 0, {}
 
     def vehicle(self, crew: Crew) -> Vehicle:
@@ -106,7 +109,8 @@ class Model(Room):
     def put(self, it: Vehicle, status: int) -> None:
         """Sets a vehicle's status, and keeps it among those that this makes it one of."""
         it.status, state, of = status, self.state, it.division
-        for among, belongs in ((state.on_duty, status), (state.sent, status == 2 and it.turn)):
+        for among, belongs in ((state.on_duty, status), (state.free, status in FREE),
+                               (state.sent, status == 2 and it.turn)):
             if belongs:
                 among[of][it.name] = it
             else:
@@ -130,17 +134,19 @@ class Model(Room):
             found = Case(key, call.place, call.grade, self.world.now, call.needs)
             self.state.active[division][key] = found
         self.settle(found)
-        self.state.calls[form] = found.key
+        if 'links' in self.kept:
+            self.state.calls[form] = found.key
         return found.key
 
     def like(self, division: int, call: Call) -> Case | None:
         """The nearest incident that is near and late enough."""
-        found = []
+        found, (east, north), earliest = [], call.place, self.world.now - LINKED_FOR
         # (they stand in the order in which they were opened)
         for it in reversed(self.state.active[division].values()):
-            if it.opened < self.world.now - LINKED_FOR:
+            if it.opened < earliest:
                 break
-            found.append((distance(it.place, call.place), it.key, it))
+            if abs(it.place[0] - east) <= LINKED_WITHIN >= abs(it.place[1] - north):
+                found.append((distance(it.place, call.place), it.key, it))
         return min((it for it in found if it[0] <= LINKED_WITHIN), default=(0, 0, None))[2]
 
     def knows_again(self, call: Call) -> bool:
@@ -160,10 +166,9 @@ class Model(Room):
         if outcome in ('normal', 'skipped') or not self.is_set_aside(outcome) and it.status:
             self.move(it, report)
         if outcome != 'normal':
-            since = self.world.now
-            self.state.exceptions[crew.division][report.number, crew.callsign, since] = Line(
-                4, since, report.number, crew.callsign)
-        self.state.reports[form] = it.status
+            self.begin(crew.division, Line(4, self.world.now, report.number, crew.callsign))
+        if 'repeats' in self.kept:
+            self.state.reports[form] = it.status
         return it.status
 
     def outcome(self, it: Vehicle, report: Report) -> str:
@@ -230,8 +235,7 @@ class Model(Room):
     def proposed(self, incident: Incident) -> str | None:
         (east, north), now = incident.place, self.world.now
         found = [((it.place[0] - east) ** 2 + (it.place[1] - north) ** 2, it.name)
-                 for it in self.state.on_duty[incident.key[0]].values()
-                 if it.status in FREE and it.until > now]
+                 for it in self.state.free[incident.key[0]].values() if it.until > now]
         if not found:
             return None
         # Distances are rounded down; of equal ones the lowest callsign is proposed.
@@ -256,7 +260,7 @@ class Model(Room):
     def close_done(self, division: int) -> None:
         among = self.state.active[division]
         worked_on = {it.turn.case.key for it in self.state.on_duty[division].values() if it.turn}
-        for key in [key for key, it in among.items() if not it.lacks and key not in worked_on]:
+        for key in among.keys() - self.state.lacking[division].keys() - worked_on:
             del among[key]
 
     def vehicles(self, division: int) -> dict[str, tuple[bool, Place]]:
@@ -265,55 +269,65 @@ class Model(Room):
 
     # ---- the list
 
-    def entries(self, division: int) -> list[Line]:
-        """The queue: each thing that needs an eye once, the most urgent first."""
-        now, found = self.world.now, []
+    def begin(self, division: int, cause: Line) -> None:
+        if cause not in self.state.lists[division]:
+            self.state.lists[division].begin(cause)
+
+    def look(self, division: int) -> Queue | Log:
+        """The list as it is now."""
+        found, state = self.of_time(division), self.state
+        if found != state.timed[division]:
+            for it in state.timed[division] - found:
+                state.lists[division].end(it)
+            for it in found - state.timed[division]:
+                state.lists[division].begin(it)
+            state.timed[division] = found
+        state.lists[division].look(self.world.now)
+        return state.lists[division]
+
+    def of_time(self, division: int) -> set[Line]:
+        """What needs an eye by now, beside reports that came out of turn."""
+        now, found = self.world.now, set()
         for it in self.state.lacking[division].values():
             if now - it.opened > SENT_WITHIN and not it.served:
-                found.append(Line(1, it.opened, it.key[1], ''))
+                found.add(Line(1, it.opened, it.key[1], ''))
         for it in self.state.sent[division].values():
-            found += self.of_order(it.turn, now)
-        found += self.state.exceptions[division].values()
-        found += [Line(6, it.until, 0, it.name) for it in self.of_shifts(division, now)]
-        return sorted(found)
+            turn, case = it.turn, it.turn.case
+            if not turn.is_heard and now - turn.ordered > ACKNOWLEDGED_WITHIN:
+                found.add(Line(2, turn.ordered, case.key[1], turn.vehicle))
+            if now - case.opened > SLOW_AFTER[case.grade]:
+                found.add(Line(3, case.opened, case.key[1], turn.vehicle))
+        found.update(Line(6, it.until, 0, it.name) for it in self.of_shifts(division, now))
+        return found
 
-    def of_shifts(self, division: int, now: int) -> list[Vehicle]:
+    def of_shifts(self, division: int, now: int):
         """Vehicles whose shift is over."""
         ends, over = self.state.ends[division], self.state.over[division]
         while ends and ends[0][0] <= now:
             it = self.state.fleets[division][heapq.heappop(ends)[1]]
             if it.status and it.until <= now:
                 over[it.name] = it
-        return list(over.values())
-
-    def of_order(self, turn: Turn, now: int) -> list[Line]:
-        found, case = [], turn.case
-        if not turn.is_heard and now - turn.ordered > ACKNOWLEDGED_WITHIN:
-            found.append(Line(2, turn.ordered, case.key[1], turn.vehicle))
-        if now - case.opened > SLOW_AFTER[case.grade]:
-            found.append(Line(3, case.opened, case.key[1], turn.vehicle))
-        return found
+        return over.values()
 
     def lines(self, division: int) -> list[tuple[Line, bool]]:
-        """What of it stands in the list, in the list's order."""
-        found, shown = self.entries(division), self.state.lists[division]
-        return shown.look(found, self.world.now, self.settings, self.kept)
+        return self.look(division).on_screen()
 
     def waiting(self, division: int) -> int:
-        self.lines(division)
-        return self.state.lists[division].waiting
+        return self.look(division).waiting
 
     def clear(self, division: int, line: Line) -> None:
-        of = self.state.exceptions[division]
-        of.pop((line.number, line.vehicle, line.since), None)
+        if line in self.state.lists[division]:
+            self.state.lists[division].end(line)
 
     def take_off(self, division: int, line: Line) -> None:
-        self.state.lists[division].take_off(line)
+        if self.is_log:
+            self.state.lists[division].take_off(line)
 
     # ---- a stop
 
     def save(self) -> None:
-        self.saved = None if 'stops' in self.kept else copy.deepcopy(self.state)
+        self.saved = None if 'stops' in self.kept else pickle.dumps(self.state)
 
     def stop(self) -> None:
-        self.state = self.saved or self.state
+        if self.saved:
+            self.state = pickle.loads(self.saved)

@@ -11,23 +11,29 @@ import parameters
 import promises
 import story
 import table
+from summary import SHOWN
 
 HERE = pathlib.Path(__file__).resolve().parent
 TOP = HERE.parent.parent
+NOVEMBER = HERE / 'november.json'
 LINK = re.compile(r'\[([^]]+)\]\(([^)]+)\)')
 
 STYLE = """
 body { max-width: 76rem; margin: 1rem auto; padding: 0 1rem; font: 1rem/1.5 sans-serif }
 svg { max-width: 100%; height: auto }
 canvas { width: 100%; max-width: 24rem; border: 1px solid #c0c0c0; background: #fafafa }
-.sides { display: flex; flex-wrap: wrap; gap: 1rem } .sides > div { flex: 1 1 20rem }
+.sides { display: flex; gap: 1rem } .sides > div { flex: 1 1 9rem; min-width: 0 }
+.sides h3 { margin: 0 } .sides p { white-space: pre-line }
 .wide { overflow-x: auto } #clock { width: 100% }
-pre { height: 21em; overflow: hidden; font: .75rem/1.4 monospace; background: #f4f4f4 }
+.clock { position: sticky; top: 0; margin: 0; padding: .25rem 0; background: #fff }
+i { display: inline-block; width: .7em; height: .7em }
+pre { overflow: hidden; font: .75rem/1.4 monospace; background: #f4f4f4 }
+.sides pre { height: 21em } details pre { white-space: pre-wrap }
 table { border-collapse: collapse; font-size: .85rem }
 th, td { padding: .25rem .5rem; border-bottom: 1px solid #d8d8d8; text-align: left;
   vertical-align: top }
 td.number { text-align: right; white-space: nowrap; font-variant-numeric: tabular-nums }
-td.same { color: #808080 } small { color: #606060 }
+td.same { color: #6a6a6a } small { color: #606060 }
 """
 PAGE = """<!doctype html>
 <html lang="en">
@@ -41,10 +47,10 @@ PAGE = """<!doctype html>
 STORY = """
 <p>On 26 October 1992 London's new system for sending ambulances went down. Three rooms had become
 one, what the system proposed was to be sent, and nothing was written by hand: what was on no
-screen was nowhere. Here a <em>generated</em> day of that kind is played twice, with the same callers, crews,
-radio, desks and screens. <em>Room</em> is the proved program of this repository; <em>1992</em> is a
-model of it without seven of its promises. It is a caricature, no reconstruction, and says nothing
-of any person.</p>
+screen was nowhere. Here a <em>generated</em> day of that kind is played twice, with the same
+callers, crews, radio, desks and screens. <em>Room</em> is the proved program of this repository;
+<em>1992</em> is a model of it without seven of its promises. It is a caricature, no reconstruction,
+and says nothing of any person.</p>
 """
 ASSUMED = """
 <p>Each of the {seeds} days of the table draws every number from its range, both sides alike. What
@@ -62,16 +68,26 @@ class NoClause(Exception):
 # ---- links
 
 
-def clause(it: promises.Promise, folder: pathlib.Path) -> str:
-    """The clause of a promise, and the edit that takes it away, with links from a folder."""
+def clauses(it: promises.Promise, folder: pathlib.Path) -> str:
+    """The clauses of a promise, each with an edit that turns it, with links from a folder."""
+    return '<br>'.join(clause(*named, folder) for named in it.clauses)
+
+
+def clause(name: str, edit: str, folder: pathlib.Path) -> str:
     for line in (TOP / 'docs' / 'PROMISES.md').read_text().split('\n'):
         links = dict(LINK.findall(line))
-        if it.clause in links and it.edit in links:
-            targets = {name: html.escape(os.path.relpath(TOP / 'docs' / to, folder.resolve()))
-                       for name, to in links.items()}
-            return (f'<a href="{targets[it.clause]}">{it.clause}</a>; the prover refuses: '
-                    f'<a href="{targets[it.edit]}">{html.escape(it.edit)}</a>')
-    raise NoClause(f'docs/PROMISES.md has no row of {it.clause} and "{it.edit}"')
+        if name in links and edit in links:
+            file, _, _ = links[edit].partition('#')
+            return (f'{linked(name, links[name], folder)}<details><summary>{html.escape(edit)}'
+                    f'</summary><pre>{html.escape((TOP / "docs" / file).read_text())}</pre>'
+                    f'{linked("the edit", links[edit], folder)}</details>')
+    raise NoClause(f'docs/PROMISES.md has no row of {name} and "{edit}"')
+
+
+def linked(says: str, to: str, folder: pathlib.Path) -> str:
+    """A link of docs/, as it is from a folder."""
+    target = html.escape(os.path.relpath(TOP / 'docs' / to, folder.resolve()))
+    return f'<a href="{target}">{html.escape(says)}</a>'
 
 
 # ---- tables
@@ -93,26 +109,39 @@ def shown(it: table.Cell, is_base: bool) -> str:
 
 def of_promises(found: table.Table, folder: pathlib.Path) -> str:
     """1992 with each promise given, and the room with each taken."""
-    known = {it.name: it for it in promises.ALL}
-    lines = [row(['', *table.FIGURES.values()], 'th')]
-    for side, name in found.days:
-        what = f'<b>{side}</b>' if name is None else html.escape(
-            known[name].holds if side == '1992' else f'without: {known[name].without}')
-        if name and side == '1992':
-            what += f'<br><small>{clause(known[name], folder)}</small>'
-        cells = [shown(it, name is None) for it in found.row(side, name).values()]
-        lines.append(f'<tr><td>{what}</td>{"".join(cells)}</tr>')
+    lines = [row(['', *SHOWN.values()], 'th')]
+    for side in table.SIDES:
+        names = {None: f'<b>{side}</b>', table.STILL: f'{side}, where nothing slows'}
+        for it in promises.ALL:
+            names[it.name] = html.escape(
+                it.holds if side == '1992' else f'without: {it.without}')
+            if side == '1992':
+                names[it.name] += f'<br><small>{clauses(it, folder)}</small>'
+        for name, says in names.items():
+            cells = [shown(it, name is None) for it in found.row(side, name).values()]
+            lines.append(f'<tr><td>{says}</td>{"".join(cells)}</tr>')
     return f'<div class=wide><table>{"".join(lines)}</table></div>'
+
+
+def of_differing(found: table.Table) -> str:
+    """In which figures the sides differ where nothing slows, in words."""
+    said = ''.join(f'<li>{SHOWN[name]}: {one.median:g} in 1992, {other.median:g} in the room</li>'
+                   for name, (one, other) in found.differing(table.STILL).items())
+    return ('<p>One rule is a guess of ours: that what waits in the list slows every deed. The '
+            'second row of each side is without it. There the sides differ on nine days of ten '
+            f'in:</p><ul>{said or "<li>nothing</li>"}</ul>')
 
 
 def of_failing(found: table.Table) -> str:
     """Where each side fails, in words."""
     said = []
-    for what, says in (('errors', 'at {} times the assumed errors'), ('desks', 'with {} desks')):
-        for side in drawing.COLOURS:
+    for what, says, never in (
+            ('errors', 'at {} times the assumed errors', 'at none of the errors tried'),
+            ('desks', 'with {} desks', 'with no number of desks tried')):
+        for side in table.SIDES:
             for slows, how in ((True, ''), (False, ', where nothing slows')):
                 at = found.fails(what, side, slows)
-                where = says.format(', '.join(f'{it:g}' for it in at)) if at else 'nowhere here'
+                where = says.format(', '.join(f'{it:g}' for it in at)) if at else never
                 said.append(f'<li>{side}{how}: {where}</li>')
     return (f'<p>A side fails where more than {table.FAILS} emergencies are reached by nobody, in '
             f'the median of {min(table.FEW, found.seeds)} days. It does so:</p>'
@@ -126,10 +155,17 @@ def of_parameters(values: dict) -> str:
     return rows_of(('name', 'value', 'range', 'what it is', 'source'), found)
 
 
-def of_looks(watch) -> str:
-    return rows_of(('promise', 'times looked at', 'times broken'),
-                   [(f'<code>{name}</code>', f'{many:,}', len(watch.broken[name]))
-                    for name, many in sorted(watch.looked.items())])
+def of_november() -> str:
+    """The room's memory, and three machines of which one is killed, as november.py saw them."""
+    seen = json.loads(NOVEMBER.read_text())
+    sizes = [kib for _, kib in seen['memory'][1:]]
+    return ('<p>On 4 November the system stopped: a piece of memory had been kept for each vehicle '
+            'that was sent, and the machine that stood by had never been tried. In the room '
+            f'{seen["memory"][-1][0]:,} vehicles were sent, three weeks of 2,000 a day; from '
+            f'{seen["memory"][1][0]:,} on its memory kept within {max(sizes) - min(sizes):,} KiB. '
+            f'Then three machines were one room, and the first was killed after half of '
+            f'{seen["orders"]} orders: {seen["lost"]} of them were lost, and the longest silence '
+            f'was {seen["silence"]:g} seconds.</p>{drawing.of_memory(seen["memory"])}')
 
 
 # ---- the map
@@ -142,31 +178,33 @@ def of_map(sides: dict) -> str:
                     for it in sides)
     last = story.BEGINS + story.STEP * (min(len(it['steps']) for it in sides.values()) - 1)
     data = json.dumps(told, separators=(',', ':')).replace('<', '\\u003c')
-    return (f'<p><label>The clock: <b id=now></b><input id=clock type=range min={story.BEGINS} '
-            f'max={last} step={story.STEP} value={story.BEGINS}></label></p>'
-            f'<p>Squares are crews: free, on their way, at a scene, leaving, at a hospital. Rings '
-            f'are people who wait, red after 14 minutes. Press on a map to follow the nearest call '
-            f'on both. Below each map stands what its desks see.</p><div class=sides>{boxes}</div>'
-            f'<script>const told = {data};\n{(HERE / "map.js").read_text()}</script>')
+    return (f'<p>Move the clock. Squares are crews: <span id=stages></span> rings are people who '
+            'wait, red after 14 minutes. Press on a map to follow the nearest call on both. Below '
+            'each map stands what its desks see.</p>'
+            f'<p class=clock><label>The clock: <b id=now></b><input id=clock type=range '
+            f'min={story.BEGINS} max={last} step={story.STEP} value={story.BEGINS}></label></p>'
+            f'<div class=sides>{boxes}</div><script>const told = {data};\n'
+            f'{(HERE / "map.js").read_text()}</script>')
 
 
 def sections(folder: pathlib.Path, found: table.Table, played: dict, values: dict):
     yield '<h1>The day that failed, played again</h1>', STORY
-    yield f'<h2>The day from 07:00, with {found.rate:g} times the assumed errors</h2>', ''
+    yield f'<h2>The day from 07:00, at {drawing.times(played["room"].rate)}</h2>', ''
     yield '', of_map({name: it.story.told() for name, it in played.items()})
     yield '<h2>One promise at a time</h2>', (
-        f'<p>{found.seeds} days with {found.rate:g} times the assumed errors: the median of each '
-        'figure, and its interval without the lowest and the highest. Bold: on nine days of ten it '
-        'differs from its side in the same way. Grey: it does not, so there the promise does not '
-        'matter.</p>')
+        f'<p>{found.seeds} days at {drawing.times(found.rate)}: the median of each figure, and its '
+        'interval without the lowest and the highest. Bold: on nine days of ten it differs from '
+        'its side in the same way. Grey: it does not, so there the promise does not matter.</p>')
     yield drawing.of_promises(found), of_promises(found, folder)
+    yield of_differing(found), (
+        '<p>A clause is a line that the prover has proved of the room; an edit turns it, and the '
+        'prover refuses it: <code>tools/edits CRATE</code> shows how.</p>')
     yield '<h2>From where on it fails</h2>', of_failing(found)
     for figure in ('never_reached', 'sent_in_time'):
         yield '', (drawing.along(found, 'errors', figure, 'errors, times those assumed')
                    + drawing.along(found, 'desks', figure, 'desks, at the assumed errors'))
-    yield ('<h2>The room, as seen from outside</h2><p>How often its answers of this day could have '
-           'broken a promise, and how often they did.</p>',
-           of_looks(played['room'].desks.room.room.watch))
+    if NOVEMBER.exists():
+        yield '<h2>Nine days later</h2>', of_november()
     yield '<h2>Every number</h2>', ASSUMED.format(seeds=found.seeds) + of_parameters(values)
     yield '', '<ul>' + ''.join(f'<li>{html.escape(it)}</li>' for it in promises.SOURCES) + '</ul>'
 
@@ -174,4 +212,3 @@ def sections(folder: pathlib.Path, found: table.Table, played: dict, values: dic
 def write(folder: pathlib.Path, found: table.Table, played: dict, values: dict) -> None:
     body = '\n'.join(title + text for title, text in sections(folder, found, played, values))
     (folder / 'index.html').write_text(PAGE.format(style=STYLE, body=body))
-    (folder / '1992.svg').write_text(drawing.of_promises(found))

@@ -2,12 +2,14 @@
 stream of its own, so both systems meet the same ones. Moments are whole seconds, places whole
 metres; nothing takes a logarithm or a sine, for these differ between machines."""
 import dataclasses
+import itertools
 import math
 import random
 
 DAY = 86_400
 # How many calls come in an hour of the day, beside each other (an assumption).
 HOURS = [6, 5, 4, 4, 3, 3, 4, 6, 8, 10, 11, 11, 11, 11, 11, 11, 11, 11, 12, 12, 11, 10, 9, 8]
+UNTIL = list(itertools.accumulate(HOURS))
 BY_DAY, BY_NIGHT = 7 * 3600, 19 * 3600  # when shifts begin (an assumption), and how long all are
 LASTS = 12 * 3600
 STAGGER = 3600  # seconds over which the beginnings of shifts are spread
@@ -67,6 +69,11 @@ def stream(settings, *names) -> random.Random:
     return random.Random(' '.join(map(str, (settings.seed, *names))))
 
 
+def moment(draws: random.Random) -> int:
+    """The second of a day, more often in the hours of most calls."""
+    return draws.choices(range(24), cum_weights=UNTIL)[0] * 3600 + draws.randrange(3600)
+
+
 # ---- who needs help
 
 
@@ -104,7 +111,7 @@ def emergencies(settings, city: City, days: int) -> list[Emergency]:
 
 def emergency(settings, city, hospitals, number, midnight) -> Emergency:
     draws = stream(settings, 'emergency', number)
-    at = midnight + draws.choices(range(24), HOURS)[0] * 3600 + draws.randrange(3600)
+    at = midnight + moment(draws)
     place = city.place(draws)
     callers = [(0, place)]
     second = draws.random(), draws.randrange(600), city.near(place, draws, 0, 60)
@@ -126,8 +133,7 @@ def emergency(settings, city, hospitals, number, midnight) -> Emergency:
 def other_calls(settings, days: int) -> list[int]:
     """The moments of calls about something else, which take call takers' time alone."""
     draws = stream(settings, 'other calls')
-    return [day * DAY + draws.choices(range(24), HOURS)[0] * 3600 + draws.randrange(3600)
-            for day in range(days) for _ in range(settings.other_calls)]
+    return [day * DAY + moment(draws) for day in range(days) for _ in range(settings.other_calls)]
 
 
 def stops(settings, days: int) -> list[int]:

@@ -1,16 +1,16 @@
 """The promises that the table gives to 1992 and takes from the room, one at a time: what holds with
-each, what the model does without it, and its clause and the edit that takes it away and that the
-prover refuses, both as docs/PROMISES.md names them in one row."""
+each, what the model does without it, and clauses that say it, each with an edit that turns its
+meaning and that the prover refuses, both as docs/PROMISES.md names them in one row."""
 import dataclasses
 
 
 @dataclasses.dataclass(frozen=True)
 class Promise:
     name: str
+    short: str
     holds: str
     without: str  # as the accounts tell of 1992, or as the model has it
-    clause: str
-    edit: str
+    clauses: tuple[tuple[str, str], ...]  # each a clause and an edit
 
 
 SOURCES = [
@@ -20,28 +20,35 @@ SOURCES = [
     'Proceedings of the 8th International Workshop on Software Specification and Design, 1996.',
 ]
 ALL = [
-    Promise('repeats', 'A report that comes again acts once.',
+    Promise('repeats', 'repeats act once', 'A report that comes again acts once.',
             'It acts each time that it comes.',
-            'report_once', 'a kept report is answered for a later order'),
-    Promise('late', 'A report that is late, or about an earlier order, is set aside.',
+            (('report_once', 'a kept report is answered for a later order'),)),
+    Promise('late', 'late ones set aside',
+            'A report that is late, or about an earlier order, is set aside.',
             'It is taken as it comes, and the last status known is believed.',
-            'report', 'a stale report acts'),
-    Promise('links', 'A repeated call joins its incident, and a form entered twice is one call.',
+            (('report', 'a stale report acts'),)),
+    Promise('links', 'calls linked',
+            'A repeated call joins its incident, and a form entered twice is one call.',
             'It is a new incident, but for a share that a call taker knows again.',
-            'link_target', 'a call after 900 seconds is not linked'),
-    Promise('queue', 'The list has what needs an eye now, each thing once, the most urgent first.',
+            (('link_target', 'a call after 900 seconds is not linked'),
+             ('call_once', 'a kept call is answered anew'))),
+    Promise('queue', 'exact queue',
+            'The list has what needs an eye now, each thing once, the most urgent first.',
             'It is a log: lines in the order in which they were made, until a desk takes them '
             'off, and more lines about what nobody saw to.',
-            'queue', 'an incident needs an eye at three minutes'),
-    Promise('stay', 'What stands beyond the screen stays, and moves up.',
+            (('queue', 'only fifty entries are reported'),
+             ('most_urgent_first', 'the least urgent is first'))),
+    Promise('stay', 'lines stay', 'What stands beyond the screen stays, and moves up.',
             'It scrolls off, and nobody sees it again.',
-            'queue', 'only fifty entries are reported'),
-    Promise('orders', 'A vehicle has one order at a time, and it and its incident agree.',
+            (('exception_stays', 'an order that is read is not too slow'),)),
+    Promise('orders', 'one order a vehicle',
+            'A vehicle has one order at a time, and it and its incident agree.',
             'Any button is believed, a vehicle that was sent is sent again, and the incident that '
             'it left keeps it on record.',
-            'sent_once', 'a mobilised vehicle is lent'),
-    Promise('stops', 'What was answered is kept where the system stops.',
+            (('order_kept', 'a mobilised vehicle is sent again'),
+             ('sent_once', 'a returned vehicle keeps its assignment'))),
+    Promise('stops', 'nothing lost at a stop', 'What was answered is kept where the system stops.',
             'The minutes before a stop are lost.',
-            'kept', 'the answer is written before the room acts'),
+            (('kept', 'the answer is written before the room acts'),)),
 ]
 KEPT = frozenset(it.name for it in ALL)

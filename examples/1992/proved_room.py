@@ -1,5 +1,6 @@
 """The proved room: the program plays a list that is written as the day goes, each message at its
 moment, and answers at once, so desks and crews act on what it answers."""
+import dataclasses
 import json
 import os
 import pathlib
@@ -8,7 +9,6 @@ import subprocess
 import sys
 
 import people
-from exchanges import Exchange, Watch
 from people import Call, Crew, Order, Place, Report
 from rooms import ON_JOB, Incident, Line, Room
 
@@ -18,10 +18,24 @@ sys.path.append(str(HERE.parent / 'three'))
 import digest  # noqa: E402
 
 MIDNIGHT = 720_057_600  # of 26 October 1992
+BUILT = HERE.parent.parent / 'crates' / 'dispatch_room' / 'out' / 'dispatch_room'
+# A room lies in memory where there is such a folder: else each change waits for a disk.
+MEMORY = pathlib.Path('/dev/shm')
 
 
 class NoRoom(Exception):
     """Why there is no room, or none any more."""
+
+
+@dataclasses.dataclass(frozen=True)
+class Exchange:
+    """A message at a second of the day, and its answer."""
+    moment: int
+    token: str
+    line: str
+    body: dict | None
+    status: int
+    content: dict
 
 
 def reference(place: people.Place) -> str:
@@ -56,19 +70,29 @@ def fleet(crews: dict[str, Crew]) -> str:
     return '\n'.join(['callsign,division,kind,place,token', *rows]) + '\n'
 
 
+def make(program: str, room: pathlib.Path, city: people.City, crews: dict[str, Crew]) -> None:
+    """Makes a room, of a plan and a fleet beside it."""
+    for task, name, text in (('init', 'plan', plan(city)), ('import', 'fleet', fleet(crews))):
+        file = room.parent / f'{name}.csv'
+        file.write_text(text)
+        try:
+            done = subprocess.run([program, task, room, file], stdin=subprocess.DEVNULL,
+                                  capture_output=True)
+        except OSError as fault:
+            raise NoRoom(f'{program}: {fault.strerror}') from None
+        if done.returncode:
+            raise NoRoom(f'{program} {task}: {done.stderr.decode().strip()}')
+
+
 class PlayedRoom:
     """A run of the program over a new room in a folder. It leaves the room before the day
     (before.db), the room after it (room.db), and the list of all messages (day.list)."""
 
     def __init__(self, program: str, folder: pathlib.Path, city, crews):
         self.program, self.folder, self.messages = program, folder, 0
-        self.watch = Watch(lambda name: desk(crews[name].division),
-                           lambda place: desk(city.division_of(place)))
+        self.see = lambda exchange: None  # what is shown each exchange
         self.room = folder / 'room.db'
-        for name, text in (('plan', plan(city)), ('fleet', fleet(crews))):
-            (folder / f'{name}.csv').write_text(text)
-        self.command('init', self.room, folder / 'plan.csv')
-        self.command('import', self.room, folder / 'fleet.csv')
+        make(program, self.room, city, crews)
         shutil.copy(self.room, folder / 'before.db')
         self.list = (folder / 'day.list').open('wb')
         self.start()
@@ -84,15 +108,6 @@ class PlayedRoom:
         """Kills it, without a word before."""
         self.process.kill()
         self.process.communicate()
-
-    def command(self, *words) -> None:
-        try:
-            done = subprocess.run([self.program, *words], stdin=subprocess.DEVNULL,
-                                  capture_output=True)
-        except OSError as fault:
-            raise NoRoom(f'{self.program}: {fault.strerror}') from None
-        if done.returncode:
-            raise NoRoom(f'{self.program} {words[0]}: {done.stderr.decode().strip()}')
 
     def put(self, text: bytes) -> None:
         """Tells the room something, and keeps it in the list."""
@@ -117,7 +132,7 @@ class PlayedRoom:
         self.list.write(b'answer %s\n' % head[1])
         content = json.loads(answer.partition(b'\r\n\r\n')[2])
         found = Exchange(now, token, line, body, int(head[1]), content)
-        self.watch.see(found)
+        self.see(found)
         return found
 
     def ended(self):
@@ -206,10 +221,15 @@ class ProvedRoom(Room):
 
     # ---- what desks see
 
+    def queue(self, division: int) -> list[dict]:
+        return self.ask(desk(division), 'GET /queue').content['queue']
+
     def lines(self, division: int) -> list[tuple[Line, bool]]:
-        rows = self.ask(desk(division), 'GET /queue').content['queue']
         return [(Line(it['rank'], it['since'] - MIDNIGHT, it['number'], it['vehicle']), True)
-                for it in rows]
+                for it in self.queue(division)[:self.world.settings.screen]]
+
+    def waiting(self, division: int) -> int:
+        return len(self.queue(division))
 
     def clear(self, division: int, line: Line) -> None:
         self.ask(desk(division), f'POST /queue/{line.vehicle}/{line.number}/clear')

@@ -30,62 +30,48 @@ class Room:
 
     def call(self, call: Call) -> tuple[int, int]:
         """Takes a call; gives the key of its incident."""
-        raise NotImplementedError
 
     def report(self, crew: Crew, report: Report) -> int:
         """Takes a report; gives the vehicle's status as answered."""
-        raise NotImplementedError
 
     def terminal(self, crew: Crew) -> tuple[Order | None, int]:
         """What a crew's terminal shows: its order, and its status."""
-        raise NotImplementedError
 
-    def on_duty(self, crew: Crew, place: Place) -> None:
-        raise NotImplementedError
+    def on_duty(self, crew: Crew, place: Place) -> None: ...
 
-    def off_duty(self, crew: Crew) -> None:
-        raise NotImplementedError
+    def off_duty(self, crew: Crew) -> None: ...
 
-    def stand_down(self, crew: Crew) -> None:
-        raise NotImplementedError
+    def stand_down(self, crew: Crew) -> None: ...
 
-    def lacking(self, division: int) -> list[Incident]:
-        raise NotImplementedError
+    def lacking(self, division: int) -> list[Incident]: ...
 
     def proposed(self, incident: Incident) -> str | None:
         """The vehicle to send to an incident, if it lacks one and there is one."""
-        raise NotImplementedError
 
     def mobilise(self, incident: Incident, vehicle: str) -> int | None:
         """Sends a vehicle; gives the number of its order, unless that was refused."""
-        raise NotImplementedError
 
     def close_done(self, division: int) -> None:
         """Closes incidents that lack nothing, and on which no vehicle works."""
-        raise NotImplementedError
 
     def lines(self, division: int) -> list[tuple[Line, bool]]:
-        """The list of what needs an eye, and of each line whether it still does."""
-        raise NotImplementedError
+        """The screen of a desk: the first lines of its list, and of each whether it still needs an
+        eye."""
 
     def waiting(self, division: int) -> int:
         """How many lines there are, on a screen or not."""
-        return len(self.lines(division))
 
     def clear(self, division: int, line: Line) -> None:
         """Clears a report out of the list."""
-        raise NotImplementedError
 
     def take_off(self, division: int, line: Line) -> None:
         """Takes a line off, where lines stay."""
 
     def vehicles(self, division: int) -> dict[str, tuple[bool, Place]]:
         """Of each vehicle on duty whether it is busy, and where it was last."""
-        raise NotImplementedError
 
     def save(self) -> None:
         """The moment up to which a room that doesn't keep things at once has kept them."""
 
     def stop(self) -> None:
         """Stops it, and begins again with what was kept."""
-        raise NotImplementedError

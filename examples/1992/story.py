@@ -1,5 +1,6 @@
 """What the page's map shows of a day: every five minutes where each crew truly is, what it does,
-and the screen of a desk; and of each emergency when it was called in, sent a vehicle, reached."""
+the screen of a desk, and what went wrong until then; and of each emergency when it was called in,
+sent a vehicle, reached."""
 import base64
 
 BEGINS = 7 * 3600  # the second of the day at which the story begins
@@ -23,14 +24,16 @@ class Story:
             yield STEP
 
     def seen(self) -> dict:
-        world = self.world
+        world, counts = self.world, self.world.counts
         lines = world.desks.room.lines(1)
         marks = bytearray()
         for it in world.crews.values():
             marks += bytes([*self.scaled(it.where(world.now)), STAGES.index(it.stage)])
         return {'crews': base64.b64encode(marks).decode(), 'waiting': world.desks.waiting,
+                'wrong': [counts.taken_twice, world.desks.at_two, counts.orders_to_busy,
+                          counts.in_vain],
                 'lines': [RANKS[it.rank].format(number=it.number, vehicle=it.vehicle)
-                          for it, _ in lines[:world.settings.screen]]}
+                          for it, _ in lines]}
 
     def scaled(self, place) -> tuple[int, int]:
         """A place of the map, each way from 0 to 255."""

@@ -2,6 +2,18 @@
 thing whatever the room; nothing of what a room says of itself."""
 from world import IN_TIME, SAMPLE, WITHIN, World
 
+# Those that the page and the table show, as they name them.
+SHOWN = {
+    'sent_in_time': '% sent one in 180 s',
+    'there_in_time': '% had one in 14 min',
+    'never_reached': 'never reached',
+    'in_vain': 'journeys in vain',
+    'orders_to_busy': 'orders to busy crews',
+    'at_two': 'orders upon an order',
+    'taken_twice': 'second incidents',
+    'forgotten_hours': 'hours waiting unknown',
+}
+
 
 def percent(some: int, of: int) -> float:
     """With one digit behind the point."""

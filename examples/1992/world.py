@@ -23,7 +23,6 @@ class Counts:
     calls_again: int = 0  # of them those of callers whom nobody had reached
     answered_late: int = 0  # those that waited for a call taker for a minute
     typed_again: int = 0
-    typed_made: int = 0  # of these, those that made an incident of their own
     presses: int = 0
     reports: int = 0  # those that reached the system, each as often as it did
     repeated: int = 0  # of them those that had reached it before
@@ -114,19 +113,17 @@ class World:
             self.start(self.entering(call, it), 10)
 
     def entering(self, call: Call, it: Emergency):
-        self.counts.typed_made += self.enter(call, it)
+        self.enter(call, it)
         yield from ()
 
-    def enter(self, call: Call, it: Emergency) -> bool:
-        """Has the room take a call; gives whether that made an incident."""
+    def enter(self, call: Call, it: Emergency) -> None:
+        """Has the room take a call."""
         found = self.about[self.desks.call(call)]
-        is_new = not found
         if it not in found:
             self.counts.joined += bool(found)
             self.counts.taken_twice += it.incidents > 0
             it.incidents += 1
             found.append(it)
-        return is_new
 
     # ---- orders
 

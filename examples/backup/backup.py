@@ -8,46 +8,38 @@ since.
 A night reads the records that the list has behind the last copy, recomputes their checks, and plays
 them to a copy of the last copy. A restore of the result is tried on a third file. Only then does it
 stand in the folder: NAME.db, a room in one file; NAME.list, what was played to the copy before it;
-and NAME.json, its digest and its place in the list.
+and NAME.json, its digest and its place in the list. What a rotation moved away since is read first;
+and where the room was renewed, so is the copy, which has to become the room of the next list.
 
 A list has rows, too, where a change was kept in it by `--journal`: records `row LINE`, one for each
 line of a fleet, of a plan or of a list of terminals, and behind the last of them a head, `room 2
 DIGEST`. The head says how far the change is made, so a night takes rows only with the head behind
 them.
 
-One line says what was done, with status 0; or why there is no copy that can be trusted, with
-status 1."""
+A line a copy says what was done, with status 0; or one line why there is no copy that can be
+trusted, with status 1."""
 import argparse
-import collections.abc
 import dataclasses
 import datetime
-import hashlib
 import json
 import os
 import pathlib
+import re
 import subprocess
 import sys
-import time
+
+import lists
+from lists import Place, Untrusted
 
 PROGRAM = os.environ.get('DISPATCH_ROOM', 'dispatch_room')
-OPENING = b'list 2\n'
-HEADER = 71
 # The nights whose copies are kept, unless other is asked for.
 KEPT = 14
-# What the names of a room's files end with: itself, what a database has beside it, and what `restore`
-# makes first.
+# What the names of a room's files end with: itself, what a database has beside it, and what
+# `restore` makes first.
 ENDS = ('', '-wal', '-shm', '.new')
-
-
-class Untrusted(Exception):
-    """Why there is no copy that can be trusted, in one line."""
-
-
-@dataclasses.dataclass(frozen=True)
-class Place:
-    """How far a list has come: its bytes, and the check of the last record."""
-    bytes: int = len(OPENING)
-    check: str = '0' * 64
+# How copies are named: by the moment at which they were made.
+NAME = '%Y-%m-%d.%H%M%S'
+NAMED = re.compile(r'(\d{4}-\d\d-\d\d\.\d{6})\..*')
 
 
 @dataclasses.dataclass(frozen=True)
@@ -92,73 +84,15 @@ def digest_in(lines: list[str]) -> str:
 
 def restored(copy: pathlib.Path, file: pathlib.Path) -> str:
     """Restores a copy to a file that the folder has for a while; the digest of its room."""
-    for path in beside(file):
-        path.unlink(missing_ok=True)
+    clear(file)
     said('restore', copy, file)
     return digest_in(said('digest', file))
 
 
-def beside(file: pathlib.Path) -> list[pathlib.Path]:
-    """A room's file, and what may lie beside it."""
-    return [file.with_name(file.name + end) for end in ENDS]
-
-
-# ---- the list
-
-
-def records(text: bytes, check: str) -> collections.abc.Iterator[tuple[bytes, str]]:
-    """The records at the front of a text, each with its check, where this is the check before them.
-    A last one that is not whole is still being written."""
-    at = 0
-    while at + HEADER <= len(text):
-        size = int(text[at:at + 5]) if text[at:at + 5].isdigit() else 0
-        body = text[at + HEADER:at + HEADER + size]
-        check = hashlib.sha256(check.encode() + body).hexdigest()
-        if size == 0 or len(body) == size and text[at:at + HEADER] != header(size, check):
-            raise Untrusted(f'the list: {at} bytes behind the last copy stands no record that '
-                            'comes next')
-        if len(body) < size:
-            return
-        yield body, check
-        at += HEADER + size
-
-
-def header(size: int, check: str) -> bytes:
-    return b'%05d %s\n' % (size, check.encode())
-
-
-def chain(bodies: list[bytes]) -> bytes:
-    """The list of these records. A list of version 1 has no rows."""
-    text, check = [OPENING], Place().check
-    for body in bodies:
-        check = hashlib.sha256(check.encode() + body).hexdigest()
-        text += [header(len(body), check), body]
-    return b''.join(text)
-
-
-def behind(file: pathlib.Path, place: Place) -> bytes:
-    """What a list has behind a place."""
-    with file.open('rb') as it:
-        opening = it.read(len(OPENING))
-        if opening == b'' and place == Place():
-            return b''
-        if opening != OPENING or file.stat().st_size < place.bytes:
-            raise Untrusted(f'{file} is not the list of the last copy')
-        it.seek(place.bytes)
-        return it.read()
-
-
-def since(file: pathlib.Path, place: Place) -> tuple[list[bytes], Place]:
-    """The entries and rows that a list has behind a place, and the place behind them. A last
-    message without a status is left to the next night, and so are last rows without a head."""
-    entries, size, settled = [], place.bytes, (0, place)
-    for body, check in records(behind(file, place), place.check):
-        size += HEADER + len(body)
-        if body != b'end\n':
-            entries.append(body)
-        if not body.startswith((b'message ', b'row ')):
-            settled = len(entries), Place(size, check)
-    return entries[:settled[0]], settled[1]
+def clear(file: pathlib.Path) -> None:
+    """Removes a room's file, and what may lie beside it."""
+    for end in ENDS:
+        file.with_name(file.name + end).unlink(missing_ok=True)
 
 
 # ---- what is done
@@ -166,7 +100,7 @@ def since(file: pathlib.Path, place: Place) -> tuple[list[bytes], Place]:
 
 def begin(room: pathlib.Path, file: pathlib.Path, folder: pathlib.Path) -> str:
     """The first copy."""
-    place = since(file, Place())[1] if file.exists() else Place()
+    place = lists.since([file], Place())[1] if file.exists() else Place()
     copy = Copy(unused(folder), '', place)
     digest = restored(room, copy.of('.db'))
     dataclasses.replace(copy, digest=digest).note()
@@ -174,30 +108,55 @@ def begin(room: pathlib.Path, file: pathlib.Path, folder: pathlib.Path) -> str:
 
 
 def night(file: pathlib.Path, folder: pathlib.Path, kept: int) -> str:
-    """Tonight's copy."""
-    last = noted(newest(folder)[0])
-    entries, place = since(file, last.place)
-    text = chain([f'room 2 {last.digest}\n'.encode(), *entries])
+    """Tonight's copy; and one of each room that was renewed since the last."""
+    copy, done = noted(newest(folder)[0]), []
+    lists.await_new(file)
+    try:
+        while True:
+            rest = lists.steady(file, lambda: lists.rest(file, copy.digest, copy.place))
+            copy, what = filed(copy, rest, folder)
+            done.append(f'{copy.path.name}: {what}, digest {copy.digest}')
+            if not rest.heads:
+                return '\n'.join(done)
+    finally:
+        tidy(folder, kept)
+
+
+def filed(last: Copy, rest: lists.Rest, folder: pathlib.Path) -> tuple[Copy, str]:
+    """The copy that comes of the last one, once it stands in the folder, and what was done."""
+    text = lists.chain([f'room 2 {last.digest}\n'.encode(), *rest.entries])
     part, third = folder / 'part.db', folder / 'third.db'
     restored(last.of('.db'), part)
-    lines = said('replay', part, '--digest', '--history', text=text)
-    copy = Copy(unused(folder), digest_in(lines), place)
-    if restored(part, third) != copy.digest:
+    what, line = said('replay', part, '--digest', '--history', text=text)
+    digest, place = digest_in([line]), rest.place
+    if rest.heads and digest not in rest.heads:
+        digest, place = renewed(part, third, rest), Place()
+        what = f'{what}, renewed since {rest.day}'
+    if restored(part, third) != digest:
         raise Untrusted(f'{third} was restored, and is another room than its copy')
+    copy = Copy(unused(folder), digest, place)
     copy.of('.list').write_bytes(text)
     part.rename(copy.of('.db'))
     copy.note()
-    tidy(folder, kept)
-    return f'{copy.path.name}: {lines[0]}, digest {copy.digest}'
+    return copy, what
+
+
+def renewed(part: pathlib.Path, third: pathlib.Path, rest: lists.Rest) -> str:
+    """Renews a room as it was renewed that is served; the digest of the new one."""
+    clear(third)
+    said('renew', part, third, '--since', str(rest.day))
+    digest = restored(third, part)
+    if digest not in rest.heads:
+        raise Untrusted(f'renewed since {rest.day} it is another room than that of the next list')
+    return digest
 
 
 def unused(folder: pathlib.Path) -> pathlib.Path:
     """A copy's file without an ending, of a name that no copy has; a copy has its second's."""
-    while True:
-        path = folder / datetime.datetime.now().strftime('%Y-%m-%d.%H%M%S')
-        if not path.with_name(f'{path.name}.db').exists():
-            return path
-        time.sleep(0.05)
+    moment = datetime.datetime.now()
+    while (folder / f'{moment.strftime(NAME)}.db').exists():
+        moment += datetime.timedelta(seconds=1)
+    return folder / moment.strftime(NAME)
 
 
 def newest(folder: pathlib.Path) -> list[pathlib.Path]:
@@ -209,14 +168,15 @@ def newest(folder: pathlib.Path) -> list[pathlib.Path]:
 
 
 def tidy(folder: pathlib.Path, kept: int) -> None:
-    """Removes what a night needed meanwhile, and the copies of nights that are long ago."""
-    for file in [*beside(folder / 'part.db'), *beside(folder / 'third.db')]:
-        file.unlink(missing_ok=True)
-    for old in newest(folder)[kept:]:
-        copy = noted(old)
-        old.unlink()
-        for file in [*beside(copy.of('.db')), copy.of('.list')]:
-            file.unlink(missing_ok=True)
+    """Removes what a night needed meanwhile, what it did not finish, and the copies of nights that
+    are long ago."""
+    clear(folder / 'part.db')
+    clear(folder / 'third.db')
+    names = {it.stem for it in newest(folder)[:kept]}
+    for file in folder.iterdir():
+        named = NAMED.fullmatch(file.name)
+        if named and named[1] not in names:
+            file.unlink()
 
 
 def main() -> int:

@@ -18,15 +18,21 @@ const ACTS = ['normal', 'skipped'];
 const isMobileFor = (order) => ({ content, answer }) => content.button === 'mobile'
   && content.order === order && ACTS.includes(answer?.content?.outcome);
 
+// Whether a report was sent, and then withheld: what was sent of it may still arrive, until the room
+// has answered a later one.
+const isStray = ({ number, isTried, answer }, messages) => isTried && answer?.isWithheld
+  && !messages.some((it) => it.number > number && it.answer?.ok);
+
 /** What is kept: the answer, the number of the last report answered before it, that of one that was
-    sent and not answered, the greatest order that was seen, and the order that was acknowledged,
-    which /order does not say. */
+    sent and not answered, one that was sent and withheld, the greatest order that was seen, and the
+    order that was acknowledged, which /order does not say. */
 export function heard(before, content, messages) {
   const order = content.order?.order ?? 0;
   const isAcknowledged = before?.acknowledged === order || messages.some(isMobileFor(order));
   return { room: content,
     answered: Math.max(0, ...messages.filter((it) => it.answer).map((it) => it.number)),
     tried: messages.find((it) => it.isTried && !it.answer)?.number ?? 0,
+    stray: messages.findLast((it) => isStray(it, messages)) ?? null,
     last: Math.max(order, before?.last ?? 0, ...messages.map((it) => it.content.order)),
     acknowledged: isAcknowledged ? order : 0 };
 }
@@ -44,10 +50,13 @@ function then(now, { number, content, answer }) {
 }
 
 /** What the room would say once all that was pressed has arrived, as far as this page has heard. */
-function nowOf({ room, answered, tried, last, acknowledged }, messages) {
+export function nowOf({ room, answered, tried, stray, last, acknowledged }, messages) {
   const order = room.order?.order ?? null;
   const start = { status: room.status, order, last, tried, isAcknowledged: acknowledged === order,
     isBehind: false };
+  const mayArrive = stray && isStray(stray, messages)
+    && ACTS.includes(expected(start, stray.content));
+  start.isBehind = Boolean(mayArrive) && leadsOn(start, stray.content.button);
   return messages.filter((it) => it.number > answered).reduce(then, start);
 }
 
@@ -57,13 +66,17 @@ function leadsOn(now, button) {
   return next.status !== now.status || next.isAcknowledged !== now.isAcknowledged;
 }
 
-/** What to show. Large is the first normal button that leads on, and none while the page is
-    behind. */
+/** The buttons as they are shown. Large is the first normal one that leads on, and none while the
+    page is behind. */
+export function buttonsOf(now) {
+  const comes = BUTTONS.map((it) => expected(now, { button: it.name, order: now.last }));
+  const large = now.isBehind ? undefined
+    : BUTTONS.find(({ name }, nth) => comes[nth] === 'normal' && leadsOn(now, name));
+  return BUTTONS.map((it, nth) => ({ ...it, comes: comes[nth], isLarge: it === large }));
+}
+
+/** What to show. */
 export function view(kept, messages) {
   const now = nowOf(kept, messages);
-  const buttons = BUTTONS.map((it) =>
-    ({ ...it, comes: expected(now, { button: it.name, order: now.last }) }));
-  const large = now.isBehind ? null
-    : buttons.find(({ name, comes }) => comes === 'normal' && leadsOn(now, name));
-  return { ...now, buttons: buttons.map((it) => ({ ...it, isLarge: it === large })) };
+  return { ...now, buttons: buttonsOf(now) };
 }

@@ -1,9 +1,11 @@
 #!/usr/bin/env python3
 """Shows a served room on a wall: a page in the browser with the map of its divisions and their
 queues. It is not proved. It only gets, one connection a request and never two at once, at most
-every two seconds and only while a page is open. The tokens of the desks stay in here.
+every two seconds and only while a page is open. The plan has the tokens of the desks; they stay in
+here.
 
-  wall.py 127.0.0.1:8080 examples/plan.csv deskone1 desktwo2
+  wall.py 127.0.0.1:8080 plan.csv          all divisions that have a desk
+  wall.py 127.0.0.1:8080 plan.csv 1 2      these
 
 The page is then at http://127.0.0.1:8081/."""
 import argparse
@@ -13,6 +15,7 @@ import http.client
 import json
 import os
 import pathlib
+import sys
 import threading
 import time
 
@@ -34,14 +37,15 @@ def words():
                                      formatter_class=argparse.RawDescriptionHelpFormatter)
     parser.add_argument('room', metavar='ADDRESS', type=loopback, help='where the room is served')
     parser.add_argument('plan', metavar='PLAN', type=pathlib.Path, help="the plan's file")
-    parser.add_argument('tokens', metavar='TOKEN', nargs='+', help='the token of a desk to show')
+    parser.add_argument('divisions', metavar='DIVISION', nargs='*', type=int,
+                        help='a division to show, if not all of the plan')
     parser.add_argument('--listen', metavar='ADDRESS', type=loopback, default='127.0.0.1:8081',
                         help='where the page is served (%(default)s)')
     return parser, parser.parse_args()
 
 
 class Plan:
-    """The areas of a plan's file, the rule of its time zone, and the divisions of its desks."""
+    """The areas of a plan's file, the rule of its time zone, and a desk's token by division."""
 
     def __init__(self, path):
         try:
@@ -49,16 +53,21 @@ class Plan:
                 rows = list(csv.DictReader(file))
             self.zone = next(row['a'] for row in rows if row['what'] == 'zone')
             self.areas = [area_of(row) for row in rows if row['what'] == 'area']
-            self.desks = {row['a']: int(row['number']) for row in rows if row['what'] == 'desk'}
+            self.desks = {int(row['number']): row['a'] for row in rows if row['what'] == 'desk'}
         except (OSError, ValueError, KeyError, TypeError, StopIteration):
             raise Refused(f'{path} is no plan') from None
+        if path.stat().st_mode & 0o077:
+            print(f'{path} has tokens, and others may read it: chmod 600', file=sys.stderr)
 
-    def divisions_of(self, tokens):
-        """The token of a desk for each division that is shown."""
-        for place, token in enumerate(tokens, 1):
-            if token not in self.desks:
-                raise Refused(f'token {place} is of no desk of the plan')
-        return {self.desks[token]: token for token in tokens}
+    def tokens_of(self, divisions):
+        """The token of a desk for each division that is shown: all, if none is named."""
+        for division in divisions:
+            if division not in self.desks:
+                raise Refused(f'the plan has no desk of division {division}')
+        shown = {it: self.desks[it] for it in divisions or self.desks}
+        if not shown:
+            raise Refused('the plan has no desk')
+        return shown
 
 
 # ---- reading the room
@@ -102,9 +111,9 @@ class Reader(threading.Thread):
     """Reads the room whenever a page wants it, but not within two seconds of the last time, and
     keeps the last whole picture. It is the only thread that speaks to the room."""
 
-    def __init__(self, room, divisions):
+    def __init__(self, room, tokens):
         super().__init__(daemon=True)
-        self.room, self.divisions = room, divisions
+        self.room, self.tokens = room, tokens
         self.changed = threading.Condition()
         self.is_wanted = False
         self.began = float('-inf')
@@ -118,7 +127,7 @@ class Reader(threading.Thread):
                 self.changed.wait_for(lambda: self.is_wanted)
                 self.is_wanted, self.began = False, time.monotonic()
             try:
-                self.keep([read_desk(self.room, *it) for it in sorted(self.divisions.items())])
+                self.keep([read_desk(self.room, *it) for it in sorted(self.tokens.items())])
             except NoAnswer as error:
                 self.keep(None, str(error))
 
@@ -185,7 +194,7 @@ def main():
     parser, found = words()
     try:
         plan = Plan(found.plan)
-        reader = Reader(found.room, plan.divisions_of(found.tokens))
+        reader = Reader(found.room, plan.tokens_of(found.divisions))
         wall = Wall(found.listen, reader, plan.areas)
     except (Refused, OSError) as error:
         parser.error(str(error))

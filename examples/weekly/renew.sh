@@ -15,24 +15,33 @@ move() {
     [ ! -e "$1" ] || { ln "$1" "$2" && rm "$1"; }
 }
 
+# Serves the room that is there. A new one is kept only where it is the last.
+serve() {
+    [ ! -e room.db ] || rm -f next.db next.db-wal
+    systemctl start "$unit"
+}
+
 began=$(date +%s)
 systemctl stop "$unit"
-trap 'systemctl start "$unit"' EXIT
+trap serve EXIT
 
 if [ -e room.db ]; then
     rm -f next.db next.db-wal
-    dispatch_room renew room.db next.db --since "$(date -d '7 days ago' +%F)"
+    # (examples/backup renews its copies by the day in the name)
+    dispatch_room renew room.db next.db --since "$(date -d "${now%%.*} 7 days ago" +%F)"
 fi
+# A list ends with its room, and so do the parts that a rotation moved away. They go first: behind a
+# list that was moved the same room goes on, too.
+for list in room.list room.list.*; do
+    move "$list" "room.$now.list${list#room.list}"
+done
 # The old room is set aside, with its log, before the new one comes.
 printed=$(dispatch_room restore next.db room.db)
-rm -f next.db next.db-wal
 aside=$(echo "$printed" | sed -n 's/^set aside: //p')
 for end in -wal ''; do
     move "$aside$end" "room.$now.db$end"
 done
-# A list ends with its room.
-move room.list "room.$now.list"
 
-systemctl start "$unit"
 trap - EXIT
+serve
 echo "the room stood still for $(($(date +%s) - began)) s; the old one is room.$now.db"

@@ -5,6 +5,7 @@
 #include <errno.h>
 #include <fcntl.h>
 #include <stdlib.h>
+#include <sys/syscall.h>
 #include <time.h>
 #include <unistd.h>
 
@@ -29,7 +30,9 @@ static bool moment_of_file(long *moment) {
 
 int clock_gettime(clockid_t clock, struct timespec *time) {
   const bool is_set = switches.moments != NULL || switches.moment != NULL;
-  if (clock != CLOCK_REALTIME || !is_set) return NEXT(clock_gettime)(clock, time);
+  // (the system itself is asked: a program with address checks reads a clock before it can look
+  // for a function)
+  if (clock != CLOCK_REALTIME || !is_set) return (int)syscall(SYS_clock_gettime, clock, time);
   long moment;
   if (!(switches.moments != NULL ? next_moment : moment_of_file)(&moment)) {
     errno = EINVAL;

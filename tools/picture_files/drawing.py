@@ -50,7 +50,29 @@ path.thin { stroke: #64748b; stroke-width: 1.2 }
 path.head { stroke: none; fill: #475569 }
 path.head.button, path.head.skipped, circle { fill: #15803d }
 path.head.request { fill: #1d4ed8 }
-path.head.stop { fill: #b91c1c }""" % (FONTS, SIZE)
+path.head.stop { fill: #b91c1c }
+@media (prefers-color-scheme: dark) {
+text { fill: #e6edf3 }
+text.button { fill: #86efac } text.request { fill: #93c5fd } text.stop { fill: #fca5a5 }
+rect { fill: #1c2430; stroke: #94a3b8 }
+path { stroke: #94a3b8 }
+rect.paper { fill: #0d1117 }
+rect.disk, rect.table { fill: #3a2a0c; stroke: #d9a441 }
+rect.memory, rect.store { fill: #14284b; stroke: #7aa2f7 }
+rect.work, rect.core { fill: #10301c; stroke: #4ade80 }
+rect.outside, rect.program { fill: #2a1f47; stroke: #a78bfa }
+rect.http { fill: #43182b; stroke: #f472b6 }
+rect.lane { fill: #161b22; stroke: #475569 }
+rect.dashed { fill: #0d1117 }
+path.button, path.skipped { stroke: #4ade80 }
+path.request { stroke: #7aa2f7 }
+path.stop { stroke: #f87171 }
+path.thin { stroke: #8b98a9 }
+path.head { stroke: none; fill: #94a3b8 }
+path.head.button, path.head.skipped, circle { fill: #4ade80 }
+path.head.request { fill: #7aa2f7 }
+path.head.stop { fill: #f87171 }
+}""" % (FONTS, SIZE)
 
 
 def size_of(kind):
@@ -74,6 +96,7 @@ class Drawing:
     def __init__(self, text):
         self.boxes, self.behind, self.lines, self.front = {}, [], [], []
         self.texts = []  # each text with its box: left, top, right, bottom
+        self.arrows = []  # each with its kind and its points
         self.title = ''
         for row in text.splitlines():
             if row and not row.startswith('#'):
@@ -120,6 +143,7 @@ class Drawing:
 
     def on_arrow(self, rest):
         kind, points = self.places(rest)
+        self.arrows.append((kind, points))
         (x, y), (from_x, from_y) = points[-1], points[-2]
         long = max(abs(x - from_x), abs(y - from_y), 1)
         across, down = (x - from_x) / long, (y - from_y) / long
@@ -176,7 +200,8 @@ class Drawing:
                            else [(at, points[-1][1]), (at, y)])
                 turn = None
             points.append((x, y))
-        return kind, points
+        # (where a turn ends at the place there is no leg after it)
+        return kind, [it for it, before in zip(points, [None, *points]) if it != before]
 
     def place(self, word):
         if ',' in word:

@@ -10,6 +10,7 @@ LEGEND = {'program': 'the program', 'http': 'its messages', 'store': 'the store'
           'table': 'the tables', 'core': 'the decisions', 'ground': 'the meaning'}
 WIDTH, MARGIN, GAP = 960, 14, 16
 FLOOR, HEIGHT, LETTER = 62, 27, 7.9
+NOTE = 24  # what the line below the boxes takes
 BEND = 4  # what a line that passes a floor takes of it
 
 
@@ -195,7 +196,7 @@ def drawing(text):
     top = 16
     y = {it: top + at * FLOOR for at, row in enumerate(layout.rows) for it in row}
     foot = top + len(layout.rows) * FLOOR
-    height = foot + HEIGHT + top
+    height = foot + HEIGHT + top + NOTE
     yield f'size {WIDTH} {height}'
     yield 'title The crates, each above all that it stands on'
     for row in layout.rows:
@@ -212,6 +213,8 @@ def drawing(text):
     for at, (kind, caption) in enumerate(LEGEND.items()):
         x = MARGIN + at * (width + GAP)
         yield f'box {kind}.small {kind} {x:.1f} {foot} {width:.1f} {HEIGHT} : {caption}'
+    yield (f'text small {MARGIN} {foot + HEIGHT + NOTE} start : Each box is a folder of crates/, '
+           'with its code in src/, its definitions in specs/ and its proofs in proofs/.')
 
 
 def port(layout, box, other, side):

@@ -28,6 +28,7 @@ use Rattle.dispatch_room_changes.specs.declared.change_lists.ChangeList.{ChangeL
 use Rattle.dispatch_room_tasks.specs.Enrolment.{HasImported, PrintsFates}
 use Rattle.dispatch_room_tasks.specs.OpenedRoom.{OpensRoom}
 use Rattle.dispatch_room_lists.specs.StoodRooms.{Stays, digits_in}
+use Rattle.dispatch_room_serving.specs.OpenedLists.{IsMarked}
 use Rattle.room_tables_schema.specs.FileConnections.{IsClean}
 
 -- a text is these lines, one after another; the last one may have no line end
@@ -107,6 +108,12 @@ module _ {F : Type 0} (contents lasting : F → Option (List ℕ)) where
   pub record KeepsHead (old new : ChangeList F) (head : Head) : Type 0 where
     pub begins : PutsHead old new head
     pub lasts : IsLasting new
+
+-- a mark stood beside the file of a list before anything was appended to what that held
+abbrev pub BeginsMarked : {F : Type 0} → (F → Option (List ℕ)) → (F → Option ℕ → Type 0)
+    → ChangeList F → Type 0
+BeginsMarked {F} contents marks list =
+    (file : F) × (contents file ≡ contents list.out.file) × IsMarked contents marks file
 
 module _ {S : Type 0} (g : Ghosts S) where
   -- The head is that of the room, which stays as it is and is kept as it was.

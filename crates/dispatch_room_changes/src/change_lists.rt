@@ -1,11 +1,12 @@
 //! The list of a room, in which the text of a change is kept before it is made.
 ghost use Rattle.std.specs.Prelude.{◌≡◌, ◌≤◌, ◌<◌, ◌⊎◌, ◌∷◌, ◌++◌, ◌||◌, [], List, OnErr, OnOk};
-ghost use Rattle.std.specs.Prelude.{Some, is_err, length, slice_get, take, true, false, ℕ};
+ghost use Rattle.std.specs.Prelude.{None, Some, is_err, length, slice_get, take, true, false, ℕ};
 ghost use Rattle.dispatch_room_journal.specs.Entries.{IsDigest};
 ghost use Rattle.dispatch_room_journal.specs.RowRuns.{PutsRow};
 ghost use Rattle.dispatch_room_journal.specs.TextParts.{Lacks};
 ghost use Rattle.dispatch_room_changes.specs.KeptImports.{AreLinesOf, KeepsLines, KeepsHead};
-ghost use Rattle.dispatch_room_changes.specs.KeptImports.{LacksRow, LacksRows, PutsHead, PutsRows};
+ghost use Rattle.dispatch_room_changes.specs.KeptImports.{BeginsMarked, LacksRow, LacksRows};
+ghost use Rattle.dispatch_room_changes.specs.KeptImports.{PutsHead, PutsRows};
 
 use dispatch_room_journal::entry_texts::EntryText;
 use dispatch_room_journal::list_ends::{ListEnd, put_entry, put_row};
@@ -33,9 +34,9 @@ impl<F> ChangeList<F> {
     }
 }
 
-/// Keeps the digest of a room, and then the lines of a text, and makes all of it last. It fails if
-/// the list is no chain, if a line is longer than `ROW_ROOM` bytes, or if the list can't be
-/// written.
+/// Keeps the digest of a room, and then the lines of a text, and makes all of it last. Until it
+/// does, a mark says where it begins. It fails if the list is no chain, if a line is longer than
+/// `ROW_ROOM` bytes, or if the list can't be marked or written.
 pub fn keep_lines<F: Lasting>(
     list: &mut ChangeList<F>,
     head: &Head,
@@ -46,6 +47,8 @@ pub fn keep_lines<F: Lasting>(
     ensures sound { OnOk result (list.new.out.failed ≡ false) }
     ensures kept { OnOk result (KeepsLines F.contents F.lasting list.old list.new head.now
         text.now) }
+    ensures marked { OnOk result (BeginsMarked F.contents F.marks list.old) }
+    ensures unmarked { OnOk result (F.marks list.new.out.file None) }
     ensures unkept { OnErr result (LacksRows list.new text.now) }
 {
     keep_head(list, head)?;
@@ -53,39 +56,46 @@ pub fn keep_lines<F: Lasting>(
     make_last(list)
 }
 
-/// Keeps the digest of a room, and makes it last.
+/// Keeps the digest of a room, and makes it last. Until it does, a mark says where it begins.
 pub fn keep_place<F: Lasting>(list: &mut ChangeList<F>, head: &Head) -> Result<(), Unkept>
     requires sound { list.old.out.failed ≡ false }
     requires digest { IsDigest head.now.digits }
     ensures kept { OnOk result (KeepsHead F.contents F.lasting list.old list.new head.now) }
+    ensures marked { OnOk result (BeginsMarked F.contents F.marks list.old) }
+    ensures unmarked { OnOk result (F.marks list.new.out.file None) }
     ensures unkept { OnErr result (list.new.out.failed ≡ true) }
 {
     keep_head(list, head)?;
     make_last(list)
 }
 
-// Makes all that was kept last. If that fails, the list has failed.
+// Makes all that was kept last, and then takes the mark away. If that fails, the list has failed.
 fn make_last<F: Lasting>(list: &mut ChangeList<F>) -> Result<(), Unkept>
     ensures held { F.contents list.new.out.file ≡ F.contents list.old.out.file }
     ensures end { list.new.end ≡ list.old.end }
     ensures failed { list.new.out.failed ≡ (list.old.out.failed || is_err result) }
     ensures lasts { OnOk result (F.lasting list.new.out.file ≡ F.contents list.new.out.file) }
+    ensures unmarked { OnOk result (F.marks list.new.out.file None) }
 {
-    if list.out.make_last() {
+    if list.out.make_last() && list.out.unmark() {
         Ok(())
     } else {
         Err(Unkept)
     }
 }
 
-// Keeps the digest of a room.
+// Marks beside a list where it ends, and keeps the digest of a room there.
 fn keep_head<F: Lasting>(list: &mut ChangeList<F>, head: &Head) -> Result<(), Unkept>
     requires sound { list.old.out.failed ≡ false }
     requires digest { IsDigest head.now.digits }
     ensures failed { list.new.out.failed ≡ is_err result }
+    ensures marked { OnOk result (BeginsMarked F.contents F.marks list.old) }
     ensures kept { OnOk result (PutsHead F.contents F.lasting list.old list.new head.now) }
 {
     let entry = EntryText::room(head);
+    if !list.out.mark() {
+        return Err(Unkept);
+    }
     match put_entry(&mut list.out, &mut list.end, entry.bytes()) {
         Ok(()) => Ok(()),
         Err(_) => Err(Unkept),

@@ -2,52 +2,53 @@
 ghost use Rattle.std.specs.Prelude.{IfErr, IfOk};
 ghost use Rattle.dispatch_room_csv.specs.PlanFile.{IsPlanText};
 ghost use Rattle.dispatch_room_changes.specs.TerminalFiles.{GivesNoPlan};
-ghost use Rattle.dispatch_room_changes.specs.ChangeTasks.{Creates};
 ghost use Rattle.dispatch_room_changes.specs.ChangeSteps.{IsInit, IsInitOf};
+ghost use Rattle.dispatch_room_disk.specs.CommandSteps.{at};
+ghost use Rattle.dispatch_room_disk.specs.SystemFiles.{system};
 
 use dispatch_room_cli::exit_status::{Done, Failure};
+use dispatch_room_cli::failure_causes::Explainer;
 use dispatch_room_csv::plan_file::{PlanFile, read_plan};
 use dispatch_room_csv::plan_file_faults::explain_plan;
 use dispatch_room_csv::sheets::Sheet;
-use dispatch_room_disk::room_files::{RoomFile, RoomTask};
+use dispatch_room_disk::room_files::RoomFile;
 use dispatch_room_tasks::creation::create_in;
-use dispatch_room_tasks::opened_room::TaskResult;
 use dispatch_room_tcp::hosts::Machine;
-use sqlite::{Alter, Connection};
-use std::alloc::Global;
 use std::io::Write;
 
 /// Creates the room of a plan in a file that is new or empty, and prints what the room has. That is
 /// printed even if the file can't be closed afterwards. A file that is made is private to its
 /// owner.
 pub fn init<M: Machine, O: Write>(
-    machine: M,
+    explainer: Explainer<'_>,
+    machine: &mut M,
     file: &str,
     plan: &str,
     out: &mut O,
 ) -> Result<Done, Failure>
-    ensures { IsInit (M.surroundings machine) file.now plan.now (O.contents out.old)
-        (O.contents out.new) result }
+    ensures { IsInit system file.now plan.now (at (O.contents out.old) (M.done machine.old))
+        (at (O.contents out.new) (M.done machine.new)) result }
 {
-    let host = machine.host();
     let text = machine.read_text(plan)?;
-    let sheet = Sheet::new(host.alloc, host.explainer, plan, text.as_slice());
+    let sheet = Sheet::new(machine.alloc(), explainer, plan, text.as_slice());
     init_by(machine, file, sheet, out)
 }
 
 // Creates the room of the plan that a text gives.
 fn init_by<M: Machine, O: Write>(
-    machine: M,
+    machine: &mut M,
     file: &str,
     sheet: Sheet<'_>,
     out: &mut O,
 ) -> Result<Done, Failure>
-    ensures { IsInitOf (M.surroundings machine) file.now sheet.entry.text.now (O.contents out.old)
-        (O.contents out.new) result }
+    ensures { IsInitOf system file.now sheet.entry.text.now
+        (at (O.contents out.old) (M.done machine.old))
+        (at (O.contents out.new) (M.done machine.new)) result }
 {
     let plan = plan_in(sheet)?;
-    let creation = Creation { plan: &plan };
-    machine.in_file(RoomFile::New(file), creation, out)
+    let conn = machine.open(RoomFile::New(file))?;
+    let created = create_in(machine.alloc(), conn, &plan, out);
+    machine.close(RoomFile::New(file), created)
 }
 
 /// The plan that a file gives. Explains why if it gives none.
@@ -61,26 +62,5 @@ pub fn plan_in(sheet: Sheet<'_>) -> Result<PlanFile, Failure>
             explain_plan(sheet, fault);
             Err(Failure::from(fault))
         }
-    }
-}
-
-// A room is created by a plan.
-#[derive(Clone, Copy)]
-struct Creation<'a> {
-    plan: &'a PlanFile,
-}
-
-impl<'a> RoomTask for Creation<'a> {
-    type Done = Done;
-
-    ghost does = { λ work. Creates work.plan.now };
-
-    fn run<S: Alter + Drop, O: Write>(
-        self,
-        alloc: Global,
-        conn: Connection<S>,
-        out: &mut O,
-    ) -> TaskResult<Done, S> {
-        create_in(alloc, conn, self.plan, out)
     }
 }

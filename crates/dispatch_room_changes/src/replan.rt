@@ -2,10 +2,13 @@
 ghost use Rattle.std.specs.Prelude.{IfErr, IfOk};
 ghost use Rattle.dispatch_room_csv.specs.PlanFile.{IsPlanText};
 ghost use Rattle.dispatch_room_changes.specs.ChangeSteps.{IsReplan, IsReplanOf, IsReplanned};
+ghost use Rattle.dispatch_room_disk.specs.CommandSteps.{at};
+ghost use Rattle.dispatch_room_disk.specs.SystemFiles.{system};
 
 use crate::init::plan_in;
 use crate::kept_changes::{ChangedFile, make_in_file};
 use dispatch_room_cli::exit_status::{Done, Failure};
+use dispatch_room_cli::failure_causes::Explainer;
 use dispatch_room_csv::plan_file::PlanFile;
 use dispatch_room_csv::sheets::Sheet;
 use dispatch_room_disk::outputs::print;
@@ -14,51 +17,53 @@ use dispatch_room_tcp::hosts::Machine;
 use std::io::Write;
 
 /// Gives a room the plan of a file and the terminals in it, and prints `replanned`.
-pub fn replan<M: Machine, O: Write, E: Write>(
-    machine: M,
+pub fn replan<M: Machine, O: Write>(
+    explainer: Explainer<'_>,
+    machine: &mut M,
     place: ChangedFile<'_>,
     plan: &str,
     out: &mut O,
-    err: &mut E,
 ) -> Result<Done, Failure>
-    ensures { IsReplan (M.surroundings machine) place.entry plan.now (O.contents out.old)
-        (O.contents out.new) result }
+    ensures { IsReplan system M.File.Write.contents M.File.lasting place.entry plan.now
+        (at (O.contents out.old) (M.done machine.old))
+        (at (O.contents out.new) (M.done machine.new)) result }
 {
-    let host = machine.host();
     let text = machine.read_text(plan)?;
-    let sheet = Sheet::new(host.alloc, host.explainer, plan, text.as_slice());
-    replan_as(machine, place, sheet, out, err)
+    let sheet = Sheet::new(machine.alloc(), explainer, plan, text.as_slice());
+    replan_as(explainer, machine, place, sheet, out)
 }
 
 // Gives a room the plan of a file's text.
-fn replan_as<M: Machine, O: Write, E: Write>(
-    machine: M,
+fn replan_as<M: Machine, O: Write>(
+    explainer: Explainer<'_>,
+    machine: &mut M,
     place: ChangedFile<'_>,
     sheet: Sheet<'_>,
     out: &mut O,
-    err: &mut E,
 ) -> Result<Done, Failure>
-    ensures { IsReplanOf (M.surroundings machine) place.entry sheet.entry.text.now (O.contents out.old)
-        (O.contents out.new) result }
+    ensures { IsReplanOf system M.File.Write.contents M.File.lasting place.entry sheet.entry.text.now
+        (at (O.contents out.old) (M.done machine.old))
+        (at (O.contents out.new) (M.done machine.new)) result }
 {
     let plan = plan_in(sheet)?;
-    replan_by(machine, place, plan, sheet.text, out, err)
+    replan_by(explainer, machine, place, plan, sheet.text, out)
 }
 
 // Gives a room this plan, which has this text.
-fn replan_by<M: Machine, O: Write, E: Write>(
-    machine: M,
+fn replan_by<M: Machine, O: Write>(
+    explainer: Explainer<'_>,
+    machine: &mut M,
     place: ChangedFile<'_>,
     plan: PlanFile,
     text: &[u8],
     out: &mut O,
-    err: &mut E,
 ) -> Result<Done, Failure>
     requires text { IsPlanText text.now plan }
-    ensures { IsReplanned (M.surroundings machine) place.entry text.now plan (O.contents out.old)
-        (O.contents out.new) result }
+    ensures { IsReplanned system M.File.Write.contents M.File.lasting place.entry text.now plan
+        (at (O.contents out.old) (M.done machine.old))
+        (at (O.contents out.new) (M.done machine.new)) result }
 {
     let change = RoomChange::Plan(plan);
-    make_in_file(machine, place, &change, text, out, err)?;
+    make_in_file(explainer, machine, place, &change, text)?;
     print(b"replanned\n", out)
 }

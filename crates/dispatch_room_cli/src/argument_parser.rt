@@ -31,7 +31,7 @@ use std::fmt;
 use std::net::SocketAddr;
 
 /// The version of the program, whose first number is that of the rooms that it keeps.
-pub const VERSION: &str = "2.0";
+pub const VERSION: &str = "2.1";
 
 // The option that explains failures, also where standard error is no terminal.
 const EXPLAIN: &str = "--explain";

@@ -4,13 +4,10 @@ use Rattle.clap.specs.declared.error.ErrorKind.{ErrorKind}
 use Rattle.clap.specs.declared.error.ErrorKind.TheVariants as kind
 use Rattle.dispatch_room_board.specs.declared.boards.Reached.{Reached}
 use Rattle.dispatch_room_board.specs.declared.boards.Reached.TheVariants as reached
-use Rattle.dispatch_room_cli.specs.declared.tasks.Color.{Color}
-use Rattle.dispatch_room_cli.specs.declared.tasks.Color.TheVariants as color
 use Rattle.dispatch_room_cli.specs.declared.exit_status.Done.{Done}
 use Rattle.dispatch_room_cli.specs.declared.exit_status.Done.TheVariants.{InPart, Whole}
 use Rattle.dispatch_room_cli.specs.declared.exit_status.Failure.{Failure}
 use Rattle.dispatch_room_cli.specs.declared.exit_status.Failure.TheVariants.{Memory, Network}
-use Rattle.dispatch_room_tcp.specs.Hosts.{Surroundings}
 
 -- the words have a mistake: they don't ask for help, and memory was not refused
 abbrev pub is_mistake : ErrorKind → Bool
@@ -37,12 +34,6 @@ abbrev pub IsWordsOutput : ErrorKind → Option (List ℕ) → Option (List ℕ)
 IsWordsOutput kind.DisplayHelp before after = ⊤
 IsWordsOutput kind.DisplayVersion before after = ⊤
 IsWordsOutput other before after = after ≡ before
-
--- whether a board has colours: as it was asked, or where standard output is a terminal
-abbrev pub IsColour : {F : Type 0} → Surroundings F → Color → Bool → Type 0
-IsColour around color.Auto colour = around.terminal colour
-IsColour around color.Always colour = colour ≡ true
-IsColour around color.Never colour = colour ≡ false
 
 -- how a board ends: refused parts count as refused rows do, and parts that were not reached as a
 -- failure of the network

@@ -92,10 +92,8 @@ said_by_legs bytes = option_map (list_says sha256_digits Leg) bytes
 -- The list of an input, of whose bytes this is known, is replayed to the room, or its messages are
 -- answered; or no room is opened, and nothing is printed; or, behind a leg of a list, none is opened
 -- again.
-abbrev pub Replays : (Option (List ℕ) → Type 0) → How → Doing Done
-Replays input how = λ S g old before after worked. MatchResult worked
-    (λ it. (bytes : Option (List ℕ)) × input bytes
-    × HasReplayed g old it.1 how (said_by_legs bytes) before after it.0)
+abbrev pub Replays : Option (List ℕ) → How → Doing Done
+Replays bytes how = λ S g old before after worked. MatchResult worked
+    (λ it. HasReplayed g old it.1 how (said_by_legs bytes) before after it.0)
     (λ fault. (IsUnopened g old fault × (after ≡ before))
-    ⊎ ((bytes : Option (List ℕ)) × input bytes
-    × LosesReplayed g old how (said_by_legs bytes) before after fault))
+    ⊎ LosesReplayed g old how (said_by_legs bytes) before after fault)

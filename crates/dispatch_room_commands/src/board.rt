@@ -1,8 +1,9 @@
 //! `board`: a served room is asked as a desk, and what the desk sees is shown.
-ghost use Rattle.std.specs.Prelude.{◌≡◌, ◌⊎◌, ℕ, Err, List, IfOk, IfSome, SomeIff, false, is_some};
-ghost use Rattle.std.specs.Prelude.{true};
-ghost use Rattle.dispatch_room_commands.specs.CommandEnds.{IsColour, end_of_board};
-ghost use Rattle.dispatch_room_commands.specs.TaskSteps.{IsBoardOf, PrintsBoard};
+ghost use Rattle.std.specs.Prelude.{◌≡◌, ◌⊎◌, ℕ, Err, List, IfOk, IfSome, Ok, SomeIff, false};
+ghost use Rattle.std.specs.Prelude.{is_some, true};
+ghost use Rattle.dispatch_room_commands.specs.CommandEnds.{end_of_board};
+ghost use Rattle.dispatch_room_commands.specs.TaskSteps.{Colours, IsBoardOf, PrintsBoard};
+ghost use Rattle.dispatch_room_disk.specs.CommandSteps.{Quietly, at};
 ghost use Rattle.room_types.specs.Texts.{is_token};
 ghost use Rattle.dispatch_room_board.specs.Requests.{requests};
 ghost use Rattle.dispatch_room_board.specs.declared.exchange.TheConstants.{MOST_HEARD};
@@ -26,12 +27,12 @@ use std::time::Duration;
 /// not be reached is shown in it, and by the end. A text that is no token is refused, and nothing
 /// is asked.
 pub fn board<M: Machine, O: Write>(
-    machine: M,
+    machine: &mut M,
     look: &Look<'_>,
     out: &mut O,
 ) -> Result<Done, Failure>
-    ensures { IsBoardOf (M.surroundings machine) look.now (O.contents out.old)
-        (O.contents out.new) result }
+    ensures { IsBoardOf M.heard look.now (at (O.contents out.old) (M.done machine.old))
+        (at (O.contents out.new) (M.done machine.new)) result }
 {
     let Some(asker) = asker_of(look) else {
         return Err(Failure::Input);
@@ -39,7 +40,7 @@ pub fn board<M: Machine, O: Write>(
     let colour = has_colour(machine, look.color);
     let patience = Duration::from_secs(u64::from(look.patience));
     let sides = machine.call(look.address, patience);
-    show(machine.host().alloc, &asker, sides, colour, out)
+    show(machine.alloc(), &asker, sides, colour, out)
 }
 
 // Who asks, and of which incident: nobody where the text is no token.
@@ -113,8 +114,8 @@ fn end_of(reached: Reached) -> Result<Done, Failure>
 }
 
 // Whether a board has colours.
-fn has_colour<M: Machine>(machine: M, color: Color) -> bool
-    ensures { IsColour (M.surroundings machine) color result }
+fn has_colour<M: Machine>(machine: &mut M, color: Color) -> bool
+    ensures { Quietly (Colours color) (M.done machine.old) (M.done machine.new) (Ok result) }
 {
     match color {
         Color::Auto => machine.has_terminal(),

@@ -5,10 +5,12 @@ ghost use Rattle.clap.specs.declared.error.Error.{Error as Mistake};
 ghost use Rattle.clap.specs.declared.error.ErrorKind.TheVariants.{OutOfMemory};
 ghost use Rattle.dispatch_room_commands.specs.CommandEnds.{IsHelpDone, IsWordsOutput};
 ghost use Rattle.dispatch_room_commands.specs.CommandEnds.{IsWordsStatus, is_mistake};
-ghost use Rattle.dispatch_room_commands.specs.TaskSteps.{IsAskedBy, IsExit, IsImportOf, IsTask};
-ghost use Rattle.dispatch_room_tcp.specs.Hosts.{unknown};
+ghost use Rattle.dispatch_room_commands.specs.TaskSteps.{IsAskedBy, IsExit, IsExitHere, IsImportOf};
+ghost use Rattle.dispatch_room_commands.specs.TaskSteps.{IsTask};
+ghost use Rattle.dispatch_room_disk.specs.CommandSteps.{at};
 ghost use Rattle.dispatch_room_cli.specs.ExplainedFailures.{Explains};
 ghost use Rattle.dispatch_room_cli.specs.declared.tasks.Task.{Task as Asked};
+ghost use Rattle.dispatch_room_disk.specs.SystemFiles.{system};
 
 use crate::board::board;
 use crate::check::check;
@@ -87,10 +89,11 @@ pub fn command<'a, W: Asks<'a>, O: Write, E: Write>(
     err: &mut E,
 ) -> u8
     ensures { (asked : Result Asked Mistake) × W.reads words asked
-        × IsExit unknown asked (O.contents out.old) (O.contents out.new) result }
+        × IsExitHere asked (O.contents out.old) (O.contents out.new) result }
 {
     let host = host_of(rt, alloc, &words);
-    exit(host, words.read(alloc), out, err)
+    let mut machine = host;
+    exit(host, &mut machine, words.read(alloc), out, err)
 }
 
 // What a command runs on. Failures are explained where the words ask for that.
@@ -113,21 +116,22 @@ fn explainer_of(rt: &HostRuntime, is_asked_for: bool) -> Explainer<'_>
 
 // Does a task, or reports what the words are in its place, and returns the exit status.
 fn exit<M: Machine, O: Write, E: Write>(
-    machine: M,
+    host: Host<'_>,
+    machine: &mut M,
     asked: Result<Task<'_>, Error>,
     out: &mut O,
     err: &mut E,
 ) -> u8
-    ensures { IsExit (M.surroundings machine) asked.entry (O.contents out.old) (O.contents out.new)
-        result }
+    ensures { IsExit system M.heard M.File.Write.contents M.File.lasting asked.entry
+        (at (O.contents out.old) (M.done machine.old))
+        (at (O.contents out.new) (M.done machine.new)) result }
 {
     match asked {
         Ok(task) => {
-            let host = machine.host();
             if let Some(file) = task.file() {
                 warn(host.rt, file, err);
             }
-            let done = perform(machine, &task, out, err);
+            let done = perform(host, machine, &task, out, err);
             explain(host.explainer, &task, &done);
             end(done, err)
         }
@@ -147,31 +151,34 @@ fn warn<E: Write>(rt: &HostRuntime, file: &str, err: &mut E) {
 }
 
 fn perform<M: Machine, O: Write, E: Write>(
-    machine: M,
+    host: Host<'_>,
+    machine: &mut M,
     task: &Task<'_>,
     out: &mut O,
     err: &mut E,
 ) -> Result<Done, Failure>
-    ensures { IsTask (M.surroundings machine) task.now (O.contents out.old)
-        (O.contents out.new) result }
+    ensures { IsTask system M.heard M.File.Write.contents M.File.lasting task.now
+        (at (O.contents out.old) (M.done machine.old))
+        (at (O.contents out.new) (M.done machine.new)) result }
 {
+    let explainer = host.explainer;
     match *task {
-        Task::Init { file, plan } => init(machine, file, plan, out),
+        Task::Init { file, plan } => init(explainer, machine, file, plan, out),
         Task::Import { file, fleet, list } => {
-            import_fleet(machine, ChangedFile { file, list }, fleet, out, err)
+            import_fleet(explainer, machine, ChangedFile { file, list }, fleet, out)
         }
         Task::Replan { file, plan, list } => {
-            replan(machine, ChangedFile { file, list }, plan, out, err)
+            replan(explainer, machine, ChangedFile { file, list }, plan, out)
         }
         Task::Migrate { file } => migrate(machine, file, out),
         Task::Check { file } => check(machine, file, out),
         Task::Digest { file } => digest(machine, file, out),
-        Task::Restore { copy, file } => restore(machine, copy, file, out),
-        Task::Serve { file, service } => serve_file(machine, file, service, out, err),
+        Task::Restore { copy, file } => restore(explainer, machine, copy, file, out),
+        Task::Serve { file, service } => serve_file(host, machine, file, service, out),
         Task::Replay {
             file,
             replay: ref how,
-        } => replay(machine, file, how, out, err),
+        } => replay(explainer, machine, file, how, out, err),
         Task::Renew { file, new, since } => renew(machine, file, new, since, out),
         Task::Verify { list } => verify_list(machine, list, out),
         Task::Board { ref look } => board(machine, look, out),
@@ -187,28 +194,29 @@ fn perform<M: Machine, O: Write, E: Write>(
             day,
         } => joined_times(machine, file, older, division, day, out),
         Task::Terminals { file, wanted, list } => {
-            terminals(machine, ChangedFile { file, list }, wanted, out, err)
+            terminals(explainer, machine, ChangedFile { file, list }, wanted, out)
         }
         Task::SetTerminals { file, csv, list } => {
-            set_terminals(machine, ChangedFile { file, list }, csv, out, err)
+            set_terminals(explainer, machine, ChangedFile { file, list }, csv, out)
         }
     }
 }
 
 // Imports a fleet, which is kept in the room's list before, where there is one.
-fn import_fleet<M: Machine, O: Write, E: Write>(
-    machine: M,
+fn import_fleet<M: Machine, O: Write>(
+    explainer: Explainer<'_>,
+    machine: &mut M,
     place: ChangedFile<'_>,
     fleet: &str,
     out: &mut O,
-    err: &mut E,
 ) -> Result<Done, Failure>
-    ensures { IsImportOf (M.surroundings machine) place.entry fleet.now (O.contents out.old)
-        (O.contents out.new) result }
+    ensures { IsImportOf system M.File.Write.contents M.File.lasting place.entry fleet.now
+        (at (O.contents out.old) (M.done machine.old))
+        (at (O.contents out.new) (M.done machine.new)) result }
 {
     match place.list {
-        Some(list) => import_kept(machine, place.file, fleet, list, out, err),
-        None => import(machine, place.file, fleet, out),
+        Some(list) => import_kept(explainer, machine, place.file, fleet, list, out),
+        None => import(explainer, machine, place.file, fleet, out),
     }
 }
 

@@ -1,11 +1,13 @@
 //! `restore`: a copy of a room is put in the place of a file.
-ghost use Rattle.dispatch_room_commands.specs.TaskSteps.{IsRestore, IsRestoreBy};
-ghost use Rattle.dispatch_room_disk.specs.FileSteps.{Does};
+ghost use Rattle.dispatch_room_commands.specs.TaskSteps.{IsRestore, PutsInPlace};
+ghost use Rattle.dispatch_room_disk.specs.CommandSteps.{Quietly, at};
+ghost use Rattle.dispatch_room_disk.specs.SystemFiles.{system};
 
 use crate::check::check;
 use dispatch_room_cli::exit_status::{Done, Failure};
-use dispatch_room_disk::aside_names::print_found;
-use dispatch_room_disk::restored_files::{Replacing, put_in_place};
+use dispatch_room_cli::failure_causes::Explainer;
+use dispatch_room_disk::aside_names::{Found, print_found};
+use dispatch_room_disk::restored_files::put_in_place;
 use dispatch_room_tcp::hosts::Machine;
 use std::io::Write;
 
@@ -13,41 +15,33 @@ use std::io::Write;
 /// how much it has, and under which name another room was set aside. A copy that is none leaves the
 /// file as it is; where a step fails, those before it stay done.
 pub fn restore<M: Machine, O: Write>(
-    machine: M,
+    explainer: Explainer<'_>,
+    machine: &mut M,
     copy: &str,
     file: &str,
     out: &mut O,
 ) -> Result<Done, Failure>
-    ensures { IsRestore (M.surroundings machine) copy.now file.now (O.contents out.old)
-        (O.contents out.new) result }
+    ensures { IsRestore system copy.now file.now (at (O.contents out.old) (M.done machine.old))
+        (at (O.contents out.new) (M.done machine.new)) result }
 {
-    let mut calls = machine.calls();
-    let done = restore_by(machine, &mut calls, copy, file, out);
-    machine.release(calls);
-    done
+    let done = check(machine, copy, out)?;
+    let found = replace(explainer, machine, copy, file)?;
+    print_found(found, file, out)?;
+    Ok(done)
 }
 
-// The same by these calls: none is made before the copy was checked, and all are, one after
-// another, until one fails.
-fn restore_by<M: Machine, R: Replacing, O: Write>(
-    machine: M,
-    calls: &mut R,
+// Puts it there, and returns what was found there.
+fn replace<M: Machine>(
+    explainer: Explainer<'_>,
+    machine: &mut M,
     copy: &str,
     file: &str,
-    out: &mut O,
-) -> Result<Done, Failure>
-    ensures { IsRestoreBy (M.surroundings machine)
-        (λ steps. Does steps (R.done calls.old) (R.done calls.new)) copy.now file.now (O.contents out.old)
-        (O.contents out.new) result }
+) -> Result<Found, Failure>
+    ensures { Quietly (PutsInPlace copy.now file.now) (M.done machine.old) (M.done machine.new)
+        result }
 {
-    match check(machine, copy, out) {
-        Ok(done) => match put_in_place(calls, machine.host().explainer, copy, file) {
-            Ok(found) => match print_found(found, file, out) {
-                Ok(_) => Ok(done),
-                Err(fault) => Err(fault),
-            },
-            Err(fault) => Err(fault),
-        },
-        Err(fault) => Err(fault),
-    }
+    let mut calls = machine.calls();
+    let put = put_in_place(&mut calls, explainer, copy, file);
+    machine.release(calls);
+    put
 }

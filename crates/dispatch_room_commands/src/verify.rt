@@ -2,7 +2,7 @@
 ghost use Rattle.std.specs.Prelude.{◌≡◌, ◌||◌, ◌==◌, Some, false, IfErr, OnOk};
 ghost use Rattle.std.specs.Io.KnownBytes.{Appends};
 ghost use Rattle.dispatch_room_cli.specs.declared.exit_status.Failure.TheVariants.{Network};
-ghost use Rattle.dispatch_room_disk.specs.CommandSteps.{Prints};
+ghost use Rattle.dispatch_room_disk.specs.CommandSteps.{Prints, at};
 ghost use Rattle.dispatch_room_commands.specs.TaskSteps.{IsVerify, IsVerifyOf, PrintsNone};
 ghost use Rattle.dispatch_room_commands.specs.VerifiedLists.{fails_by, span_text, tally_text};
 ghost use Rattle.dispatch_room_journal.specs.ReadSteps.{ends_well, left_in, most_rows};
@@ -22,15 +22,15 @@ use std::io::Write;
 /// Prints how many messages a list has, when the first came and the last, and whether the list
 /// ended well; or that nothing was begun; or fails at the first record at which it is no list.
 pub fn verify_list<M: Machine, O: Write>(
-    machine: M,
+    machine: &mut M,
     path: &str,
     out: &mut O,
 ) -> Result<Done, Failure>
-    ensures { IsVerify (M.surroundings machine) path.now (O.contents out.old)
-        (O.contents out.new) result }
+    ensures { IsVerify path.now (at (O.contents out.old) (M.done machine.old))
+        (at (O.contents out.new) (M.done machine.new)) result }
 {
     let mut list = ListSource::new(machine.open_list(path)?);
-    let done = verify_in(machine.host().alloc, &mut list, out);
+    let done = verify_in(machine.alloc(), &mut list, out);
     machine.leave_list(path, &list);
     done
 }

@@ -1,6 +1,5 @@
 -- What a call gives, said by two of its clauses, and what is handed on where it fails.
-use Rattle.std.proofs.Common.{Err, IfErr, IfOk, List, MatchResult, Ok, Option, Result, false, refl}
-use Rattle.std.proofs.Common.{ℕ, ◌≡◌}
+use Rattle.std.proofs.Common.{Err, IfErr, IfOk, MatchResult, Ok, Result, false, refl, ◌≡◌}
 use Rattle.std.specs.Prelude.{OnErr, OnOk, is_err}
 use Rattle.dispatch_room_cli.specs.declared.exit_status.Failure.{Failure}
 use Rattle.dispatch_room_disk.specs.CommandSteps.{Step, Then}
@@ -38,7 +37,7 @@ failed_so (Ok x) P Q why beside = tt
 failed_so (Err e) P Q why beside = (why, beside)
 
 -- a step that fails is the last
-pub stops : {T U : Type 0} (first : Step T) (next : T → Step U) (before after : Option (List ℕ))
+pub stops : {X T U : Type 0} (first : Step X T) (next : T → Step X U) (before after : X)
     (r : Result U Failure) (P : Failure → Type 0) → IsErrAnd r P → ((e : Failure) → P e → first before after (Err e))
     → Then first next before after r
 stops first next before after (Ok x) P is by = absurd is

@@ -2,7 +2,7 @@
 use Rattle.std.specs.Prelude.{Err, List, MatchResult, Option, Result, ℕ, ◌≡◌, ◌⊎◌}
 use Rattle.sqlite.specs.Closing.{IsCopied}
 use Rattle.sqlite.specs.Files.{FailsToClose, Finds, IsCleanLeft, IsClosed, IsOpened, LeavesFiles}
-use Rattle.sqlite.specs.Files.{file_state, over_files}
+use Rattle.sqlite.specs.Files.{file_state}
 use Rattle.sqlite.specs.Held.{Held}
 use Rattle.sqlite.specs.State.{HasCleanDisk}
 use Rattle.sqlite.specs.declared.error.Error.{Error}
@@ -15,7 +15,8 @@ use Rattle.sqlite_trees.specs.View.{IsClean}
 use Rattle.sqlite_trees.specs.declared.store.Store.{Ghosts}
 use Rattle.sqlite_wal.specs.Reads.{AreClean}
 use Rattle.dispatch_room_disk.specs.DiskFaults.{IsFileFault, fault_of}
-use Rattle.dispatch_room_disk.specs.SystemFiles.{SystemFile, system}
+use Rattle.dispatch_room_disk.specs.declared.room_files.RoomFile.{RoomFile}
+use Rattle.dispatch_room_disk.specs.declared.room_files.RoomFile.TheVariants.{Kept, New, Old}
 use Rattle.dispatch_room_cli.specs.declared.exit_status.Failure.{Failure}
 use Rattle.dispatch_room_cli.specs.declared.exit_status.Failure.TheVariants as failure
 
@@ -32,6 +33,18 @@ pub record IsUnharmed {D : Type 0} (g : Disk D) (files : Files D) (failure : Fai
   pub failed : failure ≡ fault_of error
   pub left : Leftover D g
   pub kept : IsCleanLeft left → LeavesFiles files left
+
+-- The file of a room that is opened, by its path: one that has to be there, one with a room of the
+-- first version, or one that is made where it is not there.
+pub data Place : Type 0 where
+  there : List ℕ → Place
+  old : List ℕ → Place
+  fresh : List ℕ → Place
+
+abbrev pub place_of : RoomFile → Place
+place_of (Kept path) = there path.now
+place_of (Old path) = old path.now
+place_of (New path) = fresh path.now
 
 -- no database was found in a file of the system
 abbrev pub IsUnfound : Failure → Type 0
@@ -67,18 +80,7 @@ module _ {D : Type 0} {g : Disk D} where
   ClosesWith closed worked came = ((came ≡ worked) × IsCopiedOut closed)
       ⊎ ((fault : Failure) × (came ≡ Err fault) × IsUnclosed closed fault)
 
-  -- what is said of work holds of this database, and its file was closed behind it
-  pub record WorksIn {T : Type 0} (does : Doing T) (conn : Held (FileStore D g))
-      (before after : Option (List ℕ)) (came : Result T Failure) : Type 0 where
-    pub worked : Result (Result T Failure × Held (FileStore D g)) Failure
-    pub did : does (FileStore D g) over_files conn before after worked
-    pub closes : MatchResult worked (λ it. ClosesWith it.1 it.0 came) (λ fault. came ≡ Err fault)
-
--- Work in the database of a file of the system: none was found, for this, and nothing is printed;
--- or one was, and it was worked in.
-abbrev pub WorksInFile : {T : Type 0} → Doing T → Option (List ℕ) → Option (List ℕ)
-    → Result T Failure → Type 0
-WorksInFile does before after came =
-    ((fault : Failure) × (came ≡ Err fault) × IsUnfound fault × (after ≡ before))
-    ⊎ ((conn : Held (FileStore SystemFile system)) × IsConnected conn
-    × WorksIn does conn before after came)
+  -- what comes of work once the file is closed behind it; or it could not be done, for this
+  abbrev pub Closes : {T : Type 0} → Result (Result T Failure × Held (FileStore D g)) Failure
+      → Result T Failure → Type 0
+  Closes worked came = MatchResult worked (λ it. ClosesWith it.1 it.0 came) (λ fault. came ≡ Err fault)

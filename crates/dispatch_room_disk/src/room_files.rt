@@ -1,14 +1,13 @@
 //! The file of a room: found or made, opened, worked in, and closed.
-ghost use Rattle.std.specs.Prelude.{◌≡◌, Err, Ok, None, true, false, IfErr, IfOk, IsTrue};
-ghost use Rattle.std.specs.Prelude.{MatchResult, OnOk, nat_eq, not};
+ghost use Rattle.std.specs.Prelude.{◌≡◌, Err, Ok, None, true, false, IfErr, IfOk, IsTrue, OnOk};
+ghost use Rattle.std.specs.Prelude.{nat_eq, not};
 ghost use Rattle.std.specs.IoError.{error_kind};
 ghost use Rattle.sqlite.specs.Files.{file_state};
 ghost use Rattle.sqlite.specs.State.{HasCleanDisk};
 ghost use Rattle.dispatch_room_cli.specs.declared.exit_status.Failure.TheVariants as failure;
 ghost use Rattle.dispatch_room_disk.specs.DiskFaults.{IsFileFault, IsUnfoundBy, fault_of};
-ghost use Rattle.dispatch_room_disk.specs.RoomFiles.{ClosesWith, Doing, IsConnected, IsCopiedOut};
-ghost use Rattle.dispatch_room_disk.specs.RoomFiles.{IsFound, IsUnclosed, IsUnfound, IsUnharmed};
-ghost use Rattle.dispatch_room_disk.specs.RoomFiles.{WorksIn, WorksInFile};
+ghost use Rattle.dispatch_room_disk.specs.RoomFiles.{Closes, IsConnected, IsCopiedOut, IsFound};
+ghost use Rattle.dispatch_room_disk.specs.RoomFiles.{IsUnclosed, IsUnfound, IsUnharmed};
 ghost use Rattle.dispatch_room_disk.specs.SystemFiles.{system};
 
 use crate::file_causes::{explain_failed, explain_unbegun, explain_undone};
@@ -22,9 +21,8 @@ use dispatch_room_cli::failure_causes::Explainer;
 use dispatch_room_tasks::opened_room::TaskResult;
 use sqlite::{Alter, Connection, Error, ErrorCode, File, FileStore, Files, Options, Unknown};
 use sqlite_disk::Disk;
-use std::alloc::Global;
 use std::fs;
-use std::io::{self, ErrorKind, Read, Write};
+use std::io::{self, ErrorKind, Read};
 
 /// The file of a room, and what a command requires of it.
 #[derive(Clone, Copy)]
@@ -46,66 +44,30 @@ impl<'a> RoomFile<'a> {
     }
 }
 
-/// What is done in the file of a room, over any storage. A proof about a file of the system opens
-/// all that is inside it, so only a few functions have one, and hand it on as one on any disk.
-pub trait RoomTask: Drop {
-    /// What comes of it.
-    type Done: Drop;
-
-    // What holds of a database, of the output, and of what comes of it.
-    ghost does: { Self → Doing Self.Done };
-
-    /// Does it in a database, and writes to the output what it reports.
-    fn run<S: Alter + Drop, O: Write>(
-        self,
-        alloc: Global,
-        conn: Connection<S>,
-        out: &mut O,
-    ) -> TaskResult<Self::Done, S>
-        requires outside { conn.in_transaction ≡ false }
-        ensures { does self S S.Store conn (O.contents out.old) (O.contents out.new) result };
-}
-
-/// Does a task in a room's file, and closes the file with all that was committed in it. Explains
-/// why if the file can't be opened or closed, or the task can't be done in it.
-pub fn in_file<W: RoomTask, O: Write>(
+/// Opens the database of a room's file. An empty log that was not there before is removed again if
+/// the files that were opened hold no database. Explains why if it can't be opened.
+pub fn open(
     rt: &HostRuntime,
     explainer: Explainer<'_>,
-    alloc: Global,
     file: RoomFile<'_>,
-    work: W,
-    out: &mut O,
-) -> Result<W::Done, Failure>
-    ensures { WorksInFile (W.does work) (O.contents out.old) (O.contents out.new) result }
+) -> Result<Connection<FileStore<File>>, Failure>
+    ensures outside { IfOk result (λ conn. conn.in_transaction ≡ false) }
+    ensures connected { IfOk result IsConnected }
+    ensures fault { IfErr result IsUnfound }
 {
-    match connect(rt, explainer, file) {
-        Ok(conn) => on_disk(alloc, explainer, file, conn, work, out),
-        Err(fault) => Err(fault),
-    }
+    let lacked = lacked_log(rt, file.path());
+    let (files, options) = opened(&mut System { rt, explainer }, file)?;
+    connection(rt, explainer, file.path(), lacked, files, options)
 }
 
-// Does it in a file on any disk, and closes the file.
-fn on_disk<D: Disk + Drop, W: RoomTask, O: Write>(
-    alloc: Global,
-    explainer: Explainer<'_>,
-    file: RoomFile<'_>,
-    conn: Connection<FileStore<D>>,
-    work: W,
-    out: &mut O,
-) -> Result<W::Done, Failure>
-    requires { conn.in_transaction ≡ false }
-    ensures { WorksIn (W.does work) conn (O.contents out.old) (O.contents out.new) result }
-{
-    closed(explainer, file, work.run(alloc, conn, out))
-}
-
-// What was done in a file, once the file is closed with all that was committed in it.
-fn closed<D: Disk + Drop, T: Drop>(
+/// What came of work in the database of a room's file, once the file is closed with all that was
+/// committed in it. Explains why if it can't be closed, or the work could not be done.
+pub fn close<D: Disk + Drop, T: Drop>(
     explainer: Explainer<'_>,
     file: RoomFile<'_>,
     worked: TaskResult<T, FileStore<D>>,
 ) -> Result<T, Failure>
-    ensures { MatchResult worked (λ it. ClosesWith it.1 it.0 result) (λ fault. result ≡ Err fault) }
+    ensures { Closes worked result }
 {
     match worked {
         Ok((done, conn)) => match copied_out(explainer, file.path(), conn) {
@@ -141,22 +103,6 @@ fn copied_out<D: Disk + Drop>(
             Err(fault_of(explainer, path, error))
         }
     }
-}
-
-// Connects to the file of a room. An empty log that was not there before is removed again if the
-// files that were opened hold no database.
-fn connect(
-    rt: &HostRuntime,
-    explainer: Explainer<'_>,
-    file: RoomFile<'_>,
-) -> Result<Connection<FileStore<File>>, Failure>
-    ensures outside { IfOk result (λ conn. conn.in_transaction ≡ false) }
-    ensures connected { IfOk result IsConnected }
-    ensures fault { IfErr result IsUnfound }
-{
-    let lacked = lacked_log(rt, file.path());
-    let (files, options) = opened(&mut System { rt, explainer }, file)?;
-    connection(rt, explainer, file.path(), lacked, files, options)
 }
 
 // No contract can say what was done with a file of the system.

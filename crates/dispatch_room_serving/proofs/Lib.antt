@@ -4,6 +4,8 @@ pub mod ConnectionLaws
 pub mod LogLemmas
 -- starts, one after another
 pub mod StartLaws
+-- the life of a room's file
+pub mod LifeLaws
 -- the list that is kept on the connections of a start
 pub mod HeardLists
 -- and over starts

@@ -6,6 +6,7 @@ use Rattle.std.specs.Prelude.{All, ◌⊎◌, IsTrue}
 use Rattle.jiff.specs.Placed.{IsPosixZone}
 use Rattle.sqlite.specs.Held.{Held, state}
 use Rattle.sqlite.specs.State.{HasCleanDisk}
+use Rattle.sqlite_trees.specs.Tree.{Trees}
 use Rattle.sqlite_trees.specs.declared.store.Store.{Ghosts}
 use Rattle.room_types.specs.declared.fleet.Terminal.{Terminal}
 use Rattle.room_model.specs.Room.{Room}
@@ -28,7 +29,7 @@ use Rattle.room_http.proofs.RunLemmas.{answered_join, room_split, run_first, run
 use Rattle.room_store.specs.StoredRoom.{IsKept, IsRoom, LeavesOneOf}
 use Rattle.room_store.specs.declared.store.Store.{Store}
 use Rattle.room_store_writes.specs.Configurations.{config_of}
-use Rattle.room_tables.specs.RoomsInTables.{Stands}
+use Rattle.room_tables.specs.RoomsInTables.{Configuration, Stands}
 use Rattle.dispatch_room_cli.specs.declared.exit_status.Done.{Done}
 use Rattle.dispatch_room_cli.specs.declared.exit_status.Failure.{Failure}
 use Rattle.dispatch_room_tasks.specs.OpenedRoom.{OpensRoom}
@@ -38,10 +39,10 @@ use Rattle.dispatch_room_serving.specs.Connections.{Service, Stage, connected, s
 use Rattle.dispatch_room_serving.specs.Connections.{together}
 use Rattle.dispatch_room_serving.specs.ServedRoom.{KeepsHead, ServesRoom}
 use Rattle.dispatch_room_serving.specs.Starts.{AreDone, AreStarts, Exchanged, Follows, IsDone}
-use Rattle.dispatch_room_serving.specs.Starts.{IsStart, IsTrusted, IsUnwritten, OfLast}
+use Rattle.dispatch_room_serving.specs.Starts.{AreOneRun, IsStart, IsTrusted, IsUnwritten}
 use Rattle.dispatch_room_serving.specs.Starts.{ServedIsAStart, ServingIsAStart, Start}
-use Rattle.dispatch_room_serving.specs.Starts.{StartsAreOneRun, all_of, connections, left_by}
-use Rattle.dispatch_room_serving.specs.Starts.{whole_of}
+use Rattle.dispatch_room_serving.specs.Starts.{all_of, connections, left_by, whole_of}
+use Rattle.dispatch_room_serving.specs.Lives.{IsFoundAfter, last_of}
 use Rattle.dispatch_room_serving.proofs.ConnectionLaws.{attended_none, connected_more}
 use Rattle.room_tables_schema.specs.FileConnections.{IsClean}
 
@@ -195,13 +196,6 @@ module _ {S : Type 0} (g : Ghosts S) (setting : Setting) (came_text : ℕ → Li
       zone_stays cs (stage_after c) last next.1 ∙ next.0.same_zone
       ∙ ap (λ (s : Stage S). s.store.plan.zone) next.0.begins
 
--- what was exchanged at a start after which there is none
-abbrev last_done : List Exchange → Exchanged
-last_done xs = record { written = xs; not_written = [] }
-
-whole_last : (xs : List Exchange) → whole_of (last_done xs ∷ []) ≡ xs
-whole_last xs = append-nil (xs ++ []) ∙ append-nil xs
-
 -- ---- one start
 module _ {S : Type 0} (g : Ghosts S) (came_text : ℕ → List ℕ → List ℕ)
     (response_text : List ℕ → List ℕ) where
@@ -243,15 +237,14 @@ module _ {S : Type 0} (g : Ghosts S) (came_text : ℕ → List ℕ → List ℕ)
           → IsDone g terminals s (record { written = together joined.dialogues; not_written = not_written }) room
       done_with not_written few = record { opened = is; joined = joined; written = refl; not_written = few }
 
-  -- ---- the next start
-  -- what the next start opens is the room after what was exchanged, written and not written
-  record Goes (s next : Start S) (terminals : List Terminal) (dialogues : List (List Exchange)) (after : Room) : Type
-      0 where
+  -- ---- what is found next
+  -- what is found is the room after what was exchanged, written and not written
+  record Goes (s : Start S) (terminals : List Terminal) (dialogues : List (List Exchange)) (after : Room)
+      (db : Trees) : Type 0 where
     not_written : List Exchange
     few : (not_written ≡ []) ⊎ ((x : Exchange) × (not_written ≡ x ∷ []) × IsUnwritten (connections s) dialogues x)
     answered : AreAnswered s.setting terminals not_written after
-    opened : IsRoom g next.opened terminals (room_by not_written after)
-    zone : (left_by s).plan.zone ≡ next.opened.plan.zone
+    stands : Stands db (config_of (left_by s).plan terminals) (room_by not_written after)
 
   pub opens_it : (s next : Start S) (terminals : List Terminal) (room : Room)
       → OpensRoom g next.found next.opened
@@ -260,55 +253,64 @@ module _ {S : Type 0} (g : Ghosts S) (came_text : ℕ → List ℕ → List ℕ)
   opens_it s next terminals room opens stands = opens.2.same (config_of (left_by s).plan terminals) room stands
 
   -- all that was exchanged was written
-  all_written : (s next : Start S) (terminals : List Terminal) (dialogues : List (List Exchange)) (after : Room)
-      → OpensRoom g next.found next.opened
-      → Stands (state g next.found).now.trees (config_of (left_by s).plan terminals) after
-      → Goes s next terminals dialogues after
-  all_written s next terminals dialogues after opens stands =
-      let it = opens_it s next terminals after opens stands in
-      record { not_written = []; few = inl refl; answered = tt; opened = it.1; zone = it.0 }
+  all_written : (s : Start S) (terminals : List Terminal) (dialogues : List (List Exchange)) (after : Room)
+      (db : Trees) → Stands db (config_of (left_by s).plan terminals) after → Goes s terminals dialogues after db
+  all_written s terminals dialogues after db stands =
+      record { not_written = []; few = inl refl; answered = tt; stands = stands }
 
   -- where it goes on with the database that the one before left, that stands for the same room
+  stands_open : (s : Start S) (terminals : List Terminal) (after : Room) (next : Held S)
+      → IsRoom g (left_by s) terminals after → next ≡ (left_by s).conn → IsTrue (state g (left_by s).conn).is_open
+      → Stands (state g next).now.trees (config_of (left_by s).plan terminals) after
+  stands_open s terminals after next is same is_open =
+      subst (λ (conn : Held S). Stands (state g conn).now.trees (config_of (left_by s).plan terminals) after)
+      (sym same) (is.tables is_open)
+
   pub stands_on : (s next : Start S) (terminals : List Terminal) (after : Room)
       → OpensRoom g next.found next.opened → IsRoom g (left_by s) terminals after
       → next.found ≡ (left_by s).conn
       → Stands (state g next.found).now.trees (config_of (left_by s).plan terminals) after
   stands_on s next terminals after opens is same =
-      let is_open : IsTrue (state g (left_by s).conn).is_open =
-      subst (λ (conn : Held S). IsTrue (state g conn).is_open) same (opens.2.rows.was_open opens.2.kept.is_open) in
-      subst (λ (conn : Held S). Stands (state g conn).now.trees (config_of (left_by s).plan terminals) after)
-      (sym same) (is.tables is_open)
+      stands_open s terminals after next.found is same
+      (subst (λ (conn : Held S). IsTrue (state g conn).is_open) same (opens.2.rows.was_open opens.2.kept.is_open))
 
   -- where it finds what a stop may leave
-  finds : (s next : Start S) (terminals : List Terminal) (dialogues : List (List Exchange)) (after : Room)
-      → OpensRoom g next.found next.opened
-      → (state g (left_by s).conn).may_leave (state g next.found).now.trees
+  finds : (s : Start S) (terminals : List Terminal) (dialogues : List (List Exchange)) (after : Room)
+      (db : Trees) → (state g (left_by s).conn).may_leave db
       → Left g s.setting terminals (connections s) dialogues (left_by s) after
-      → Goes s next terminals dialogues after
-  finds s next terminals dialogues after opens found (inl only_one) =
-      elim (only_one (state g next.found).now.trees found) [
-        | inl stands ↦ all_written s next terminals dialogues after opens stands
-        | inr none ↦ absurd none
-      ]
-  finds s next terminals dialogues after opens found (inr (x, is, answered, leaves)) =
-      elim (leaves (state g next.found).now.trees found) [
-        | inl stands ↦ all_written s next terminals dialogues after opens stands
-        | inr other ↦ elim other [
-          | inl stands ↦
-              let it = opens_it s next terminals (room_by (x ∷ []) after) opens stands in
-              record { not_written = x ∷ []; few = inr (x, refl, is); answered = answered; opened = it.1; zone = it.0 }
-          | inr none ↦ absurd none
-        ]
-      ]
+      → Goes s terminals dialogues after db
+  finds s terminals dialogues after db found (inl only_one) = elim (only_one db found) [
+    | inl stands ↦ all_written s terminals dialogues after db stands
+    | inr none ↦ absurd none
+  ]
+  finds s terminals dialogues after db found (inr (x, is, answered, leaves)) = elim (leaves db found) [
+    | inl stands ↦ all_written s terminals dialogues after db stands
+    | inr other ↦ elim other [
+      | inl stands ↦
+          record { not_written = x ∷ []; few = inr (x, refl, is); answered = answered; stands = stands }
+      | inr none ↦ absurd none
+    ]
+  ]
 
   goes : (s next : Start S) (terminals : List Terminal) (dialogues : List (List Exchange)) (after : Room)
       → OpensRoom g next.found next.opened → IsRoom g (left_by s) terminals after → Follows g s next
       → Left g s.setting terminals (connections s) dialogues (left_by s) after
-      → Goes s next terminals dialogues after
-  goes s next terminals dialogues after opens is (inl found, history) leaves =
-      finds s next terminals dialogues after opens found leaves
+      → Goes s terminals dialogues after (state g next.found).now.trees
+  goes s next terminals dialogues after _ is (inl found, history) leaves =
+      finds s terminals dialogues after (state g next.found).now.trees found leaves
   goes s next terminals dialogues after opens is (inr same, history) leaves =
-      all_written s next terminals dialogues after opens (stands_on s next terminals after opens is same)
+      all_written s terminals dialogues after (state g next.found).now.trees
+      (stands_on s next terminals after opens is same)
+
+  goes_last : (s : Start S) (next : Held S) (terminals : List Terminal) (dialogues : List (List Exchange))
+      (after : Room) → IsRoom g (left_by s) terminals after → IsFoundAfter g (left_by s).conn next
+      → Left g s.setting terminals (connections s) dialogues (left_by s) after
+      → Goes s terminals dialogues after (state g next).now.trees
+  goes_last s next terminals dialogues after is (inl found) leaves =
+      finds s terminals dialogues after (state g next).now.trees found leaves
+  goes_last s next terminals dialogues after is (inr (same, is_open)) leaves =
+      all_written s terminals dialogues after (state g next).now.trees
+      (stands_open s terminals after next is same is_open)
 
   -- ---- all starts
   -- the zone of a start's plan, and history where it serves it
@@ -316,14 +318,18 @@ module _ {S : Type 0} (g : Ghosts S) (came_text : ℕ → List ℕ → List ℕ)
     zone : IsPosixZone s.opened.plan.zone (zone_of setting.zone)
     history : s.setting.history ≡ setting.history
 
-  -- from the room that the first opened, in a setting that is its own
-  record Run (setting : Setting) (terminals : List Terminal) (starts : List (Start S)) (room : Room) : Type 0 where
+  abbrev config_in : List ℕ → List Terminal → Configuration
+  config_in zone terminals = record { zone = zone; terminals = terminals }
+
+  -- from the room that the first opened, in a setting that is its own, to what is found at the end
+  record Run (setting : Setting) (terminals : List Terminal) (starts : List (Start S)) (zone : List ℕ)
+      (room : Room) (db : Trees) : Type 0 where
     done : List Exchanged
     each : AreDone g terminals starts done room
     answered : AreAnswered setting terminals (whole_of done) room
-    after : OfLast (λ s. IsRoom g (left_by s) terminals (room_by (whole_of done) room)) starts
+    stands : Stands db (config_in zone terminals) (room_by (whole_of done) room)
 
-  module _ (setting : Setting) (terminals : List Terminal) where
+  module _ (setting : Setting) (terminals : List Terminal) (last : Held S) where
     own_answers : (s : Start S) → IsStart g came_text response_text s → IsSetFor setting s
         → (xs : List Exchange) (room : Room)
         → AreAnswered s.setting terminals xs room → AreAnswered setting terminals xs room
@@ -331,55 +337,93 @@ module _ {S : Type 0} (g : Ghosts S) (came_text : ℕ → List ℕ → List ℕ)
         answered_in s.opened.plan.zone s.setting setting (record { zone = start.in_zone; history = set.history })
         set.zone terminals
 
+    -- what was exchanged at a start, and one exchange that was not answered
+    module _ (s : Start S) (room : Room) (start : IsStart g came_text response_text s)
+        (clean : HasCleanDisk (state g (left_by s).conn)) (is : IsRoom g s.opened terminals room)
+        (set : IsSetFor setting s) where
+      abbrev all : AreJoined g s.setting terminals (connections s) (left_by s) room
+      all = joined s start clean terminals room is
+
+      abbrev after_all : Room
+      after_all = room_by (together all.dialogues) room
+
+      module _ (db : Trees) (step : Goes s terminals all.dialogues after_all db) where
+        abbrev exchanged : Exchanged
+        exchanged = record { written = together all.dialogues; not_written = step.not_written }
+
+        room_is : room_by (all_of exchanged) room ≡ room_by step.not_written after_all
+        room_is = room_split (together all.dialogues) step.not_written room
+
+        is_done : IsDone g terminals s exchanged room
+        is_done = done_with s start clean terminals room is step.not_written step.few
+
+        are_answered : AreAnswered setting terminals (all_of exchanged) room
+        are_answered =
+            own_answers s start set (all_of exchanged) room
+            (answered_join s.setting terminals (together all.dialogues) step.not_written room all.run.answered
+            step.answered)
+
     last_start : (s : Start S) (room : Room) → IsStart g came_text response_text s
         → HasCleanDisk (state g (left_by s).conn) → IsRoom g s.opened terminals room
-        → IsSetFor setting s → Run setting terminals (s ∷ []) room
-    last_start s room start clean is set =
-        let all = joined s start clean terminals room is in
-        let xs : List Exchange = together all.dialogues in
-        let same : xs ≡ whole_of (last_done xs ∷ []) = sym (whole_last xs) in
+        → IsSetFor setting s → IsFoundAfter g (left_by s).conn last
+        → Run setting terminals (s ∷ []) s.opened.plan.zone room (state g last).now.trees
+    last_start s room start clean is set found =
+        let db = (state g last).now.trees in
+        let here = all s room start clean is set in
+        let step = goes_last s last terminals here.dialogues (room_by (together here.dialogues) room) here.after
+        found (left s start clean terminals room is) in
+        let x = exchanged s room start clean is set db step in
+        let same : all_of x ≡ whole_of (x ∷ []) = sym (append-nil (all_of x)) in
         record {
-          done = last_done xs ∷ [];
-          each = (done_with s start clean terminals room is [] (inl refl), tt);
+          done = x ∷ [];
+          each = (is_done s room start clean is set db step, tt);
           answered =
               subst (λ ys. AreAnswered setting terminals ys room) same
-              (own_answers s start set xs room all.run.answered);
-          after = subst (λ ys. IsRoom g (left_by s) terminals (room_by ys room)) same all.after;
+              (are_answered s room start clean is set db step);
+          stands =
+              subst (λ ys. Stands db (config_in s.opened.plan.zone terminals) (room_by ys room)) same
+              (subst (Stands db (config_in s.opened.plan.zone terminals)) (sym (room_is s room start clean is set db step))
+              (subst (λ zone. Stands db (config_in zone terminals)
+              (room_by step.not_written (room_by (together here.dialogues) room))) (one_zone s start clean)
+              step.stands));
         }
 
     more_starts : (s : Start S) (starts : List (Start S)) (room : Room)
         → AreStarts g came_text response_text (s ∷ starts) → All (IsTrusted g) (s ∷ starts)
         → IsRoom g s.opened terminals room → IsSetFor setting s
-        → Run setting terminals (s ∷ starts) room
-    more_starts s [] room start clean is set = last_start s room start (All-head (IsTrusted g) s [] clean) is set
-    more_starts s (next ∷ starts) room (start, follows, later) clean is set =
+        → IsFoundAfter g (left_by (last_of s starts)).conn last
+        → Run setting terminals (s ∷ starts) s.opened.plan.zone room (state g last).now.trees
+    more_starts s [] room start clean is set found =
+        last_start s room start (All-head (IsTrusted g) s [] clean) is set found
+    more_starts s (next ∷ starts) room (start, follows, later) clean is set found =
         let here = All-head (IsTrusted g) s (next ∷ starts) clean in
         let rest = All-tail (IsTrusted g) s (next ∷ starts) clean in
-        let all = joined s start here terminals room is in
+        let db = (state g next.found).now.trees in
+        let joint = all s room start here is set in
         let next_start = first_of next starts later in
-        let step = goes s next terminals all.dialogues (room_by (together all.dialogues) room)
-        (opens next next_start (All-head (IsTrusted g) next starts rest)) all.after follows
-        (left s start here terminals room is) in
-        let x : Exchanged = record { written = together all.dialogues; not_written = step.not_written } in
-        let room_is : room_by (all_of x) room
-        ≡ room_by step.not_written (room_by (together all.dialogues) room) =
-        room_split (together all.dialogues) step.not_written room in
-        let zone_is : s.opened.plan.zone ≡ next.opened.plan.zone = sym (one_zone s start here) ∙ step.zone in
+        let next_opens = opens next next_start (All-head (IsTrusted g) next starts rest) in
+        let step = goes s next terminals joint.dialogues (room_by (together joint.dialogues) room) next_opens joint.after
+        follows (left s start here terminals room is) in
+        let x = exchanged s room start here is set db step in
+        let it = opens_it s next terminals (room_by step.not_written (room_by (together joint.dialogues) room))
+        next_opens step.stands in
+        let zone_is : s.opened.plan.zone ≡ next.opened.plan.zone = sym (one_zone s start here) ∙ it.0 in
         let
         then =
-        more_starts next starts (room_by (all_of x) room) later rest (rw room_is step.opened)
-        (record { zone = rw zone_is at set.zone; history = follows.1 ∙ set.history }) in
-        let mine = answered_join s.setting terminals (together all.dialogues) step.not_written room all.run.answered
-        step.answered in
+        more_starts next starts (room_by (all_of x) room) later rest
+        (subst (IsRoom g next.opened terminals) (sym (room_is s room start here is set db step)) it.1)
+        (record { zone = rw zone_is at set.zone; history = follows.1 ∙ set.history }) found in
         record {
           done = x ∷ then.done;
-          each = (done_with s start here terminals room is step.not_written step.few, then.each);
+          each = (is_done s room start here is set db step, then.each);
           answered =
               answered_join setting terminals (all_of x) (whole_of then.done) room
-              (own_answers s start set (all_of x) room mine) then.answered;
-          after =
-              subst (λ (r : Room). OfLast (λ u. IsRoom g (left_by u) terminals r) (next ∷ starts))
-              (sym (room_split (all_of x) (whole_of then.done) room)) then.after;
+              (are_answered s room start here is set db step) then.answered;
+          stands =
+              subst (λ (r : Room). Stands (state g last).now.trees (config_in s.opened.plan.zone terminals) r)
+              (sym (room_split (all_of x) (whole_of then.done) room))
+              (subst (λ zone. Stands (state g last).now.trees (config_in zone terminals)
+              (room_by (whole_of then.done) (room_by (all_of x) room))) (sym zone_is) then.stands);
         }
       where
         first_of : (next : Start S) (starts : List (Start S)) → AreStarts g came_text response_text (next ∷ starts)
@@ -387,22 +431,31 @@ module _ {S : Type 0} (g : Ghosts S) (came_text : ℕ → List ℕ → List ℕ)
         first_of next [] start = start
         first_of next (other ∷ starts) (start, follows, later) = start
 
-pub starts_are_one_run_law : {S : Type 0} (g : Ghosts S) → StartsAreOneRun g
-starts_are_one_run_law g came_text response_text first more config room starts clean stands =
+-- starts one after another are one run, which leads to what is found next
+pub starts_are_one_run : {S : Type 0} (g : Ghosts S) (came_text : ℕ → List ℕ → List ℕ)
+    (response_text : List ℕ → List ℕ) (first : Start S) (more : List (Start S)) (config : Configuration) (room : Room)
+    (next : Held S) → AreStarts g came_text response_text (first ∷ more) → All (IsTrusted g) (first ∷ more)
+    → Stands (state g first.found).now.trees config room → IsFoundAfter g (left_by (last_of first more)).conn next
+    → (one : AreOneRun g config.terminals first.setting (first ∷ more) room)
+    × Stands (state g next).now.trees config (room_by (whole_of one.done) room)
+starts_are_one_run g came_text response_text first more config room next starts clean stands found =
     let start = first_start first more starts in
     let opened = opens g came_text response_text first start (All-head (IsTrusted g) first more clean) in
-    let is = (opened.2.same config room stands).1 in
-    let run = more_starts g came_text response_text first.setting config.terminals first more room starts clean is
-    (record { zone = start.in_zone; history = refl }) in
+    let same = opened.2.same config room stands in
+    let is = same.1 in
+    let run = more_starts g came_text response_text first.setting config.terminals next first more room starts clean is
+    (record { zone = start.in_zone; history = refl }) found in
     let whole : IsRun first.setting config.terminals (whole_of run.done) room = run_of first.setting config.terminals
-    room (whole_of run.done) is.fits run.answered in
-    record {
-      done = run.done;
-      each = run.each;
-      run = whole;
-      promises = promises_kept first.setting config.terminals (whole_of run.done) room is.formed whole;
-      after = run.after;
-    }
+    room (whole_of run.done) is.fits run.answered in (
+      record {
+        done = run.done;
+        each = run.each;
+        run = whole;
+        promises = promises_kept first.setting config.terminals (whole_of run.done) room is.formed whole;
+      },
+      subst (λ zone. Stands (state g next).now.trees (record { zone = zone; terminals = config.terminals })
+          (room_by (whole_of run.done) room)) (sym same.0) run.stands,
+    )
   where
     first_start : (next : _) (starts : _) → AreStarts g came_text response_text (next ∷ starts)
         → IsStart g came_text response_text next

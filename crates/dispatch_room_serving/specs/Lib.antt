@@ -16,6 +16,8 @@ pub mod Logs
 pub mod ServedRoom
 -- starts of a room's service, one after another
 pub mod Starts
+-- and services, imports and changes
+pub mod Lives
 -- the list that is kept over all starts
 pub mod Lists
 -- how a list is opened, and goes on

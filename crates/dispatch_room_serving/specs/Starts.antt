@@ -15,7 +15,6 @@ use Rattle.room_http_time.specs.Days.{zone_of}
 use Rattle.room_http.specs.declared.settings.Setting.{Setting}
 use Rattle.room_store.specs.StoredRoom.{IsKept, IsRoom}
 use Rattle.room_store.specs.declared.store.Store.{Store}
-use Rattle.room_tables.specs.RoomsInTables.{Configuration, Stands}
 use Rattle.dispatch_room_cli.specs.declared.exit_status.Done.{Done}
 use Rattle.dispatch_room_cli.specs.declared.exit_status.Failure.{Failure}
 use Rattle.dispatch_room_tasks.specs.OpenedRoom.{OpensRoom}
@@ -130,23 +129,12 @@ module _ {S : Type 0} (g : Ghosts S) where
     AreDone (s ∷ starts) (x ∷ more) room =
         IsDone s x room × AreDone starts more (room_by (all_of x) room)
 
-    -- The starts are one run from this room, in this setting, and it keeps the promises. It leads
-    -- to the room for which the store stands at the end of the last.
+    -- The starts are one run from this room, in this setting, and it keeps the promises.
     pub record AreOneRun (setting : Setting) (starts : List (Start S)) (room : Room) : Type 0 where
       pub done : List Exchanged
       pub each : AreDone starts done room
       pub run : IsRun setting terminals (whole_of done) room
       pub promises : Promises terminals (whole_of done) room
-      pub after : OfLast (λ s. IsRoom g (left_by s) terminals (room_by (whole_of done) room)) starts
-
-  -- Whatever starts there were, from the room that the first of them found: they are one run.
-  abbrev pub StartsAreOneRun : Type 0
-  StartsAreOneRun =
-      (came_text : ℕ → List ℕ → List ℕ) (response_text : List ℕ → List ℕ) (first : Start S)
-      (more : List (Start S)) (config : Configuration) (room : Room)
-      → AreStarts came_text response_text (first ∷ more) → All IsTrusted (first ∷ more)
-      → Stands (state g first.found).now.trees config room
-      → AreOneRun config.terminals first.setting (first ∷ more) room
 
   -- What serving gives once it has ended is a start of what was found, and the store at its end is
   -- closed.

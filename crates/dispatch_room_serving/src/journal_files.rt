@@ -2,7 +2,7 @@
 //! list, and entries are appended to the rest.
 ghost use Rattle.std.specs.Prelude.{◌≡◌, ◌||◌, ◌⊎◌, ℕ, List, Bool, false, if◌then◌else◌, is_some};
 ghost use Rattle.std.specs.Prelude.{nat_lt, not, refl, IfErr, IsErrAnd, IsTrue, MatchResult, None};
-ghost use Rattle.std.specs.Prelude.{Ok, OnErr, OnOk, Option, Some, true};
+ghost use Rattle.std.specs.Prelude.{Ok, OnErr, OnOk, Option, Some, length, true, ⊤};
 ghost use Rattle.std.specs.Io.KnownBytes.{Appends};
 ghost use Rattle.dispatch_room_cli.specs.declared.exit_status.Failure.TheVariants as failure;
 ghost use Rattle.dispatch_room_journal.specs.Chains.{opening};
@@ -10,9 +10,10 @@ ghost use Rattle.dispatch_room_journal.specs.PlainTexts.{StandsKnown};
 ghost use Rattle.dispatch_room_journal.specs.RowRuns.{PutsEntry};
 ghost use Rattle.dispatch_room_journal.specs.declared.list_ends.ListEnd.{ListEnd};
 ghost use Rattle.dispatch_room_serving.specs.Journals.{held_in, puts_end};
-ghost use Rattle.dispatch_room_serving.specs.OpenedLists.{IsListFault};
+ghost use Rattle.dispatch_room_serving.specs.OpenedLists.{IsListFault, IsMarked};
 ghost use Rattle.dispatch_room_serving.specs.declared.journal_files.WrittenFile.{WrittenFile};
 
+use crate::change_marks::{ListOnDisk, mark_path, marked, unmark};
 use crate::journals::Keeper;
 use crate::list_places::{Aside, put_aside};
 use crate::opened_lists::{ListFile, Rest, end_of};
@@ -26,7 +27,7 @@ use room_http_messages::standard_wires::Wire;
 use std::alloc::Global;
 use std::fs;
 use std::fs::{File, OpenOptions, TryLockError};
-use std::io::{self, Error, ErrorKind, Seek, SeekFrom, Write};
+use std::io::{self, Error, ErrorKind, Read, Seek, SeekFrom, Take, Write};
 use std::marker::Model;
 use std::os::fd::AsRawFd;
 use std::os::unix::fs::OpenOptionsExt;
@@ -79,26 +80,32 @@ impl<F: Lasting> OpenedList<F> {
 /// Opens the file of a journal behind its last whole record, and locks it against other writers. A
 /// missing file is made, for its owner only, and an empty one begins as a chain. A record that a
 /// crash cut off is set aside, or what is left of a truncated list, which is reported to `err`.
-/// What stands in the file then lasts, and so does its name. Explains why if the file can't be
-/// opened, or is no journal.
-pub fn open_journal<E: Write>(
-    rt: &HostRuntime,
+/// What stands in the file then lasts, and so does its name, and no change is marked beside it.
+/// Explains why if the file can't be opened, or is no journal.
+pub fn open_journal<'a, E: Write>(
+    rt: &'a HostRuntime,
     explainer: Explainer<'_>,
     alloc: Global,
     path: &str,
     err: &mut E,
-) -> Result<OpenedList<File>, Failure>
+) -> Result<OpenedList<ListOnDisk<'a>>, Failure>
     ensures { IfErr result (λ fault. (fault ≡ failure.Memory) ⊎ (fault ≡ failure.Journal)) }
 {
     let file = opened(rt, explainer, path)?;
+    let mark = match mark_path(rt, path) {
+        Ok(mark) => mark,
+        Err(error) => return Err(fault_of(explainer, path, &error)),
+    };
     let mut found = FoundList {
         rt,
         alloc,
         explainer,
         path,
+        mark: mark.as_str(),
         file: &file,
     };
     let end = end_of(alloc, explainer, path, &mut found, err)?;
+    let file = ListOnDisk::new(rt, file, mark);
     Ok(OpenedList { file, end })
 }
 
@@ -109,16 +116,23 @@ struct FoundList<'a> {
     alloc: Global,
     explainer: Explainer<'a>,
     path: &'a str,
+    mark: &'a str,
     file: &'a File,
 }
 
-// No contract can say what was done with a file of the system.
+// No contract can say what was done with a file of the system, nor what is marked beside it.
 impl<'a> ListFile for FoundList<'a> {
     type Reader = Wire<&'a File>;
+
+    type Part = Wire<Take<&'a File>>;
 
     ghost tried = { λ _. None };
 
     ghost text = { λ _. None };
+
+    ghost marks = { λ _ _. ⊤ };
+
+    ghost is_unread = { λ _. ⊤ };
 
     fn settle(&mut self) -> Result<(), Failure> {
         self.explained(settle(self.rt, self.path, self.file))
@@ -128,6 +142,16 @@ impl<'a> ListFile for FoundList<'a> {
         let mut file = self.file;
         self.explained(file.seek(SeekFrom::Start(0)))?;
         Ok(Wire::new(file))
+    }
+
+    fn part(&self, bytes: u64) -> Result<Wire<Take<&'a File>>, Failure> {
+        let mut file = self.file;
+        self.explained(file.seek(SeekFrom::Start(0)))?;
+        Ok(Wire::new(file.take(bytes)))
+    }
+
+    fn mark(&self) -> Result<Option<u64>, Failure> {
+        self.explained(marked(self.rt, self.mark))
     }
 
     fn set_aside(&mut self, whole: u64, rest: Rest) -> Result<Option<String>, Failure> {
@@ -146,6 +170,10 @@ impl<'a> ListFile for FoundList<'a> {
 
     fn cut(&mut self, whole: u64) -> Result<(), Failure> {
         self.explained(cut(self.file, whole))
+    }
+
+    fn unmark(&mut self) -> Result<(), Failure> {
+        self.explained(unmark(self.rt, self.mark))
     }
 
     fn begin(&mut self) -> Result<(), Failure> {
@@ -219,7 +247,7 @@ fn settle(rt: &HostRuntime, path: &str, file: &File) -> Result<(), Error> {
 }
 
 // The folder of a file, where a link to it leads.
-fn folder_of(rt: &HostRuntime, path: &str) -> Result<File, Error> {
+pub(crate) fn folder_of(rt: &HostRuntime, path: &str) -> Result<File, Error> {
     let mut folder = fs::canonicalize(rt, path)?;
     folder.pop();
     File::open(rt, folder.as_str())
@@ -304,31 +332,43 @@ pub trait Lasting: Write {
     // Whether what it holds is known, of each of these or of none.
     ghost is_known: { Bool };
 
+    // That a mark beside it has so many bytes, or that there is none.
+    ghost marks: { Self → Option ℕ → Type 0 };
+
     /// Makes all that was written last.
     fn sync(&mut self) -> Result<(), Error>
         ensures held { Self.contents self.new ≡ Self.contents self.old }
         ensures lasts { OnOk result (lasting self.new ≡ Self.contents self.new) };
 
+    /// Marks beside it, so that it lasts, how long it is: what follows is a change that does not
+    /// last yet. What has no place for a mark fails.
+    fn mark(&mut self) -> Result<(), Error>
+        ensures held { Self.contents self.new ≡ Self.contents self.old }
+        ensures marked { OnOk result (IsMarked Self.contents marks self.new) }
+    {
+        Err(ErrorKind::Unsupported.into())
+    }
+
+    /// Takes that mark away again, once all that is held lasts.
+    fn unmark(&mut self) -> Result<(), Error>
+        requires lasts { lasting self.old ≡ Self.contents self.old }
+        ensures held { Self.contents self.new ≡ Self.contents self.old }
+        ensures lasts { lasting self.new ≡ Self.contents self.new }
+        ensures unmarked { OnOk result (marks self.new None) }
+    {
+        Err(ErrorKind::Unsupported.into())
+    }
+
     ghost known: { (file : Self) → is_some (Self.contents file) ≡ is_known };
 }
 
 // No contract can say what a file holds, nor what of it lasts.
-impl Lasting for File {
-    ghost lasting = { λ _. None };
-
-    ghost is_known = { false };
-
-    fn sync(&mut self) -> Result<(), Error> {
-        self.sync_data()
-    }
-
-    ghost known = { λ _. refl };
-}
-
 impl<'a> Lasting for &'a File {
     ghost lasting = { λ _. None };
 
     ghost is_known = { false };
+
+    ghost marks = { λ _ _. ⊤ };
 
     fn sync(&mut self) -> Result<(), Error> {
         self.sync_data()
@@ -357,9 +397,12 @@ impl<'a, F> SystemFile<'a, F> {
         }
     }
 
-    fn explain(&self, error: &Error) {
-        let path = self.path;
-        self.explainer.explain(format_args!("{path}: {error}"));
+    // Explains why a call failed, if it did.
+    fn explain<T>(&self, done: &Result<T, Error>) {
+        if let Err(error) = done {
+            let path = self.path;
+            self.explainer.explain(format_args!("{path}: {error}"));
+        }
     }
 }
 
@@ -368,9 +411,7 @@ impl<'a, F: Lasting> Write for SystemFile<'a, F> {
 
     fn write(&mut self, buf: &[u8]) -> Result<usize, Error> {
         let written = self.file.write(buf);
-        if let Err(error) = &written {
-            self.explain(error);
-        }
+        self.explain(&written);
         written
     }
 
@@ -384,12 +425,24 @@ impl<'a, F: Lasting> Lasting for SystemFile<'a, F> {
 
     ghost is_known = { F.is_known };
 
+    ghost marks = { λ system. F.marks system.file };
+
     fn sync(&mut self) -> Result<(), Error> {
         let synced = self.file.sync();
-        if let Err(error) = &synced {
-            self.explain(error);
-        }
+        self.explain(&synced);
         synced
+    }
+
+    fn mark(&mut self) -> Result<(), Error> {
+        let marked = self.file.mark();
+        self.explain(&marked);
+        marked
+    }
+
+    fn unmark(&mut self) -> Result<(), Error> {
+        let unmarked = self.file.unmark();
+        self.explain(&unmarked);
+        unmarked
     }
 
     ghost known = { λ system. F.known system.file };
@@ -424,6 +477,30 @@ impl<F: Lasting> WrittenFile<F> {
         let lasts = self.file.sync().is_ok();
         self.failed = self.failed || !lasts;
         lasts
+    }
+
+    /// Marks beside the file that a change begins here, and returns whether it could.
+    pub fn mark(&mut self) -> bool
+        ensures held { F.contents self.new.file ≡ F.contents self.old.file }
+        ensures failed { self.new.failed ≡ (self.old.failed || not result) }
+        ensures marked { IsTrue result → IsMarked F.contents F.marks self.new.file }
+    {
+        let marked = self.file.mark().is_ok();
+        self.failed = self.failed || !marked;
+        marked
+    }
+
+    /// Takes that mark away again, once all lasts, and returns whether it could.
+    pub fn unmark(&mut self) -> bool
+        requires lasts { F.lasting self.old.file ≡ F.contents self.old.file }
+        ensures held { F.contents self.new.file ≡ F.contents self.old.file }
+        ensures lasts { F.lasting self.new.file ≡ F.contents self.new.file }
+        ensures failed { self.new.failed ≡ (self.old.failed || not result) }
+        ensures unmarked { IsTrue result → F.marks self.new.file None }
+    {
+        let unmarked = self.file.unmark().is_ok();
+        self.failed = self.failed || !unmarked;
+        unmarked
     }
 }
 

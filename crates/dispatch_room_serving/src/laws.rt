@@ -7,20 +7,18 @@ ghost use Rattle.dispatch_room_serving.specs.Lists.{
   ListIsTheRoom,
   ServedKeepsItsPart,
 };
-ghost use Rattle.dispatch_room_serving.specs.Starts.{
-  ServedIsAStart,
-  ServingIsAStart,
-  StartsAreOneRun,
-};
+ghost use Rattle.dispatch_room_serving.specs.Lives.{LifeIsOneList};
+ghost use Rattle.dispatch_room_serving.specs.Starts.{ServedIsAStart, ServingIsAStart};
 
 use sqlite::Alter;
 
-/// All starts of a room's service are one run from the first room, which keeps the promises,
-/// however often it ends or is stopped at any moment, and is started again with what that left.
-/// Between two starts there is one exchange more where a stop left an event done whose answer was
-/// not written.
-pub fn starts_are_one_run<S: Alter>()
-    ensures { StartsAreOneRun S.Store }
+/// All that happens to a room's file is one list of deeds from the first room: services that end or
+/// are stopped at any moment and begin again, imports, changes of terminals and of plans, in any
+/// order. Each finds what the one before left, or what a stop of it may leave: of a service with one
+/// event more than it answered, of an import the first rows, of a change all or nothing. The starts
+/// of a service are one run, which keeps the promises.
+pub fn a_life_is_one_list<S: Alter>()
+    ensures { LifeIsOneList S.Store }
 {}
 
 /// What `serve_in` gives is a start of a run.

@@ -3,6 +3,7 @@
 #![tactic(auto)]
 
 pub mod callers;
+pub mod change_marks;
 pub mod connections;
 pub mod journal_files;
 pub mod journal_observers;

@@ -3,9 +3,9 @@ ghost use Rattle.std.specs.Prelude.{◌≡◌, ◌≢◌, false, true, IfOk, Non
 ghost use Rattle.dispatch_room_serving.specs.ListPlaces.{finding_of, has_left};
 ghost use Rattle.dispatch_room_serving.specs.declared.list_places.Finding.TheVariants.{There};
 
+use crate::change_marks::ListOnDisk;
 use std::alloc::Global;
 use std::fs;
-use std::fs::File;
 use std::io::{Error, ErrorKind};
 use std::os::unix::fs::MetadataExt;
 
@@ -75,11 +75,11 @@ pub trait Placed {
 }
 
 // No contract can say when the system says it.
-impl Placed for File {
+impl<'b> Placed for ListOnDisk<'b> {
     ghost is_hidden = { λ _. ⊤ };
 
     fn place<'a>(&self, rt: &'a HostRuntime, path: &'a str) -> Result<ListPlace<'a>, Error> {
-        let found = self.metadata()?;
+        let found = self.file.metadata()?;
         Ok(ListPlace {
             rt,
             path,

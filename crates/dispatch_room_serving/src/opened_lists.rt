@@ -1,14 +1,20 @@
 //! How a list is opened: what of it is whole is found, what follows that is set aside and cut off,
 //! and a list of which nothing is whole is begun. Of one that was truncated while it was written
-//! nothing is whole.
+//! nothing is whole; of one in which a power cut left more than the beginning of one record, what
+//! stands before a change's mark is, if there is one.
 ghost use Rattle.std.specs.Prelude.{◌≡◌, ◌+◌, ℕ, List, [], ◌∷◌, false, is_ok, min, IfErr, IfOk};
-ghost use Rattle.std.specs.Prelude.{MatchResult, Option, Some};
+ghost use Rattle.std.specs.Prelude.{◌⊎◌, MatchResult, Option, Some, option_map, take};
+ghost use Rattle.dispatch_room_cli.specs.declared.exit_status.Failure.TheVariants.{Journal, Memory};
 ghost use Rattle.room_http_messages.specs.Streams.{Grows};
 ghost use Rattle.dispatch_room_journal.specs.WholeEntries.{EndsWhole};
+ghost use Rattle.dispatch_room_journal.specs.declared.whole_records.ListForm.TheVariants.{Chain};
+ghost use Rattle.dispatch_room_journal.specs.declared.whole_records.ListForm.TheVariants.{Plain};
 ghost use Rattle.dispatch_room_serving.specs.Journals.{IsUnread};
-ghost use Rattle.dispatch_room_serving.specs.OpenedLists.{Clears, IsListFault, IsWholeAs};
-ghost use Rattle.dispatch_room_serving.specs.OpenedLists.{IsWholeList, Opens, Step, begun, copied};
-ghost use Rattle.dispatch_room_serving.specs.OpenedLists.{cut, goes_on_at, settled};
+ghost use Rattle.dispatch_room_serving.specs.OpenedLists.{Clears, FindsMarked, IsFound};
+ghost use Rattle.dispatch_room_serving.specs.OpenedLists.{IsListFault, IsUnfound, IsWholeAs};
+ghost use Rattle.dispatch_room_serving.specs.OpenedLists.{Opens, Step, begun, copied, cut};
+ghost use Rattle.dispatch_room_serving.specs.OpenedLists.{goes_on_at, marked_in, settled};
+ghost use Rattle.dispatch_room_serving.specs.OpenedLists.{unmarked};
 
 use dispatch_room_cli::exit_status::Failure;
 use dispatch_room_cli::failure_causes::Explainer;
@@ -28,6 +34,8 @@ use std::io::Write;
 pub(crate) enum Rest {
     /// The beginning of one record, which a stop cut off.
     Cut,
+    /// What a power cut left of a change whose records did not last yet.
+    Change,
     /// What is left of a list that was truncated while it was written.
     Truncated,
 }
@@ -36,7 +44,7 @@ impl Rest {
     /// The word in the name of the file to which it is copied.
     pub(crate) fn word(self) -> &'static str {
         match self {
-            Rest::Cut => "cut",
+            Rest::Cut | Rest::Change => "cut",
             Rest::Truncated => "truncated",
         }
     }
@@ -47,11 +55,20 @@ pub(crate) trait ListFile {
     /// What reads the file.
     type Reader: Source + Drop;
 
+    /// What reads its first bytes.
+    type Part: Source + Drop;
+
     // What was tried with it, where that is known.
     ghost tried: { Self → Option (List Step) };
 
     // What stands in it, where that is known.
     ghost text: { Self → Option (List ℕ) };
+
+    // That a mark beside it has so many bytes, or that there is none.
+    ghost marks: { Self → Option ℕ → Type 0 };
+
+    // That it, or its mark, can't be read.
+    ghost is_unread: { Self → Type 0 };
 
     /// Makes what stands in it last, and its name. What is read from then on is what the disk has.
     fn settle(&mut self) -> Result<(), Failure>
@@ -62,7 +79,23 @@ pub(crate) trait ListFile {
     fn reader(&self) -> Result<Self::Reader, Failure>
         ensures left { IfOk result (λ reader. Self.Reader.left reader ≡ text self.now) }
         ensures sound { IfOk result (λ reader. Self.Reader.has_failed reader ≡ false) }
-        ensures fault { IfErr result IsListFault };
+        ensures fault { IfErr result (λ fault.
+            (fault ≡ Memory) ⊎ ((fault ≡ Journal) × is_unread self.now)) };
+
+    /// What reads so many of its bytes, from the first on.
+    fn part(&self, bytes: u64) -> Result<Self::Part, Failure>
+        ensures left { IfOk result (λ part.
+            Self.Part.left part ≡ option_map (take bytes) (text self.now)) }
+        ensures sound { IfOk result (λ part. Self.Part.has_failed part ≡ false) }
+        ensures fault { IfErr result (λ fault.
+            (fault ≡ Memory) ⊎ ((fault ≡ Journal) × is_unread self.now)) };
+
+    /// How many bytes the mark beside it has, which are those that lasted before a change: `None` if
+    /// there is no mark.
+    fn mark(&self) -> Result<Option<u64>, Failure>
+        ensures marks { IfOk result (marks self.now) }
+        ensures fault { IfErr result (λ fault.
+            (fault ≡ Memory) ⊎ ((fault ≡ Journal) × is_unread self.now)) };
 
     /// Copies what follows so many bytes of it to a new file beside it, which is named by what that
     /// is, makes it last, and returns its name: `None` if nothing follows.
@@ -76,6 +109,11 @@ pub(crate) trait ListFile {
         ensures tried { Grows (tried self.old) (tried self.new) (cut whole (is_ok result) ∷ []) }
         ensures fault { IfErr result IsListFault };
 
+    /// Takes the mark beside it away, if there is one, for good.
+    fn unmark(&mut self) -> Result<(), Failure>
+        ensures tried { Grows (tried self.old) (tried self.new) (unmarked (is_ok result) ∷ []) }
+        ensures fault { IfErr result IsListFault };
+
     /// Writes the line with which a chain begins, and makes it last.
     fn begin(&mut self) -> Result<(), Failure>
         ensures tried { Grows (tried self.old) (tried self.new) (begun (is_ok result) ∷ []) }
@@ -84,8 +122,9 @@ pub(crate) trait ListFile {
 
 /// Opens a list, and returns how it goes on. Only in what the disk has are whole records looked
 /// for, and only what follows them there is cut off, once it is set aside, which is reported to
-/// `err`. A list of which nothing is whole begins as a chain. Explains why if it can't be opened,
-/// or is no journal.
+/// `err`. Where more follows them than the beginning of one, that is only done if the list has a
+/// change's mark, and behind that. A list of which nothing is whole begins as a chain. Explains why
+/// if it can't be opened, or is no journal.
 pub(crate) fn end_of<F: ListFile, E: Write>(
     alloc: Global,
     explainer: Explainer<'_>,
@@ -93,11 +132,13 @@ pub(crate) fn end_of<F: ListFile, E: Write>(
     file: &mut F,
     err: &mut E,
 ) -> Result<ListEnd, Failure>
-    ensures opens { Opens F.tried F.text file.old file.new result }
+    ensures opens { Opens F.tried F.text F.marks F.is_unread F.Reader.has_failed F.Part.has_failed
+        file.old file.new result }
     ensures fault { IfErr result IsListFault }
 {
     file.settle()?;
-    let list = whole_list(alloc, explainer, path, file)?;
+    let mark = file.mark()?;
+    let list = whole_list(alloc, explainer, path, file, mark)?;
     clear(file, list, err)?;
     match goes_on_at(list) {
         Some(end) => Ok(end),
@@ -109,13 +150,14 @@ pub(crate) fn end_of<F: ListFile, E: Write>(
 }
 
 // Sets aside what follows the whole records of a list, and then cuts it off, which is reported to
-// `err`.
+// `err`. A mark has then served.
 fn clear<F: ListFile, E: Write>(file: &mut F, list: WholeList, err: &mut E) -> Result<(), Failure>
     ensures clears { Clears F.tried file.old file.new list result }
     ensures fault { IfErr result IsListFault }
 {
     let aside = file.set_aside(list.whole, list.rest)?;
     file.cut(list.whole)?;
+    file.unmark()?;
     report_aside(&aside, list.rest, err);
     Ok(())
 }
@@ -129,6 +171,10 @@ fn report_aside<E: Write>(aside: &Option<String>, rest: Rest, err: &mut E) {
         Rest::Cut => writeln!(
             err,
             "journal: a record that was cut off is set aside as {name}"
+        ),
+        Rest::Change => writeln!(
+            err,
+            "journal: a change that was not made is set aside as {name}"
         ),
         Rest::Truncated => writeln!(
             err,
@@ -159,25 +205,77 @@ fn whole_list<F: ListFile>(
     explainer: Explainer<'_>,
     path: &str,
     file: &F,
+    mark: Option<u64>,
 ) -> Result<WholeList, Failure>
-    ensures whole { IfOk result (IsWholeList (F.text file.now)) }
-    ensures fault { IfErr result IsListFault }
+    ensures found { IfOk result
+        (IsFound F.Part.has_failed (F.text file.now) mark) }
+    ensures unfound { IfErr result (λ fault. (fault ≡ Memory) ⊎ ((fault ≡ Journal)
+        × (F.is_unread file.now
+        ⊎ IsUnfound F.Part.has_failed (F.text file.now) F.Reader.has_failed mark))) }
 {
     let mut inbox = RecordInbox::new();
     let mut reader = file.reader()?;
     match look_through(&mut inbox, &mut reader) {
         Ok(form) => whole_of_form(alloc, explainer, path, file, &form),
+        Err(EntryFault::Foreign) => match list_before(file, mark)? {
+            Some(list) => Ok(list),
+            None => {
+                explainer.explain(format_args!(
+                    "{path} is no journal: `dispatch_room verify {path}` says at which record"
+                ));
+                Err(Failure::Journal)
+            }
+        },
         Err(EntryFault::Read) => {
-            explainer.explain(format_args!("{path} can't be read"));
+            explain_unread(explainer, path, EntryFault::Read, 0);
             Err(Failure::Journal)
         }
-        Err(_) => {
-            explainer.explain(format_args!(
-                "{path} is no journal: `dispatch_room verify {path}` says at which record"
-            ));
-            Err(Failure::Journal)
-        }
+        Err(EntryFault::Cut) => Err(Failure::Journal),
     }
+}
+
+// What of a list is whole, by its first bytes, where a mark says how many of them lasted before a
+// change: `None` if there is none, or these are not the whole records of a chain.
+fn list_before<F: ListFile>(file: &F, mark: Option<u64>) -> Result<Option<WholeList>, Failure>
+    ensures found { IfOk result
+        (FindsMarked F.Part.has_failed (F.text file.now) mark) }
+    ensures fault { IfErr result (λ fault.
+        (fault ≡ Memory) ⊎ ((fault ≡ Journal) × F.is_unread file.now)) }
+{
+    let Some(bytes) = mark else {
+        return Ok(None);
+    };
+    let mut inbox = RecordInbox::new();
+    let mut part = file.part(bytes)?;
+    match look_through(&mut inbox, &mut part) {
+        Ok(form) => Ok(marked_in(bytes, &form)),
+        Err(_) => Ok(None),
+    }
+}
+
+// What of a list is whole whose first so many bytes have this form, and lasted before a change:
+// these, if they are the whole records of a chain.
+fn marked_in(bytes: u64, form: &ListForm) -> Option<WholeList>
+    ensures { result ≡ marked_in bytes form.now }
+{
+    match form {
+        ListForm::Chain(chain) => chain_to(bytes, chain),
+        ListForm::New | ListForm::Truncated | ListForm::Plain => None,
+    }
+}
+
+// The same of a chain of which so much is whole.
+fn chain_to(bytes: u64, chain: &WholeChain) -> Option<WholeList>
+    ensures { result ≡ marked_in bytes (Chain chain.now) }
+{
+    if whole_of(chain) != bytes {
+        return None;
+    }
+    Some(WholeList {
+        whole: bytes,
+        rest: Rest::Change,
+        end: Some(ListEnd::Chain(chain.link)),
+    })
 }
 
 // How much of a list of this form is whole.
@@ -189,7 +287,8 @@ fn whole_of_form<F: ListFile>(
     form: &ListForm,
 ) -> Result<WholeList, Failure>
     ensures whole { IfOk result (IsWholeAs (F.text file.now) form.now) }
-    ensures fault { IfErr result IsListFault }
+    ensures fault { IfErr result (λ fault.
+        (fault ≡ Memory) ⊎ ((fault ≡ Journal) × (form.now ≡ Plain))) }
 {
     match form {
         ListForm::New => Ok(WholeList {

@@ -1,5 +1,7 @@
 pub mod ClearedLemmas
 pub mod CreatedLemmas
+pub mod DeedLaws
+pub mod DeedRepeats
 pub mod FateLemmas
 pub mod ImportedLemmas
 pub mod ListedLemmas

@@ -85,11 +85,11 @@ no_room old new d was same lacks is =
     ∙ is.plan.divisions d ∙ it.1)
 
 -- ---- the divisions afterwards
-abbrev is_new : List Area → Area → Bool
+abbrev pub is_new : List Area → Area → Bool
 is_new old a = is_division a.division && not (has_division old a.division)
 
 -- the rows once those of the new divisions are put
-abbrev fill : List Area → List Area → List Division → List Division
+abbrev pub fill : List Area → List Area → List Division → List Division
 fill old [] ds = ds
 fill old (a ∷ rest) ds =
     fill old rest (cond (is_new old a) (put_row nat_cmp division_key ds (new_division a.division)) ds)
@@ -299,7 +299,7 @@ module _ (r : Room) (areas : List Area) (ds : List Division) where
 
 -- ---- the room with the new plan
 module _ (plan : Layout) (r : Room) where
-  is_beside : replanned plan.areas r ≡ record r { plan = plan.areas; divisions = fill r.plan plan.areas r.divisions }
+  pub is_beside : replanned plan.areas r ≡ record r { plan = plan.areas; divisions = fill r.plan plan.areas r.divisions }
   is_beside = ap (λ (s : Room). record s { plan = plan.areas }) (applied r.plan plan.areas r)
 
   module _ (agrees : first_lacking r.plan plan.areas ≡ None) where

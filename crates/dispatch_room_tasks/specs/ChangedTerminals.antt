@@ -13,7 +13,7 @@ use Rattle.room_model.specs.Room.{Room}
 use Rattle.room_model.specs.RoomAgreements.{IsWellFormed}
 use Rattle.room_tables.specs.RoomsInTables.{Stands}
 use Rattle.room_store_writes.specs.Configurations.{config_of}
-use Rattle.room_store_writes.specs.Transactions.{IsSettled, Leaves}
+use Rattle.room_store_writes.specs.Transactions.{IsSettled, Leaves, StandsSettled}
 use Rattle.room_store_check_tables.specs.HeldRooms.{IsPlanOf}
 use Rattle.room_store_file.specs.OpenedFile.{KeepsFile, MayBeIndexed}
 use Rattle.room_store_writes.specs.TerminalChanges.{Explains, Gives, fault_in}
@@ -23,7 +23,7 @@ use Rattle.room_store_writes.specs.declared.change_faults.ChangeFault.TheVariant
 use Rattle.dispatch_room_cli.specs.declared.exit_status.Failure.{Failure}
 use Rattle.dispatch_room_cli.specs.declared.exit_status.Failure.TheVariants.{Division, Input}
 use Rattle.dispatch_room_cli.specs.declared.exit_status.Failure.TheVariants.{Memory, Storage}
-use Rattle.room_tables_schema.specs.FileConnections.{IsClean}
+use Rattle.room_tables_schema.specs.FileConnections.{HasRoomSchema, IsClean}
 
 -- how the program reports why terminals were not changed
 abbrev pub failure_of : ChangeFault → Failure
@@ -52,6 +52,8 @@ pub record HasChanged {S : Type 0} (g : Ghosts S) (old new : Held S) (who : Who)
   pub plan : Layout
   pub opened : Held S
   pub rows : IsClean g opened → KeepsFile (state g old) (state g opened)
+  pub schema : HasRoomSchema g opened
+  pub settled : StandsSettled g opened
   pub of_room : IsClean g opened → IsPlanOf (state g opened).now.trees plan
   pub changed : IsClean g new
       → OnOk done ((terminals : List Terminal) × (room : Room)

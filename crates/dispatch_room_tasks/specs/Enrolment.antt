@@ -48,6 +48,7 @@ pub record HasImportedIn {S : Type 0} (g : Ghosts S) (old new : Held S) (lines :
   pub opened : Store S
   pub closed : Store S
   pub conn : closed.conn ≡ new
+  pub plan : closed.plan ≡ opened.plan
   pub terminals : List Terminal
   pub room : Room
   pub is : IsOpened g old opened terminals room

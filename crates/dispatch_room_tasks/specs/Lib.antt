@@ -18,5 +18,7 @@ pub mod ChangedTerminals
 pub mod ReplacedTerminals
 -- a room that gets another plan
 pub mod ReplannedRoom
+-- what may change a room, one deed after another
+pub mod Deeds
 -- the letters of random bytes
 pub mod RandomTokens

@@ -23,7 +23,7 @@ use Rattle.room_store_file.specs.OpenedFile.{KeepsFile, MayBeIndexed}
 use Rattle.room_store_writes.specs.Configurations.{config_of}
 use Rattle.room_store_writes.specs.NewRoom.{put_all}
 use Rattle.room_store_writes.specs.TerminalHolders.{has_token, is_token_of, may_have, same_who}
-use Rattle.room_store_writes.specs.Transactions.{IsSettled, Leaves}
+use Rattle.room_store_writes.specs.Transactions.{IsSettled, Leaves, StandsSettled}
 use Rattle.dispatch_room_cli.specs.declared.exit_status.Failure.{Failure}
 use Rattle.dispatch_room_cli.specs.declared.exit_status.Failure.TheVariants as failure
 use Rattle.dispatch_room_tasks.specs.declared.replacement_faults.ReplaceFault.{ReplaceFault}
@@ -35,7 +35,7 @@ use Rattle.dispatch_room_tasks.specs.declared.replacement_faults.RowFault.TheVar
 use Rattle.dispatch_room_tasks.specs.declared.replacement_faults.RowFault.TheVariants.{NoVehicle}
 use Rattle.dispatch_room_tasks.specs.declared.replacement_faults.RowFault.TheVariants.{SecondToken}
 use Rattle.dispatch_room_tasks.specs.declared.replacement_faults.RowFault.TheVariants.{TokenTaken}
-use Rattle.room_tables_schema.specs.FileConnections.{IsClean}
+use Rattle.room_tables_schema.specs.FileConnections.{HasRoomSchema, IsClean}
 
 -- how a failing machine is reported
 abbrev pub lack_of : Fault → ReplaceFault
@@ -147,6 +147,8 @@ pub record HasReplaced {S : Type 0} (g : Ghosts S) (old new : Held S) (listed : 
   pub plan : Layout
   pub opened : Held S
   pub rows : IsClean g opened → KeepsFile (state g old) (state g opened)
+  pub schema : HasRoomSchema g opened
+  pub settled : StandsSettled g opened
   pub of_room : IsClean g opened → IsPlanOf (state g opened).now.trees plan
   pub replaced : IsClean g new
       → OnOk done ((terminals : List Terminal) × (room : Room)

@@ -18,7 +18,7 @@ use Rattle.room_store_check_tables.specs.HeldRooms.{IsPlanOf}
 use Rattle.room_store_file.specs.OpenedFile.{KeepsFile, MayBeIndexed}
 use Rattle.room_store_writes.specs.Configurations.{config_of}
 use Rattle.room_store_writes.specs.NewRoom.{new_division}
-use Rattle.room_store_writes.specs.Transactions.{IsSettled, Leaves}
+use Rattle.room_store_writes.specs.Transactions.{IsSettled, Leaves, StandsSettled}
 use Rattle.dispatch_room_cli.specs.declared.exit_status.Failure.{Failure}
 use Rattle.dispatch_room_cli.specs.declared.exit_status.Failure.TheVariants as failure
 use Rattle.dispatch_room_csv.specs.declared.plan_file.PlanFile.{PlanFile}
@@ -27,7 +27,7 @@ use Rattle.dispatch_room_tasks.specs.ReplacedTerminals.{AreFree, ExplainsRow, re
 use Rattle.dispatch_room_tasks.specs.declared.replanning_faults.ReplanFault.{ReplanFault}
 use Rattle.dispatch_room_tasks.specs.declared.replanning_faults.ReplanFault.TheVariants.{Division}
 use Rattle.dispatch_room_tasks.specs.declared.replanning_faults.ReplanFault.TheVariants.{Terminals}
-use Rattle.room_tables_schema.specs.FileConnections.{IsClean}
+use Rattle.room_tables_schema.specs.FileConnections.{HasRoomSchema, IsClean}
 
 -- ---- of which plans it may
 -- The division of the first area of the old plan that the new plan has no area of. Each division of
@@ -100,6 +100,8 @@ pub record HasReplanned {S : Type 0} (g : Ghosts S) (old new : Held S) (file : P
   pub plan : Layout
   pub opened : Held S
   pub rows : IsClean g opened → KeepsFile (state g old) (state g opened)
+  pub schema : HasRoomSchema g opened
+  pub settled : StandsSettled g opened
   pub of_room : IsClean g opened → IsPlanOf (state g opened).now.trees plan
   pub replanned : IsClean g new
       → OnOk done ((terminals : List Terminal) × (room : Room)

@@ -6,6 +6,7 @@
 pub mod changed_terminals;
 mod cleared_tables;
 pub mod creation;
+pub mod deed_laws;
 pub mod enrolment;
 mod fleet_causes;
 pub mod listed_terminals;

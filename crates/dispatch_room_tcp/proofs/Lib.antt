@@ -1,2 +1,3 @@
+pub mod HostLemmas
 pub mod ListeningLemmas
 pub mod PartLemmas

@@ -1,7 +1,7 @@
 -- Parts of a room's service, one after another.
 use Rattle.std.proofs.Common.{◌≡◌, ◌⊎◌, ◌+◌, arith, length, refl, ap, inl, inr, sym, subst, [], ◌∷◌}
 use Rattle.std.proofs.Common.{Bool, true, false, Option, None, Some, Result, Ok, Err}
-use Rattle.std.specs.Prelude.{IfSome, OnErr, is_err, not, ◌&&◌}
+use Rattle.std.specs.Prelude.{List, OnErr, is_err, not, ◌&&◌}
 use Rattle.sqlite_trees.specs.declared.store.Store.{Ghosts}
 use Rattle.dispatch_room_cli.specs.declared.exit_status.Done.{Done}
 use Rattle.dispatch_room_cli.specs.declared.exit_status.Failure.{Failure}
@@ -10,8 +10,10 @@ use Rattle.dispatch_room_serving.specs.Journals.{EndsAfter}
 use Rattle.dispatch_room_journal.specs.declared.list_ends.ListEnd.{ListEnd}
 use Rattle.dispatch_room_serving.specs.declared.journals.Journal.{Journal}
 use Rattle.dispatch_room_tcp.specs.ServedFiles.{PrintsServing}
-use Rattle.dispatch_room_tcp.specs.ServedParts.{EndsAs, EndsLast, EndsPart, Interval, IsPart}
-use Rattle.dispatch_room_tcp.specs.ServedParts.{Manner, PartsBefore}
+use Rattle.dispatch_room_disk.specs.CommandSteps.{Quietly}
+use Rattle.dispatch_room_tcp.specs.Hosts.{Effect}
+use Rattle.dispatch_room_tcp.specs.ServedParts.{EndsAs, EndsLast, EndsPart, HasList, IsPart, Manner}
+use Rattle.dispatch_room_tcp.specs.ServedParts.{OpensFor, PartsBefore, Standpoint}
 
 -- where there is a list, a part ends as its service does with it
 pub ends_as : {W : Type 0} (ends : W → W → Type 0) (old new : Option (Journal W))
@@ -57,36 +59,23 @@ pub second_true : (a b : Bool) → (a && b) ≡ true → b ≡ true
 second_true true b is = is
 second_true false b is = absurd (cc)
 
--- the first list, and one that is opened later
-module _ {F : Type 0} (is_list : F × ListEnd → Type 0) (first : Option (F × ListEnd)) where
-  opened_as : (list : Option (F × ListEnd)) → first ≡ list
-      → IfSome list (λ it. (first ≡ Some it) ⊎ is_list it)
-  opened_as None is = tt
-  opened_as (Some it) is = inl is
-
-  pub first_opened : IfSome first (λ it. (first ≡ Some it) ⊎ is_list it)
-  first_opened = opened_as first refl
-
-  pub later_opened : (next : Option (F × ListEnd)) → IfSome next is_list
-      → IfSome next (λ it. (first ≡ Some it) ⊎ is_list it)
-  later_opened None is = tt
-  later_opened (Some it) is = inr is
-
 module _ {S F : Type 0} (g : Ghosts S) (manner : Manner F) where
-  abbrev pub first_before : (first : Interval S) → PartsBefore g manner first first
+  abbrev pub first_before : (first : Standpoint F S) → PartsBefore g manner first first
   first_before first = record { earlier = []; are = refl; only = λ once. refl }
 
-  abbrev pub first_part : (list : Option (F × ListEnd)) → IfSome list manner.lists.holds → (first last : Interval S)
-      (result : Result Done Failure) → IsPart g manner.watch manner.terms list first last result
+  abbrev pub first_part : (first last : Standpoint F S) (result : Result Done Failure) → last.done ≡ first.done
+      → IsPart g manner.watch manner.terms manner.first first.interval last.interval result
       → EndsPart g manner first last result
-  first_part list listed first last result is =
-      record { at = first; before = first_before first; list = list; listed = listed; is = is }
+  first_part first last result same is =
+      record { at = first; before = first_before first; list = manner.first; listed = (refl, same); is = is }
 
   -- after a part that ended well another begins
-  pub next_before : (first now : Interval S) (result : Result Done Failure) → manner.terms.renews ≡ true
+  pub next_before : (first now : Standpoint F S) (result : Result Done Failure) → manner.terms.renews ≡ true
       → is_err result ≡ false → (part : EndsPart g manner first now result)
       → (next : PartsBefore g manner first now)
       × (length next.earlier ≡ length part.before.earlier + 1)
+      × ((old new : Option (List (Effect F))) (list : Option (F × ListEnd))
+      → Quietly (OpensFor manner.journal) old new (Ok list) → HasList manner next.earlier old new list)
   next_before first now (Ok done) renews well part = (
     record {
       earlier = part.at ∷ part.before.earlier;
@@ -94,21 +83,22 @@ module _ {S F : Type 0} (g : Ghosts S) (manner : Manner F) where
       only = λ once. absurd (cc);
     },
     omega arith,
+    λ old new list opens. opens,
   )
   next_before first now (Err fault) renews well part = absurd (cc)
 
   -- where one part is all, it is the last
-  pub ends_once : (list : Option (F × ListEnd)) → IfSome list manner.lists.holds → (first last : Interval S)
-      (result : Result Done Failure) → manner.terms.renews ≡ false
-      → IsPart g manner.watch manner.terms list first last result
+  pub ends_once : (first last : Standpoint F S) (result : Result Done Failure) → manner.terms.renews ≡ false
+      → last.done ≡ first.done
+      → IsPart g manner.watch manner.terms manner.first first.interval last.interval result
       → EndsLast g manner first last result
-  ends_once list listed first last result once is = record {
-    part = first_part list listed first last result is;
+  ends_once first last result once same is = record {
+    part = first_part first last result same is;
     followed = λ renews well. absurd (cc (once, renews));
   }
 
   -- and one that ended badly is
-  pub ends_badly : (first last : Interval S) (result : Result Done Failure)
+  pub ends_badly : (first last : Standpoint F S) (result : Result Done Failure)
       → is_err result ≡ true → EndsPart g manner first last result
       → EndsLast g manner first last result
   ends_badly first last (Ok done) bad part = absurd (cc)

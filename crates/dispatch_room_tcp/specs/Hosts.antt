@@ -1,108 +1,103 @@
--- What a command finds around it: at the paths and the addresses that it is given, and by chance.
+-- What a command does with its machine: one effect after another.
 use Rattle.std.specs.Global.{Global}
-use Rattle.std.specs.Prelude.{Bool, Err, List, MatchResult, None, Option, Vec, ⊤, ℕ, ◌≡◌, ◌⊎◌}
-use Rattle.sqlite.specs.Held.{Held}
+use Rattle.std.specs.Prelude.{Bool, Err, List, MatchResult, Ok, Option, Result, Vec, [], ⊤, ℕ, ◌≡◌}
+use Rattle.std.specs.Prelude.{◌⊎◌, ◌∷◌}
+use Rattle.sqlite.specs.Files.{over_files}
+use Rattle.sqlite.specs.Held.{Held, state}
+use Rattle.sqlite_disk.specs.declared.Disk.{Ghosts as Disk}
 use Rattle.sqlite_store.specs.declared.store.FileStore.{FileStore}
-use Rattle.std.specs.declared.fs.File.{File}
+use Rattle.sqlite_trees.specs.Tree.{Trees}
 use Rattle.dispatch_room_cli.specs.declared.exit_status.Failure.{Failure}
 use Rattle.dispatch_room_cli.specs.declared.exit_status.Failure.TheVariants as failure
-use Rattle.dispatch_room_disk.specs.RoomFiles.{Doing, IsConnected, IsUnfound, WorksIn}
-use Rattle.dispatch_room_disk.specs.CommandSteps.{Silent, Step}
+use Rattle.dispatch_room_disk.specs.CommandSteps.{Stand, Step, Then, Tries}
+use Rattle.dispatch_room_disk.specs.FileSteps.{Does}
 use Rattle.dispatch_room_disk.specs.ReplacingSteps.{Step as Call}
-use Rattle.dispatch_room_disk.specs.SystemFiles.{SystemFile, system}
+use Rattle.dispatch_room_disk.specs.RoomFiles.{Closes, Doing, IsConnected, IsUnfound, Place}
 use Rattle.dispatch_room_journal.specs.declared.list_ends.ListEnd.{ListEnd}
-use Rattle.dispatch_room_disk.specs.declared.room_files.RoomFile.{RoomFile}
-use Rattle.dispatch_room_disk.specs.declared.room_files.RoomFile.TheVariants.{Kept, New, Old}
 
--- what is said of what was found somewhere, or of why nothing was
-pub record Origin (T : Type 0) : Type 1 where
-  pub holds : T → Type 0
-  pub lacks : Failure → Type 0
+-- What was done with a machine, and what came of it. Lists are kept in such files.
+pub data Effect (F : Type 0) : Type 0 where
+  -- the file of a room was opened, and showed these tables; or it was closed again, or given up
+  opened : Place → Result Trees Failure → Effect F
+  closed : Place → Effect F
+  -- the text of a file was read
+  read : List ℕ → Result (Vec ℕ Global) Failure → Effect F
+  -- the list of a journal was opened, by its file and how it goes on there
+  listed : List ℕ → Result (F × ListEnd) Failure → Effect F
+  -- a list was opened to be read, of whose bytes this is known; and it was left: whether a read of
+  -- it failed, and whether the last record that was read says that it ended well
+  found : List ℕ → Result (Option (List ℕ)) Failure → Effect F
+  left : List ℕ → Bool → Bool → Effect F
+  -- a step was done by which a copy is put in the place of a file
+  replaced : Call → Effect F
+  -- random bytes were drawn
+  drawn : Result (List ℕ) Failure → Effect F
+  -- standard input was taken, of whose bytes this is known
+  taken : Option (List ℕ) → Effect F
+  -- it was asked whether standard output is a terminal
+  asked : Bool → Effect F
+  -- an address was called, for a connection that lasts so many nanoseconds
+  called : List ℕ → ℕ → Effect F
 
--- nothing is said of it
-abbrev pub anything : {T : Type 0} → Origin T
-anything = record { holds = λ found. ⊤; lacks = λ fault. ⊤ }
-
--- of the database in a file of the system
-abbrev pub RoomOrigin : Type 1
-RoomOrigin = Origin (Held (FileStore SystemFile system))
-
--- What a command finds around it, by the calls of its machine.
-pub record Surroundings (F : Type 0) : Type 1 where
-  -- at a path: the file of a room that has to be there, that of a room of the first version, and
-  -- one that is made where it is not there
-  pub kept : List ℕ → RoomOrigin
-  pub old : List ℕ → RoomOrigin
-  pub new : List ℕ → RoomOrigin
-  -- a text; what is known of the bytes of a list that is read, whether a read of it failed, and
-  -- whether the last record that was read says that it ended well; and why a file can't be read
-  pub text : List ℕ → List ℕ → Type 0
-  pub bytes : List ℕ → Option (List ℕ) → Type 0
-  pub read_failed : List ℕ → Bool → Type 0
-  pub ended_well : List ℕ → Bool → Type 0
-  pub unread : List ℕ → Failure → Type 0
-  -- the list of a journal, by its file and how it goes on there
-  pub list : List ℕ → Origin (F × ListEnd)
-  -- what such a file holds, and what of that lasts, where that is known
-  pub contents : F → Option (List ℕ)
-  pub lasting : F → Option (List ℕ)
-  -- the steps that were done, one after another, by which a copy is put in the place of a file
-  pub replaced : List Call → Type 0
-  -- bytes that are random
-  pub random : Origin (List ℕ)
-  -- what is known of the bytes of standard input, and whether standard output is a terminal
-  pub input : Option (List ℕ) → Type 0
-  pub terminal : Bool → Type 0
-  -- at an address, on a connection to it that lasts so many nanoseconds: where this is asked, and
-  -- so many bytes are heard at most, what is heard
-  pub heard : List ℕ → ℕ → List ℕ → ℕ → List ℕ → Type 0
-
--- the file that is opened for a room, as that is wanted
-abbrev pub opens : {F : Type 0} → Surroundings F → RoomFile → RoomOrigin
-opens around (Kept path) = around.kept path.now
-opens around (Old path) = around.old path.now
-opens around (New path) = around.new path.now
-
--- of the system nothing is known: any file may be at any path, and may be lacking
-abbrev pub unknown : Surroundings File
-unknown = record {
-  kept = λ path. anything;
-  old = λ path. anything;
-  new = λ path. anything;
-  text = λ path text. ⊤;
-  bytes = λ path bytes. ⊤;
-  read_failed = λ path failed. ⊤;
-  ended_well = λ path ended. ⊤;
-  unread = λ path fault. ⊤;
-  list = λ path. anything;
-  contents = λ file. None;
-  lasting = λ file. None;
-  replaced = λ steps. ⊤;
-  random = anything;
-  input = λ bytes. ⊤;
-  terminal = λ is. ⊤;
-  heard = λ address nanos asked most heard. ⊤;
-}
+-- what is known of what came
+abbrev pub known : {T U : Type 0} → (T → U) → Result T Failure → Result U Failure
+known says (Ok it) = Ok (says it)
+known says (Err fault) = Err fault
 
 -- a file can't be read, or there is no memory for it
-abbrev pub IsUnread : {F : Type 0} → Surroundings F → List ℕ → Failure → Type 0
-IsUnread around path fault =
-    ((fault ≡ failure.Memory) ⊎ (fault ≡ failure.Input)) × around.unread path fault
+abbrev pub IsUnread : Failure → Type 0
+IsUnread fault = (fault ≡ failure.Memory) ⊎ (fault ≡ failure.Input)
 
 -- the list of a journal can't be opened, or there is no memory for it
-abbrev pub IsUnlisted : {F : Type 0} → Surroundings F → List ℕ → Failure → Type 0
-IsUnlisted around path fault =
-    ((fault ≡ failure.Memory) ⊎ (fault ≡ failure.Journal)) × (around.list path).lacks fault
+abbrev pub IsUnlisted : Failure → Type 0
+IsUnlisted fault = (fault ≡ failure.Memory) ⊎ (fault ≡ failure.Journal)
 
--- Work in the database of a file that is opened there: no database was found in it, for this, and
--- nothing is printed; or this one was, and it was worked in.
-abbrev pub Works : {T : Type 0} → RoomOrigin → Doing T → Step T
-Works at does before after came =
-    ((fault : Failure) × (came ≡ Err fault) × (IsUnfound fault × at.lacks fault) × (after ≡ before))
-    ⊎ ((conn : Held (FileStore SystemFile system)) × at.holds conn × IsConnected conn
-    × WorksIn does conn before after came)
+-- what is said of what a command does, by what came of it
+abbrev pub Command : Type 0 → Type 0 → Type 1
+Command F = Step (Stand (Effect F))
+
+-- what is said of work in an open database, by where the command stood before and after, and by
+-- what came of it and the database as it is then, or of why it can't be done
+abbrev pub Working : {D : Type 0} → Disk D → Type 0 → Type 0 → Type 1
+Working {D} g F T = Stand (Effect F) → Stand (Effect F)
+    → Result (Result T Failure × Held (FileStore D g)) Failure → Type 0
 
 -- a file's text is read, or not, for this
-abbrev pub Reads : {F : Type 0} → Surroundings F → List ℕ → Step (Vec ℕ Global)
-Reads around path = Silent (λ read. MatchResult read (λ text. around.text path text.items)
-    (IsUnread around path))
+abbrev pub Reads : {F : Type 0} → List ℕ → Command F (Vec ℕ Global)
+Reads path = Tries (read path) (λ came. MatchResult came (λ text. ⊤) IsUnread)
+
+-- the list of a journal is opened, or not, for this
+abbrev pub OpensList : {F : Type 0} → List ℕ → Command F (F × ListEnd)
+OpensList path = Tries (listed path) (λ came. MatchResult came (λ list. ⊤) IsUnlisted)
+
+-- the tables that a database shows
+abbrev pub tables_of : {D : Type 0} {g : Disk D} → Held (FileStore D g) → Trees
+tables_of conn = (state over_files conn).now.trees
+
+-- on such a disk
+module _ {D F : Type 0} (g : Disk D) where
+  -- a room's file is opened, and shows the database that its files hold; or none was found
+  abbrev pub Opens : Place → Command F (Held (FileStore D g))
+  Opens place = Tries (λ came. opened place (known tables_of came))
+      (λ came. MatchResult came IsConnected IsUnfound)
+
+  -- the work was done, and its file was closed behind it
+  pub record Ends {T : Type 0} (place : Place) (works : Working g F T) (before after : Stand (Effect F))
+      (came : Result T Failure) : Type 0 where
+    pub at : Stand (Effect F)
+    pub worked : Result (Result T Failure × Held (FileStore D g)) Failure
+    pub did : works before at worked
+    pub closes : Closes worked came
+    pub done : Does (closed place ∷ []) at.done after.done
+    pub printed : after.printed ≡ at.printed
+
+  -- work that would be the same over any storage, and does nothing with the machine
+  abbrev pub In : {T : Type 0} → Doing T → Held (FileStore D g) → Working g F T
+  In does conn before after worked =
+      does (FileStore D g) over_files conn before.printed after.printed worked
+      × (after.done ≡ before.done)
+
+  -- Work in the database of a room's file, which is opened before and closed behind it; or no
+  -- database was found.
+  abbrev pub Works : {T : Type 0} → Place → Doing T → Command F T
+  Works place does = Then (Opens place) (λ conn. Ends place (In does conn))

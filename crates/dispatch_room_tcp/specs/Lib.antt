@@ -1,4 +1,4 @@
--- what a command finds around it
+-- what a command does with its machine
 pub mod Hosts
 -- what is heard on a connection
 pub mod HeardRooms

@@ -1,19 +1,22 @@
 -- The room of a file, served to those who call.
-use Rattle.std.specs.Prelude.{Bool, Err, IfOk, IfSome, List, MatchResult, None, Ok, Option, Result}
-use Rattle.std.specs.Prelude.{Some, false, is_some, true, ℕ, ◌&&◌, ◌*◌, ◌==◌, ◌≡◌, ◌⊎◌}
+use Rattle.std.specs.Prelude.{Bool, Err, IfOk, List, MatchResult, None, Ok, Option, Result, Some}
+use Rattle.std.specs.Prelude.{false, if◌then◌else◌, is_some, true, ℕ, ◌&&◌, ◌*◌, ◌==◌, ◌≡◌, ◌⊎◌}
 use Rattle.std.specs.Duration.{as_nanos}
+use Rattle.sqlite.specs.Files.{over_files}
 use Rattle.sqlite.specs.Held.{Held}
+use Rattle.sqlite_disk.specs.declared.Disk.{Ghosts as Disk}
 use Rattle.sqlite_trees.specs.declared.store.Store.{Ghosts}
-use Rattle.dispatch_room_disk.specs.CommandSteps.{Gives, Silent, Step, Then}
-use Rattle.dispatch_room_disk.specs.RoomFiles.{Doing}
+use Rattle.dispatch_room_disk.specs.CommandSteps.{Gives, Stand, Then}
+use Rattle.dispatch_room_disk.specs.RoomFiles.{there}
 use Rattle.dispatch_room_cli.specs.declared.exit_status.Done.{Done}
 use Rattle.dispatch_room_cli.specs.declared.exit_status.Failure.{Failure}
 use Rattle.dispatch_room_cli.specs.declared.exit_status.Failure.TheVariants.{Network}
 use Rattle.dispatch_room_cli.specs.declared.tasks.Journal.{Journal}
 use Rattle.dispatch_room_cli.specs.declared.tasks.Service.{Service}
 use Rattle.dispatch_room_journal.specs.declared.list_ends.ListEnd.{ListEnd}
-use Rattle.dispatch_room_tcp.specs.Hosts.{IsUnlisted, Origin, Surroundings, Works}
-use Rattle.dispatch_room_tcp.specs.ServedParts.{Interval, Manner, OpensNoPart, ServesParts, Watch}
+use Rattle.dispatch_room_tcp.specs.Hosts.{Command, Effect, Ends, Opens}
+use Rattle.dispatch_room_tcp.specs.ServedParts.{Manner, OpensFor, OpensNoPart, ServesParts}
+use Rattle.dispatch_room_tcp.specs.ServedParts.{Standing, Watch}
 use Rattle.dispatch_room_tcp.specs.declared.serve.Served.{Served}
 use Rattle.dispatch_room_serving.specs.Callers.{Opening, PrintsStart}
 use Rattle.dispatch_room_serving.specs.declared.served_room.Terms.{Terms}
@@ -40,19 +43,18 @@ ended (Err fault) = Err fault
 
 -- Where a service stands, by what is known of its calls. Its moments are those of the machine's
 -- clock, which are never known before.
-abbrev pub stands_at : {S : Type 0} → Option (List (Option Opening))
-    → Option (List (Option (List ℕ))) → Held S → Interval S
-stands_at heard written conn = record {
-  conn = conn;
-  heard = heard;
-  written = written;
-  given = None;
+abbrev pub stands_at : {S X : Type 0} → Option (List (Option Opening))
+    → Option (List (Option (List ℕ))) → Held S → Option (List X) → Standing S X
+stands_at heard written conn done = record {
+  interval = record { conn = conn; heard = heard; written = written; given = None };
+  done = done;
 }
 
 -- where it begins, by what listens for its calls
-abbrev pub begins_at : {S L : Type 0} → (L → Option (List (Option Opening)))
-    → (L → Option (List (Option (List ℕ)))) → L → Held S → Interval S
-begins_at heard written listener conn = stands_at (heard listener) (written listener) conn
+abbrev pub begins_at : {S L X : Type 0} → (L → Option (List (Option Opening)))
+    → (L → Option (List (Option (List ℕ)))) → L → Held S → Option (List X) → Standing S X
+begins_at heard written listener conn done =
+    stands_at (heard listener) (written listener) conn done
 
 -- What the output holds once serving ended so: that a room is served, which is printed as it begins
 -- to listen, and nothing else. If serving failed: the same, or nothing, or that could not be
@@ -64,28 +66,30 @@ PrintsServing is_listening before after (Err fault) =
     (after ≡ before) ⊎ (PrintsStart is_listening before after
     ⊎ ((is_listening ≡ false) × (fault ≡ Network)))
 
--- The room was served in this manner. What is known of the calls is what the listener knew of them
--- before, and what it knows after if it is given back (`heard`, `written`).
-pub record IsServed {S L F : Type 0} (heard : L → Option (List (Option Opening)))
-    (written : L → Option (List (Option (List ℕ)))) (g : Ghosts S) (old new : Held S)
-    (manner : Manner F) (listener : L) (served : Result (Served L) Failure) : Type 0 where
-  pub hears : Option (List (Option Opening))
-  pub writes : Option (List (Option (List ℕ)))
-  pub known : IfOk served (λ served. (hears ≡ heard served.listener)
-      × (writes ≡ written served.listener))
-  pub is : ServesParts g manner (begins_at heard written listener old)
-      (stands_at hears writes new) (ended served)
+module _ {S L F : Type 0} (heard : L → Option (List (Option Opening)))
+    (written : L → Option (List (Option (List ℕ)))) (g : Ghosts S) where
+  -- The room was served in this manner. What is known of the calls is what the listener knew of them
+  -- before, and what it knows after if it is given back (`heard`, `written`).
+  pub record IsServed (old new : Held S) (was is_now : Option (List (Effect F)))
+      (manner : Manner F) (listener : L) (served : Result (Served L) Failure) : Type 0 where
+    pub hears : Option (List (Option Opening))
+    pub writes : Option (List (Option (List ℕ)))
+    pub known : IfOk served (λ served. (hears ≡ heard served.listener)
+        × (writes ≡ written served.listener))
+    pub is : ServesParts g manner (begins_at heard written listener old was)
+        (stands_at hears writes new is_now) (ended served)
 
--- The room is served, and that is printed; or no room is opened for one of the parts, and that is
--- printed at most.
-abbrev pub Serves : {L F : Type 0} → (L → Option (List (Option Opening)))
-    → (L → Option (List (Option (List ℕ)))) → Bool → Manner F → L → Doing (Served L)
-Serves heard written is_listening manner listener = λ S g old before after worked.
-    MatchResult worked
-    (λ it. IsServed heard written g old it.1 manner listener it.0
-    × PrintsServing is_listening before after (ended it.0))
-    (λ fault. OpensNoPart g manner (begins_at heard written listener old) fault
-    × ((after ≡ before) ⊎ PrintsStart is_listening before after))
+  -- The room is served, and that is printed; or no room is opened for one of the parts, and that is
+  -- printed at most.
+  abbrev pub Serves : Bool → Manner F → L → Held S → Stand (Effect F) → Stand (Effect F)
+      → Result (Result (Served L) Failure × Held S) Failure → Type 0
+  Serves is_listening manner listener old before after worked = MatchResult worked
+      (λ it. IsServed old it.1 before.done after.done manner listener it.0
+      × PrintsServing is_listening before.printed after.printed (ended it.0))
+      (λ fault. OpensNoPart g manner (begins_at heard written listener old before.done) after.done
+      fault
+      × ((after.printed ≡ before.printed)
+      ⊎ PrintsStart is_listening before.printed after.printed))
 
 -- whether each message lasts before the room acts on it: if there is a journal that says so
 abbrev pub is_synced_by : Option Journal → Bool
@@ -121,66 +125,43 @@ IsAddressOf service listener = (listener.address ≡ service.address)
     × (as_nanos listener.waits.idle ≡ service.idle * 1_000_000)
     × (as_nanos listener.waits.patience ≡ service.patience * 1_000_000_000)
 
--- a list is the one at the path of a journal, where one is asked for
-abbrev pub IsListOf : {F : Type 0} → Surroundings F → Option Journal → F × ListEnd → Type 0
-IsListOf around None list = ⊥
-IsListOf around (Some journal) list = (around.list journal.list.now).holds list
-
--- the list for a journal was not opened for this, where one is asked for
-abbrev pub IsUnlistedFor : {F : Type 0} → Surroundings F → Option Journal → Failure → Type 0
-IsUnlistedFor around None fault = ⊥
-IsUnlistedFor around (Some journal) fault = IsUnlisted around journal.list.now fault
-
--- the lists of a room: the one that it begins to be served with, and those that are opened later
--- for its journal
-abbrev pub lists_for : {F : Type 0} → Surroundings F → Service → Option (F × ListEnd)
-    → Origin (F × ListEnd)
-lists_for around service first = record {
-  holds = λ list. (first ≡ Some list) ⊎ IsListOf around service.journal list;
-  lacks = IsUnlistedFor around service.journal;
-}
-
--- how the room of a service is served that begins with this list or none
-abbrev pub manner_of : {F : Type 0} → Surroundings F → Service → Option (F × ListEnd) → Manner F
-manner_of around service first = record {
-  watch = watch_of around.contents (is_some first) service;
+-- how the room of a service is served that begins with this list or none, by what is known of what
+-- a list's file holds
+abbrev pub manner_of : {F : Type 0} → (F → Option (List ℕ)) → Service → Option (F × ListEnd)
+    → Manner F
+manner_of contents service first = record {
+  watch = watch_of contents (is_some first) service;
   terms = terms_of service;
-  lists = lists_for around service first;
+  first = first;
+  journal = if is_some first then service.journal else None;
 }
 
--- the list for the journal of a service, where one is asked for
-pub record IsFirstList {F : Type 0} (around : Surroundings F) (service : Service)
-    (list : Option (F × ListEnd)) : Type 0 where
-  pub asked : is_some list ≡ is_some service.journal
-  pub is : IfSome list (IsListOf around service.journal)
-
--- by what is around
-module _ {F : Type 0} (around : Surroundings F) where
+module _ {D F : Type 0} (disk : Disk D) (contents : F → Option (List ℕ)) where
   -- the room of a file is served to those who call where this listens
   abbrev pub IsServedAt : {L : Type 0} → (L → Option (List (Option Opening)))
-      → (L → Option (List (Option (List ℕ)))) → Bool → Manner F → L → List ℕ → Step Done
+      → (L → Option (List (Option (List ℕ)))) → Bool → Manner F → L → List ℕ
+      → Command F Done
   IsServedAt heard written is_listening manner listener file =
-      Then (Works (around.kept file) (Serves heard written is_listening manner listener))
-      (λ served. Gives served.done)
+      Then (Opens disk (there file))
+      (λ conn. Then
+      (Ends disk (there file) (Serves heard written over_files is_listening manner listener conn))
+      (λ served. Gives served.done))
 
   -- The room of a file is served, with a journal in this list or none: at the door of a service,
   -- where it goes on until it is stopped, or at its address to as many connections as was asked
   -- for, one after another.
-  abbrev pub IsServedBy : Bool → Option (F × ListEnd) → List ℕ → Service → Step Done
+  abbrev pub IsServedBy : Bool → Option (F × ListEnd) → List ℕ → Service → Command F Done
   IsServedBy true list file service = λ before after came.
       (door : SystemDoor) × IsDoorOf service door
-      × IsServedAt (λ _. None) (λ _. None) false (manner_of around service list) door file
+      × IsServedAt (λ _. None) (λ _. None) false (manner_of contents service list) door file
       before after came
   IsServedBy false list file service = λ before after came.
       (listener : TcpAddress) × IsAddressOf service listener
-      × IsServedAt (λ _. None) (λ _. None) false (manner_of around service list) listener file
+      × IsServedAt (λ _. None) (λ _. None) false (manner_of contents service list) listener file
       before after came
 
-  -- the list for the journal of a service is opened, where one is asked for
-  abbrev pub OpensFirst : Service → Step (Option (F × ListEnd))
-  OpensFirst service = Silent (λ opened. MatchResult opened (IsFirstList around service)
-      (IsUnlistedFor around service.journal))
-
-  abbrev pub IsServe : List ℕ → Service → Step Done
-  IsServe file service = Then (OpensFirst service)
+  -- `serve`: the list for the journal of a service is opened, where one is asked for, and then the
+  -- room of its file is served
+  abbrev pub IsServe : List ℕ → Service → Command F Done
+  IsServe file service = Then (OpensFor service.journal)
       (λ list. IsServedBy (is_endless service) list file service)

@@ -1,7 +1,7 @@
 -- A room that is served in parts, one after another: each begins in a new list, at the room that
 -- the one before left in the same database.
 use Rattle.std.specs.Prelude.{◌≡◌, ◌⊎◌, ℕ, List, [], ◌∷◌, Bool, true, false, IfSome, IsOk, Option}
-use Rattle.std.specs.Prelude.{Result, Ok, Err, ◌≢◌, ◌&&◌, is_some, length}
+use Rattle.std.specs.Prelude.{Result, None, Ok, Err, Some, ◌≢◌, ◌&&◌, is_some, length}
 use Rattle.sqlite.specs.Held.{Held}
 use Rattle.sqlite_trees.specs.declared.store.Store.{Ghosts}
 use Rattle.dispatch_room_cli.specs.declared.exit_status.Done.{Done}
@@ -20,7 +20,9 @@ use Rattle.dispatch_room_serving.specs.declared.list_places.Finding.{Finding}
 use Rattle.dispatch_room_serving.specs.declared.list_places.Finding.TheVariants.{There, Truncated}
 use Rattle.dispatch_room_serving.specs.declared.served_room.Terms.{Terms}
 use Rattle.dispatch_room_tasks.specs.OpenedRoom.{IsUnopened}
-use Rattle.dispatch_room_tcp.specs.Hosts.{Origin}
+use Rattle.dispatch_room_disk.specs.CommandSteps.{Gives, Quietly, Then}
+use Rattle.dispatch_room_cli.specs.declared.tasks.Journal.{Journal as Asked}
+use Rattle.dispatch_room_tcp.specs.Hosts.{Command, Effect, OpensList}
 
 -- where a service stands before and after a part: the database, the calls that came, what they were
 -- written, and the moments that were given
@@ -29,6 +31,11 @@ pub record Interval (S : Type 0) : Type 0 where
   pub heard : Option (List (Option Opening))
   pub written : Option (List (Option (List ℕ)))
   pub given : Option (List ℕ)
+
+-- the same with what was done with the machine, where that is known
+pub record Standing (S X : Type 0) : Type 0 where
+  pub interval : Interval S
+  pub done : Option (List X)
 
 -- A part ends as serving ended; or serving ended well, but no end could be put in the list.
 abbrev pub EndsAs : Bool → Result Done Failure → Result Done Failure → Type 0
@@ -107,56 +114,82 @@ module _ {S F : Type 0} (g : Ghosts S) (watch : Watch F) (terms : Terms) where
         })
         (terms.renews && has_left) terms.connections (served, new.conn)
 
--- how a room is served: how its parts are observed, on which terms, and what is said of the lists
--- that are opened for them
+-- where a service stands on such a machine
+abbrev pub Standpoint : Type 0 → Type 0 → Type 0
+Standpoint F S = Standing S (Effect F)
+
+-- how a room is served: how its parts are observed, on which terms, with which list the first of
+-- them begins, and for which journal a list is opened for each further one
 pub record Manner (F : Type 0) : Type 1 where
   pub watch : Watch F
   pub terms : Terms
-  pub lists : Origin (F × ListEnd)
+  pub first : Option (F × ListEnd)
+  pub journal : Option Asked
 
-module _ {S F : Type 0} (g : Ghosts S) (manner : Manner F) where
-  -- these parts ended well, the last of them first: each began where the one before ended
-  abbrev pub AreParts : List (Interval S) → Interval S → Interval S → Type 0
-  AreParts [] first now = now ≡ first
-  AreParts (at ∷ earlier) first now =
-      AreParts earlier first at × (list : Option (F × ListEnd)) × IfSome list manner.lists.holds
-      × (done : Done) × IsPart g manner.watch manner.terms list at now (Ok done)
+module _ {F : Type 0} where
+  -- the list of a journal is opened, if there is one
+  abbrev pub OpensFor : Option Asked → Command F (Option (F × ListEnd))
+  OpensFor None = Gives None
+  OpensFor (Some journal) = Then (OpensList journal.list.now) (λ list. Gives (Some list))
 
-  -- before a part there were others only where a part may end before all calls came
-  pub record PartsBefore (first at : Interval S) : Type 0 where
-    pub earlier : List (Interval S)
-    pub are : AreParts earlier first at
-    pub only : manner.terms.renews ≡ false → earlier ≡ []
+  -- what was done for the list of a part, after these: nothing for that of the first, which was
+  -- opened before
+  abbrev pub HasList : {S : Type 0} → Manner F → List (Standing S (Effect F))
+      → Option (List (Effect F)) → Option (List (Effect F)) → Option (F × ListEnd) → Type 0
+  HasList manner [] old new list = (list ≡ manner.first) × (new ≡ old)
+  HasList manner (at ∷ earlier) old new list =
+      Quietly (OpensFor manner.journal) old new (Ok list)
 
-  -- a part ended so, after others
-  pub record EndsPart (first last : Interval S) (result : Result Done Failure) : Type 0 where
-    pub at : Interval S
-    pub before : PartsBefore first at
-    pub list : Option (F × ListEnd)
-    pub listed : IfSome list manner.lists.holds
-    pub is : IsPart g manner.watch manner.terms list at last result
+  module _ {S : Type 0} (g : Ghosts S) (manner : Manner F) where
+    -- these parts ended well, the last of them first: each began where the one before ended
+    abbrev pub AreParts : List (Standpoint F S) → Standpoint F S → Standpoint F S → Type 0
+    AreParts [] first now = now ≡ first
+    AreParts (at ∷ earlier) first now =
+        AreParts earlier first at × (list : Option (F × ListEnd))
+        × HasList manner earlier at.done now.done list
+        × (done : Done) × IsPart g manner.watch manner.terms list at.interval
+        now.interval (Ok done)
 
-  -- The last part ended so. Where a part may end before all calls came, another follows each that
-  -- ended well: so none that did is the last, but the last that a number of 64 bits can count.
-  pub record EndsLast (first last : Interval S) (result : Result Done Failure) : Type 0 where
-    pub part : EndsPart first last result
-    pub followed : manner.terms.renews ≡ true → IsOk result
-        → length part.before.earlier ≡ 18446744073709551614
+    -- before a part there were others only where a part may end before all calls came
+    pub record PartsBefore (first at : Standpoint F S) : Type 0 where
+      pub earlier : List (Standpoint F S)
+      pub are : AreParts earlier first at
+      pub only : manner.terms.renews ≡ false → earlier ≡ []
 
-  -- no list was opened for a further part
-  pub record HasNoList (first last : Interval S) (result : Result Done Failure) : Type 0 where
-    pub renews : manner.terms.renews ≡ true
-    pub before : PartsBefore first last
-    pub fault : Failure
-    pub result_is : result ≡ Err fault
-    pub why : manner.lists.lacks fault
+    -- a part ended so, after others
+    pub record EndsPart (first last : Standpoint F S) (result : Result Done Failure) : Type 0 where
+      pub at : Standpoint F S
+      pub before : PartsBefore first at
+      pub list : Option (F × ListEnd)
+      pub listed : HasList manner before.earlier at.done last.done list
+      pub is : IsPart g manner.watch manner.terms list at.interval last.interval result
 
-  -- the room was served in parts, and so that ended
-  abbrev pub ServesParts : Interval S → Interval S → Result Done Failure → Type 0
-  ServesParts first last result = EndsLast first last result ⊎ HasNoList first last result
+    -- The last part ended so. Where a part may end before all calls came, another follows each that
+    -- ended well: so none that did is the last, but the last that a number of 64 bits can count.
+    pub record EndsLast (first last : Standpoint F S) (result : Result Done Failure) : Type 0 where
+      pub part : EndsPart first last result
+      pub followed : manner.terms.renews ≡ true → IsOk result
+          → length part.before.earlier ≡ 18446744073709551614
 
-  -- no room was opened for a part
-  pub record OpensNoPart (first : Interval S) (fault : Failure) : Type 0 where
-    pub at : Interval S
-    pub before : PartsBefore first at
-    pub unopened : IsUnopened g at.conn fault
+    -- no list was opened for a further part
+    pub record HasNoList (first last : Standpoint F S) (result : Result Done Failure) : Type 0 where
+      pub renews : manner.terms.renews ≡ true
+      pub at : Standpoint F S
+      pub before : PartsBefore first at
+      pub fault : Failure
+      pub result_is : result ≡ Err fault
+      pub why : Quietly (OpensFor manner.journal) at.done last.done (Err fault)
+      pub same : last.interval ≡ at.interval
+
+    -- the room was served in parts, and so that ended
+    abbrev pub ServesParts : Standpoint F S → Standpoint F S → Result Done Failure → Type 0
+    ServesParts first last result = EndsLast first last result ⊎ HasNoList first last result
+
+    -- no room was opened for a part, once this was done
+    pub record OpensNoPart (first : Standpoint F S) (done : Option (List (Effect F))) (fault : Failure)
+        : Type 0 where
+      pub at : Standpoint F S
+      pub before : PartsBefore first at
+      pub list : Option (F × ListEnd)
+      pub listed : HasList manner before.earlier at.done done list
+      pub unopened : IsUnopened g at.interval.conn fault

@@ -1,33 +1,37 @@
 //! What a command runs on.
-ghost use Rattle.std.specs.Prelude.{◌≡◌, ◌≢◌, ◌||◌, ◌==◌, ℕ, List, None, Option, false, IfErr};
-ghost use Rattle.std.specs.Prelude.{IfOk, IfSome, OnOk, refl};
+ghost use Rattle.std.specs.Prelude.{◌≡◌, ◌≢◌, ◌||◌, ◌==◌, ◌∷◌, [], ℕ, List, None, Option, false};
+ghost use Rattle.std.specs.Prelude.{IfErr, IfOk, IfSome, map, option_map, ⊤};
 ghost use Rattle.std.specs.Duration.{as_nanos};
 ghost use Rattle.std.specs.IoError.{error_kind};
 ghost use Rattle.dispatch_room_cli.specs.declared.exit_status.Failure.TheVariants as failure;
 ghost use Rattle.dispatch_room_disk.specs.FileSteps.{Does};
 ghost use Rattle.dispatch_room_disk.specs.ReplacingSteps.{Step};
+ghost use Rattle.dispatch_room_disk.specs.RoomFiles.{Closes, IsConnected, IsUnfound, place_of};
 ghost use Rattle.dispatch_room_journal.specs.ReadSteps.{ends_well, most_rows};
 ghost use Rattle.dispatch_room_tcp.specs.HeardRooms.{IsHeard};
-ghost use Rattle.dispatch_room_tcp.specs.Hosts.{IsUnlisted, IsUnread, Surroundings, Works, opens};
-ghost use Rattle.dispatch_room_tcp.specs.Hosts.{unknown};
+ghost use Rattle.dispatch_room_tcp.specs.Hosts as effect;
+ghost use Rattle.dispatch_room_tcp.specs.Hosts.{Effect, IsUnlisted, IsUnread, known, tables_of};
 
 use dispatch_room_cli::exit_status::Failure;
 use dispatch_room_cli::failure_causes::Explainer;
 use dispatch_room_disk::restored_files::Replacing;
-use dispatch_room_disk::room_files::{self, RoomFile, RoomTask};
+use dispatch_room_disk::room_files::{self, RoomFile};
 use dispatch_room_disk::systems::System;
 use dispatch_room_journal::list_source::ListSource;
+use dispatch_room_serving::change_marks::ListOnDisk;
 use dispatch_room_serving::journal_files::{self, Lasting, OpenedList};
 use dispatch_room_serving::list_places::Placed;
 use dispatch_room_sockets::client;
 use dispatch_room_sockets::socket_readers::SocketReader;
 use dispatch_room_sockets::socket_writers::SocketWriter;
+use dispatch_room_tasks::opened_room::TaskResult;
 use room_http_messages::sinks::Sink;
 use room_http_messages::sources::Source;
 use room_http_messages::standard_wires::Wire;
+use sqlite::{Connection, File as DiskFile, FileStore};
 use std::alloc::Global;
 use std::fs::{self, File};
-use std::io::{self, ErrorKind, IsTerminal, Stdin, Write};
+use std::io::{self, ErrorKind, IsTerminal, Stdin};
 use std::net::TcpStream;
 use std::random::RandomSource;
 use std::time::Duration;
@@ -36,10 +40,11 @@ type CallReader<'a> = SocketReader<'a, TcpStream, HostRuntime>;
 
 type CallWriter<'a> = SocketWriter<'a, TcpStream, HostRuntime>;
 
-/// The machine that a command runs on, with its files. What is at its paths and addresses, what is
-/// lacking there, and which bytes are random, a command knows only by these calls: so what its
-/// contract says of a path or an address came of a call there. What it did besides isn't said.
-pub trait Machine: Copy {
+/// The machine that a command runs on, with its files, its addresses and its chance. Each call adds
+/// one effect to what was done, with what came of it: so a contract that says what was done says what
+/// a command read, and that it did nothing else. Only standard error, the clock and what is listened
+/// at are outside it.
+pub trait Machine {
     /// A list that is read from its beginning.
     type List: Source + Drop;
 
@@ -58,93 +63,97 @@ pub trait Machine: Copy {
     /// The file of a list that is kept.
     type File: Lasting + Placed + Drop;
 
-    // What there is around it.
-    ghost surroundings: { Self → Surroundings Self.File };
+    // What was done, where that is known.
+    ghost done: { Self → Option (List (Effect Self.File)) };
 
-    // What those calls have done as they are given.
-    ghost begun: { Self → Option (List Step) };
+    // What is heard at an address where something is asked.
+    ghost heard: { List ℕ → ℕ → List ℕ → ℕ → List ℕ → Type 0 };
 
-    /// The system, who explains failures, and memory.
-    fn host(&self) -> Host<'_>;
+    /// Its memory.
+    fn alloc(&self) -> Global;
 
-    /// Works in a room's file, and closes it with all that was committed in it.
-    fn in_file<W: RoomTask, O: Write>(
-        self,
+    /// Opens the database of a room's file. Explains why if it can't be opened.
+    fn open(&mut self, file: RoomFile<'_>) -> Result<Connection<FileStore<DiskFile>>, Failure>
+        ensures outside { IfOk result (λ conn. conn.in_transaction ≡ false) }
+        ensures connected { IfOk result IsConnected }
+        ensures fault { IfErr result IsUnfound }
+        ensures done { Does (effect.opened (place_of file.entry) (known tables_of result) ∷ [])
+            (done self.old) (done self.new) };
+
+    /// What came of work in the database of a room's file, once the file is closed with all that was
+    /// committed in it. Explains why if it can't be closed, or the work could not be done.
+    fn close<T: Drop>(
+        &mut self,
         file: RoomFile<'_>,
-        work: W,
-        out: &mut O,
-    ) -> Result<W::Done, Failure>
-        ensures { Works (opens (surroundings self) file.entry) (W.does work)
-            (O.contents out.old) (O.contents out.new) result };
+        worked: TaskResult<T, FileStore<DiskFile>>,
+    ) -> Result<T, Failure>
+        ensures closes { Closes worked result }
+        ensures done { Does (effect.closed (place_of file.entry) ∷ []) (done self.old)
+            (done self.new) };
 
     /// The bytes of a text file. Explains why where it can't be read.
-    fn read_text(self, path: &str) -> Result<Vec<u8>, Failure>
-        ensures text { IfOk result (λ text. (surroundings self).text path.now text.items) }
-        ensures fault { IfErr result (IsUnread (surroundings self) path.now) };
+    fn read_text(&mut self, path: &str) -> Result<Vec<u8>, Failure>
+        ensures fault { IfErr result IsUnread }
+        ensures done { Does (effect.read path.now result ∷ []) (done self.old) (done self.new) };
 
-    /// Opens the file of a journal at a path, and reports on `err` that a record was cut
-    /// off at its end.
-    fn open_journal<E: Write>(
-        self,
-        path: &str,
-        err: &mut E,
-    ) -> Result<OpenedList<Self::File>, Failure>
-        ensures list { IfOk result ((surroundings self).list path.now).holds }
-        ensures fault { IfErr result (IsUnlisted (surroundings self) path.now) };
+    /// Opens the file of a journal at a path, and reports that a record was cut off at its end.
+    fn open_journal(&mut self, path: &str) -> Result<OpenedList<Self::File>, Failure>
+        ensures fault { IfErr result IsUnlisted }
+        ensures done { Does (effect.listed path.now result ∷ []) (done self.old) (done self.new) };
 
     /// Opens the list at a path, to be read. Explains why where it can't be.
-    fn open_list(self, path: &str) -> Result<Self::List, Failure>
-        ensures bytes { IfOk result (λ list.
-            (surroundings self).bytes path.now (Self.List.left list)) }
+    fn open_list(&mut self, path: &str) -> Result<Self::List, Failure>
         ensures sound { IfOk result (λ list. Self.List.has_failed list ≡ false) }
-        ensures fault { IfErr result (IsUnread (surroundings self) path.now) };
+        ensures fault { IfErr result IsUnread }
+        ensures done { Does (effect.found path.now (known Self.List.left result) ∷ [])
+            (done self.old) (done self.new) };
 
     /// Leaves the list at a path: whether a read of it failed is known from here on, and whether
     /// it ended well. Where more rows stand in it than are counted, a read failed.
-    fn leave_list(self, path: &str, list: &ListSource<Self::List>)
-        ensures failed { (surroundings self).read_failed path.now
-            (Self.List.has_failed list.now.reader || list.now.passed == most_rows) }
-        ensures ended { (surroundings self).ended_well path.now
-            (ends_well list.now.reel.mode) };
+    fn leave_list(&mut self, path: &str, list: &ListSource<Self::List>)
+        ensures { Does (effect.left path.now
+            (Self.List.has_failed list.now.reader || list.now.passed == most_rows)
+            (ends_well list.now.reel.mode) ∷ []) (done self.old) (done self.new) };
 
-    /// Gives the calls by which a copy is put in the place of a file.
-    fn calls(self) -> Self::Calls
-        ensures { Self.Calls.done result ≡ begun self };
+    /// Gives the calls by which a copy is put in the place of a file: none of them is made yet.
+    fn calls(&mut self) -> Self::Calls
+        ensures begun { Self.Calls.done result ≡ option_map (λ _. []) (done self.new) }
+        ensures same { done self.new ≡ done self.old };
 
-    /// Takes those calls back: what they did since they were given is done.
-    fn release(self, calls: Self::Calls)
-        ensures { (steps : List Step) → Does steps (begun self) (Self.Calls.done calls)
-            → (surroundings self).replaced steps };
+    /// Takes those calls back: what they did is done.
+    fn release(&mut self, calls: Self::Calls)
+        ensures { (steps : List Step)
+            → Does steps (option_map (λ _. []) (done self.old)) (Self.Calls.done calls)
+            → Does (map effect.replaced steps) (done self.old) (done self.new) };
 
     /// Fills a buffer with random bytes. Explains why where there are none.
-    fn fill_random(self, bytes: &mut [u8]) -> Result<(), Failure>
-        ensures random { OnOk result ((surroundings self).random.holds bytes.new) }
-        ensures fault { IfErr result (λ fault.
-            (fault ≡ failure.Storage) × (surroundings self).random.lacks fault) };
+    fn fill_random(&mut self, bytes: &mut [u8]) -> Result<(), Failure>
+        ensures fault { IfErr result (λ fault. fault ≡ failure.Storage) }
+        ensures done { Does (effect.drawn (known (λ _. bytes.new) result) ∷ [])
+            (done self.old) (done self.new) };
 
     /// Gives standard input, to be read from its beginning.
-    fn input(self) -> Self::Input
-        ensures bytes { (surroundings self).input (Self.Input.left result) }
+    fn input(&mut self) -> Self::Input
         ensures sound { Self.Input.has_failed result ≡ false }
-        ensures unread { Self.Input.has_ended result ≡ false };
+        ensures unread { Self.Input.has_ended result ≡ false }
+        ensures done { Does (effect.taken (Self.Input.left result) ∷ []) (done self.old)
+            (done self.new) };
 
     /// Whether standard output is a terminal.
-    fn has_terminal(self) -> bool
-        ensures { (surroundings self).terminal result };
+    fn has_terminal(&mut self) -> bool
+        ensures { Does (effect.asked result ∷ []) (done self.old) (done self.new) };
 
     /// The two sides of a connection to an address, on which all that is said ends within a time.
     /// None, with an explanation, where it is not made within that. What is heard on them where
     /// something is asked is heard at the address.
-    fn call(self, address: &str, patience: Duration) -> Option<(Self::Reader, Self::Writer)>
-        ensures heard { (asked heard : List ℕ) (most : ℕ) → IsHeard Self.Reader.left
-            Self.Reader.has_failed Self.Writer.held Self.Writer.has_failed result asked most heard
-            → (surroundings self).heard address.now (as_nanos patience) asked most heard }
+    fn call(&mut self, address: &str, patience: Duration) -> Option<(Self::Reader, Self::Writer)>
+        ensures heard { (asked said : List ℕ) (most : ℕ) → IsHeard Self.Reader.left
+            Self.Reader.has_failed Self.Writer.held Self.Writer.has_failed result asked most said
+            → heard address.now (as_nanos patience) asked most said }
         ensures reader { IfSome result (λ sides. Self.Reader.has_failed sides.0 ≡ false) }
-        ensures writer { IfSome result (λ sides. Self.Writer.has_failed sides.1 ≡ false) };
-
-    // What is known around it of what the file of a list holds, and of what of that lasts.
-    ghost files: { (machine : Self) → ((surroundings machine).contents ≡ Self.File.Write.contents)
-        × ((surroundings machine).lasting ≡ Self.File.lasting) };
+        ensures writer { IfSome result (λ sides. Self.Writer.has_failed sides.1 ≡ false) }
+        ensures done { Does (effect.called address.now (as_nanos patience) ∷ []) (done self.old)
+            (done self.new) };
 }
 
 /// What a command runs on: the system, who explains failures on its standard error, and memory.
@@ -155,6 +164,7 @@ pub struct Host<'a> {
     pub alloc: Global,
 }
 
+// No contract can say what was done with the system.
 impl<'a> Machine for Host<'a> {
     type List = Wire<File>;
 
@@ -166,55 +176,61 @@ impl<'a> Machine for Host<'a> {
 
     type Input = Wire<Stdin>;
 
-    type File = File;
+    type File = ListOnDisk<'a>;
 
-    ghost surroundings = { λ _. unknown };
+    ghost done = { λ _. None };
 
-    ghost begun = { λ _. None };
+    ghost heard = { λ address nanos asked most said. ⊤ };
 
-    fn host(&self) -> Host<'_> {
-        *self
+    fn alloc(&self) -> Global {
+        self.alloc
     }
 
-    fn in_file<W: RoomTask, O: Write>(
-        self,
+    fn open(&mut self, file: RoomFile<'_>) -> Result<Connection<FileStore<DiskFile>>, Failure> {
+        room_files::open(self.rt, self.explainer, file)
+    }
+
+    fn close<T: Drop>(
+        &mut self,
         file: RoomFile<'_>,
-        work: W,
-        out: &mut O,
-    ) -> Result<W::Done, Failure> {
-        room_files::in_file(self.rt, self.explainer, self.alloc, file, work, out)
+        worked: TaskResult<T, FileStore<DiskFile>>,
+    ) -> Result<T, Failure>
+        ensures closes { Closes worked result }
+    {
+        room_files::close(self.explainer, file, worked)
     }
 
-    fn read_text(self, path: &str) -> Result<Vec<u8>, Failure> {
+    fn read_text(&mut self, path: &str) -> Result<Vec<u8>, Failure> {
         match fs::read(self.rt, path) {
             Ok(text) => Ok(text),
             Err(error) => Err(self.unread(path, &error)),
         }
     }
 
-    fn open_journal<E: Write>(self, path: &str, err: &mut E) -> Result<OpenedList<File>, Failure> {
-        journal_files::open_journal(self.rt, self.explainer, self.alloc, path, err)
+    fn open_journal(&mut self, path: &str) -> Result<OpenedList<ListOnDisk<'a>>, Failure> {
+        let mut err = self.rt.stderr();
+        journal_files::open_journal(self.rt, self.explainer, self.alloc, path, &mut err)
     }
 
-    fn open_list(self, path: &str) -> Result<Wire<File>, Failure> {
+    fn open_list(&mut self, path: &str) -> Result<Wire<File>, Failure> {
         match File::open(self.rt, path) {
             Ok(file) => Ok(Wire::new(file)),
             Err(error) => Err(self.unread(path, &error)),
         }
     }
 
-    fn leave_list(self, _path: &str, _list: &ListSource<Wire<File>>) {}
+    fn leave_list(&mut self, _path: &str, _list: &ListSource<Wire<File>>) {}
 
-    fn calls(self) -> System<'a> {
+    fn calls(&mut self) -> System<'a> {
         System {
             rt: self.rt,
             explainer: self.explainer,
         }
     }
 
-    fn release(self, _calls: System<'a>) {}
+    fn release(&mut self, _calls: System<'a>) {}
 
-    fn fill_random(self, bytes: &mut [u8]) -> Result<(), Failure> {
+    fn fill_random(&mut self, bytes: &mut [u8]) -> Result<(), Failure> {
         if let Err(error) = self.rt.fill_bytes(bytes) {
             self.explainer
                 .explain(format_args!("no random bytes: {error}"));
@@ -223,16 +239,20 @@ impl<'a> Machine for Host<'a> {
         Ok(())
     }
 
-    fn input(self) -> Wire<Stdin> {
+    fn input(&mut self) -> Wire<Stdin> {
         Wire::new(self.rt.stdin())
     }
 
-    fn has_terminal(self) -> bool {
+    fn has_terminal(&mut self) -> bool {
         self.rt.stdout().is_terminal()
     }
 
     // Beside what each machine ensures: how long both sides wait.
-    fn call(self, address: &str, patience: Duration) -> Option<(CallReader<'a>, CallWriter<'a>)>
+    fn call(
+        &mut self,
+        address: &str,
+        patience: Duration,
+    ) -> Option<(CallReader<'a>, CallWriter<'a>)>
         ensures reader { IfSome result (λ sides. sides.0.failed ≡ false) }
         ensures writer { IfSome result (λ sides. sides.1.failed ≡ false) }
         ensures patient { IfSome result (λ sides. (sides.0.idle ≡ patience)
@@ -240,8 +260,6 @@ impl<'a> Machine for Host<'a> {
     {
         client::call(self.rt, self.rt, self.explainer, address, patience)
     }
-
-    ghost files = { λ _. (refl, refl) };
 }
 
 impl<'a> Host<'a> {

@@ -2,20 +2,22 @@
 //! all who call, until it is stopped. In the second case it may be served in parts, each with a
 //! list of its own.
 ghost use Rattle.std.specs.Prelude.{◌≡◌, ◌≢◌, ◌⊎◌, ◌*◌, Option, None, false, true, is_some, IfErr};
-ghost use Rattle.std.specs.Prelude.{IfOk, IfSome, IsNone, OnErr};
+ghost use Rattle.std.specs.Prelude.{IfOk, IfSome, IsNone, OnErr, if◌then◌else◌};
 ghost use Rattle.std.specs.Duration.{as_nanos};
+ghost use Rattle.sqlite.specs.Files.{over_files};
+ghost use Rattle.dispatch_room_disk.specs.CommandSteps.{Quietly, at};
 ghost use Rattle.dispatch_room_tasks.specs.OpenedRoom.{IsUnopened};
 ghost use Rattle.dispatch_room_serving.specs.Callers.{MayCall, Prints, PrintsStart};
 ghost use Rattle.dispatch_room_serving.specs.Journals.{EndsAfter, failed_by};
 ghost use Rattle.dispatch_room_serving.specs.declared.list_places.Finding.TheVariants.{Truncated};
-ghost use Rattle.dispatch_room_tcp.specs.ServedFiles.{IsAddressOf, IsDoorOf, IsFirstList, IsListOf};
-ghost use Rattle.dispatch_room_tcp.specs.ServedFiles.{IsServe, IsServed, IsServedAt, IsServedBy};
-ghost use Rattle.dispatch_room_tcp.specs.ServedFiles.{IsUnlistedFor, PrintsServing, Serves};
+ghost use Rattle.dispatch_room_tcp.specs.ServedFiles.{IsAddressOf, IsDoorOf, IsServe, IsServed};
+ghost use Rattle.dispatch_room_tcp.specs.ServedFiles.{IsServedAt, IsServedBy, PrintsServing};
 ghost use Rattle.dispatch_room_tcp.specs.ServedFiles.{begins_at, ended, is_endless, is_synced_by};
 ghost use Rattle.dispatch_room_tcp.specs.ServedFiles.{keeps_questions_by, manner_of, terms_of};
 ghost use Rattle.dispatch_room_tcp.specs.ServedFiles.{watch_of};
 ghost use Rattle.dispatch_room_tcp.specs.ServedParts.{EndsAs, GoesOn, IsJournalOf, IsPart};
-ghost use Rattle.dispatch_room_tcp.specs.ServedParts.{OpensNoPart, ServesParts};
+ghost use Rattle.dispatch_room_tcp.specs.ServedParts.{OpensFor, OpensNoPart, ServesParts};
+ghost use Rattle.dispatch_room_disk.specs.SystemFiles.{system};
 
 use crate::hosts::{Host, Machine};
 use crate::listeners::{Listener, TcpAddress};
@@ -24,7 +26,7 @@ use crate::tcp_doors::{SystemDoor, TcpDoor};
 use dispatch_room_cli::exit_status::{Done, Failure};
 use dispatch_room_cli::failure_causes::Explainer;
 use dispatch_room_cli::tasks::Service;
-use dispatch_room_disk::room_files::{RoomFile, RoomTask};
+use dispatch_room_disk::room_files::RoomFile;
 use dispatch_room_serving::callers::Callers;
 use dispatch_room_serving::journal_files::{JournalFile, Lasting, OpenedList, SystemFile};
 use dispatch_room_serving::journals::{Journal, Keeper};
@@ -45,35 +47,31 @@ use std::time::{self, Duration};
 /// pieces, so that nobody waits for a silent caller. A connection that ends badly ends the service
 /// only if memory is refused, if the journal can't be kept, or if the room's file failed so that it
 /// has to be opened again.
-pub fn serve_file<M: Machine, O: Write, E: Write>(
-    machine: M,
+pub fn serve_file<M: Machine, O: Write>(
+    host: Host<'_>,
+    machine: &mut M,
     file: &str,
     service: Service<'_>,
     out: &mut O,
-    err: &mut E,
 ) -> Result<Done, Failure>
-    ensures { IsServe (M.surroundings machine) file.now service.entry (O.contents out.old)
-        (O.contents out.new) result }
+    ensures { IsServe system M.File.Write.contents file.now service.entry
+        (at (O.contents out.old) (M.done machine.old))
+        (at (O.contents out.new) (M.done machine.new)) result }
 {
-    let journal = journal_file(machine, &service, err)?;
-    let run = ServiceRun {
-        machine,
-        host: machine.host(),
-        service: &service,
-    };
-    if is_endless(&service) {
-        serve_at_door(file, &run, journal, out, err)
+    let journal = journal_file(machine, &service)?;
+    let run = ServiceRun { host, service };
+    if is_endless(&run.service) {
+        serve_at_door(machine, file, &run, journal, out)
     } else {
-        serve_at_address(file, &run, journal, out, err)
+        serve_at_address(machine, file, &run, journal, out)
     }
 }
 
-// How a room is served: the service, and the machine that it runs on.
+// How a room is served: the service, and the host that it runs on.
 #[derive(Clone, Copy)]
-struct ServiceRun<'a, M> {
-    machine: M,
+struct ServiceRun<'a> {
     host: Host<'a>,
-    service: &'a Service<'a>,
+    service: Service<'a>,
 }
 
 // Whether a service goes on until it is stopped: 2^64 - 1 connections mean that, and are the
@@ -85,97 +83,90 @@ fn is_endless(service: &Service<'_>) -> bool
 }
 
 // Serves the room of a file at a door, until it is stopped.
-fn serve_at_door<M: Machine, O: Write, E: Write>(
-    file: &str,
-    run: &ServiceRun<'_, M>,
+fn serve_at_door<'a, M: Machine, O: Write>(
+    machine: &mut M,
+    file: &'a str,
+    run: &ServiceRun<'a>,
     journal: Option<OpenedList<M::File>>,
     out: &mut O,
-    err: &mut E,
 ) -> Result<Done, Failure>
-    ensures { IsServedBy (M.surroundings run.now.machine) true journal file.now
-        run.now.service.now (O.contents out.old) (O.contents out.new) result }
+    ensures { IsServedBy system M.File.Write.contents true journal file.now run.now.service
+        (at (O.contents out.old) (M.done machine.old))
+        (at (O.contents out.new) (M.done machine.new)) result }
 {
-    serve_at(file, run, journal, door_of(file, run), out, err)
+    serve_at(machine, file, run, journal, door_of(file, run), out)
 }
 
 // The door of a service, at which the room of a file is served.
-fn door_of<'a, M>(file: &'a str, run: &ServiceRun<'a, M>) -> SystemDoor<'a, HostRuntime>
-    ensures door { IsDoorOf run.now.service.now result }
+fn door_of<'a>(file: &'a str, run: &ServiceRun<'a>) -> SystemDoor<'a, HostRuntime>
+    ensures door { IsDoorOf run.now.service result }
     ensures deaf { is_some result.waiting ≡ false }
 {
     let keep = Duration::from_secs(u64::from(run.service.keep));
-    let patience = waits_of(run.service).patience;
+    let patience = waits_of(&run.service).patience;
     let host = run.host;
     TcpDoor::new(host.rt, host, file, run.service.address, keep, patience)
 }
 
 // Serves the room of a file to as many connections as its service says, one after another.
-fn serve_at_address<M: Machine, O: Write, E: Write>(
+fn serve_at_address<M: Machine, O: Write>(
+    machine: &mut M,
     file: &str,
-    run: &ServiceRun<'_, M>,
+    run: &ServiceRun<'_>,
     journal: Option<OpenedList<M::File>>,
     out: &mut O,
-    err: &mut E,
 ) -> Result<Done, Failure>
-    ensures { IsServedBy (M.surroundings run.now.machine) false journal file.now
-        run.now.service.now (O.contents out.old) (O.contents out.new) result }
+    ensures { IsServedBy system M.File.Write.contents false journal file.now run.now.service
+        (at (O.contents out.old) (M.done machine.old))
+        (at (O.contents out.new) (M.done machine.new)) result }
 {
-    serve_at(file, run, journal, address_of(run), out, err)
+    serve_at(machine, file, run, journal, address_of(run), out)
 }
 
 // The address of a service that serves so many connections.
-fn address_of<'a, M>(run: &ServiceRun<'a, M>) -> TcpAddress<'a>
-    ensures address { IsAddressOf run.now.service.now result }
+fn address_of<'a>(run: &ServiceRun<'a>) -> TcpAddress<'a>
+    ensures address { IsAddressOf run.now.service result }
     ensures deaf { is_some result.listener ≡ false }
 {
     TcpAddress::new(
         run.host.rt,
         run.host.explainer,
         run.service.address,
-        waits_of(run.service),
+        waits_of(&run.service),
     )
 }
 
 // Serves the room of a file to the callers of a listener.
-fn serve_at<M: Machine, L: Listener, O: Write, E: Write>(
+fn serve_at<M: Machine, L: Listener, O: Write>(
+    machine: &mut M,
     file: &str,
-    run: &ServiceRun<'_, M>,
+    run: &ServiceRun<'_>,
     journal: Option<OpenedList<M::File>>,
     listener: L,
     out: &mut O,
-    err: &mut E,
 ) -> Result<Done, Failure>
-    ensures { IsServedAt (M.surroundings run.now.machine) L.heard L.written
-        (L.is_listening listener)
-        (manner_of (M.surroundings run.now.machine) run.now.service.now journal) listener
-        file.now (O.contents out.old) (O.contents out.new) result }
+    ensures { IsServedAt system M.File.Write.contents L.heard L.written (L.is_listening listener)
+        (manner_of M.File.Write.contents run.now.service journal) listener file.now
+        (at (O.contents out.old) (M.done machine.old))
+        (at (O.contents out.new) (M.done machine.new)) result }
 {
-    let serving = Serving {
-        run,
-        list: journal,
-        listener,
-        err,
-    };
-    match run.machine.in_file(RoomFile::Kept(file), serving, out) {
-        Ok(served) => Ok(served.done),
-        Err(fault) => Err(fault),
-    }
+    let conn = machine.open(RoomFile::Kept(file))?;
+    let came = serve_listened(machine, conn, run, journal, listener, out);
+    let served = machine.close(RoomFile::Kept(file), came)?;
+    Ok(served.done)
 }
 
 // Opens the list of a journal, if a journal is asked for.
-fn journal_file<M: Machine, E: Write>(
-    machine: M,
+fn journal_file<M: Machine>(
+    machine: &mut M,
     service: &Service<'_>,
-    err: &mut E,
 ) -> Result<Option<OpenedList<M::File>>, Failure>
-    ensures list { IfOk result (IsFirstList (M.surroundings machine) service.now) }
-    ensures fault { IfErr result (IsUnlistedFor (M.surroundings machine) service.now.journal) }
+    ensures listed { IfOk result (λ list. is_some list ≡ is_some service.now.journal) }
+    ensures opens { Quietly (OpensFor service.now.journal) (M.done machine.old)
+        (M.done machine.new) result }
 {
     match &service.journal {
-        Some(journal) => match machine.open_journal(journal.list, err) {
-            Ok(list) => Ok(Some(list)),
-            Err(fault) => Err(fault),
-        },
+        Some(journal) => Ok(Some(machine.open_journal(journal.list)?)),
         None => Ok(None),
     }
 }
@@ -187,61 +178,30 @@ pub struct Served<L> {
     listener: L,
 }
 
-// The room is served to the callers of a listener.
-#[derive(Drop)]
-struct Serving<'a, M: Machine, L, E> {
-    run: &'a ServiceRun<'a, M>,
-    list: Option<OpenedList<M::File>>,
-    listener: L,
-    err: &'a mut E,
-}
-
-impl<'a, M: Machine, L: Listener, E: Write> RoomTask for Serving<'a, M, L, E> {
-    type Done = Served<L>;
-
-    ghost does = { λ work. Serves L.heard L.written (L.is_listening work.listener)
-        (manner_of (M.surroundings work.run.now.machine) work.run.now.service.now work.list)
-        work.listener };
-
-    fn run<S: Alter + Drop, O: Write>(
-        self,
-        _alloc: Global,
-        conn: Connection<S>,
-        out: &mut O,
-    ) -> TaskResult<Served<L>, S> {
-        let Serving {
-            run,
-            list,
-            listener,
-            err,
-        } = self;
-        serve_listened(conn, run, list, listener, out, err)
-    }
-}
-
 // Serves the room of a database to the callers of a listener, which is given back.
-fn serve_listened<M: Machine, S: Alter + Drop, L: Listener, O: Write, E: Write>(
+fn serve_listened<M: Machine, S: Alter + Drop, L: Listener, O: Write>(
+    machine: &mut M,
     conn: Connection<S>,
-    run: &ServiceRun<'_, M>,
+    run: &ServiceRun<'_>,
     list: Option<OpenedList<M::File>>,
     listener: L,
     out: &mut O,
-    err: &mut E,
 ) -> TaskResult<Served<L>, S>
     requires outside { conn.in_transaction ≡ false }
     ensures served { IfOk result (λ worked. IsServed L.heard L.written S.Store conn worked.1
-        (manner_of (M.surroundings run.now.machine) run.now.service.now list) listener worked.0) }
+        (M.done machine.old) (M.done machine.new)
+        (manner_of M.File.Write.contents run.now.service list) listener worked.0) }
     ensures printed { IfOk result (λ worked. PrintsServing (L.is_listening listener)
         (O.contents out.old) (O.contents out.new) (ended worked.0)) }
     ensures fault { IfErr result (OpensNoPart S.Store
-        (manner_of (M.surroundings run.now.machine) run.now.service.now list)
-        (begins_at L.heard L.written listener conn)) }
+        (manner_of M.File.Write.contents run.now.service list)
+        (begins_at L.heard L.written listener conn (M.done machine.old)) (M.done machine.new)) }
     ensures unopened { OnErr result ((O.contents out.new ≡ O.contents out.old)
         ⊎ PrintsStart (L.is_listening listener) (O.contents out.old) (O.contents out.new)) }
 {
     let mut callers = TcpCallers::new(listener, out);
     let mut clock = MachineClock::new(run.host.rt);
-    let came = serve_parts(conn, run, list, &mut callers, &mut clock, err);
+    let came = serve_parts(machine, conn, run, list, &mut callers, &mut clock);
     let listener = callers.into_listener();
     let (done, conn) = came?;
     Ok((given_back(done, listener), conn))
@@ -260,46 +220,56 @@ fn given_back<L: Drop>(done: Result<Done, Failure>, listener: L) -> Result<Serve
 
 // Serves the room of a database to its callers, in parts if the service allows that: whenever one
 // ends well, the next begins with a new list.
-fn serve_parts<M: Machine, S: Alter + Drop, P: Callers, C: Clock, E: Write>(
+fn serve_parts<M: Machine, S: Alter + Drop, P: Callers, C: Clock>(
+    machine: &mut M,
     conn: Connection<S>,
-    run: &ServiceRun<'_, M>,
+    run: &ServiceRun<'_>,
     list: Option<OpenedList<M::File>>,
     callers: &mut P,
     clock: &mut C,
-    err: &mut E,
 ) -> TaskResult<Done, S>
     requires outside { conn.in_transaction ≡ false }
     ensures served { IfOk result (λ worked. ServesParts S.Store
-        (manner_of (M.surroundings run.now.machine) run.now.service.now list)
+        (manner_of M.File.Write.contents run.now.service list)
         (record {
-          conn = conn;
-          heard = P.heard callers.old;
-          written = P.written callers.old;
-          given = C.given clock.old;
+          interval = record {
+            conn = conn;
+            heard = P.heard callers.old;
+            written = P.written callers.old;
+            given = C.given clock.old;
+          };
+          done = M.done machine.old;
         })
         (record {
-          conn = worked.1;
-          heard = P.heard callers.new;
-          written = P.written callers.new;
-          given = C.given clock.new;
+          interval = record {
+            conn = worked.1;
+            heard = P.heard callers.new;
+            written = P.written callers.new;
+            given = C.given clock.new;
+          };
+          done = M.done machine.new;
         })
         worked.0) }
     ensures prints { IfOk result (λ worked.
         Prints (P.prints callers.old) (P.prints callers.new) worked.0) }
     ensures fault { IfErr result (OpensNoPart S.Store
-        (manner_of (M.surroundings run.now.machine) run.now.service.now list)
+        (manner_of M.File.Write.contents run.now.service list)
         (record {
-          conn = conn;
-          heard = P.heard callers.old;
-          written = P.written callers.old;
-          given = C.given clock.old;
-        })) }
+          interval = record {
+            conn = conn;
+            heard = P.heard callers.old;
+            written = P.written callers.old;
+            given = C.given clock.old;
+          };
+          done = M.done machine.old;
+        })
+        (M.done machine.new)) }
     ensures unopened { OnErr result ((P.prints callers.new ≡ P.prints callers.old)
         ⊎ MayCall (P.prints callers.old) (P.prints callers.new)) }
 {
     let has_journal = list.is_some();
-    let (first, left) = serve_part(conn, run, list, callers, clock, err)?;
-    if !terms_of(run.service).renews {
+    let (first, left) = serve_part(conn, run, list, callers, clock)?;
+    if !terms_of(&run.service).renews {
         return Ok((first, left));
     }
     let mut done = first;
@@ -308,11 +278,11 @@ fn serve_parts<M: Machine, S: Alter + Drop, P: Callers, C: Clock, E: Write>(
         if done.is_err() {
             return Ok((done, conn));
         }
-        let list = match next_list(run, has_journal, err) {
+        let list = match next_list(machine, run, has_journal) {
             Ok(next) => next,
             Err(fault) => return Ok((Err(fault), conn)),
         };
-        let (next, left) = serve_part(conn, run, list, callers, clock, err)?;
+        let (next, left) = serve_part(conn, run, list, callers, clock)?;
         done = next;
         conn = left;
     }
@@ -320,40 +290,36 @@ fn serve_parts<M: Machine, S: Alter + Drop, P: Callers, C: Clock, E: Write>(
 }
 
 // Opens the list of the next part, where the first has one.
-fn next_list<M: Machine, E: Write>(
-    run: &ServiceRun<'_, M>,
+fn next_list<M: Machine>(
+    machine: &mut M,
+    run: &ServiceRun<'_>,
     has_journal: bool,
-    err: &mut E,
 ) -> Result<Option<OpenedList<M::File>>, Failure>
-    requires journal { is_some run.now.service.now.journal ≡ true }
+    requires journal { is_some run.now.service.journal ≡ true }
     ensures listed { IfOk result (λ next. is_some next ≡ has_journal) }
-    ensures list { IfOk result (λ next. IfSome next
-        (IsListOf (M.surroundings run.now.machine) run.now.service.now.journal)) }
-    ensures fault { IfErr result
-        (IsUnlistedFor (M.surroundings run.now.machine) run.now.service.now.journal) }
+    ensures opens { Quietly (OpensFor (if has_journal then run.now.service.journal else None))
+        (M.done machine.old) (M.done machine.new) result }
 {
     if !has_journal {
         return Ok(None);
     }
-    journal_file(run.machine, run.service, err)
+    journal_file(machine, &run.service)
 }
 
 // Serves the room of a database to as many callers as the service says, or until its list is moved
 // or truncated, and keeps a journal if there is a list for it. If that ended well, an end is put in
 // the list, unless it was truncated; where that fails, the part fails as `Journal`.
-fn serve_part<M: Machine, S: Alter + Drop, P: Callers, C: Clock, E: Write>(
+fn serve_part<S: Alter + Drop, F: Lasting + Placed + Drop, P: Callers, C: Clock>(
     conn: Connection<S>,
-    run: &ServiceRun<'_, M>,
-    list: Option<OpenedList<M::File>>,
+    run: &ServiceRun<'_>,
+    list: Option<OpenedList<F>>,
     callers: &mut P,
     clock: &mut C,
-    err: &mut E,
 ) -> TaskResult<Done, S>
     requires outside { conn.in_transaction ≡ false }
     ensures outside { IfOk result (λ worked. worked.1.in_transaction ≡ false) }
     ensures served { IfOk result (λ worked. IsPart S.Store
-        (watch_of (M.surroundings run.now.machine).contents (is_some list) run.now.service.now)
-        (terms_of run.now.service.now) list
+        (watch_of F.Write.contents (is_some list) run.now.service) (terms_of run.now.service) list
         (record {
           conn = conn;
           heard = P.heard callers.old;
@@ -373,14 +339,15 @@ fn serve_part<M: Machine, S: Alter + Drop, P: Callers, C: Clock, E: Write>(
     ensures unopened { OnErr result (P.prints callers.new ≡ P.prints callers.old) }
 {
     let host = run.host;
-    let service = run.service;
+    let service = &run.service;
+    let mut err = host.rt.stderr();
     let terms = terms_of(service);
     let mut part = ServedPart {
         terms,
         place: place_of(run, &list, terms.renews),
     };
     let has_journal = list.is_some();
-    let mut log_and_journal = observer_of(host, service, list, err);
+    let mut log_and_journal = observer_of(host, service, list, &mut err);
     let (done, conn) = serve_in(
         host.alloc,
         conn,
@@ -393,7 +360,7 @@ fn serve_part<M: Machine, S: Alter + Drop, P: Callers, C: Clock, E: Write>(
     let done = end_part(has_journal, left, &mut log_and_journal, done);
     drop(log_and_journal);
     if done.is_ok() {
-        leave(host.alloc, part.place, left, err);
+        leave(host.alloc, part.place, left, &mut err);
     }
     Ok((done, conn))
 }
@@ -422,14 +389,14 @@ fn end_part<E: Write, T: time::Clock, W: Keeper>(
 
 // The place of the list of a service, if it may be served in parts: none where the system doesn't
 // say which file the list is.
-fn place_of<'a, M: Machine>(
-    run: &ServiceRun<'a, M>,
-    list: &Option<OpenedList<M::File>>,
+fn place_of<'a, F: Lasting + Placed>(
+    run: &ServiceRun<'a>,
+    list: &Option<OpenedList<F>>,
     renews: bool,
 ) -> Option<ListPlace<'a>>
     ensures unlooked { renews ≡ false → result ≡ None }
     ensures hidden { renews ≡ true → IsNone result → IfSome list.now (λ list.
-        IsNone run.now.service.now.journal ⊎ M.File.is_hidden list.0) }
+        IsNone run.now.service.journal ⊎ F.is_hidden list.0) }
 {
     match (list, run.service.journal) {
         (Some(list), Some(journal)) if renews => {

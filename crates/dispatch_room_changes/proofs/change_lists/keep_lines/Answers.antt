@@ -27,3 +27,8 @@ returns-clause-unkept g c =
     on_err_weaker c.make_last.result (λ failed. inl failed)
     (flag_failed c.keep_rows.new.list.out.failed c.make_last.new.list.out.failed c.make_last.result
     c.make_last.ensures.failed)
+
+pub returns-clause-marked : goal.returns-clause-marked
+returns-clause-marked g c =
+    on_ok_weaker c.make_last.result (λ lasts. c.in_ok-keep_head.ensures.marked)
+    c.make_last.ensures.lasts

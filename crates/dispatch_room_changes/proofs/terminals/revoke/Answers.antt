@@ -1,13 +1,17 @@
-use Rattle.std.proofs.Common.{false, sym, true, ◌≡◌, ◌∙◌}
-use Rattle.dispatch_room_changes.specs.ChangeSteps.{is_a_crew}
+use Rattle.std.proofs.Common.{Ok, refl}
+use Rattle.dispatch_room_disk.proofs.WorkLemmas.{stops}
 use Rattle.dispatch_room_changes.proofs.terminals.revoke.Goals as goal
 
-pub returns-then-is_a_crew : goal.returns-then-is_a_crew
-returns-then-is_a_crew g c =
-    let crew : is_a_crew c.args.who ≡ true = sym c.is_a_crew.ensures ∙ c.if-is_a_crew.true in
-    rw crew c.revoke_crew.ensures
+pub returns-in_err-withdraw : goal.returns-in_err-withdraw
+returns-in_err-withdraw g c =
+    stops _ _ _ _ c.from_residual.result _ c.from_residual.ensures.1
+    (λ fault is. rw is (c.in_err-withdraw.ensures _))
 
 pub returns : goal.returns
 returns g c =
-    let none : is_a_crew c.args.who ≡ false = sym c.is_a_crew.ensures ∙ c.if-is_a_crew.false in
-    rw none c.revoke_by.ensures
+    record {
+      between = record { printed = _; done = _ };
+      found = Ok tt;
+      is = c.in_ok-withdraw.ensures _;
+      rest = (c.print.ensures, refl);
+    }

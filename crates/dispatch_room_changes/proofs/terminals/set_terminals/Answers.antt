@@ -5,13 +5,13 @@ use Rattle.dispatch_room_changes.proofs.terminals.set_terminals.Goals as goal
 pub returns-in_err-text : goal.returns-in_err-text
 returns-in_err-text g c =
     stops _ _ _ _ c.from_residual.result _ c.from_residual.ensures.1
-    (λ fault is. (rw is c.in_err-text.ensures.fault, refl))
+    (λ fault is. rw is (c.in_err-text.ensures.fault, c.in_err-text.ensures.done, refl))
 
 pub returns : goal.returns
 returns g c =
     record {
-      between = _;
+      between = record { printed = _; done = _ };
       found = Ok c.in_ok-text.text;
-      is = (c.in_ok-text.ensures.text, refl);
+      is = (tt, c.in_ok-text.ensures.done, refl);
       rest = rw (c.new-sheet.ensures, c.as_slice.ensures.value) at c.set_by.ensures;
     }

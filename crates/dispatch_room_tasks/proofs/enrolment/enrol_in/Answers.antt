@@ -13,6 +13,7 @@ returns-clause-imported g c =
       opened = room;
       closed = closed;
       conn = refl;
+      plan = c.enrol-done.ensures.plan;
       terminals = opened.0;
       room = opened.1;
       is = opened.2;

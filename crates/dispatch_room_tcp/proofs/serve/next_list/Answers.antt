@@ -5,7 +5,7 @@ use Rattle.dispatch_room_tcp.proofs.serve.next_list.Goals as goal
 pub returns-clause-listed : goal.returns-clause-listed
 returns-clause-listed g c =
     IfOk-weaker c.journal_file.result _ _
-    (λ next is. is.asked ∙ c.requires.journal ∙ sym c.if-not-has_journal.false) c.journal_file.ensures.list
+    (λ next is. is ∙ c.requires.journal ∙ sym c.if-not-has_journal.false) c.journal_file.ensures.listed
 
-pub returns-clause-list : goal.returns-clause-list
-returns-clause-list g c = IfOk-weaker c.journal_file.result _ _ (λ next is. is.is) c.journal_file.ensures.list
+pub returns-clause-opens : goal.returns-clause-opens
+returns-clause-opens g c = rw c.if-not-has_journal.false c.journal_file.ensures.opens

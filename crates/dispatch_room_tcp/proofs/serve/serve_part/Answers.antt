@@ -5,14 +5,13 @@ use Rattle.dispatch_room_tcp.proofs.serve.serve_part.Goals as goal
 
 pub returns-clause-served : goal.returns-clause-served
 returns-clause-served g c =
-    let contents = (g.met.M.Machine.files c.args.run.now.machine).0 in
     let kept : is_some c.observer_of-log_and_journal.result.journal
     ≡ is_some c.args.list = c.observer_of-log_and_journal.ensures.journal.kept in
     record {
       journal = c.observer_of-log_and_journal.result.journal;
       later = c.serve_in.new.journal_observer.journal;
       last = c.end_part-done.new.log_and_journal.journal;
-      observed = rw contents c.observer_of-log_and_journal.ensures.journal;
+      observed = c.observer_of-log_and_journal.ensures.journal;
       served = _;
       ends = rw (← c.is_some-has_journal.ensures) c.end_part-done.ensures.part;
       has_left = has_left c.serve_in.new.part.place;
@@ -22,12 +21,11 @@ returns-clause-served g c =
           c.standing-left.ensures.unlooked
           (c.serve_in.ensures.none
           (c.place_of.ensures.unlooked (ap (λ it. it.renews) c.terms_of-terms.ensures ∙ once)));
-      ended = rw (contents, ← c.is_some-has_journal.ensures) c.end_part-done.ensures.ended;
+      ended = rw (← c.is_some-has_journal.ensures) c.end_part-done.ensures.ended;
       cut = λ is. let cut = c.end_part-done.ensures.cut is in (cut.0, ap (λ it. it.journal) cut.1);
       is =
-          rw contents
-          (rw (kept, c.observer_of-log_and_journal.ensures.fresh, c.terms_of-terms.ensures)
-          at c.in_ok-done.ensures.served);
+          rw (kept, c.observer_of-log_and_journal.ensures.fresh, c.terms_of-terms.ensures)
+          at c.in_ok-done.ensures.served;
     }
 
 pub returns-clause-prints : goal.returns-clause-prints

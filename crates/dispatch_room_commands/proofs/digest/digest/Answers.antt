@@ -1,0 +1,17 @@
+use Rattle.std.proofs.Common.{refl}
+use Rattle.dispatch_room_disk.proofs.WorkLemmas.{stops}
+use Rattle.dispatch_room_commands.specs.RoomTasks.{Digests}
+use Rattle.dispatch_room_tcp.proofs.HostLemmas.{works}
+use Rattle.dispatch_room_commands.proofs.digest.digest.Goals as goal
+
+pub returns-in_err-conn : goal.returns-in_err-conn
+returns-in_err-conn g c =
+    stops _ _ _ _ c.from_residual.result _ c.from_residual.ensures.1
+    (λ fault is. rw is (c.in_err-conn.ensures.fault, c.in_err-conn.ensures.done, refl))
+
+pub returns : goal.returns
+returns g c =
+    works Digests _ c.in_ok-conn.conn c.digest_in-printed.result _ c.in_ok-conn.ensures.connected c.in_ok-conn.ensures.done
+    c.digest_in-printed.ensures
+    c.close.ensures.closes
+    c.close.ensures.done

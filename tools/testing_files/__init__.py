@@ -1,0 +1,1 @@
+"""What tools/testing.py is made of."""

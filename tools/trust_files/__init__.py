@@ -1,0 +1,1 @@
+"""What tools/trust.py is made of."""
